@@ -1,0 +1,50 @@
+-- The text of each fault, as it stands behind `cnum: ` on standard error, and its exit status.
+use Rattle.std.specs.Prelude.{ℕ, List, ◌++◌, codes}
+use Rattle.cn_table.specs.FaultText.{table_fault_text}
+use Rattle.cn_table.specs.declared.fault.TableFault.{TableFault}
+use Rattle.cn_table.specs.declared.fault.TableFault.TheVariants as table
+use Rattle.cn_app.specs.declared.search.FindFault.{FindFault}
+use Rattle.cn_app.specs.declared.search.FindFault.TheVariants as find
+use Rattle.cn_app.specs.declared.fault.AppFault.{AppFault}
+use Rattle.cn_app.specs.declared.fault.AppFault.TheVariants as fault
+use Rattle.cn_app.specs.declared.fault.Source.{Source}
+use Rattle.cn_app.specs.declared.fault.Source.TheVariants as source
+
+abbrev pub source_text : Source → List ℕ
+source_text source.Table = codes "table"
+
+abbrev pub find_fault_text : FindFault → List ℕ
+find_fault_text find.BadLimit = codes "1 BadLimit"
+find_fault_text find.OutOfMemory = codes "3 OutOfMemory"
+
+-- want of memory reads the same in whatever layer it was met
+abbrev pub fault_text : AppFault → List ℕ
+fault_text fault.Words = codes "words refused"
+fault_text (fault.Table table.OutOfMemory) = codes "out of memory"
+fault_text (fault.Table f) = codes "table: " ++ table_fault_text f
+fault_text (fault.TooLong s) = source_text s ++ codes ": too long"
+fault_text (fault.Find find.OutOfMemory) = codes "out of memory"
+fault_text (fault.Find f) = codes "find: " ++ find_fault_text f
+fault_text (fault.Read s) = codes "cannot read " ++ source_text s
+fault_text fault.Write = codes "cannot write"
+fault_text fault.OutOfMemory = codes "out of memory"
+
+abbrev pub status_of : AppFault → ℕ
+status_of fault.Words = 3
+status_of (fault.Table table.OutOfMemory) = 5
+status_of (fault.Table f) = 2
+status_of (fault.TooLong s) = 2
+status_of (fault.Find find.OutOfMemory) = 5
+status_of (fault.Find f) = 3
+status_of (fault.Read s) = 4
+status_of fault.Write = 4
+status_of fault.OutOfMemory = 5
+
+-- the fault of the command for a fault of the table, and of the search
+abbrev pub of_table : TableFault → AppFault
+of_table table.OutOfMemory = fault.OutOfMemory
+of_table f = fault.Table f
+
+abbrev pub of_find : FindFault → AppFault
+of_find find.OutOfMemory = fault.OutOfMemory
+of_find f = fault.Find f

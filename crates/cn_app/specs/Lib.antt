@@ -1,0 +1,4 @@
+pub mod Limit
+pub mod SourceBytes
+pub mod FaultText
+pub mod Find

@@ -1,0 +1,11 @@
+pub mod Arrangements
+pub mod Canonical
+pub mod ChoicesLeft
+pub mod Collisions
+pub mod Discerning
+pub mod Meeting
+pub mod Orders
+pub mod RawChoices
+pub mod Renumbering
+pub mod ResultSets
+pub mod Rising

@@ -1,0 +1,61 @@
+//! The definitions, run as they stand, and the laws that hold of them for every type and every
+//! number of processes.
+//!
+//! A law is a function that does nothing: its contract is the law.
+ghost use Rattle.std.specs.Prelude.{◌≡◌, ◌<◌, ◌≤◌, ◌+◌, ◌-◌, ◌↔◌, ℕ, Option, Some, None, List, length, All, AllPairs, Contains};
+ghost use Rattle.cn_table.specs.TypeTable.{TypeTable};
+ghost use Rattle.cn_choice.specs.RawChoices.{RawChoice, IsRawChoice};
+ghost use Rattle.cn_choice.specs.Discerning.{IsDiscerning, IsWitness, IsNumberUpTo};
+ghost use Rattle.cn_choice.specs.Collisions.{IsCollision};
+ghost use Rattle.cn_choice.specs.Canonical.{Choice, raw_choice_of, IsCanonical, IsCanonicalForm, ChoiceComesBefore, canonical_choices};
+
+mod orders;
+mod raw_choice;
+mod splits;
+
+pub use orders::plain_orders;
+pub use raw_choice::RawChoice;
+pub use splits::raw_splits;
+
+/// Monotonicity: for n of at least 3, a type that is n-discerning is (n-1)-discerning.
+pub fn monotonicity()
+    ensures { (t : TypeTable) (n : ℕ) → 3 ≤ n → IsDiscerning t n → IsDiscerning t (n - 1) }
+{}
+
+/// By monotonicity one failure is enough: where a type is n-discerning and n is the limit or the
+/// type is not (n+1)-discerning, n is the number up to the limit; where it is not 2-discerning
+/// there is none.
+pub fn number_before_failure()
+    ensures found { (t : TypeTable) (limit n : ℕ) → 2 ≤ n → n ≤ limit → IsDiscerning t n → (n < limit → ¬ IsDiscerning t (n + 1)) → IsNumberUpTo t limit (Some n) }
+    ensures none { (t : TypeTable) (limit : ℕ) → ¬ IsDiscerning t 2 → IsNumberUpTo t limit None }
+{}
+
+/// There is only one number up to a limit.
+pub fn unique_number()
+    ensures { (t : TypeTable) (limit : ℕ) (m n : Option ℕ) → IsNumberUpTo t limit m → IsNumberUpTo t limit n → m ≡ n }
+{}
+
+/// A raw choice has a collision exactly where it is no witness.
+pub fn collision_or_witness()
+    ensures collision { (t : TypeTable) (c : RawChoice) → ¬ IsWitness t c → (j : ℕ) × (alpha : List ℕ) × (beta : List ℕ) × IsCollision t c j alpha beta }
+    ensures witness { (t : TypeTable) (c : RawChoice) (j : ℕ) (alpha beta : List ℕ) → IsCollision t c j alpha beta → ¬ IsWitness t c }
+{}
+
+/// Coverage: each raw choice becomes a canonical one by renumbering the processes and perhaps
+/// exchanging the marks, and is a witness exactly where that one is.
+pub fn coverage()
+    ensures { (t : TypeTable) (n : ℕ) (c : RawChoice) → IsRawChoice t n c → (d : Choice) × IsCanonicalForm t n d c }
+{}
+
+/// The canonical choices of a table for n processes are listed, no others are, and each comes
+/// before each later one: so each is listed once.
+pub fn canonical_list()
+    ensures listed { (t : TypeTable) (n : ℕ) (c : Choice) → Contains (canonical_choices (length t.states) (length t.operations) n) c ↔ (IsCanonical c × IsRawChoice t n (raw_choice_of c)) }
+    ensures ascending { (states operations n : ℕ) → AllPairs ChoiceComesBefore (canonical_choices states operations n) }
+{}
+
+/// The canonical choices decide for which numbers of processes a type is discerning.
+pub fn canonical_choices_decide()
+    ensures refuted { (t : TypeTable) (n : ℕ) → All (λ c. ¬ IsWitness t (raw_choice_of c)) (canonical_choices (length t.states) (length t.operations) n) → ¬ IsDiscerning t n }
+    ensures shown { (t : TypeTable) (n : ℕ) (c : Choice) → Contains (canonical_choices (length t.states) (length t.operations) n) c → IsWitness t (raw_choice_of c) → IsDiscerning t n }
+{}

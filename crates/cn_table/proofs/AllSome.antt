@@ -1,0 +1,31 @@
+-- Reading the items of a list one after another, all or none.
+use Rattle.std.proofs.Common.{◌≡◌, ℕ, ◌<◌, ◌+◌, List, [], ◌∷◌, ◌++◌, length, drop, get_or, map, Option, Some, None, option_map, refl, ap, sym, ◌∙◌, append_assoc}
+use Rattle.std.proofs.lemmas.List.{drop_more}
+use Rattle.cn_table.specs.Draft.{all_some, ◌>>=◌}
+use Rattle.cn_table.proofs.ListLemmas.{map_twice}
+
+-- what was read so far, and the rest
+abbrev pub with_front : {X : Type 0} → List X → Option (List X) → Option (List X)
+with_front front rest = option_map (λ xs. front ++ xs) rest
+
+front_one : {X : Type 0} (front : List X) (x : X) (rest : Option (List X)) → with_front front (rest >>= (λ xs. Some (x ∷ xs))) ≡ with_front (front ++ x ∷ []) rest
+front_one front x None = refl
+front_one front x (Some xs) = ap Some (sym (append_assoc front (x ∷ []) xs))
+
+-- an item that gives something is the next of what was read
+pub front_next : {V X : Type 0} (f : V → Option X) (front : List X) (vs : List V) (i : ℕ) (d : V) (x : X) → i < length vs → f (get_or vs i d) ≡ Some x
+    → with_front front (all_some (map f (drop i vs))) ≡ with_front (front ++ x ∷ []) (all_some (map f (drop (i + 1) vs)))
+front_next f front vs i d x within is = rw (drop_more vs i d within, is) (front_one front x _)
+
+-- an item that gives nothing leaves nothing of the whole
+pub front_stops : {V X : Type 0} (f : V → Option X) (front : List X) (vs : List V) (i : ℕ) (d : V) → i < length vs → f (get_or vs i d) ≡ None
+    → with_front front (all_some (map f (drop i vs))) ≡ None
+front_stops f front vs i d within is = rw (drop_more vs i d within, is) refl
+
+none_yet : {X : Type 0} (rest : Option (List X)) → with_front [] rest ≡ rest
+none_yet None = refl
+none_yet (Some xs) = refl
+
+-- at the start all is still to be read
+pub front_first : {V D X : Type 0} (f : D → Option X) (g : V → D) (vs : List V) → with_front [] (all_some (map (λ v. f (g v)) vs)) ≡ all_some (map f (map g vs))
+front_first f g vs = none_yet _ ∙ ap all_some (sym (map_twice f g vs))

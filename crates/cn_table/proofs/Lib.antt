@@ -1,0 +1,7 @@
+pub mod ListLemmas
+pub mod AllSome
+pub mod KeyLemmas
+pub mod KindLemmas
+pub mod NameLists
+pub mod Rows
+pub mod Sound

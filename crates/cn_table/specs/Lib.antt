@@ -1,0 +1,11 @@
+pub mod Names
+pub mod TypeTable
+pub mod Run
+pub mod Document
+pub mod Draft
+pub mod Numbering
+pub mod Faults
+pub mod Reads
+pub mod DraftView
+pub mod TableView
+pub mod FaultText

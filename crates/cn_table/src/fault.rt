@@ -1,0 +1,79 @@
+//! What can be wrong with the bytes of a table.
+ghost use Rattle.std.specs.Prelude.{◌≡◌};
+ghost use Rattle.cn_table.specs.declared.fault.TableFault.TheVariants.{OutOfMemory};
+
+use std::alloc::{AllocError, AllocFailed};
+use std::error::Error;
+use std::fmt;
+
+/// Why bytes were not read as a table.
+///
+/// Each fault has a number, from 1 to 10. Where bytes have several of the first nine, the one with
+/// the least number is answered.
+#[derive(Clone, Copy, Debug, PartialEq, Eq)]
+pub enum TableFault {
+    /// The bytes are not UTF-8, or not a TOML document.
+    NotToml = 1,
+    /// The root has a key other than `name`, `states`, `responses` and `operation`, or an operation
+    /// has one other than `name`, `response` and `next`.
+    UnknownKey = 2,
+    /// The root or an operation lacks one of these keys.
+    MissingKey = 3,
+    /// A `name` is not a text, or `states`, `responses`, a `response` or a `next` not an array of
+    /// texts, or `operation` not an array of tables.
+    WrongKind = 4,
+    /// The type, a state, a response or an operation is called by a text that is not a name, which
+    /// is 1 to 32 small letters, digits and underscores.
+    BadName = 5,
+    /// There are not 1 to 16 states, 1 to 16 responses and 1 to 8 operations.
+    Count = 6,
+    /// Two states, two responses or two operations have one name.
+    Repeated = 7,
+    /// A `response` or a `next` has not exactly one entry for each state.
+    RowLength = 8,
+    /// An entry of a `response` is no response, or an entry of a `next` is no state.
+    UnknownName = 9,
+    /// There was not enough memory to read the table.
+    OutOfMemory = 10,
+}
+
+impl<T: Drop> From<AllocFailed<T>> for TableFault {
+    ghost from_gives = { λ _ e. e ≡ OutOfMemory };
+
+    fn from(_e: AllocFailed<T>) -> TableFault {
+        TableFault::OutOfMemory
+    }
+}
+
+impl From<AllocError> for TableFault {
+    ghost from_gives = { λ _ e. e ≡ OutOfMemory };
+
+    fn from(_e: AllocError) -> TableFault {
+        TableFault::OutOfMemory
+    }
+}
+
+impl fmt::Display for TableFault {
+    ghost use Rattle.std.specs.Prelude.{Some};
+    ghost use Rattle.cn_table.specs.FaultText.{table_fault_text};
+
+    ghost output = { λ fault. Some (table_fault_text fault) };
+
+    fn fmt<W: fmt::Write>(&self, f: &mut fmt::Formatter<W>) -> fmt::Result {
+        f.write_str(match self {
+            TableFault::NotToml => "1 NotToml",
+            TableFault::UnknownKey => "2 UnknownKey",
+            TableFault::MissingKey => "3 MissingKey",
+            TableFault::WrongKind => "4 WrongKind",
+            TableFault::BadName => "5 BadName",
+            TableFault::Count => "6 Count",
+            TableFault::Repeated => "7 Repeated",
+            TableFault::RowLength => "8 RowLength",
+            TableFault::UnknownName => "9 UnknownName",
+            TableFault::OutOfMemory => "10 OutOfMemory",
+        })
+    }
+}
+
+// The lead added this: the program prints a fault as `table: 8 RowLength`. Keep it.
+impl Error for TableFault {}

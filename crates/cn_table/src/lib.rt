@@ -1,0 +1,26 @@
+//! Type tables: finite shared object types, read from TOML.
+//!
+//! A type has states, responses and operations, each with a name; in each state each operation
+//! gives one response and leads to one next state. [`read_table`] makes a [`Table`] of the bytes
+//! of a file, or says by a [`TableFault`] what is wrong with them.
+#![tactic(auto)]
+
+mod document;
+mod draft;
+mod draft_faults;
+mod elements;
+mod fault;
+mod keys;
+mod names;
+mod read;
+mod resolve;
+mod table;
+
+pub use elements::{Operation, Response, State};
+pub use fault::TableFault;
+pub use names::is_name;
+pub use read::read_table;
+pub use table::Table;
+
+#[cfg(test)]
+mod tests;

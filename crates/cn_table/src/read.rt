@@ -1,0 +1,50 @@
+//! From bytes to a table, or to the first fault that the bytes have.
+ghost use Rattle.std.specs.Prelude.{◌≡◌, ◌⊎◌, Ok, Err, IfOk, IfErr};
+ghost use Rattle.cn_table.specs.Faults.{reading};
+ghost use Rattle.cn_table.specs.declared.fault.TableFault.TheVariants.{OutOfMemory};
+
+use crate::document::read_document;
+use crate::draft::draft_from;
+use crate::draft_faults::{has_bad_count, has_bad_length, has_bad_name, has_repeated_name};
+use crate::fault::TableFault;
+use crate::keys::{has_missing_key, has_unknown_key};
+use crate::resolve::table_from;
+use crate::table::Table;
+use std::alloc::Global;
+
+/// Reads a table from the bytes of a TOML document.
+///
+/// The root has a `name`, the arrays `states` and `responses` of names, and an array `operation` of
+/// tables; each of these has a `name` and the arrays `response` and `next`, with an entry for each
+/// state, in the order of `states`. Keys stand in any order.
+///
+/// # Errors
+///
+/// The first of the faults 1 to 9 of [`TableFault`] that the bytes have, or `OutOfMemory`.
+#[tactic(auto, using(crate::proofs::KindLemmas::no_draft, crate::proofs::KindLemmas::no_table), unfolding(crate::specs::Faults::fault_of))]
+pub fn read_table(alloc: Global, bytes: &[u8]) -> Result<Table, TableFault>
+    ensures table { IfOk result (λ t. reading bytes.now ≡ Ok t) }
+    ensures fault { IfErr result (λ e. (e ≡ OutOfMemory) ⊎ (reading bytes.now ≡ Err e)) }
+{
+    let document = read_document(alloc, bytes)?;
+    if has_unknown_key(&document) {
+        return Err(TableFault::UnknownKey);
+    }
+    if has_missing_key(&document) {
+        return Err(TableFault::MissingKey);
+    }
+    let draft = draft_from(alloc, &document)?;
+    if has_bad_name(&draft) {
+        return Err(TableFault::BadName);
+    }
+    if has_bad_count(&draft) {
+        return Err(TableFault::Count);
+    }
+    if has_repeated_name(&draft) {
+        return Err(TableFault::Repeated);
+    }
+    if has_bad_length(&draft) {
+        return Err(TableFault::RowLength);
+    }
+    table_from(alloc, draft)
+}

@@ -1,0 +1,153 @@
+//! Type tables: what every later layer stands on.
+ghost use Rattle.std.specs.Prelude.{◌≡◌, ◌<◌, ◌≤◌, IfSome, IsTrue, Some, length, option_map, slice_get, string_bytes};
+ghost use Rattle.cn_table.specs.TypeTable.{transition, operation_names, IsTypeTable};
+ghost use Rattle.cn_table.specs.Names.{is_name, number_of};
+
+use crate::elements::{Operation, Response, State};
+use crate::names::{Named, number_of};
+use std::marker::Model;
+
+/// What one operation does: its name, and by state the numbers of the response and of the next
+/// state.
+#[derive(Drop)]
+pub(crate) struct Transitions {
+    pub name: String,
+    pub response: Vec<u8>,
+    pub next: Vec<u8>,
+}
+
+impl Named for Transitions {
+    ghost name_of = { λ r. string_bytes r.name };
+
+    fn name(&self) -> &str {
+        &self.name
+    }
+}
+
+/// A finite shared object type: 1 to 16 states, 1 to 16 responses and 1 to 8 operations, each with
+/// a name, and for each operation and state one response and one next state.
+///
+/// Tables come from [`read_table`](crate::read_table). States, operations and responses are
+/// numbered from 0 in the order of the file. No call here takes memory.
+#[derive(Drop)]
+pub struct Table {
+    pub(crate) name: String,
+    pub(crate) states: Vec<String>,
+    pub(crate) responses: Vec<String>,
+    pub(crate) operations: Vec<Transitions>,
+}
+
+impl Model for Table {
+    ghost use Rattle.cn_table.specs.TypeTable.{TypeTable, table_code, IsTypeTable};
+    ghost use Rattle.cn_table.specs.TableView.{table_view};
+
+    ghost Value = { TypeTable };
+
+    ghost coded = { table_code };
+
+    ghost view = { table_view };
+
+    ghost invariant = { λ t. IsTypeTable (table_view t) };
+}
+
+impl Table {
+    /// The name of the type.
+    pub fn name(&self) -> &str
+        ensures value { result.now ≡ self.now.name }
+        ensures named { IsTrue (is_name result.now) }
+    {
+        self.name.as_str()
+    }
+
+    /// How many states there are, from 1 to 16.
+    pub fn states(&self) -> u8
+        ensures number { result ≡ length self.now.states }
+        ensures range { (1 ≤ result) × (result ≤ 16) }
+        ensures table { IsTypeTable self.now }
+    {
+        self.states.len() as u8
+    }
+
+    /// How many operations there are, from 1 to 8.
+    pub fn operations(&self) -> u8
+        ensures number { result ≡ length self.now.operations }
+        ensures range { (1 ≤ result) × (result ≤ 8) }
+    {
+        self.operations.len() as u8
+    }
+
+    /// How many responses there are, from 1 to 16.
+    pub fn responses(&self) -> u8
+        ensures number { result ≡ length self.now.responses }
+        ensures range { (1 ≤ result) × (result ≤ 16) }
+    {
+        self.responses.len() as u8
+    }
+
+    /// The response that an operation gives in a state, and the state that it leads to.
+    pub fn apply(&self, operation: Operation, state: State) -> (Response, State)
+        requires operation { operation.0 < length self.now.operations }
+        requires state { state.0 < length self.now.states }
+        ensures value { (result.0.0, result.1.0) ≡ transition self.now operation.0 state.0 }
+        ensures response { result.0.0 < length self.now.responses }
+        ensures next { result.1.0 < length self.now.states }
+    {
+        let row = &self.operations[operation.0 as usize];
+        let response = row.response.as_slice();
+        let next = row.next.as_slice();
+        let place = state.0 as usize;
+        (Response(response[place]), State(next[place]))
+    }
+
+    /// The name of a state.
+    pub fn state_name(&self, state: State) -> &str
+        requires { state.0 < length self.now.states }
+        ensures { slice_get self.now.states state.0 ≡ Some result.now }
+    {
+        self.states[state.0 as usize].as_str()
+    }
+
+    /// The name of an operation.
+    pub fn operation_name(&self, operation: Operation) -> &str
+        requires { operation.0 < length self.now.operations }
+        ensures { slice_get (operation_names self.now) operation.0 ≡ Some result.now }
+    {
+        self.operations[operation.0 as usize].name.as_str()
+    }
+
+    /// The name of a response.
+    pub fn response_name(&self, response: Response) -> &str
+        requires { response.0 < length self.now.responses }
+        ensures { slice_get self.now.responses response.0 ≡ Some result.now }
+    {
+        self.responses[response.0 as usize].as_str()
+    }
+
+    /// The state of this name, if there is one.
+    pub fn find_state(&self, name: &str) -> Option<State>
+        ensures number { option_map (λ q. q.0) result ≡ number_of self.now.states name.now }
+        ensures range { IfSome result (λ q. q.0 < length self.now.states) }
+    {
+        let number = number_of(&self.states, name)?;
+        Some(State(number as u8))
+    }
+
+    /// The operation of this name, if there is one.
+    #[tactic(auto, using(crate::proofs::ListLemmas::map_twice))]
+    pub fn find_operation(&self, name: &str) -> Option<Operation>
+        ensures number { option_map (λ o. o.0) result ≡ number_of (operation_names self.now) name.now }
+        ensures range { IfSome result (λ o. o.0 < length self.now.operations) }
+    {
+        let number = number_of(&self.operations, name)?;
+        Some(Operation(number as u8))
+    }
+
+    /// The response of this name, if there is one.
+    pub fn find_response(&self, name: &str) -> Option<Response>
+        ensures number { option_map (λ r. r.0) result ≡ number_of self.now.responses name.now }
+        ensures range { IfSome result (λ r. r.0 < length self.now.responses) }
+    {
+        let number = number_of(&self.responses, name)?;
+        Some(Response(number as u8))
+    }
+}
