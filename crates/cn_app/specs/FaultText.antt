@@ -3,8 +3,9 @@ use Rattle.std.specs.Prelude.{ℕ, List, ◌++◌, codes}
 use Rattle.cn_table.specs.FaultText.{table_fault_text}
 use Rattle.cn_table.specs.declared.fault.TableFault.{TableFault}
 use Rattle.cn_table.specs.declared.fault.TableFault.TheVariants as table
-use Rattle.cn_app.specs.declared.search.FindFault.{FindFault}
-use Rattle.cn_app.specs.declared.search.FindFault.TheVariants as find
+use Rattle.cn_search.specs.FaultText.{find_fault_text}
+use Rattle.cn_search.specs.declared.fault.FindFault.{FindFault}
+use Rattle.cn_search.specs.declared.fault.FindFault.TheVariants as find
 use Rattle.cn_app.specs.declared.fault.AppFault.{AppFault}
 use Rattle.cn_app.specs.declared.fault.AppFault.TheVariants as fault
 use Rattle.cn_app.specs.declared.fault.Source.{Source}
@@ -12,10 +13,6 @@ use Rattle.cn_app.specs.declared.fault.Source.TheVariants as source
 
 abbrev pub source_text : Source → List ℕ
 source_text source.Table = codes "table"
-
-abbrev pub find_fault_text : FindFault → List ℕ
-find_fault_text find.BadLimit = codes "1 BadLimit"
-find_fault_text find.OutOfMemory = codes "3 OutOfMemory"
 
 -- want of memory reads the same in whatever layer it was met
 abbrev pub fault_text : AppFault → List ℕ

@@ -1,4 +1,3 @@
-pub mod Limit
 pub mod SourceBytes
 pub mod FaultText
 pub mod Find

@@ -2,7 +2,7 @@
 ghost use Rattle.std.specs.Prelude.{◌≡◌, Some};
 ghost use Rattle.cn_app.specs.declared.fault.AppFault.TheVariants.{OutOfMemory};
 
-use crate::search::FindFault;
+use cn_search::FindFault;
 use cn_table::TableFault;
 use std::alloc::{AllocError, AllocFailed};
 use std::error::Error;
@@ -24,7 +24,7 @@ pub enum AppFault {
     Table(TableFault),
     /// A text is longer than its limit.
     TooLong(Source),
-    /// No number was looked for.
+    /// The limit, or the count of choices at the limit, was refused.
     Find(FindFault),
     /// A reader failed.
     Read(Source),
@@ -113,8 +113,8 @@ impl Error for AppFault {}
 impl AppFault {
     ghost use Rattle.cn_app.specs.FaultText.{status_of};
 
-    /// The exit status of the program: 2 for a refused text, 3 for refused words or a refused
-    /// limit, 4 where reading or writing failed, 5 for want of memory.
+    /// The exit status of the program: 2 for a refused text, 3 for refused words, a refused limit
+    /// or too many choices, 4 where reading or writing failed, 5 for want of memory.
     pub fn status(&self) -> u8
         ensures { result ≡ status_of self.now }
     {

@@ -1,11 +1,11 @@
 //! The command `find`.
 ghost use Rattle.std.specs.Prelude.{◌≡◌, ◌⊎◌, ℕ, Option, IfOk, IfErr, IfSome, OnOk, string_bytes, Some};
 ghost use Rattle.std.specs.Io.KnownBytes.{Appends, Keeps};
-ghost use Rattle.cn_app.specs.Find.{IsNumberFor, find_fault, number_line, IsOutside};
+ghost use Rattle.cn_app.specs.Find.{IsNumberFor, run_find_fault, number_line, IsOutside};
 
 use crate::fault::{AppFault, Source};
-use crate::search::find_number;
 use crate::source::{TEXT_LIMIT, read_source};
+use cn_search::find;
 use cn_table::read_table;
 use std::alloc::{AllocError, Global};
 use std::io::{Read, Write};
@@ -32,13 +32,14 @@ fn line_of(alloc: Global, number: Option<u8>) -> Result<String, AllocError>
 /// a line feed.
 ///
 /// The number is the greatest n from 2 to the limit for which the type is n-discerning. The limit
-/// is 2 or 3. `rt` is there for the threads of a parallel search; this search starts none.
+/// is from 2 to 6. `rt` starts the threads of the search.
 ///
 /// The first of these is answered: the reader fails, or gives more than 65,536 bytes; the table is
-/// refused; the limit is refused; the writer fails. Want of memory can stand in place of any
-/// answer. Nothing is written unless all else went well.
+/// refused; the limit is refused, or there are more than 100,000 canonical choices for as many
+/// processes as the limit; the writer fails. Want of memory can stand in place of any answer.
+/// Nothing is written unless all else went well.
 pub fn run_find<T: Threads + Sync, R: Read, W: Write>(
-    _rt: &T,
+    rt: &T,
     alloc: Global,
     reader: &mut R,
     writer: &mut W,
@@ -47,13 +48,13 @@ pub fn run_find<T: Threads + Sync, R: Read, W: Write>(
     ensures whole { IfOk result (λ outcome. outcome ≡ Outcome.Whole) }
     ensures written { OnOk result (IfSome (R.remaining reader.old) (λ bytes. (number : Option ℕ)
         × IsNumberFor bytes limit number × Appends (W.contents writer.old) (W.contents writer.new) (number_line number))) }
-    ensures refused { IfErr result (λ e. IsOutside e ⊎ IfSome (R.remaining reader.old) (λ bytes. find_fault bytes limit ≡ Some e)) }
+    ensures refused { IfErr result (λ e. IsOutside e ⊎ IfSome (R.remaining reader.old) (λ bytes. run_find_fault bytes limit ≡ Some e)) }
     ensures silent { IfErr result (λ e. (e ≡ AppFault.Write) ⊎ Keeps (W.contents writer.old) (W.contents writer.new)) }
 {
     let bytes = read_source(alloc, reader, Source::Table, TEXT_LIMIT)?;
     let table = read_table(alloc, &bytes)?;
-    let number = find_number(alloc, &table, limit)?;
-    let line = line_of(alloc, number)?;
+    let finding = find(rt, alloc, &table, limit)?;
+    let line = line_of(alloc, finding.number)?;
     match writer.write_all(line.as_bytes()) {
         Ok(()) => Ok(Outcome::Whole),
         Err(_) => Err(AppFault::Write),

@@ -6,12 +6,10 @@
 
 mod fault;
 mod find;
-mod search;
 mod source;
 
 pub use fault::{AppFault, Source};
 pub use find::{Outcome, run_find};
-pub use search::FindFault;
 
 #[cfg(test)]
 mod tests;

@@ -3,6 +3,7 @@
 mod types;
 
 use super::*;
+use cn_search::FindFault;
 use cn_table::TableFault;
 use std::io;
 use std::io::{ErrorKind, Read, Write};
@@ -66,6 +67,9 @@ fn finds_numbers(rt: HostRuntime) -> Result<(), Fail> {
         (IDLE, 2, "none\n"),
         (BINARY_REGISTER, 2, "none\n"),
         (BINARY_REGISTER, 3, "none\n"),
+        (STICKY_BIT, 4, "4\n"),
+        (THREE_SHOT, 4, "3\n"),
+        (WIDE, 4, "none\n"),
     ];
     for (table, limit, line) in rows {
         let mut written = Vec::new(rt.alloc());
@@ -81,8 +85,9 @@ fn refuses(rt: HostRuntime) -> Result<(), Fail> {
     let bad_limit = AppFault::Find(FindFault::BadLimit);
     let rows = [
         (TEST_AND_SET, 1, bad_limit),
-        (TEST_AND_SET, 4, bad_limit),
-        ("name = 5", 4, AppFault::Table(TableFault::MissingKey)),
+        (TEST_AND_SET, 7, bad_limit),
+        (WIDE, 6, AppFault::Find(FindFault::TooManyChoices(407_616))),
+        ("name = 5", 7, AppFault::Table(TableFault::MissingKey)),
         ("extra = 1", 3, AppFault::Table(TableFault::UnknownKey)),
     ];
     for (table, limit, fault) in rows {
@@ -162,6 +167,11 @@ fn faults_read_as_the_formats_say(rt: HostRuntime) -> Result<(), Fail> {
             2,
         ),
         (AppFault::Find(FindFault::BadLimit), "find: 1 BadLimit", 3),
+        (
+            AppFault::Find(FindFault::TooManyChoices(407_616)),
+            "find: 2 TooManyChoices 407616",
+            3,
+        ),
         (AppFault::TooLong(Source::Table), "table: too long", 2),
         (AppFault::Read(Source::Table), "cannot read table", 4),
         (AppFault::Write, "cannot write", 4),

@@ -1,13 +1,14 @@
 -- The canonical choice that comes next.
-use Rattle.std.proofs.Common.{◌≡◌, ℕ, zero, suc, ◌+◌, ◌-◌, ◌*◌, ◌/◌, ◌<◌, ◌≤◌, List, [], ◌∷◌, ◌++◌, length, refl, sym, ap, ◌∙◌, arith, Bool, true, false, cond, ltb, Option, Some, None, replicate, All, append_assoc}
-use Rattle.std.specs.List.{flat_map, range_with_len, AllByRecursion}
+use Rattle.std.proofs.Common.{◌≡◌, ℕ, suc, ◌+◌, ◌-◌, ◌*◌, ◌/◌, ◌<◌, ◌≤◌, List, [], ◌∷◌, ◌++◌, length, refl, sym, ap, ◌∙◌, arith, Bool, true, false, cond, ltb, Option, Some, None, replicate, All, append_assoc}
+use Rattle.std.specs.List.{flat_map, range_with_len}
 use Rattle.std.specs.Option.{option_map}
 use Rattle.arrayvec.specs.ArrayVec.{ArrayVec}
-use Rattle.std.proofs.lemmas.List.Elements.{recursion_from_All, All-from_recursion}
+use Rattle.std.proofs.lemmas.List.Elements.{recursion_from_All, All-replicate}
+use Rattle.std.proofs.lemmas.List.{length-replicate}
 use Rattle.cn_choice.specs.Canonical.{Choice, canonical_choices, second_lists, with_first, with_size, with_state}
 use Rattle.cn_choice.specs.ChoicesLeft.{IsOnTheWay, choices_from, first_choice, first_second}
 use Rattle.cn_choice.specs.Rising.{next_rising, rising_after, rising_lists}
-use Rattle.cn_choice.proofs.RisingLemmas.{length_replicate, next_long, range_first, range_none, rising_after-next, rising_first}
+use Rattle.cn_choice.proofs.RisingLemmas.{next_long, range_first, range_none, rising_after-next, rising_first}
 
 abbrev pub choice_of : ℕ → List ℕ → List ℕ → Choice
 choice_of q a b = record { state = q; a = a; b = b }
@@ -59,7 +60,7 @@ begin_size states m n q k j l e =
     let grouped : ((with_first m n q (replicate k 0) ++ rest) ++ sizes_later) ++ states_later ≡ with_first m n q (replicate k 0) ++ (rest ++ (sizes_later ++ states_later)) =
     simp append_assoc in
     let same : with_first m n q (replicate k 0) ++ (rest ++ (sizes_later ++ states_later)) ≡ with_first m n q (replicate k 0) ++ later_choices states m n q (replicate k 0) =
-    rw (length_replicate k 0, left) refl in
+    rw (length-replicate {A = ℕ} k 0, left) refl in
     unfolded ∙ (grouped ∙ (same ∙ begin_a states m n q (replicate k 0) l))
 
 pub begin_state : (states m n q : ℕ) → 0 < m → 2 ≤ n
@@ -121,23 +122,14 @@ pub no_next : (states m n : ℕ) (c : Choice) → IsOnTheWay states m n c → ne
 no_next states m n c w eb ea u v =
     last_b states m n c.state c.a c.b w.b_known eb ∙ ap (λ (cs : List Choice). c ∷ cs) (after_all states m n c.state c.a w.a_known ea u v)
 
-All_replicate : (m k x : ℕ) → x < m → AllByRecursion (λ o. o < m) (replicate k x)
-All_replicate m zero x l = tt
-All_replicate m (suc k) x l = (l, All_replicate m k x l)
-
 -- the first choice with a list is on the way
 pub first_on_the_way : (states m n q : ℕ) (a : List ℕ) → q < states → 0 < m → All (λ o. o < m) a → 1 ≤ length a → length a + length a ≤ n → IsOnTheWay states m n (first_choice n q a)
 first_on_the_way states m n q a k l known some half =
     record { known_state = k; a_known = known; b_known = by_test (ltb (length a + length a) n); someone_in_a = some; at_most_half = half }
   where
     by_test : (b : Bool) → All (λ o. o < m) (cond b (replicate (n - length a) 0) a)
-    by_test true = All-from_recursion (λ o. o < m) (replicate (n - length a) 0) (All_replicate m (n - length a) 0 l)
+    by_test true = All-replicate (λ o. o < m) (n - length a) 0 l
     by_test false = known
-
-pub first_of_zeros : (states m n q k : ℕ) → q < states → 0 < m → 1 ≤ k → k + k ≤ n → IsOnTheWay states m n (first_choice n q (replicate k 0))
-first_of_zeros states m n q k s l some half =
-    let long = length_replicate k 0 in
-    first_on_the_way states m n q (replicate k 0) s l (All-from_recursion (λ o. o < m) (replicate k 0) (All_replicate m k 0 l)) (omega (arith, long)) (omega (arith, long))
 
 pub none_left : (o : Option (ArrayVec ℕ)) (r : Option (List ℕ)) → ((x : ArrayVec ℕ) → o ≡ Some x → ⊥) → option_map (λ v. v.items) o ≡ r → r ≡ None
 none_left None r h e = sym e

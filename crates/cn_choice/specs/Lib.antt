@@ -2,9 +2,14 @@ pub mod Arrangements
 pub mod Canonical
 pub mod ChoicesLeft
 pub mod Collisions
+pub mod Counting
 pub mod Discerning
+pub mod Examination
+pub mod FirstCollision
 pub mod Meeting
 pub mod Orders
+pub mod OutcomeOrders
+pub mod OutcomeSets
 pub mod RawChoices
 pub mod Renumbering
 pub mod ResultSets

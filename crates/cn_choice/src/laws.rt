@@ -2,16 +2,18 @@
 //! number of processes.
 //!
 //! A law is a function that does nothing: its contract is the law.
-ghost use Rattle.std.specs.Prelude.{◌≡◌, ◌<◌, ◌≤◌, ◌+◌, ◌-◌, ◌↔◌, ℕ, Option, Some, None, List, length, All, AllPairs, Contains};
+ghost use Rattle.std.specs.Prelude.{◌≡◌, ◌<◌, ◌≤◌, ◌+◌, ◌-◌, ◌*◌, ◌⊎◌, ◌↔◌, ℕ, Option, Some, None, List, length, All, AllPairs, Contains};
 ghost use Rattle.cn_table.specs.TypeTable.{TypeTable};
 ghost use Rattle.cn_choice.specs.RawChoices.{RawChoice, IsRawChoice};
 ghost use Rattle.cn_choice.specs.Discerning.{IsDiscerning, IsWitness, IsNumberUpTo};
-ghost use Rattle.cn_choice.specs.Collisions.{IsCollision};
+ghost use Rattle.cn_choice.specs.Collisions.{IsRecordedCollision};
+ghost use Rattle.cn_choice.specs.FirstCollision.{HasCollision, HasRecorded};
+ghost use Rattle.cn_choice.specs.Counting.{choices_per_state};
 ghost use Rattle.cn_choice.specs.Canonical.{Choice, raw_choice_of, IsCanonical, IsCanonicalForm, ChoiceComesBefore, canonical_choices};
 
 mod orders;
 mod raw_choice;
-mod splits;
+pub(crate) mod splits;
 
 pub use orders::plain_orders;
 pub use raw_choice::RawChoice;
@@ -35,10 +37,12 @@ pub fn unique_number()
     ensures { (t : TypeTable) (limit : ℕ) (m n : Option ℕ) → IsNumberUpTo t limit m → IsNumberUpTo t limit n → m ≡ n }
 {}
 
-/// A raw choice has a collision exactly where it is no witness.
+/// A raw choice has a collision exactly where it is no witness; it is a witness or one of its
+/// collisions is the recorded one; and no two are.
 pub fn collision_or_witness()
-    ensures collision { (t : TypeTable) (c : RawChoice) → ¬ IsWitness t c → (j : ℕ) × (alpha : List ℕ) × (beta : List ℕ) × IsCollision t c j alpha beta }
-    ensures witness { (t : TypeTable) (c : RawChoice) (j : ℕ) (alpha beta : List ℕ) → IsCollision t c j alpha beta → ¬ IsWitness t c }
+    ensures exactly { (t : TypeTable) (c : RawChoice) → HasCollision t c ↔ ¬ IsWitness t c }
+    ensures either { (t : TypeTable) (c : RawChoice) → IsWitness t c ⊎ HasRecorded t c }
+    ensures one { (t : TypeTable) (c : RawChoice) (i j : ℕ) (x y v w : List ℕ) → IsRecordedCollision t c i x y → IsRecordedCollision t c j v w → (i ≡ j) × (x ≡ v) × (y ≡ w) }
 {}
 
 /// Coverage: each raw choice becomes a canonical one by renumbering the processes and perhaps
@@ -58,4 +62,10 @@ pub fn canonical_list()
 pub fn canonical_choices_decide()
     ensures refuted { (t : TypeTable) (n : ℕ) → All (λ c. ¬ IsWitness t (raw_choice_of c)) (canonical_choices (length t.states) (length t.operations) n) → ¬ IsDiscerning t n }
     ensures shown { (t : TypeTable) (n : ℕ) (c : Choice) → Contains (canonical_choices (length t.states) (length t.operations) n) c → IsWitness t (raw_choice_of c) → IsDiscerning t n }
+{}
+
+/// How many canonical choices there are, by a formula: any two lists of different lengths go
+/// together, and of two of one length the one that is not above the other comes first.
+pub fn choices_by_formula()
+    ensures { (states operations n : ℕ) → 1 ≤ operations → 2 ≤ n → length (canonical_choices states operations n) ≡ states * choices_per_state operations n }
 {}

@@ -4,4 +4,4 @@ pub mod KeyLemmas
 pub mod KindLemmas
 pub mod NameLists
 pub mod Rows
-pub mod Sound
+pub mod Faultless

@@ -18,7 +18,7 @@ Output: on standard output, whole or not at all; a fault is one line on standard
 Exit status:
   0  done
   2  the table is refused
-  3  the words, or the limit, are refused
+  3  the words, the limit or the count of choices are refused
   4  reading or writing failed
   5  out of memory
 
@@ -31,10 +31,11 @@ const FIND_AFTER: &str = "\
 Reads a type table in TOML from standard input: the keys name, states, responses and, for each
 operation, name, response and next. Writes the greatest n from 2 to N for which the type is
 n-discerning, that is, the number of processes that the type with registers can bring to
-agreement, as far as N shows; or the word none. N is 2 or 3.
+agreement, as far as N shows; or the word none. N is from 2 to 6. A search of more than 100000
+choices for N processes is refused.
 
-Exit status: 0 done, 2 the table is refused, 3 the words or the limit are refused, 4 reading or
-writing failed, 5 out of memory.
+Exit status: 0 done, 2 the table is refused, 3 the words, the limit or the count of choices are
+refused, 4 reading or writing failed, 5 out of memory.
 
 Example:
   cnum find --limit 3 < types/test_and_set.toml
@@ -44,7 +45,7 @@ fn find_command<'a>(alloc: Global) -> Result<Command<'a>, AllocError> {
     let limit = Arg::new(alloc, "limit")
         .long("limit")
         .value_name("N")
-        .help("The greatest number looked for, 2 or 3")
+        .help("The greatest number looked for, from 2 to 6")
         .required(true)
         .action(ArgAction::Set)
         .value_parser(value_parser!(u8));

@@ -1,4 +1,4 @@
-use Rattle.cn_table.proofs.Sound.{is_type_table}
+use Rattle.cn_table.proofs.Faultless.{is_type_table}
 use Rattle.cn_table.specs.DraftView.{draft_view}
 use Rattle.cn_table.proofs.resolve.table_from.Goals as goal
 

@@ -10,8 +10,8 @@ use Rattle.cn_table.proofs.table.Table.apply.Goals as goal
 -- the row that is read is one of the table
 the_row : (inside : Inside) (t : TypeTable) (o : ℕ) (r : Transitions) → table_view inside ≡ t → IsTypeTable (table_view inside) → o < length t.operations → r ≡ get_or inside.operations.items o r
     → IsRow (length t.states) (length t.responses) (transitions_view r)
-the_row inside t o r seen sound within is =
-    rw (← seen) (row_holds (IsRow (length (texts_view inside.states)) (length (texts_view inside.responses))) inside.operations.items o r (rw (← seen) at within) is sound.rows)
+the_row inside t o r seen table within is =
+    rw (← seen) (row_holds (IsRow (length (texts_view inside.states)) (length (texts_view inside.responses))) inside.operations.items o r (rw (← seen) at within) is table.rows)
 
 pub bounds-response-place : goal.bounds-response-place
 bounds-response-place c =

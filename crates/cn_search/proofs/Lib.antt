@@ -1,0 +1,4 @@
+pub mod ChoiceLemmas
+pub mod FindingLemmas
+pub mod ListLemmas
+pub mod ResultSetLemmas
