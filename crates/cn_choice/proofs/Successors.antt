@@ -47,7 +47,7 @@ after_a states m n q a new l k e same =
     rw (rising_after-next m a (recursion_from_All (λ o. o < m) a k), e, ← same)
     (append_assoc (with_first m n q new) (flat_map (with_first m n q) (rising_after m new)) _ ∙ begin_a states m n q new l)
 
--- the sizes from k on, and then the later_choices states
+-- the sizes from k on, and then the later states
 pub begin_size : (states m n q k j : ℕ) → 0 < m → n / 2 ≡ k + j
     → flat_map (with_size m n q) (range_with_len k (suc j)) ++ flat_map (with_state m n) (range_with_len (q + 1) (states - (q + 1))) ≡ choices_from states m n (choice_of q (replicate k 0) (first_second n (replicate k 0)))
 begin_size states m n q k j l e =

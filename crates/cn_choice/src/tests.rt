@@ -183,6 +183,7 @@ fn a_witness_keeps_the_result_sets_apart(rt: HostRuntime) -> Result<(), Fail> {
             assert_eq!(rt; first.has(Response(response), State(state)), only);
         }
     }
+    assert!(rt; splits(&rt, rt.alloc(), &table, &pair)?);
     let three = fitting(&rt, &table, 0, &[0], &[0, 0]);
     for (process, meets) in [(0, false), (1, true), (2, true)] {
         assert!(rt; process < 3);
@@ -193,26 +194,138 @@ fn a_witness_keeps_the_result_sets_apart(rt: HostRuntime) -> Result<(), Fail> {
     Ok(())
 }
 
+/// Whether the choice splits, by `examine` and by `raw_splits` alike.
+fn splits(rt: &impl Abort, alloc: Global, table: &Table, choice: &Choice) -> Result<bool, Fail> {
+    let (a, b) = (choice.a.as_slice(), choice.b.as_slice());
+    let n = a.len() + b.len();
+    assert!(rt; 2 <= n && n <= 8);
+    let choice = fitting(rt, table, choice.state.0, a, b);
+    let raw = RawChoice::of(&choice);
+    assert!(rt; raw.is_for(table, n as u8));
+    let splits = raw_splits(alloc, table, &raw)?;
+    let examined = examine(alloc, table, &choice)?;
+    assert_eq!(rt; matches!(examined, Examined::Splits), splits);
+    Ok(splits)
+}
+
 #[test]
-fn the_first_collision_is_recorded(rt: HostRuntime) -> Result<(), Fail> {
-    let table = read_table(rt.alloc(), types::TEST_AND_SET.as_bytes())?;
-    let witness = fitting(&rt, &table, 0, &[0], &[0]);
-    assert!(rt; matches!(examine(rt.alloc(), &table, &witness)?, Examined::Splits));
-    for (state, process, alpha, beta) in [
-        (0, 1, [0, 1].as_slice(), [2, 1].as_slice()),
-        (1, 0, [0].as_slice(), [1, 0].as_slice()),
+fn examining_agrees_with_the_definition(rt: HostRuntime) -> Result<(), Fail> {
+    for (text, two, three, four) in [
+        (types::TEST_AND_SET, true, false, false),
+        (types::IDLE, false, false, false),
+        (types::BINARY_REGISTER, false, false, false),
+        (types::FETCH_AND_ADD_2, true, false, false),
+        (types::BINARY_SWAP, true, false, false),
+        (types::STICKY_BIT, true, true, true),
+        (types::THREE_SHOT, true, true, false),
+        (types::COUNTER_3, true, false, false),
     ] {
-        let choice = fitting(&rt, &table, state, &[0], &[0, 0]);
-        match examine(rt.alloc(), &table, &choice)? {
-            Examined::Splits => assert!(rt; false, "state {state} splits"),
-            Examined::Meets(collision) => {
-                assert_eq!(rt; collision.process, process);
-                assert_eq!(rt; collision.alpha.as_slice(), alpha);
-                assert_eq!(rt; collision.beta.as_slice(), beta);
-                assert_eq!(rt; collision.choice.a.as_slice(), [0].as_slice());
-                assert_eq!(rt; collision.choice.b.as_slice(), [0, 0].as_slice());
+        let table = read_table(rt.alloc(), text.as_bytes())?;
+        for (n, discerning) in [(2, two), (3, three), (4, four)] {
+            let mut found = false;
+            assert!(rt; 2 <= n && n <= 8);
+            for choice in Choices::new(&table, n) {
+                found |= splits(&rt, rt.alloc(), &table, &choice)?;
             }
+            assert_eq!(rt; found, discerning, "{n} of {text}");
         }
+    }
+    Ok(())
+}
+
+/// Asserts that this is the recorded collision of the choice.
+fn assert_recorded(
+    rt: &impl Abort,
+    alloc: Global,
+    table: &Table,
+    choice: &Choice,
+    wanted: (u8, &[u8], &[u8]),
+) -> Result<(), Fail>
+    requires { FitsTable table.now choice.now }
+{
+    match examine(alloc, table, choice)? {
+        Examined::Splits => assert!(rt; false, "it splits"),
+        Examined::Meets(collision) => {
+            assert_eq!(rt; collision.choice.state, choice.state);
+            assert_eq!(rt; collision.choice.a.as_slice(), choice.a.as_slice());
+            assert_eq!(rt; collision.choice.b.as_slice(), choice.b.as_slice());
+            assert_eq!(rt; collision.process, wanted.0);
+            assert_eq!(rt; collision.alpha.as_slice(), wanted.1);
+            assert_eq!(rt; collision.beta.as_slice(), wanted.2);
+        }
+    }
+    Ok(())
+}
+
+#[test]
+fn collisions_of_two_are_recorded(rt: HostRuntime) -> Result<(), Fail> {
+    for (text, state, a, b) in [
+        (types::IDLE, 0, [0], [0]),
+        (types::BINARY_REGISTER, 0, [0], [0]),
+        (types::BINARY_REGISTER, 0, [0], [1]),
+        (types::BINARY_REGISTER, 0, [1], [1]),
+        (types::BINARY_REGISTER, 1, [0], [0]),
+        (types::BINARY_REGISTER, 1, [0], [1]),
+        (types::BINARY_REGISTER, 1, [1], [1]),
+        (types::WIDE, 7, [2], [5]),
+    ] {
+        let table = read_table(rt.alloc(), text.as_bytes())?;
+        let choice = fitting(&rt, &table, state, &a, &b);
+        assert_recorded(&rt, rt.alloc(), &table, &choice, (0, &[0], &[1, 0]))?;
+    }
+    Ok(())
+}
+
+#[test]
+fn collisions_of_three_and_four_are_recorded(rt: HostRuntime) -> Result<(), Fail> {
+    for (text, state, a, b, process, alpha, beta) in [
+        (
+            types::TEST_AND_SET,
+            0,
+            [0].as_slice(),
+            [0, 0].as_slice(),
+            1,
+            [0, 1].as_slice(),
+            [2, 1].as_slice(),
+        ),
+        (types::TEST_AND_SET, 1, &[0], &[0, 0], 0, &[0], &[1, 0]),
+        (
+            types::FETCH_AND_ADD_2,
+            0,
+            &[0],
+            &[0, 0],
+            0,
+            &[0],
+            &[1, 2, 0],
+        ),
+        (
+            types::FETCH_AND_ADD_2,
+            1,
+            &[0],
+            &[0, 0],
+            0,
+            &[0],
+            &[1, 2, 0],
+        ),
+        (types::BINARY_SWAP, 0, &[0], &[0, 0], 0, &[0], &[1, 0]),
+        (types::BINARY_SWAP, 0, &[1], &[1, 1], 1, &[0, 1], &[2, 1]),
+        (types::BINARY_SWAP, 1, &[1], &[1, 1], 0, &[0], &[1, 0]),
+        (types::THREE_SHOT, 0, &[0], &[0, 0, 0], 0, &[0, 1], &[1, 0]),
+        (
+            types::THREE_SHOT,
+            0,
+            &[0],
+            &[1, 1, 1],
+            1,
+            &[0, 2, 3, 1],
+            &[2, 0, 3, 1],
+        ),
+        (types::THREE_SHOT, 5, &[1, 1], &[1, 1], 0, &[0], &[2, 0]),
+    ] {
+        let table = read_table(rt.alloc(), text.as_bytes())?;
+        assert!(rt; a.len() <= 4 && b.len() <= 4 && a.len() + b.len() >= 2);
+        let choice = fitting(&rt, &table, state, a, b);
+        assert_recorded(&rt, rt.alloc(), &table, &choice, (process, alpha, beta))?;
     }
     Ok(())
 }

@@ -1,5 +1,5 @@
 -- Whether a choice is a witness, process by process.
-use Rattle.std.proofs.Common.{◌≡◌, ◌↔◌, ℕ, ◌<◌, List, length, get_or, refl, subst, Option, Some, None, Bool, true, nat_eq}
+use Rattle.std.proofs.Common.{◌≡◌, ◌↔◌, ℕ, ◌<◌, List, length, get_or, refl, subst, Option, Some, None, Bool, nat_eq}
 use Rattle.std.specs.Prelude.{position, slice_index}
 use Rattle.std.specs.Option.{option_map}
 use Rattle.std.proofs.lemmas.Bool.{eqb-true}

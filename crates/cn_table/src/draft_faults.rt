@@ -7,6 +7,12 @@ ghost use Rattle.cn_table.specs.Faults.{has_bad_name, has_bad_count, has_repeate
 use crate::draft::{Draft, DraftRow};
 use crate::names::{are_named, have_repeat, is_name};
 
+const MOST_STATES: usize = 16;
+
+const MOST_RESPONSES: usize = 16;
+
+const MOST_OPERATIONS: usize = 8;
+
 /// Whether the type, a state, a response or an operation has no name.
 #[tactic(auto, using(crate::proofs::ListLemmas::map_twice))]
 pub(crate) fn has_bad_name(draft: &Draft) -> bool
@@ -29,9 +35,9 @@ fn is_miscounted(count: usize, most: usize) -> bool
 pub(crate) fn has_bad_count(draft: &Draft) -> bool
     ensures { result ≡ has_bad_count (draft_view draft.now) }
 {
-    let states = is_miscounted(draft.states.len(), 16);
-    let responses = is_miscounted(draft.responses.len(), 16);
-    let operations = is_miscounted(draft.operations.len(), 8);
+    let states = is_miscounted(draft.states.len(), MOST_STATES);
+    let responses = is_miscounted(draft.responses.len(), MOST_RESPONSES);
+    let operations = is_miscounted(draft.operations.len(), MOST_OPERATIONS);
     states || responses || operations
 }
 

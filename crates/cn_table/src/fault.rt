@@ -75,5 +75,4 @@ impl fmt::Display for TableFault {
     }
 }
 
-// The lead added this: the program prints a fault as `table: 8 RowLength`. Keep it.
 impl Error for TableFault {}
