@@ -8,7 +8,7 @@ use Rattle.cn_choice.specs.Discerning.{IsNumberUpTo}
 use Rattle.cn_search.specs.Faults.{find_fault}
 use Rattle.cn_app.specs.FaultText.{of_table, of_find}
 use Rattle.cn_app.specs.declared.fault.AppFault.{AppFault}
-use Rattle.cn_app.specs.declared.fault.AppFault.TheVariants.{TooLong, Read, Write, OutOfMemory}
+use Rattle.cn_app.specs.declared.fault.AppFault.TheVariants.{TooLong, Write}
 use Rattle.cn_app.specs.declared.fault.Source.TheVariants.{Table}
 
 -- the number in decimal, or `none`, and a line feed
@@ -29,6 +29,6 @@ run_find_fault bytes limit = if nat_lt 65536 (length bytes) then Some (TooLong T
 abbrev pub IsNumberFor : List ℕ → ℕ → Option ℕ → Type 0
 IsNumberFor bytes limit number = (run_find_fault bytes limit ≡ None) × IsOkAnd (reading bytes) (λ t. IsNumberUpTo t limit number)
 
--- memory ran out, or reading or writing failed
-abbrev pub IsOutside : AppFault → Type 0
-IsOutside e = (e ≡ OutOfMemory) ⊎ ((e ≡ Read Table) ⊎ (e ≡ Write))
+-- what these bytes are refused for: the first fault that holds, or, where none does, that writing failed
+abbrev pub IsRefusedFor : List ℕ → ℕ → AppFault → Type 0
+IsRefusedFor bytes limit e = (run_find_fault bytes limit ≡ Some e) ⊎ ((run_find_fault bytes limit ≡ None) × (e ≡ Write))

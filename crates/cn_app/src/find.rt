@@ -1,7 +1,8 @@
 //! The command `find`.
-ghost use Rattle.std.specs.Prelude.{◌≡◌, ◌⊎◌, ℕ, Option, IfOk, IfErr, IfSome, OnOk, string_bytes, Some};
+ghost use Rattle.std.specs.Prelude.{◌≡◌, ◌⊎◌, ℕ, Option, IfOk, IfErr, IfSome, OnOk, string_bytes};
 ghost use Rattle.std.specs.Io.KnownBytes.{Appends, Keeps};
-ghost use Rattle.cn_app.specs.Find.{IsNumberFor, run_find_fault, number_line, IsOutside};
+ghost use Rattle.cn_app.specs.SourceBytes.{MayFail};
+ghost use Rattle.cn_app.specs.Find.{IsNumberFor, IsRefusedFor, number_line};
 
 use crate::fault::{AppFault, Source};
 use crate::source::{TEXT_LIMIT, read_source};
@@ -48,7 +49,7 @@ pub fn run_find<T: Threads + Sync, R: Read, W: Write>(
     ensures whole { IfOk result (λ outcome. outcome ≡ Outcome.Whole) }
     ensures written { OnOk result (IfSome (R.remaining reader.old) (λ bytes. (number : Option ℕ)
         × IsNumberFor bytes limit number × Appends (W.contents writer.old) (W.contents writer.new) (number_line number))) }
-    ensures refused { IfErr result (λ e. IsOutside e ⊎ IfSome (R.remaining reader.old) (λ bytes. run_find_fault bytes limit ≡ Some e)) }
+    ensures refused { IfErr result (λ e. MayFail Source.Table e ⊎ IfSome (R.remaining reader.old) (λ bytes. IsRefusedFor bytes limit e)) }
     ensures silent { IfErr result (λ e. (e ≡ AppFault.Write) ⊎ Keeps (W.contents writer.old) (W.contents writer.new)) }
 {
     let bytes = read_source(alloc, reader, Source::Table, TEXT_LIMIT)?;
