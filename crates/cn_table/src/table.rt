@@ -1,10 +1,13 @@
 //! Type tables: what every later layer stands on.
-ghost use Rattle.std.specs.Prelude.{◌≡◌, ◌<◌, ◌≤◌, IfSome, IsTrue, Some, length, option_map, slice_get, string_bytes};
+ghost use Rattle.std.specs.Prelude.{◌≡◌, ◌<◌, ◌≤◌, IfOk, IfSome, IsTrue, Some, length, map, option_map, slice_get, string_bytes};
+ghost use Rattle.cn_table.specs.DraftView.{texts_view};
+ghost use Rattle.cn_table.specs.TableView.{transitions_view, transitions_views};
 ghost use Rattle.cn_table.specs.TypeTable.{transition, operation_names, IsTypeTable};
 ghost use Rattle.cn_table.specs.Names.{is_name, number_of};
 
 use crate::elements::{Operation, Response, State};
 use crate::names::{Named, number_of};
+use std::alloc::{AllocError, Global};
 use std::marker::Model;
 
 /// What one operation does: its name, and by state the numbers of the response and of the next
@@ -28,7 +31,7 @@ impl Named for Transitions {
 /// a name, and for each operation and state one response and one next state.
 ///
 /// Tables come from [`read_table`](crate::read_table). States, operations and responses are
-/// numbered from 0 in the order of the file. No call here takes memory.
+/// numbered from 0 in the order of the file. No call here but [`copy`](Table::copy) takes memory.
 #[derive(Drop)]
 pub struct Table {
     pub(crate) name: String,
@@ -150,4 +153,53 @@ impl Table {
         let number = number_of(&self.responses, name)?;
         Some(Response(number as u8))
     }
+
+    /// An equal table.
+    ///
+    /// # Errors
+    ///
+    /// Fails only for want of memory.
+    pub fn copy(&self, alloc: Global) -> Result<Table, AllocError>
+        ensures { IfOk result (λ table. table ≡ self.now) }
+    {
+        Ok(Table {
+            name: String::from_str(alloc, self.name.as_str())?,
+            states: copy_texts(alloc, &self.states)?,
+            responses: copy_texts(alloc, &self.responses)?,
+            operations: copy_all_transitions(alloc, &self.operations)?,
+        })
+    }
+}
+
+/// The same texts once more.
+fn copy_texts(alloc: Global, texts: &[String]) -> Result<Vec<String>, AllocError>
+    ensures { IfOk result (λ copy. texts_view copy ≡ map (λ s. string_bytes s) texts.now) }
+{
+    let mut copy = Vec::new(alloc);
+    for text in texts {
+        copy.push(String::from_str(alloc, text.as_str())?)?;
+    }
+    Ok(copy)
+}
+
+/// The same row once more.
+fn copy_transitions(alloc: Global, row: &Transitions) -> Result<Transitions, AllocError>
+    ensures { IfOk result (λ copy. transitions_view copy ≡ transitions_view row.now) }
+{
+    Ok(Transitions {
+        name: String::from_str(alloc, row.name.as_str())?,
+        response: row.response.to_vec(alloc)?,
+        next: row.next.to_vec(alloc)?,
+    })
+}
+
+/// The same rows once more.
+fn copy_all_transitions(alloc: Global, rows: &[Transitions]) -> Result<Vec<Transitions>, AllocError>
+    ensures { IfOk result (λ copy. transitions_views copy ≡ map transitions_view rows.now) }
+{
+    let mut copy = Vec::new(alloc);
+    for row in rows {
+        copy.push(copy_transitions(alloc, row)?)?;
+    }
+    Ok(copy)
 }

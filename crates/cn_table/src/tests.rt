@@ -20,26 +20,28 @@ next = ["one", "one"]
 
 #[test]
 fn answers_each_look_up(rt: HostRuntime) -> Result<(), Fail> {
-    let table = read_table(rt.alloc(), TEST_AND_SET.as_bytes())?;
-    assert!(rt; table.states() == 2 && table.operations() == 1 && table.responses() == 2);
-    assert_eq!(rt; table.name(), "test_and_set");
-    assert_eq!(rt;
-        table.apply(Operation(0), State(0)),
-        (Response(0), State(1))
-    );
-    assert_eq!(rt;
-        table.apply(Operation(0), State(1)),
-        (Response(1), State(1))
-    );
-    assert_eq!(rt; table.state_name(State(1)), "one");
-    assert_eq!(rt; table.operation_name(Operation(0)), "tas");
-    assert_eq!(rt; table.response_name(Response(0)), "zero");
-    assert_eq!(rt; table.find_state("one"), Some(State(1)));
-    assert_eq!(rt; table.find_state("tas"), None);
-    assert_eq!(rt; table.find_operation("tas"), Some(Operation(0)));
-    assert_eq!(rt; table.find_operation("one"), None);
-    assert_eq!(rt; table.find_response("one"), Some(Response(1)));
-    assert_eq!(rt; table.find_response("two"), None);
+    let read = read_table(rt.alloc(), TEST_AND_SET.as_bytes())?;
+    let copy = read.copy(rt.alloc())?;
+    for table in [&read, &copy] {
+        assert!(rt; table.states() == 2 && table.operations() == 1 && table.responses() == 2);
+        assert_eq!(rt; table.name(), "test_and_set");
+        for (state, response) in [(0, 0), (1, 1)] {
+            assert!(rt; state < table.states());
+            assert_eq!(rt;
+                table.apply(Operation(0), State(state)),
+                (Response(response), State(1))
+            );
+        }
+        assert_eq!(rt; table.state_name(State(1)), "one");
+        assert_eq!(rt; table.operation_name(Operation(0)), "tas");
+        assert_eq!(rt; table.response_name(Response(0)), "zero");
+        assert_eq!(rt; table.find_state("one"), Some(State(1)));
+        assert_eq!(rt; table.find_state("tas"), None);
+        assert_eq!(rt; table.find_operation("tas"), Some(Operation(0)));
+        assert_eq!(rt; table.find_operation("one"), None);
+        assert_eq!(rt; table.find_response("one"), Some(Response(1)));
+        assert_eq!(rt; table.find_response("two"), None);
+    }
     Ok(())
 }
 
