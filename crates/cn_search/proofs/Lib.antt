@@ -1,4 +1,5 @@
 pub mod ChoiceLemmas
 pub mod FindingLemmas
 pub mod ListLemmas
+pub mod OneFinding
 pub mod ResultSetLemmas
