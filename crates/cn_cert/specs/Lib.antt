@@ -1,0 +1,10 @@
+pub mod Certificate
+pub mod CertificateText
+pub mod Document
+pub mod Values
+pub mod Draft
+pub mod Ranges
+pub mod Faults
+pub mod Reading
+pub mod Reads
+pub mod FaultText

@@ -1,0 +1,18 @@
+-- What reading bytes as a certificate comes to.
+use Rattle.std.specs.Prelude.{ℕ, List, Option, Result, Err, option_and_then}
+use Rattle.std.specs.Option.{option_map_or, ok_or}
+use Rattle.cn_cert.specs.Certificate.{Certificate}
+use Rattle.cn_cert.specs.Document.{document_of}
+use Rattle.cn_cert.specs.Draft.{draft_of}
+use Rattle.cn_cert.specs.Faults.{fault_of}
+use Rattle.cn_cert.specs.declared.fault.CertFault.{CertFault}
+use Rattle.cn_cert.specs.declared.fault.CertFault.TheVariants.{WrongShape}
+
+-- the certificate that the bytes spell, whatever its version and its numbers
+abbrev pub spelled : List ℕ → Option Certificate
+spelled bytes = option_and_then draft_of (document_of bytes)
+
+-- the first fault that the bytes have, else the certificate that they spell
+-- (bytes without a fault spell one, so the `WrongShape` here is never met)
+abbrev pub reading : List ℕ → Result Certificate CertFault
+reading bytes = option_map_or Err (fault_of bytes) (ok_or (spelled bytes) WrongShape)

@@ -1,0 +1,42 @@
+-- The kinds of values that stand in a certificate.
+use Rattle.std.specs.Prelude.{ℕ, List, length, ◌==◌, Option, Some, None, map, is_some, option_map, option_and_then, if◌then◌else◌, slice_get}
+use Rattle.serde_json.specs.Data.{Data, Members}
+use Rattle.serde_json.specs.Find.{get_member, as_null, as_number, as_u64, as_array}
+use Rattle.cn_table.specs.Draft.{all_some}
+use Rattle.cn_cert.specs.Document.{list_of}
+
+-- an unsigned integer
+abbrev pub natural_of : Data → Option ℕ
+natural_of d = option_and_then as_u64 (as_number d)
+
+-- the items of an array; of one of just so many
+abbrev pub items_of : Data → Option (List Data)
+items_of d = option_map list_of (as_array d)
+
+abbrev pub exactly : ℕ → List Data → Option (List Data)
+exactly len items = if length items == len then Some items else None
+
+abbrev pub items_of_len : ℕ → Data → Option (List Data)
+items_of_len len d = option_and_then (exactly len) (items_of d)
+
+-- an array of unsigned integers
+abbrev pub naturals_from : List Data → Option (List ℕ)
+naturals_from items = all_some (map natural_of items)
+
+abbrev pub naturals_of : Data → Option (List ℕ)
+naturals_of d = option_and_then naturals_from (items_of d)
+
+-- the same, at a place of an array
+abbrev pub natural_at : ℕ → List Data → Option ℕ
+natural_at i items = option_and_then natural_of (slice_get items i)
+
+abbrev pub naturals_at : ℕ → List Data → Option (List ℕ)
+naturals_at i items = option_and_then naturals_of (slice_get items i)
+
+-- null, or a value of a kind
+abbrev pub nullable : {X : Type 0} → (Data → Option X) → Data → Option (Option X)
+nullable kind d = if is_some (as_null d) then Some None else option_map Some (kind d)
+
+-- a value of a kind, at a key
+abbrev pub at_key : {X : Type 0} → List ℕ → (Data → Option X) → Members → Option X
+at_key key kind ms = option_and_then kind (get_member key ms)

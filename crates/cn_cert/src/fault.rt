@@ -1,0 +1,63 @@
+//! What can be wrong with the bytes of a certificate.
+ghost use Rattle.std.specs.Prelude.{◌≡◌};
+ghost use Rattle.cn_cert.specs.declared.fault.CertFault.TheVariants.{OutOfMemory};
+
+use std::alloc::{AllocError, AllocFailed};
+use std::error::Error;
+use std::fmt;
+
+/// Why bytes were not read as a certificate, or a certificate was not written.
+///
+/// Each fault has a number, from 1 to 5. Where bytes have several of the first four, the one with
+/// the least number is answered.
+#[derive(Clone, Copy, Debug, PartialEq, Eq)]
+pub enum CertFault {
+    /// The bytes are not UTF-8, or not a JSON text, or nest more than 127 deep.
+    NotJson = 1,
+    /// The JSON value is not an object with the six keys of a certificate and no other, each with
+    /// a value of its kind.
+    WrongShape = 2,
+    /// The version is not 1.
+    Version = 3,
+    /// The limit or the number is above 255, a state above 15, an operation or a process above 7,
+    /// a list longer than 8, or the type is called by a text that is not a name, which is 1 to 32
+    /// small letters, digits and underscores.
+    Range = 4,
+    /// There was not enough memory.
+    OutOfMemory = 5,
+}
+
+impl<T: Drop> From<AllocFailed<T>> for CertFault {
+    ghost from_gives = { λ _ e. e ≡ OutOfMemory };
+
+    fn from(_e: AllocFailed<T>) -> CertFault {
+        CertFault::OutOfMemory
+    }
+}
+
+impl From<AllocError> for CertFault {
+    ghost from_gives = { λ _ e. e ≡ OutOfMemory };
+
+    fn from(_e: AllocError) -> CertFault {
+        CertFault::OutOfMemory
+    }
+}
+
+impl fmt::Display for CertFault {
+    ghost use Rattle.std.specs.Prelude.{Some};
+    ghost use Rattle.cn_cert.specs.FaultText.{cert_fault_text};
+
+    ghost output = { λ fault. Some (cert_fault_text fault) };
+
+    fn fmt<W: fmt::Write>(&self, f: &mut fmt::Formatter<W>) -> fmt::Result {
+        f.write_str(match self {
+            CertFault::NotJson => "1 NotJson",
+            CertFault::WrongShape => "2 WrongShape",
+            CertFault::Version => "3 Version",
+            CertFault::Range => "4 Range",
+            CertFault::OutOfMemory => "5 OutOfMemory",
+        })
+    }
+}
+
+impl Error for CertFault {}

@@ -1,0 +1,23 @@
+//! Certificates: the finding of a search with the name of its type, as a value and as a JSON text.
+//!
+//! [`Certificate::of_finding`] makes a certificate, [`write_certificate`] gives its one text, and
+//! [`read_certificate`] reads it back, or says by a [`CertFault`] what is wrong with a text.
+#![tactic(auto)]
+
+mod certificate;
+mod document;
+mod draft;
+mod fault;
+pub mod laws;
+mod ranges;
+mod read;
+mod values;
+mod write;
+
+pub use certificate::Certificate;
+pub use fault::CertFault;
+pub use read::read_certificate;
+pub use write::write_certificate;
+
+#[cfg(test)]
+mod tests;

@@ -1,0 +1,138 @@
+//! From a draft to a certificate: numbers within their ranges, and a name.
+ghost use Rattle.std.specs.Prelude.{◌≡◌};
+ghost use Rattle.cn_cert.specs.Ranges.{within, is_byte, is_short, is_choice_in_range, collision_within, collisions_within, is_witness_in_range, is_number_in_range, certificate_within};
+ghost use Rattle.cn_cert.specs.Reads.{Reads};
+
+use crate::certificate::Certificate;
+use crate::draft::{Draft, DraftChoice, DraftCollision};
+use crate::fault::CertFault;
+use arrayvec::ArrayVec;
+use cn_choice::{Choice, Collision};
+use cn_table::{State, is_name};
+use std::alloc::Global;
+
+/// The greatest number of a state.
+const GREATEST_STATE: u64 = 15;
+
+/// The greatest number of an operation or of a process.
+const GREATEST_NUMBER: u64 = 7;
+
+/// So many operations or processes stand in a list, and no more.
+const LONGEST_LIST: usize = 8;
+
+fn byte(n: u64) -> Result<u8, CertFault>
+    ensures { Reads CertFault.Range (λ n. n) result (within is_byte n) }
+{
+    if n > 255 {
+        return Err(CertFault::Range);
+    }
+    Ok(n as u8)
+}
+
+fn number(n: Option<u64>) -> Result<Option<u8>, CertFault>
+    ensures { Reads CertFault.Range (λ n. n) result (within is_number_in_range n) }
+{
+    match n {
+        Some(n) => Ok(Some(byte(n)?)),
+        None => Ok(None),
+    }
+}
+
+fn short_list(numbers: &[u64]) -> Result<ArrayVec<u8, 8>, CertFault>
+    ensures { Reads CertFault.Range (λ v. v.items) result (within is_short numbers.now) }
+{
+    if numbers.len() > LONGEST_LIST {
+        return Err(CertFault::Range);
+    }
+    let mut out = ArrayVec::new();
+    for n in numbers {
+        if *n > GREATEST_NUMBER {
+            return Err(CertFault::Range);
+        }
+        out.push(*n as u8);
+    }
+    Ok(out)
+}
+
+fn choice(draft: &DraftChoice) -> Result<Choice, CertFault>
+    ensures { Reads CertFault.Range (λ c. c) result (within is_choice_in_range draft.now) }
+{
+    let a = short_list(&draft.a)?;
+    let b = short_list(&draft.b)?;
+    if draft.state > GREATEST_STATE {
+        return Err(CertFault::Range);
+    }
+    Ok(Choice {
+        state: State(draft.state as u8),
+        a,
+        b,
+    })
+}
+
+fn witness(draft: &Option<DraftChoice>) -> Result<Option<Choice>, CertFault>
+    ensures { Reads CertFault.Range (λ o. o) result (within is_witness_in_range draft.now) }
+{
+    match draft {
+        Some(draft) => Ok(Some(choice(draft)?)),
+        None => Ok(None),
+    }
+}
+
+#[tactic(auto, unfolding(crate::specs::Ranges::collision_within))]
+fn collision(draft: &DraftCollision) -> Result<Collision, CertFault>
+    ensures { Reads CertFault.Range (λ c. c) result (collision_within draft.now) }
+{
+    let choice = choice(&draft.choice)?;
+    let alpha = short_list(&draft.alpha)?;
+    let beta = short_list(&draft.beta)?;
+    if draft.process > GREATEST_NUMBER {
+        return Err(CertFault::Range);
+    }
+    Ok(Collision {
+        choice,
+        process: draft.process as u8,
+        alpha,
+        beta,
+    })
+}
+
+fn collisions(alloc: Global, drafts: &[DraftCollision]) -> Result<Vec<Collision>, CertFault>
+    ensures { Reads CertFault.Range (λ v. v.items) result (collisions_within drafts.now) }
+{
+    let mut out = Vec::new(alloc);
+    for draft in drafts {
+        out.push(collision(draft)?)?;
+    }
+    Ok(out)
+}
+
+/// The certificate of a draft, where everything is within its range.
+#[tactic(auto, using(crate::proofs::RangeLemmas::each_within))]
+pub(crate) fn certificate(alloc: Global, draft: Draft) -> Result<Certificate, CertFault>
+    requires { draft.version ≡ 1 }
+    ensures { Reads CertFault.Range (λ c. c) result (certificate_within draft) }
+{
+    let limit = byte(draft.limit)?;
+    let number = number(draft.number)?;
+    let witness = witness(&draft.witness)?;
+    let collisions = collisions(alloc, &draft.collisions)?;
+    if !is_name(draft.type_name.as_str()) {
+        return Err(CertFault::Range);
+    }
+    let Draft {
+        version: _,
+        type_name,
+        limit: _,
+        number: _,
+        witness: _,
+        collisions: _,
+    } = draft;
+    Ok(Certificate {
+        version: 1,
+        type_name,
+        limit,
+        number,
+        witness,
+        collisions,
+    })
+}

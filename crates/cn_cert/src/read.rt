@@ -1,0 +1,35 @@
+//! From bytes to a certificate, or to the first fault that the bytes have.
+ghost use Rattle.std.specs.Prelude.{◌≡◌, ◌⊎◌, Ok, Err, IfOk, IfErr};
+ghost use Rattle.cn_cert.specs.Reading.{reading};
+ghost use Rattle.cn_cert.specs.declared.fault.CertFault.TheVariants.{OutOfMemory};
+
+use crate::certificate::Certificate;
+use crate::document::read_document;
+use crate::draft::draft_from;
+use crate::fault::CertFault;
+use crate::ranges;
+use std::alloc::Global;
+
+/// Reads a certificate from the bytes of a JSON text.
+///
+/// The text is an object with the keys `collisions`, `limit`, `number`, `type`, `version` and
+/// `witness` and no other. Version and limit are unsigned integers, the number is one or null, and
+/// the type is a text. The witness is null or an array of a state, the operations of team A and
+/// those of team B; a collision is an array of these three, a process and two lists of processes.
+/// White space and the order of the keys do not matter; of two equal keys the last one counts.
+///
+/// # Errors
+///
+/// The first of the faults 1 to 4 of [`CertFault`] that the bytes have, or `OutOfMemory`.
+#[tactic(auto, unfolding(crate::specs::Faults::fault_of))]
+pub fn read_certificate(alloc: Global, bytes: &[u8]) -> Result<Certificate, CertFault>
+    ensures certificate { IfOk result (λ c. reading bytes.now ≡ Ok c) }
+    ensures fault { IfErr result (λ e. (e ≡ OutOfMemory) ⊎ (reading bytes.now ≡ Err e)) }
+{
+    let value = read_document(alloc, bytes)?;
+    let draft = draft_from(alloc, &value)?;
+    if draft.version != 1 {
+        return Err(CertFault::Version);
+    }
+    ranges::certificate(alloc, draft)
+}
