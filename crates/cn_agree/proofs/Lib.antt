@@ -1,0 +1,15 @@
+pub mod Lists
+pub mod OrderLemmas
+pub mod Invariant
+pub mod Growing
+pub mod Changing
+pub mod Actions
+pub mod StepCounts
+pub mod Values
+pub mod Reaching
+pub mod Fixing
+pub mod Beginning
+pub mod Agreeing
+pub mod AtomicLemmas
+pub mod PlanRounds
+pub mod Running

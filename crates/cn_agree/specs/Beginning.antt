@@ -1,0 +1,31 @@
+-- A round while its processes begin.
+use Rattle.std.specs.Prelude.{ℕ, ◌≡◌, ◌<◌, List, [], ◌++◌, map, take, drop, replicate, Option, Some, None}
+use Rattle.cn_proto.specs.Plan.{Plan, protocol_of, processes_of, nodes_of}
+use Rattle.cn_proto.specs.Protocol.{Protocol}
+use Rattle.cn_agree.specs.declared.local.Stage.TheVariants.{Write}
+use Rattle.cn_agree.specs.declared.local.Local.TheVariants.{NotBegun, Active}
+use Rattle.cn_agree.specs.World.{World, untouched}
+use Rattle.cn_agree.specs.Reached.{HasBegun}
+use Rattle.cn_agree.specs.Rounds.{IsRoundOf}
+
+-- a list of n: first what f makes of the first i of xs, and then only d
+abbrev pub front : {A B : Type 0} → (A → B) → B → ℕ → List A → ℕ → List B
+front f d n xs i = map f (take i xs) ++ drop i (replicate n d)
+
+-- the first i of n processes have begun with their inputs, and nothing else has happened
+abbrev pub some_begun : {V : Type 0} → Protocol → ℕ → ℕ → List V → ℕ → World V
+some_begun P n nodes inputs i = record {
+  nodes = replicate nodes (untouched P.start);
+  locals = front (λ x. Active 0 x Write) NotBegun n inputs i;
+  inputs = front (λ x. Some x) None n inputs i;
+  first = None;
+}
+
+-- a round of the plan whose first i processes have begun with their inputs, and no more
+pub record HaveBegun {V : Type 0} (plan : Plan) (inputs : List V) (i : ℕ) (w : World V) : Type 0 where
+  pub is : w ≡ some_begun (protocol_of plan) (processes_of plan) (nodes_of plan) inputs i
+  pub round : IsRoundOf plan [] w
+
+-- each of n processes has begun
+abbrev pub AllHaveBegun : {V : Type 0} → ℕ → World V → Type 0
+AllHaveBegun n w = (p : ℕ) → p < n → HasBegun w p

@@ -1,0 +1,10 @@
+pub mod World
+pub mod Steps
+pub mod AtomicStep
+pub mod Reached
+pub mod Consensus
+pub mod Rounds
+pub mod Schedules
+pub mod Decided
+pub mod Beginning
+pub mod FaultText

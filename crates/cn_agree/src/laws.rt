@@ -1,0 +1,48 @@
+//! Laws of rounds and schedules. A law is a function that does nothing: its contract is the law.
+ghost use Rattle.std.specs.Prelude.{◌≡◌, ◌<◌, ◌↔◌, ℕ, List, length, None, Some};
+ghost use Rattle.std.specs.List.{AllByRecursion};
+ghost use Rattle.cn_choice.specs.declared.team.Team.{Team as TeamOf};
+ghost use Rattle.cn_proto.specs.Plan.{protocol_of, processes_of};
+ghost use Rattle.cn_proto.specs.Protocol.{Protocol};
+ghost use Rattle.cn_proto.specs.Sound.{IsSound};
+ghost use Rattle.cn_agree.specs.AtomicStep.{IsAtomic};
+ghost use Rattle.cn_agree.specs.Consensus.{IsConsensus};
+ghost use Rattle.cn_agree.specs.Reached.{HasBegun, IsReached};
+ghost use Rattle.cn_agree.specs.Rounds.{KeepsConsensus, fixed_value};
+ghost use Rattle.cn_agree.specs.Schedules.{decisions_after};
+ghost use Rattle.cn_agree.specs.Steps.{after_step};
+ghost use Rattle.cn_agree.specs.World.{World, input_at, local_at};
+ghost use Rattle.cn_agree.specs.declared.local.Local.TheVariants.{NotBegun};
+
+use cn_proto::Plan;
+
+/// A step is atomic: one action touches one object or one register, and all else stays, but the
+/// local state of the process and the record of the first application at the root; and what the
+/// process does next depends on its local state and on what the action touched, and on nothing
+/// else.
+pub fn atomic_steps<V>()
+    ensures { (P : Protocol) (p : ℕ) → IsAtomic V P p }
+{}
+
+/// Every schedule of a plan, with any inputs, ends in consensus: agreement, validity, and
+/// wait-freedom within 4(n-1) steps of a process.
+pub fn every_schedule<V>(plan: &Plan)
+    ensures { (inputs : List V) (schedule : List ℕ) → length inputs ≡ processes_of plan.now → AllByRecursion (λ p. p < processes_of plan.now) schedule → IsConsensus (protocol_of plan.now) (processes_of plan.now) inputs schedule (decisions_after plan.now inputs schedule) }
+{
+    plan.is_sound();
+}
+
+/// Every round keeps consensus, whatever its processes did so far.
+///
+/// `consensus`: each decision is the value that the round has fixed; that is a value that a
+/// participant began with, and is there exactly from the first application at the root on; and a
+/// process has decided exactly after four steps for each place of its path. `fixed`: the value
+/// stays. `begun`: who has begun stays begun, and has a value on record. `sizes`: there is one of
+/// each for each node and process.
+pub fn every_round<V>()
+    ensures consensus { (P : Protocol) (n nodes : ℕ) (team : ℕ → TeamOf) (schedule : List ℕ) (w : World V) → IsSound P n nodes team → IsReached P n nodes schedule w → KeepsConsensus P n schedule w }
+    ensures fixed { (P : Protocol) (n nodes : ℕ) (team : ℕ → TeamOf) (schedule : List ℕ) (w : World V) → IsSound P n nodes team → IsReached P n nodes schedule w → (p : ℕ) (x : V) → p < n → fixed_value w ≡ Some x → fixed_value (after_step P p w) ≡ Some x }
+    ensures begun { (P : Protocol) (n nodes : ℕ) (team : ℕ → TeamOf) (schedule : List ℕ) (w : World V) → IsSound P n nodes team → IsReached P n nodes schedule w → (p : ℕ) → p < n → (local_at w p ≡ NotBegun) ↔ (input_at w p ≡ None) }
+    ensures stays_begun { (P : Protocol) (n nodes : ℕ) (team : ℕ → TeamOf) (schedule : List ℕ) (w : World V) → IsSound P n nodes team → IsReached P n nodes schedule w → (p q : ℕ) → p < n → HasBegun w q → HasBegun (after_step P p w) q }
+    ensures sizes { (P : Protocol) (n nodes : ℕ) (team : ℕ → TeamOf) (schedule : List ℕ) (w : World V) → IsSound P n nodes team → IsReached P n nodes schedule w → (length w.nodes ≡ nodes) × (length w.locals ≡ n) × (length w.inputs ≡ n) }
+{}

@@ -1,0 +1,27 @@
+//! Consensus among the processes of a plan: rounds, step by step in any order, and what whole
+//! schedules decide.
+//!
+//! A [`Round`] is one instance of consensus. Each process begins with a value of its own, and then
+//! takes steps: at each place of its path it writes its value to the register of its team, applies
+//! its operation to the object of the node, reads the object, and reads the register of the team
+//! that it judges by response and state to have come first. With the value that it finds it goes on
+//! to its next place, and at the root it decides it. [`run_schedule`] runs a round in which all
+//! processes have begun, by a list of the processes that take the steps.
+#![tactic(auto)]
+
+mod action;
+mod fault;
+pub mod laws;
+mod local;
+mod node;
+mod round;
+mod schedule;
+
+pub use fault::ScheduleFault;
+pub use local::{Local, Stage};
+pub use node::Node;
+pub use round::Round;
+pub use schedule::{Decided, run_schedule};
+
+#[cfg(test)]
+mod tests;

@@ -1,0 +1,44 @@
+//! What one process of a round knows.
+ghost use Rattle.std.specs.Prelude.{◌≡◌};
+ghost use Rattle.cn_agree.specs.Rounds.{decided as decision_of};
+
+use cn_table::{Response, State};
+
+/// The next action of a process at its place, with what it has kept for it.
+#[derive(Clone, Copy, Debug, PartialEq, Eq)]
+pub enum Stage {
+    /// It writes its value to the register of its team.
+    Write,
+    /// It applies its operation to the object.
+    Apply,
+    /// It reads the object; its operation got this response.
+    Read(Response),
+    /// It reads the register of the team that it judges to have come first, by the response that
+    /// its operation got and the state that it read.
+    Take(Response, State),
+}
+
+/// The local state of a process.
+#[derive(Clone, Copy, Debug, Drop)]
+pub enum Local<V> {
+    /// It has not begun.
+    NotBegun,
+    /// It is at this place of its path, counted from its lowest node, with this value.
+    Active {
+        place: usize,
+        value: V,
+        stage: Stage,
+    },
+    /// It has decided this value.
+    Decided(V),
+}
+
+/// What a local state tells of a decision.
+pub(crate) fn decided<V: Copy>(local: Local<V>) -> Option<V>
+    ensures { result ≡ decision_of local }
+{
+    match local {
+        Local::Decided(value) => Some(value),
+        Local::NotBegun | Local::Active { .. } => None,
+    }
+}

@@ -1,0 +1,176 @@
+//! One instance of consensus, one atomic step at a time.
+ghost use Rattle.std.specs.Prelude.{◌≡◌, ◌<◌, ◌≤◌, ◌*◌, ◌↔◌, ◌++◌, ◌∷◌, [], ℕ, List, length, replicate, IfOk, IfSome, IsSome, None, Some};
+ghost use Rattle.cn_proto.specs.Plan.{Plan as PlanOf, protocol_of, processes_of, nodes_of};
+ghost use Rattle.cn_agree.specs.Consensus.{IsParticipant, occurrences};
+ghost use Rattle.cn_agree.specs.Reached.{first_world, HasBegun};
+ghost use Rattle.cn_agree.specs.Rounds.{decision_at, fixed_value, IsAppliedAtRoot, IsRoundOf, IsRound, RunsBy};
+ghost use Rattle.cn_agree.specs.Steps.{begun, after_step};
+ghost use Rattle.cn_agree.specs.declared.local.Local.TheVariants.{NotBegun};
+ghost use Rattle.cn_agree.specs.World.{local_at, input_at};
+
+use crate::action::{Turn, act, first_after};
+use crate::local::{Local, Stage, decided};
+use crate::node::Node;
+use cn_choice::Team;
+use cn_proto::Plan;
+use std::alloc::{AllocError, Global};
+use std::marker::Model;
+
+/// One instance of consensus among the processes of a plan, over values of type `V`.
+///
+/// It has an object and two registers for each node of the plan, and a local state for each
+/// process. It also keeps the value that each process began with and the team of the first
+/// application at the root, which no action reads. All of it stands in vectors that `new` makes at
+/// full length: no other call takes memory.
+///
+/// However its processes begin and step, and wherever they stop: all that decide decide the one
+/// value that the round has fixed, which is a value that a process began with that has taken a
+/// step, and each process decides at its step 4k, where k places are on its path.
+#[derive(Debug, Drop)]
+pub struct Round<V: Copy> {
+    nodes: Vec<Node<V>>,
+    locals: Vec<Local<V>>,
+    inputs: Vec<Option<V>>,
+    first: Option<Team>,
+}
+
+impl<V: Copy> Model for Round<V> {
+    ghost use Rattle.cn_agree.specs.World.{World};
+    ghost use Rattle.cn_agree.specs.Rounds.{IsRound};
+
+    ghost Value = { World V };
+
+    ghost view = { λ r. record {
+      nodes = r.nodes.items;
+      locals = r.locals.items;
+      inputs = r.inputs.items;
+      first = r.first;
+    } };
+
+    ghost invariant = { λ r. IsRound (record {
+      nodes = r.nodes.items;
+      locals = r.locals.items;
+      inputs = r.inputs.items;
+      first = r.first;
+    }) };
+}
+
+impl<V: Copy> Round<V> {
+    /// A round of the plan in which nothing has happened.
+    ///
+    /// # Errors
+    ///
+    /// Fails only for want of memory.
+    pub fn new(alloc: Global, plan: &Plan) -> Result<Round<V>, AllocError>
+        ensures world { IfOk result (λ round. round ≡ first_world (protocol_of plan.now) (processes_of plan.now) (nodes_of plan.now)) }
+        ensures of_plan { IfOk result (IsRoundOf plan.now []) }
+    {
+        plan.is_sound();
+        let untouched = Node {
+            state: plan.start(),
+            register_a: None,
+            register_b: None,
+        };
+        let processes = usize::from(plan.processes());
+        Ok(Round {
+            nodes: filled(alloc, untouched, usize::from(plan.nodes()))?,
+            locals: filled(alloc, Local::NotBegun, processes)?,
+            inputs: filled(alloc, None, processes)?,
+            first: None,
+        })
+    }
+
+    /// Every round, however it came to be, is one of a plan, after beginnings and the steps of a
+    /// schedule.
+    pub fn is_reached(&self)
+        ensures { IsRound self.now }
+    {
+        let _ = &self.first;
+    }
+
+    /// Process `p`, which has not begun, begins with its value. That is no step.
+    pub fn begin(&mut self, p: u8, value: V)
+        requires process { p < length self.old.locals }
+        requires not_begun { local_at self.old p ≡ NotBegun }
+        ensures world { self.new ≡ begun p value self.old }
+        ensures of_plan { (plan : PlanOf) (schedule : List ℕ) → IsRoundOf plan schedule self.old → IsRoundOf plan schedule self.new }
+        ensures fixed { fixed_value self.new ≡ fixed_value self.old }
+    {
+        self.locals[usize::from(p)] = Local::Active {
+            place: 0,
+            value,
+            stage: Stage::Write,
+        };
+        self.inputs[usize::from(p)] = Some(value);
+    }
+
+    /// One atomic step of process `p`, which has begun and not decided, in a round of this plan.
+    /// The value, where `p` decides by this step.
+    pub fn step(&mut self, plan: &Plan, p: u8) -> Option<V>
+        requires of_plan { RunsBy plan.now self.old }
+        requires process { p < processes_of plan.now }
+        requires begun { HasBegun self.old p }
+        requires undecided { decision_at self.old p ≡ None }
+        ensures world { self.new ≡ after_step (protocol_of plan.now) p self.old }
+        ensures decision { result ≡ decision_at self.new p }
+        ensures of_plan { (schedule : List ℕ) → IsRoundOf plan.now schedule self.old → IsRoundOf plan.now (schedule ++ p ∷ []) self.new }
+        ensures fixed { (x : V) → fixed_value self.old ≡ Some x → fixed_value self.new ≡ Some x }
+    {
+        plan.is_sound();
+        match self.locals[usize::from(p)] {
+            Local::Active {
+                place,
+                value,
+                stage,
+            } => {
+                let path = plan.path(p);
+                let here = path[place];
+                let turn = Turn {
+                    here,
+                    place,
+                    places: path.len(),
+                    value,
+                    stage,
+                };
+                let next = act(plan, turn, &mut self.nodes[usize::from(here.node)]);
+                self.locals[usize::from(p)] = next;
+                self.first = first_after(self.first, here, stage);
+                decided(next)
+            }
+            // It has begun and not decided.
+            Local::NotBegun | Local::Decided(_) => unreachable!(),
+        }
+    }
+
+    /// What process `p` has decided.
+    pub fn decision(&self, p: u8) -> Option<V>
+        requires { p < length self.now.locals }
+        ensures value { result ≡ decision_at self.now p }
+        ensures fixed { IfSome result (λ x. fixed_value self.now ≡ Some x) }
+        ensures in_time { (plan : PlanOf) (schedule : List ℕ) → IsRoundOf plan schedule self.now → IsSome result ↔ (4 * length ((protocol_of plan).path p) ≤ occurrences schedule p) }
+    {
+        decided(self.locals[usize::from(p)])
+    }
+
+    /// The value that the round has fixed: that of the team which came first at the root, from the
+    /// first application there on.
+    pub fn fixed(&self) -> Option<V>
+        ensures value { result ≡ fixed_value self.now }
+        ensures valid { (plan : PlanOf) (schedule : List ℕ) → IsRoundOf plan schedule self.now → IfSome result (λ x. (q : ℕ) × IsParticipant schedule q × (input_at self.now q ≡ Some x)) }
+        ensures since { (plan : PlanOf) (schedule : List ℕ) → IsRoundOf plan schedule self.now → IsSome result ↔ IsAppliedAtRoot (protocol_of plan) (processes_of plan) self.now }
+    {
+        let root = self.nodes[0];
+        root.register(self.first?)
+    }
+}
+
+/// So many copies of a value.
+fn filled<T: Copy>(alloc: Global, value: T, count: usize) -> Result<Vec<T>, AllocError>
+    ensures { IfOk result (λ values. values.items ≡ replicate count value) }
+{
+    let mut values = Vec::new(alloc);
+    for _i in 0..count {
+        values.push(value)?;
+    }
+    Ok(values)
+}

@@ -1,0 +1,149 @@
+//! Whole schedules: lists of the processes that take the steps.
+ghost use Rattle.std.specs.Prelude.{◌≡◌, ◌<◌, ◌≤◌, ◌⊎◌, ℕ, length, IfErr, IfOk, OnOk, None, Some, nat_le, position};
+ghost use Rattle.std.specs.List.{AllByRecursion};
+ghost use Rattle.cn_proto.specs.Plan.{protocol_of, processes_of, nodes_of};
+ghost use Rattle.cn_agree.specs.Beginning.{AllHaveBegun, HaveBegun};
+ghost use Rattle.cn_agree.specs.Consensus.{IsConsensus};
+ghost use Rattle.cn_agree.specs.Rounds.{RunsBy};
+ghost use Rattle.cn_agree.specs.Schedules.{all_begun, decisions_of, decisions_after, schedule_fault};
+ghost use Rattle.cn_agree.specs.Steps.{after_schedule};
+ghost use Rattle.cn_agree.specs.declared.fault.ScheduleFault.TheVariants.{OutOfMemory};
+
+use crate::{Round, ScheduleFault, laws};
+use cn_proto::Plan;
+use std::alloc::{AllocError, Global};
+use std::marker::Model;
+
+/// What a schedule decides: for each process its decision, if it has one.
+#[derive(Drop)]
+pub struct Decided {
+    pub decisions: Vec<Option<u64>>,
+}
+
+impl Model for Decided {
+    ghost use Rattle.cn_agree.specs.Decided.{Decided};
+
+    ghost Value = { Decided };
+
+    ghost view = { λ d. record { decisions = d.decisions.items } };
+}
+
+/// The first place of a schedule that names none of so many processes.
+pub(crate) fn stranger_at(processes: u8, schedule: &[u8]) -> Option<usize>
+    ensures { result ≡ position (λ p. nat_le processes p) schedule.now }
+{
+    schedule.iter().position(|p| *p >= processes)
+}
+
+/// The first fault of inputs and a schedule for the processes of a plan.
+fn fault_of(plan: &Plan, inputs: &[u64], schedule: &[u8]) -> Option<ScheduleFault>
+    ensures { result ≡ schedule_fault (processes_of plan.now) inputs.now schedule.now }
+{
+    let processes = plan.processes();
+    if inputs.len() != usize::from(processes) {
+        return Some(ScheduleFault::InputCount);
+    }
+    let place = stranger_at(processes, schedule)?;
+    Some(ScheduleFault::NoSuchProcess(place as u64))
+}
+
+/// Each process begins with its input.
+fn begin_all<V: Copy>(plan: &Plan, round: &mut Round<V>, inputs: &[V])
+    requires count { length inputs.now ≡ processes_of plan.now }
+    requires fresh { HaveBegun plan.now inputs.now 0 round.old }
+    ensures { HaveBegun plan.now inputs.now (processes_of plan.now) round.new }
+{
+    plan.is_sound();
+    for p in 0..inputs.len() {
+        round.begin(p as u8, inputs[p]);
+    }
+}
+
+/// The steps of a schedule. A process that it names after it has decided takes none.
+fn step_all<V: Copy>(plan: &Plan, round: &mut Round<V>, schedule: &[u8])
+    requires of_plan { RunsBy plan.now round.old }
+    requires begun { AllHaveBegun (processes_of plan.now) round.old }
+    requires schedule { AllByRecursion (λ p. p < processes_of plan.now) schedule.now }
+    ensures world { round.new ≡ after_schedule (protocol_of plan.now) schedule.now round.old }
+    ensures of_plan { RunsBy plan.now round.new }
+    ensures begun { AllHaveBegun (processes_of plan.now) round.new }
+{
+    plan.is_sound();
+    for p in schedule {
+        if round.decision(*p).is_none() {
+            round.step(plan, *p);
+        }
+    }
+}
+
+/// What each of so many processes has decided.
+pub(crate) fn decisions<V: Copy>(
+    alloc: Global,
+    round: &Round<V>,
+    processes: u8,
+) -> Result<Vec<Option<V>>, AllocError>
+    requires { processes ≡ length round.now.locals }
+    ensures { IfOk result (λ decisions. decisions.items ≡ decisions_of round.now) }
+{
+    let mut decisions = Vec::new(alloc);
+    for p in 0..processes {
+        decisions.push(round.decision(p))?;
+    }
+    Ok(decisions)
+}
+
+/// The round after a schedule, where each process has begun with its input.
+pub(crate) fn round_after<V: Copy>(
+    alloc: Global,
+    plan: &Plan,
+    inputs: &[V],
+    schedule: &[u8],
+) -> Result<Round<V>, AllocError>
+    requires inputs { length inputs.now ≡ processes_of plan.now }
+    requires schedule { AllByRecursion (λ p. p < processes_of plan.now) schedule.now }
+    ensures world { IfOk result (λ round. round ≡ after_schedule (protocol_of plan.now) schedule.now (all_begun (protocol_of plan.now) (nodes_of plan.now) inputs.now)) }
+    ensures processes { IfOk result (λ round. length round.locals ≡ processes_of plan.now) }
+    ensures of_plan { IfOk result (RunsBy plan.now) }
+    ensures begun { IfOk result (AllHaveBegun (processes_of plan.now)) }
+{
+    let mut round = Round::new(alloc, plan)?;
+    begin_all(plan, &mut round, inputs);
+    step_all(plan, &mut round, schedule);
+    Ok(round)
+}
+
+/// What each process has decided after a schedule, where all have begun, process p with
+/// `inputs[p]`.
+///
+/// A schedule is a list of processes in the order in which they take their steps, in any number
+/// and any order. A process that it names after it has decided takes no step.
+///
+/// Whatever the schedule, the decisions are consensus: all are equal, they are the input of a
+/// process that occurs in the schedule, and a process has decided exactly when it occurs at least
+/// four times for each place of its path, which is at most 4(n-1) times for n processes.
+///
+/// # Errors
+///
+/// `InputCount` where there are not as many inputs as processes; else `NoSuchProcess` with the
+/// first place of the schedule that names no process. `OutOfMemory` can stand in place of any
+/// answer.
+pub fn run_schedule(
+    alloc: Global,
+    plan: &Plan,
+    inputs: &[u64],
+    schedule: &[u8],
+) -> Result<Decided, ScheduleFault>
+    ensures decisions { IfOk result (λ d. d.decisions ≡ decisions_after plan.now inputs.now schedule.now) }
+    ensures consensus { IfOk result (λ d. IsConsensus (protocol_of plan.now) (processes_of plan.now) inputs.now schedule.now d.decisions) }
+    ensures run { OnOk result (schedule_fault (processes_of plan.now) inputs.now schedule.now ≡ None) }
+    ensures refused { IfErr result (λ e. (e ≡ OutOfMemory) ⊎ (schedule_fault (processes_of plan.now) inputs.now schedule.now ≡ Some e)) }
+{
+    if let Some(fault) = fault_of(plan, inputs, schedule) {
+        return Err(fault);
+    }
+    laws::every_schedule::<u64>(plan);
+    let round = round_after(alloc, plan, inputs, schedule)?;
+    Ok(Decided {
+        decisions: decisions(alloc, &round, plan.processes())?,
+    })
+}
