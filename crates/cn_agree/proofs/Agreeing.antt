@@ -1,6 +1,5 @@
 -- Whole schedules end in consensus.
 use Rattle.std.proofs.Common.{ℕ, zero, suc, ◌≡◌, ◌≢◌, ◌+◌, ◌-◌, ◌*◌, ◌<◌, ◌≤◌, ◌↔◌, List, [], ◌∷◌, ◌++◌, length, map, slice_get, slice_index_or, Option, Some, None, IsSome, refl, sym, ap, ◌∙◌, arith, append_assoc, append-nil, subst, true≢false}
-use Rattle.std.specs.List.{AllByRecursion}
 use Rattle.std.proofs.lemmas.List.{length-map}
 use Rattle.cn_choice.specs.declared.team.Team.{Team}
 use Rattle.cn_proto.specs.Protocol.{Protocol}
@@ -11,7 +10,7 @@ use Rattle.cn_agree.specs.World.{World, local_at, input_at}
 use Rattle.cn_agree.specs.Steps.{after_step, after_schedule}
 use Rattle.cn_agree.specs.Reached.{IsReached, Steps, HasBegun}
 use Rattle.cn_agree.specs.Rounds.{decided, decision_at, fixed_value, KeepsConsensus}
-use Rattle.cn_agree.specs.Consensus.{Decides, HasDecided, Agrees, IsValid, IsWaitFree, IsConsensus}
+use Rattle.cn_agree.specs.Consensus.{IsSchedule, Decides, HasDecided, Agrees, IsValid, IsWaitFree, IsConsensus}
 use Rattle.cn_agree.specs.Schedules.{all_begun, decisions_of}
 use Rattle.cn_agree.proofs.StepCounts.{inputs_step}
 use Rattle.cn_agree.proofs.Reaching.{locals_are, begun_stays}
@@ -46,7 +45,7 @@ inputs_schedule P (p ∷ schedule) w = inputs_schedule P schedule (after_step P 
 
 module _ {V : Type 0} (P : Protocol) (n nodes : ℕ) (team : ℕ → Team) (sound : IsSound P n nodes team) where
   -- a round in which all have begun comes to the world after any schedule
-  pub reached_after : (before schedule : List ℕ) (w : World V) → IsReached P n nodes before w → ((p : ℕ) → p < n → HasBegun w p) → AllByRecursion (λ p. p < n) schedule → IsReached P n nodes (before ++ schedule) (after_schedule P schedule w)
+  pub reached_after : (before schedule : List ℕ) (w : World V) → IsReached P n nodes before w → ((p : ℕ) → p < n → HasBegun w p) → IsSchedule n schedule → IsReached P n nodes (before ++ schedule) (after_schedule P schedule w)
   reached_after before [] w r begun all = let T : List ℕ → Type 0 = λ s. IsReached P n nodes s w in subst T (sym (append-nil before)) r
   reached_after before (p ∷ schedule) w r begun all =
       let T : List ℕ → Type 0 = λ s. IsReached P n nodes s (after_schedule P schedule (after_step P p w)) in
@@ -81,7 +80,7 @@ module _ {V : Type 0} (P : Protocol) (n nodes : ℕ) (team : ℕ → Team) (soun
       decides p lt None e s = absurd (true≢false (sym s))
       decides p lt (Some y) e s = (y, entry_at w.locals p (rw (locals_are P n nodes team sound r) lt) ∙ ap Some e)
 
-  pub every_schedule : (inputs : List V) (schedule : List ℕ) → length inputs ≡ n → AllByRecursion (λ p. p < n) schedule → ((p : ℕ) → p < n → length (P.path p) ≤ nodes) → nodes ≡ n - 1
+  pub every_schedule : (inputs : List V) (schedule : List ℕ) → length inputs ≡ n → IsSchedule n schedule → ((p : ℕ) → p < n → length (P.path p) ≤ nodes) → nodes ≡ n - 1
       → IsConsensus P n inputs schedule (decisions_of (after_schedule P schedule (all_begun P nodes inputs)))
   every_schedule inputs schedule many all short one_fewer =
       consensus_of inputs schedule (after_schedule P schedule (all_begun P nodes inputs))

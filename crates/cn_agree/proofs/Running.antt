@@ -1,6 +1,7 @@
 -- A round while a schedule runs.
 use Rattle.std.proofs.Common.{ℕ, zero, suc, ◌≡◌, ◌≢◌, ◌+◌, ◌<◌, ◌≤◌, List, [], ◌∷◌, ◌++◌, length, take, drop, map, replicate, get_or, slice_index_or, Option, Some, None, refl, sym, ap, ◌∙◌, subst, arith, Bool, true, false, cond, if◌then◌else◌, nat_le, nat_eq, option_map, position, is_some, not, length-set}
-use Rattle.std.specs.List.{AllByRecursion, position_from}
+use Rattle.std.specs.List.{position_from}
+use Rattle.cn_agree.specs.Consensus.{IsSchedule}
 use Rattle.std.proofs.lemmas.Iterator.Adapters.{position_from-zero}
 use Rattle.std.proofs.lemmas.Bool.Decides.{nat_tests}
 use Rattle.cn_agree.specs.declared.fault.ScheduleFault.{ScheduleFault}
@@ -65,7 +66,7 @@ stays_decided {V = V} plan p w found e f = go (local_at w p) (ap is_some (sym f)
     go (Active i x stage) h = absurd cc
     go (Decided z) h = refl
 
-pub one_more_run : {V : Type 0} (plan : Plan) (from : World V) (schedule : List ℕ) (k p : ℕ) (w w' : World V) → k < length schedule → AllByRecursion (λ q. q < processes_of plan) schedule → p ≡ get_or schedule k 0 → HasRun plan from schedule k w
+pub one_more_run : {V : Type 0} (plan : Plan) (from : World V) (schedule : List ℕ) (k p : ℕ) (w w' : World V) → k < length schedule → IsSchedule (processes_of plan) schedule → p ≡ get_or schedule k 0 → HasRun plan from schedule k w
     → w' ≡ after_step (protocol_of plan) p w → HasRun plan from schedule (k + 1) w'
 one_more_run {V = V} plan from schedule k p w w' less all read h e =
     let r = h.runs.1 in
@@ -94,34 +95,34 @@ pub opens : {V : Type 0} (plan : Plan) → IsPlan plan → IsSound (protocol_of 
 opens plan is_plan sound = record { is_plan = is_plan; sound = sound; reached = Opens }
 
 -- a schedule without a stranger names processes only
-no_stranger_from : (n i : ℕ) (schedule : List ℕ) → position_from (λ p. nat_le n p) i schedule ≡ None → AllByRecursion (λ p. p < n) schedule
+no_stranger_from : (n i : ℕ) (schedule : List ℕ) → position_from (λ p. nat_le n p) i schedule ≡ None → IsSchedule n schedule
 no_stranger_from n i [] h = tt
 no_stranger_from n i (p ∷ schedule) h = by_test (nat_le n p) refl h (no_stranger_from n (i + 1) schedule)
   where
-    by_test : (b : Bool) → nat_le n p ≡ b → cond b (Some i) (position_from (λ p. nat_le n p) (i + 1) schedule) ≡ None → (position_from (λ p. nat_le n p) (i + 1) schedule ≡ None → AllByRecursion (λ p. p < n) schedule) → (p < n) × AllByRecursion (λ p. p < n) schedule
+    by_test : (b : Bool) → nat_le n p ≡ b → cond b (Some i) (position_from (λ p. nat_le n p) (i + 1) schedule) ≡ None → (position_from (λ p. nat_le n p) (i + 1) schedule ≡ None → IsSchedule n schedule) → (p < n) × IsSchedule n schedule
     by_test true is h rest = absurd cc
     by_test false is h rest = ((let lt : p < n = grind (arith, nat_tests) in lt), rest h)
 
-pub none_stranger : (n : ℕ) (schedule : List ℕ) → position (λ p. nat_le n p) schedule ≡ None → AllByRecursion (λ p. p < n) schedule
+pub none_stranger : (n : ℕ) (schedule : List ℕ) → position (λ p. nat_le n p) schedule ≡ None → IsSchedule n schedule
 none_stranger n schedule h = no_stranger_from n 0 schedule (sym (position_from-zero (λ p. nat_le n p) schedule) ∙ h)
 
-pub is_none_stranger : (n m : ℕ) (schedule : List ℕ) (found : Option ℕ) → n ≡ m → found ≡ position (λ p. nat_le n p) schedule → is_some found ≡ false → AllByRecursion (λ p. p < m) schedule
+pub is_none_stranger : (n m : ℕ) (schedule : List ℕ) (found : Option ℕ) → n ≡ m → found ≡ position (λ p. nat_le n p) schedule → is_some found ≡ false → IsSchedule m schedule
 is_none_stranger n m schedule found e read none =
-    let T : ℕ → Type 0 = λ k. AllByRecursion (λ p. p < k) schedule in
+    let T : ℕ → Type 0 = λ k. IsSchedule k schedule in
     subst T e (none_stranger n schedule (sym read ∙ is_none_of found none))
   where
     is_none_of : (found : Option ℕ) → is_some found ≡ false → found ≡ None
     is_none_of None h = refl
     is_none_of (Some place) h = absurd cc
 
-pub no_stranger : {V : Type 0} (n : ℕ) (inputs : List V) (schedule : List ℕ) → schedule_fault n inputs schedule ≡ None → AllByRecursion (λ p. p < n) schedule
+pub no_stranger : {V : Type 0} (n : ℕ) (inputs : List V) (schedule : List ℕ) → schedule_fault n inputs schedule ≡ None → IsSchedule n schedule
 no_stranger n inputs schedule h = by_count (nat_eq (length inputs) n) refl h
   where
     none : (found : Option ℕ) → option_map (λ place. NoSuchProcess place) found ≡ None → found ≡ None
     none None e = refl
     none (Some place) e = absurd cc
 
-    by_count : (b : Bool) → nat_eq (length inputs) n ≡ b → cond b (process_fault n schedule) (Some InputCount) ≡ None → AllByRecursion (λ p. p < n) schedule
+    by_count : (b : Bool) → nat_eq (length inputs) n ≡ b → cond b (process_fault n schedule) (Some InputCount) ≡ None → IsSchedule n schedule
     by_count true is e = none_stranger n schedule (none (position (λ p. nat_le n p) schedule) e)
     by_count false is e = absurd cc
 

@@ -1,5 +1,6 @@
 -- What consensus asks of the decisions that a schedule leads to: agreement, validity and wait-freedom.
 use Rattle.std.specs.Prelude.{ℕ, ◌≡◌, ◌-◌, ◌*◌, ◌<◌, ◌≤◌, ◌==◌, ◌↔◌, List, length, Option, Some, count_by, Contains, slice_get}
+use Rattle.std.specs.List.{AllByRecursion}
 use Rattle.cn_proto.specs.Protocol.{Protocol}
 
 -- process p has decided this
@@ -9,6 +10,10 @@ Decides decisions p x = slice_get decisions p ≡ Some (Some x)
 -- process p has decided
 abbrev pub HasDecided : {V : Type 0} → List (Option V) → ℕ → Type 0
 HasDecided {V = V} decisions p = (x : V) × Decides decisions p x
+
+-- a schedule of n processes: any list of them, in the order in which they take their steps
+abbrev pub IsSchedule : ℕ → List ℕ → Type 0
+IsSchedule n schedule = AllByRecursion (λ p. p < n) schedule
 
 -- a participant of a schedule is a process that occurs in it
 abbrev pub IsParticipant : List ℕ → ℕ → Type 0

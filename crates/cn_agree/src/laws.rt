@@ -1,12 +1,11 @@
 //! Laws of rounds and schedules. A law is a function that does nothing: its contract is the law.
 ghost use Rattle.std.specs.Prelude.{◌≡◌, ◌<◌, ◌↔◌, ℕ, List, length, None, Some};
-ghost use Rattle.std.specs.List.{AllByRecursion};
 ghost use Rattle.cn_choice.specs.declared.team.Team.{Team as TeamOf};
 ghost use Rattle.cn_proto.specs.Plan.{protocol_of, processes_of};
 ghost use Rattle.cn_proto.specs.Protocol.{Protocol};
 ghost use Rattle.cn_proto.specs.Sound.{IsSound};
 ghost use Rattle.cn_agree.specs.AtomicStep.{IsAtomic};
-ghost use Rattle.cn_agree.specs.Consensus.{IsConsensus};
+ghost use Rattle.cn_agree.specs.Consensus.{IsConsensus, IsSchedule};
 ghost use Rattle.cn_agree.specs.Reached.{HasBegun, IsReached};
 ghost use Rattle.cn_agree.specs.Rounds.{KeepsConsensus, fixed_value};
 ghost use Rattle.cn_agree.specs.Schedules.{decisions_after};
@@ -27,7 +26,7 @@ pub fn atomic_steps<V>()
 /// Every schedule of a plan, with any inputs, ends in consensus: agreement, validity, and
 /// wait-freedom within 4(n-1) steps of a process.
 pub fn every_schedule<V>(plan: &Plan)
-    ensures { (inputs : List V) (schedule : List ℕ) → length inputs ≡ processes_of plan.now → AllByRecursion (λ p. p < processes_of plan.now) schedule → IsConsensus (protocol_of plan.now) (processes_of plan.now) inputs schedule (decisions_after plan.now inputs schedule) }
+    ensures { (inputs : List V) (schedule : List ℕ) → length inputs ≡ processes_of plan.now → IsSchedule (processes_of plan.now) schedule → IsConsensus (protocol_of plan.now) (processes_of plan.now) inputs schedule (decisions_after plan.now inputs schedule) }
 {
     plan.is_sound();
 }

@@ -1,9 +1,8 @@
 //! Whole schedules: lists of the processes that take the steps.
 ghost use Rattle.std.specs.Prelude.{◌≡◌, ◌<◌, ◌≤◌, ◌⊎◌, ℕ, length, IfErr, IfOk, OnOk, None, Some, nat_le, position};
-ghost use Rattle.std.specs.List.{AllByRecursion};
 ghost use Rattle.cn_proto.specs.Plan.{protocol_of, processes_of, nodes_of};
 ghost use Rattle.cn_agree.specs.Beginning.{AllHaveBegun, HaveBegun};
-ghost use Rattle.cn_agree.specs.Consensus.{IsConsensus};
+ghost use Rattle.cn_agree.specs.Consensus.{IsConsensus, IsSchedule};
 ghost use Rattle.cn_agree.specs.Rounds.{RunsBy};
 ghost use Rattle.cn_agree.specs.Schedules.{all_begun, decisions_of, decisions_after, schedule_fault};
 ghost use Rattle.cn_agree.specs.Steps.{after_schedule};
@@ -63,7 +62,7 @@ fn begin_all<V: Copy>(plan: &Plan, round: &mut Round<V>, inputs: &[V])
 fn step_all<V: Copy>(plan: &Plan, round: &mut Round<V>, schedule: &[u8])
     requires of_plan { RunsBy plan.now round.old }
     requires begun { AllHaveBegun (processes_of plan.now) round.old }
-    requires schedule { AllByRecursion (λ p. p < processes_of plan.now) schedule.now }
+    requires schedule { IsSchedule (processes_of plan.now) schedule.now }
     ensures world { round.new ≡ after_schedule (protocol_of plan.now) schedule.now round.old }
     ensures of_plan { RunsBy plan.now round.new }
     ensures begun { AllHaveBegun (processes_of plan.now) round.new }
@@ -100,7 +99,7 @@ pub(crate) fn round_after<V: Copy>(
     schedule: &[u8],
 ) -> Result<Round<V>, AllocError>
     requires inputs { length inputs.now ≡ processes_of plan.now }
-    requires schedule { AllByRecursion (λ p. p < processes_of plan.now) schedule.now }
+    requires schedule { IsSchedule (processes_of plan.now) schedule.now }
     ensures world { IfOk result (λ round. round ≡ after_schedule (protocol_of plan.now) schedule.now (all_begun (protocol_of plan.now) (nodes_of plan.now) inputs.now)) }
     ensures processes { IfOk result (λ round. length round.locals ≡ processes_of plan.now) }
     ensures of_plan { IfOk result (RunsBy plan.now) }
