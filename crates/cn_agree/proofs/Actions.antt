@@ -1,7 +1,5 @@
 -- Each of the four actions keeps the invariant.
-use Rattle.std.proofs.Common.{ℕ, zero, suc, ◌≡◌, ◌≢◌, ◌⊎◌, inl, inr, Bool, true, false, ◌+◌, ◌*◌, ◌<◌, ◌≤◌, List, [], ◌∷◌, ◌++◌, length, slice_get, slice_set, slice_index_or, Option, Some, None, refl, sym, ap, ◌∙◌, subst, arith, append-nil, length-set, get_or-set_same, get_or-set_other, cond, if◌then◌else◌, ◌==◌, nat_lt}
-use Rattle.std.specs.List.{AllPairs}
-use Rattle.std.proofs.lemmas.Bool.{cases_eq}
+use Rattle.std.proofs.Common.{ℕ, zero, suc, ◌≡◌, ◌≢◌, ◌⊎◌, inl, inr, Bool, true, false, ◌+◌, ◌*◌, ◌<◌, ◌≤◌, List, [], ◌∷◌, ◌++◌, length, slice_get, slice_set, Option, Some, None, refl, sym, ap, ◌∙◌, subst, arith, append-nil, length-set, get_or-set_same, get_or-set_other, if◌then◌else◌, ◌==◌, nat_lt}
 use Rattle.std.proofs.lemmas.Bool.Decides.{nat_tests}
 use Rattle.std.proofs.lemmas.List.{set-get_or}
 use Rattle.cn_agree.specs.declared.node.Node.{Node}
@@ -10,18 +8,17 @@ use Rattle.cn_table.specs.declared.elements.Response.{Response}
 use Rattle.cn_choice.specs.declared.team.Team.{Team}
 use Rattle.cn_choice.specs.declared.team.Team.TheVariants.{A, B}
 use Rattle.cn_proto.specs.declared.place.Place.{Place}
-use Rattle.cn_agree.specs.declared.local.Stage.{Stage}
 use Rattle.cn_agree.specs.declared.local.Stage.TheVariants.{Write, Apply, Read, Take}
 use Rattle.cn_agree.specs.declared.local.Local.{Local}
-use Rattle.cn_agree.specs.declared.local.Local.TheVariants.{NotBegun, Active, Decided}
-use Rattle.cn_proto.specs.Order.{after, IsAnswered, BeginsIn}
+use Rattle.cn_agree.specs.declared.local.Local.TheVariants.{NotBegun, Active}
+use Rattle.cn_proto.specs.Order.{after, IsAnswered}
 use Rattle.cn_proto.specs.Protocol.{Protocol, place_of}
 use Rattle.cn_agree.specs.World.{World, node_at, local_at, input_at, register, with_register, untouched}
-use Rattle.cn_agree.specs.Steps.{after_action, local_after, recorded, taken, onward, after_step, after_step_from}
+use Rattle.cn_agree.specs.Steps.{after_action, local_after, recorded, onward}
 use Rattle.cn_proto.specs.Sound.{IsSound, IsPlace, IsFedAlike}
 use Rattle.cn_agree.proofs.Lists.{AllByRecursion_get, slice_get_push_cases}
 use Rattle.cn_agree.proofs.OrderLemmas.{after_push, answered_last, distinct_push}
-use Rattle.cn_agree.proofs.Invariant.{first_team, LocalHolds, StageHolds, Brings, fixed_at, first_value, IsOfFirst, Grows, Holds, IsBrought, IsDone}
+use Rattle.cn_agree.proofs.Invariant.{first_team, LocalHolds, Brings, fixed_at, IsOfFirst, Holds, IsBrought}
 use Rattle.cn_agree.specs.Rounds.{steps_taken}
 use Rattle.cn_agree.proofs.Growing.{brings_grows, local_grows}
 use Rattle.cn_agree.proofs.Changing.{Changes, Extends, changes_grow, keeps_on}

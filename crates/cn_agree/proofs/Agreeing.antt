@@ -1,16 +1,16 @@
 -- Whole schedules end in consensus.
-use Rattle.std.proofs.Common.{ℕ, zero, suc, ◌≡◌, ◌≢◌, ◌+◌, ◌-◌, ◌*◌, ◌<◌, ◌≤◌, ◌↔◌, List, [], ◌∷◌, ◌++◌, length, map, slice_get, slice_index_or, Option, Some, None, IsSome, refl, sym, ap, ◌∙◌, arith, append_assoc, append-nil, subst, true≢false}
+use Rattle.std.proofs.Common.{ℕ, zero, suc, ◌≡◌, ◌-◌, ◌<◌, ◌≤◌, List, [], ◌∷◌, ◌++◌, length, map, slice_get, slice_index_or, Option, Some, None, IsSome, refl, sym, ap, ◌∙◌, arith, append_assoc, append-nil, subst, true≢false}
 use Rattle.std.proofs.lemmas.List.{length-map}
 use Rattle.cn_choice.specs.declared.team.Team.{Team}
 use Rattle.cn_proto.specs.Protocol.{Protocol}
 use Rattle.cn_proto.specs.Sound.{IsSound}
 use Rattle.cn_agree.specs.declared.local.Local.{Local}
 use Rattle.cn_agree.specs.declared.local.Local.TheVariants.{NotBegun}
-use Rattle.cn_agree.specs.World.{World, local_at, input_at}
+use Rattle.cn_agree.specs.World.{World}
 use Rattle.cn_agree.specs.Steps.{after_step, after_schedule}
 use Rattle.cn_agree.specs.Reached.{IsReached, Steps, HasBegun}
-use Rattle.cn_agree.specs.Rounds.{decided, decision_at, fixed_value, KeepsConsensus}
-use Rattle.cn_agree.specs.Consensus.{IsSchedule, Decides, HasDecided, Agrees, IsValid, IsWaitFree, IsConsensus}
+use Rattle.cn_agree.specs.Rounds.{decided, decision_at}
+use Rattle.cn_agree.specs.Consensus.{IsSchedule, HasDecided, IsConsensus}
 use Rattle.cn_agree.specs.Schedules.{all_begun, decisions_of}
 use Rattle.cn_agree.proofs.StepCounts.{inputs_step}
 use Rattle.cn_agree.proofs.Reaching.{locals_are, begun_stays}

@@ -9,11 +9,10 @@ use Rattle.cn_agree.specs.declared.node.Node.{Node}
 use Rattle.cn_agree.specs.declared.local.Stage.{Stage}
 use Rattle.cn_agree.specs.declared.local.Stage.TheVariants.{Write, Apply, Read, Take}
 use Rattle.cn_agree.specs.declared.local.Local.{Local}
-use Rattle.cn_agree.specs.declared.local.Local.TheVariants.{NotBegun, Active, Decided}
+use Rattle.cn_agree.specs.declared.local.Local.TheVariants.{NotBegun, Active}
 use Rattle.cn_agree.specs.World.{World, node_at, local_at, register, with_register, untouched}
 use Rattle.cn_agree.specs.Steps.{node_after, local_after, first_after, recorded, taken, after_action, after_step, after_step_from}
-use Rattle.cn_agree.specs.AtomicStep.{Part, Object, Register, Content, State, Value, content, touched, ActsOnce, LooksAlike, IsAtomic}
-use Rattle.cn_agree.proofs.StepCounts.{other_local, inputs_step}
+use Rattle.cn_agree.specs.AtomicStep.{Part, Object, Register, content, touched, ActsOnce, IsAtomic}
 
 -- a write changes its register alone
 write_leaves : {V : Type 0} (node : Node V) (mine : Team) (x : V) (part : Part) → part ≢ Register mine → content (with_register node mine x) part ≡ content node part

@@ -1,13 +1,11 @@
 -- A round while its processes begin.
-use Rattle.std.proofs.Common.{ℕ, zero, suc, ◌≡◌, ◌≢◌, ◌+◌, ◌<◌, ◌≤◌, List, [], ◌∷◌, ◌++◌, length, map, take, drop, set, replicate, get_or, slice_get, slice_index_or, Option, Some, None, refl, sym, ap, ◌∙◌, subst, arith, add-one}
+use Rattle.std.proofs.Common.{ℕ, zero, suc, ◌≡◌, ◌+◌, ◌<◌, ◌≤◌, List, [], ◌∷◌, length, map, set, replicate, get_or, slice_index_or, Some, None, refl, ap, ◌∙◌, subst, arith}
 use Rattle.cn_proto.specs.Protocol.{Protocol}
-use Rattle.cn_proto.specs.Plan.{Plan, protocol_of, processes_of, nodes_of}
 use Rattle.cn_agree.specs.declared.local.Stage.TheVariants.{Write}
-use Rattle.cn_agree.specs.declared.local.Local.{Local}
-use Rattle.cn_agree.specs.declared.local.Local.TheVariants.{NotBegun, Active, Decided}
+use Rattle.cn_agree.specs.declared.local.Local.TheVariants.{NotBegun, Active}
 use Rattle.cn_agree.specs.World.{World, untouched, local_at}
 use Rattle.cn_agree.specs.Steps.{begun}
-use Rattle.cn_agree.specs.Reached.{IsReached, Opens, Begins, Steps, first_world, HasBegun}
+use Rattle.cn_agree.specs.Reached.{IsReached, Opens, Begins, HasBegun}
 use Rattle.cn_agree.specs.Schedules.{all_begun}
 use Rattle.cn_agree.specs.Beginning.{front, some_begun}
 

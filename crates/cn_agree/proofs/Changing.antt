@@ -1,15 +1,13 @@
 -- A step changes one node and one process, and what holds of the rest goes on to hold.
-use Rattle.std.proofs.Common.{ℕ, zero, suc, ◌≡◌, ◌≢◌, ◌⊎◌, inl, inr, slice_index_or, ◌+◌, ◌*◌, ◌<◌, ◌≤◌, List, [], ◌∷◌, ◌++◌, length, slice_get, Option, Some, None, refl, sym, ap, ◌∙◌, subst, arith, append-nil}
+use Rattle.std.proofs.Common.{ℕ, ◌≡◌, ◌≢◌, ◌⊎◌, inl, inr, slice_index_or, ◌+◌, ◌*◌, ◌≤◌, List, [], ◌∷◌, ◌++◌, length, slice_get, Option, Some, None, sym, ap, ◌∙◌, arith, append-nil}
 use Rattle.std.specs.List.{AllPairs}
 use Rattle.std.proofs.lemmas.Bool.{cases_eq}
 use Rattle.cn_agree.specs.declared.node.Node.{Node}
 use Rattle.cn_choice.specs.declared.team.Team.{Team}
-use Rattle.cn_proto.specs.declared.place.Place.{Place}
 use Rattle.cn_agree.specs.declared.local.Local.{Local}
-use Rattle.cn_agree.specs.declared.local.Local.TheVariants.{NotBegun}
 use Rattle.cn_proto.specs.Order.{after}
-use Rattle.cn_proto.specs.Protocol.{Protocol, place_of}
-use Rattle.cn_agree.specs.World.{World, node_at, local_at, input_at, register}
+use Rattle.cn_proto.specs.Protocol.{Protocol}
+use Rattle.cn_agree.specs.World.{World, node_at, local_at, register}
 use Rattle.cn_agree.proofs.Invariant.{first_team, LocalHolds, Grows, Holds, IsBrought, IsDone}
 use Rattle.cn_agree.specs.Rounds.{steps_taken}
 use Rattle.cn_agree.proofs.Growing.{brings_grows, local_grows}

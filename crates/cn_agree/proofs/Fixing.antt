@@ -1,5 +1,5 @@
 -- A round fixes one value.
-use Rattle.std.proofs.Common.{ℕ, zero, suc, ◌≡◌, ◌≢◌, ◌⊎◌, inl, inr, Bool, true, false, ◌+◌, ◌*◌, ◌<◌, ◌≤◌, ◌↔◌, min, List, [], ◌∷◌, ◌++◌, length, replicate, slice_index_or, slice_set, Contains, IsSome, slice_get, Option, Some, None, refl, sym, ap, ◌∙◌, subst, arith, get_or-set_same, get_or-set_other, true≢false}
+use Rattle.std.proofs.Common.{ℕ, zero, suc, ◌≡◌, inl, inr, ◌+◌, ◌*◌, ◌<◌, ◌≤◌, ◌↔◌, min, List, [], ◌∷◌, ◌++◌, length, slice_index_or, slice_set, IsSome, slice_get, Option, Some, None, refl, sym, ◌∙◌, subst, arith, get_or-set_other, true≢false}
 use Rattle.std.proofs.lemmas.Bool.{cases_eq}
 use Rattle.std.proofs.lemmas.List.{set-get_or}
 use Rattle.std.proofs.lemmas.List.Elements.{Contains-append_left, Contains-append_right}
@@ -14,13 +14,13 @@ use Rattle.cn_agree.specs.declared.local.Local.TheVariants.{NotBegun, Active, De
 use Rattle.cn_agree.specs.declared.node.Node.{Node}
 use Rattle.cn_agree.specs.World.{World, node_at, local_at, input_at, register, untouched}
 use Rattle.cn_agree.specs.Steps.{after_action, recorded, after_step, after_step_from, begun}
-use Rattle.cn_agree.specs.Reached.{IsReached, Opens, Begins, Steps, first_world, HasBegun}
+use Rattle.cn_agree.specs.Reached.{IsReached, Opens, Begins, Steps}
 use Rattle.cn_agree.specs.Consensus.{IsParticipant, occurrences}
-use Rattle.cn_agree.specs.Rounds.{decided, decision_at, fixed_value, value_of_team, steps_taken, actions_done, IsAppliedAtRoot, KeepsConsensus}
-use Rattle.cn_agree.proofs.Invariant.{LocalHolds, Holds, IsDone, first_team, first_value, fixed_at}
+use Rattle.cn_agree.specs.Rounds.{decided, decision_at, fixed_value, steps_taken, actions_done, IsAppliedAtRoot, KeepsConsensus}
+use Rattle.cn_agree.proofs.Invariant.{LocalHolds, IsDone, first_team, first_value, fixed_at}
 use Rattle.cn_agree.proofs.Actions.{registers_write, registers_apply}
 use Rattle.cn_agree.proofs.StepCounts.{Kept, IsOneMore, one_more, other_local, inputs_step, first_step}
-use Rattle.cn_agree.proofs.Values.{AreOf, IsOfLocal, step_of, are_more}
+use Rattle.cn_agree.proofs.Values.{AreOf, step_of, are_more}
 use Rattle.cn_agree.proofs.Reaching.{same_anywhere, empty_register, reached_kept, reached_steps, no_input, input_now, local_now}
 
 -- in which state an object starts doesn't matter to the registers

@@ -1,5 +1,5 @@
 -- What holds of a process that did not act goes on to hold.
-use Rattle.std.proofs.Common.{ℕ, zero, suc, ◌≡◌, ◌≢◌, ◌+◌, ◌*◌, ◌<◌, ◌≤◌, List, [], ◌∷◌, ◌++◌, length, slice_get, Option, Some, None, refl, sym, ap, ◌∙◌, subst}
+use Rattle.std.proofs.Common.{ℕ, zero, suc, ◌≡◌, List, [], ◌∷◌, ◌++◌, Some, refl, ◌∙◌}
 use Rattle.cn_agree.specs.declared.node.Node.{Node}
 use Rattle.cn_choice.specs.declared.team.Team.{Team}
 use Rattle.cn_proto.specs.declared.place.Place.{Place}
@@ -7,12 +7,11 @@ use Rattle.cn_agree.specs.declared.local.Stage.{Stage}
 use Rattle.cn_agree.specs.declared.local.Stage.TheVariants.{Write, Apply, Read, Take}
 use Rattle.cn_agree.specs.declared.local.Local.{Local}
 use Rattle.cn_agree.specs.declared.local.Local.TheVariants.{NotBegun, Active, Decided}
-use Rattle.cn_proto.specs.Order.{after, answers, IsAnswered}
+use Rattle.cn_proto.specs.Order.{after}
 use Rattle.cn_proto.specs.Protocol.{Protocol, place_of}
-use Rattle.cn_agree.specs.World.{World, node_at, local_at, input_at, register}
-use Rattle.cn_agree.proofs.Lists.{slice_get_front}
+use Rattle.cn_agree.specs.World.{World, node_at, input_at, register}
 use Rattle.cn_agree.proofs.OrderLemmas.{answers_append}
-use Rattle.cn_agree.proofs.Invariant.{first_value, fixed_at, Brings, IsOfFirst, StageHolds, LocalHolds, Grows, Holds, IsBrought}
+use Rattle.cn_agree.proofs.Invariant.{first_value, fixed_at, Brings, IsOfFirst, StageHolds, LocalHolds, Grows}
 
 first_value_grows : {V : Type 0} (team : ℕ → Team) (node node' : Node V) (order order' more : List ℕ) (y : V)
     → ((side : Team) (z : V) → register node side ≡ Some z → register node' side ≡ Some z) → order' ≡ order ++ more

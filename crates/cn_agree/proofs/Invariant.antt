@@ -12,7 +12,7 @@ use Rattle.cn_proto.specs.Order.{after, IsAnswered, IsRun}
 use Rattle.cn_proto.specs.Protocol.{Protocol, place_of}
 use Rattle.cn_agree.specs.World.{World, node_at, local_at, input_at, register}
 use Rattle.cn_agree.specs.Rounds.{steps_taken}
-use Rattle.cn_proto.specs.Sound.{IsPlace, IsSound}
+use Rattle.cn_proto.specs.Sound.{IsPlace}
 
 -- the value in the register of the team that came first
 abbrev pub first_value : {V : Type 0} → (ℕ → Team) → Node V → List ℕ → Option V

@@ -1,5 +1,5 @@
 -- Rounds of a plan.
-use Rattle.std.proofs.Common.{ℕ, ◌≡◌, ◌⊎◌, inl, inr, ◌+◌, ◌*◌, ◌<◌, ◌≤◌, ◌↔◌, List, [], ◌∷◌, ◌++◌, length, slice_index_or, slice_set, IfSome, IsSome, Option, Some, None, refl, sym, ap, ◌∙◌, subst, arith, get_or-set_same}
+use Rattle.std.proofs.Common.{ℕ, ◌≡◌, ◌⊎◌, inl, inr, ◌*◌, ◌<◌, ◌≤◌, ◌↔◌, List, [], ◌∷◌, ◌++◌, length, slice_index_or, slice_set, IfSome, IsSome, Option, Some, None, refl, sym, ap, ◌∙◌, subst, arith, get_or-set_same}
 use Rattle.cn_choice.specs.declared.team.Team.{Team}
 use Rattle.cn_proto.specs.Plan.{Plan, protocol_of, processes_of, nodes_of}
 use Rattle.cn_proto.specs.Tournament.{team_of}
@@ -13,7 +13,7 @@ use Rattle.cn_agree.specs.declared.local.Local.TheVariants.{NotBegun, Active, De
 use Rattle.std.proofs.lemmas.List.{get_or_default}
 use Rattle.cn_agree.specs.World.{World, local_at, input_at, node_at, register, untouched}
 use Rattle.cn_agree.specs.Steps.{begun, node_after, local_after, first_after, after_action, after_step_from, after_step}
-use Rattle.cn_agree.specs.Reached.{IsReached, Begins, Steps, HasBegun}
+use Rattle.cn_agree.specs.Reached.{Begins, Steps, HasBegun}
 use Rattle.cn_agree.specs.Consensus.{IsParticipant, occurrences}
 use Rattle.cn_agree.specs.Rounds.{decided, decision_at, value_of_team, fixed_value, IsAppliedAtRoot, IsRoundOf, RunsBy, IsRound, KeepsConsensus}
 use Rattle.cn_proto.specs.Order.{after}

@@ -1,23 +1,23 @@
 -- The invariant holds in every world that a round can come to.
-use Rattle.std.proofs.Common.{ℕ, zero, suc, ◌≡◌, ◌≢◌, ◌⊎◌, inl, inr, ◌+◌, ◌*◌, ◌<◌, ◌≤◌, List, [], ◌∷◌, ◌++◌, length, replicate, slice_set, slice_index_or, min, Option, Some, None, refl, sym, ap, ◌∙◌, arith, append-nil, length-set, get_or-set_same, get_or-set_other}
+use Rattle.std.proofs.Common.{ℕ, zero, suc, ◌≡◌, ◌≢◌, inl, inr, ◌+◌, ◌*◌, ◌<◌, ◌≤◌, List, [], length, replicate, slice_index_or, min, Option, Some, None, refl, sym, ap, ◌∙◌, arith, append-nil, length-set, get_or-set_same, get_or-set_other}
 use Rattle.std.proofs.lemmas.List.{length-replicate}
 use Rattle.std.proofs.lemmas.Bool.{cases_eq}
 use Rattle.cn_choice.specs.declared.team.Team.{Team}
 use Rattle.cn_choice.specs.declared.team.Team.TheVariants.{A, B}
 use Rattle.cn_agree.specs.declared.local.Stage.{Stage}
-use Rattle.cn_agree.specs.declared.local.Stage.TheVariants.{Write, Apply, Read, Take}
+use Rattle.cn_agree.specs.declared.local.Stage.TheVariants.{Write}
 use Rattle.cn_agree.specs.declared.local.Local.{Local}
-use Rattle.cn_agree.specs.declared.local.Local.TheVariants.{NotBegun, Active, Decided}
+use Rattle.cn_agree.specs.declared.local.Local.TheVariants.{NotBegun, Active}
 use Rattle.cn_agree.specs.declared.node.Node.{Node}
 use Rattle.cn_proto.specs.declared.place.Place.{Place}
 use Rattle.cn_proto.specs.Protocol.{Protocol, place_of, nowhere}
 use Rattle.cn_agree.specs.World.{World, node_at, local_at, input_at, register, untouched}
 use Rattle.cn_agree.specs.Steps.{after_step, begun}
 use Rattle.cn_proto.specs.Order.{after}
-use Rattle.cn_proto.specs.Sound.{IsSound, IsPlace}
+use Rattle.cn_proto.specs.Sound.{IsSound}
 use Rattle.cn_agree.specs.Reached.{IsReached, Opens, Begins, Steps, first_world, HasBegun}
 use Rattle.cn_agree.specs.Consensus.{occurrences}
-use Rattle.cn_agree.proofs.Invariant.{LocalHolds, Holds, Grows, IsDone, IsBrought}
+use Rattle.cn_agree.proofs.Invariant.{Holds, Grows}
 use Rattle.cn_agree.specs.Rounds.{steps_taken}
 use Rattle.cn_agree.proofs.Growing.{brings_grows, local_grows}
 use Rattle.cn_agree.proofs.Lists.{count_here, count_elsewhere}

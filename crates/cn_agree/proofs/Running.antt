@@ -1,13 +1,11 @@
 -- A round while a schedule runs.
-use Rattle.std.proofs.Common.{ℕ, zero, suc, ◌≡◌, ◌≢◌, ◌+◌, ◌<◌, ◌≤◌, List, [], ◌∷◌, ◌++◌, length, take, drop, map, replicate, get_or, slice_index_or, Option, Some, None, refl, sym, ap, ◌∙◌, subst, arith, Bool, true, false, cond, if◌then◌else◌, nat_le, nat_eq, option_map, position, is_some, not, length-set}
+use Rattle.std.proofs.Common.{ℕ, zero, suc, ◌≡◌, ◌+◌, ◌<◌, List, [], ◌∷◌, ◌++◌, length, drop, replicate, get_or, Option, Some, None, refl, sym, ap, ◌∙◌, subst, arith, Bool, true, false, cond, nat_le, nat_eq, option_map, position, is_some, length-set}
 use Rattle.std.specs.List.{position_from}
 use Rattle.cn_agree.specs.Consensus.{IsSchedule}
 use Rattle.std.proofs.lemmas.Iterator.Adapters.{position_from-zero}
 use Rattle.std.proofs.lemmas.Bool.Decides.{nat_tests}
-use Rattle.cn_agree.specs.declared.fault.ScheduleFault.{ScheduleFault}
 use Rattle.cn_agree.specs.declared.fault.ScheduleFault.TheVariants.{InputCount, NoSuchProcess}
 use Rattle.cn_agree.specs.Schedules.{all_begun, process_fault, schedule_fault}
-use Rattle.std.proofs.lemmas.List.{get_or_default}
 use Rattle.std.proofs.lemmas.List.Elements.{All-from_recursion}
 use Rattle.cn_table.specs.declared.elements.State.{State}
 use Rattle.cn_proto.specs.Sound.{IsSound}
@@ -17,13 +15,13 @@ use Rattle.cn_proto.specs.Tournament.{team_of}
 use Rattle.cn_agree.specs.declared.local.Local.{Local}
 use Rattle.cn_agree.specs.declared.local.Local.TheVariants.{NotBegun, Active, Decided}
 use Rattle.cn_agree.specs.World.{World, local_at, untouched}
-use Rattle.cn_agree.specs.Steps.{begun, after_action, after_step, after_step_from, after_schedule}
-use Rattle.cn_agree.specs.Reached.{first_world, HasBegun, Opens}
+use Rattle.cn_agree.specs.Steps.{begun, after_step, after_step_from, after_schedule}
+use Rattle.cn_agree.specs.Reached.{first_world, Opens}
 use Rattle.cn_agree.specs.Rounds.{decided, decision_at, IsRoundOf, RunsBy}
-use Rattle.cn_agree.specs.Beginning.{some_begun, AllHaveBegun, HaveBegun}
+use Rattle.cn_agree.specs.Beginning.{AllHaveBegun, HaveBegun}
 use Rattle.cn_agree.proofs.Reaching.{begun_stays}
 use Rattle.cn_agree.proofs.Beginning.{next_waits, next_begins, all_is, begun_all}
-use Rattle.cn_agree.proofs.PlanRounds.{processes_are, round_begins, round_steps}
+use Rattle.cn_agree.proofs.PlanRounds.{processes_are, round_steps}
 
 pub none_begun : {V : Type 0} (plan : Plan) (inputs : List V) (w : World V) → w ≡ first_world (protocol_of plan) (processes_of plan) (nodes_of plan) → IsRoundOf plan [] w → HaveBegun plan inputs 0 w
 none_begun plan inputs w is r = record { is = is; round = r }

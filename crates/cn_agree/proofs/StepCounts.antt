@@ -1,7 +1,5 @@
 -- A step of one process, and how many it has taken.
-use Rattle.std.proofs.Common.{ℕ, zero, suc, ◌≡◌, ◌≢◌, ◌⊎◌, inl, inr, Bool, true, false, ◌+◌, ◌*◌, ◌<◌, ◌≤◌, min, List, [], ◌∷◌, ◌++◌, length, map, replicate, slice_get, slice_set, slice_index_or, Option, Some, None, refl, sym, ap, ◌∙◌, subst, arith, cond, if◌then◌else◌, ◌==◌, nat_lt, count_by, Contains, IsSome, ◌↔◌, get_or-set_other, get_or-set_same}
-use Rattle.std.proofs.lemmas.Bool.{cases_eq}
-use Rattle.std.proofs.lemmas.Bool.Decides.{nat_tests}
+use Rattle.std.proofs.Common.{ℕ, suc, ◌≡◌, ◌≢◌, Bool, true, false, ◌+◌, ◌*◌, ◌<◌, ◌≤◌, min, List, length, Some, refl, sym, ap, ◌∙◌, arith, nat_lt, get_or-set_other, get_or-set_same}
 use Rattle.cn_choice.specs.declared.team.Team.{Team}
 use Rattle.cn_proto.specs.declared.place.Place.{Place}
 use Rattle.cn_agree.specs.declared.local.Stage.{Stage}
@@ -9,10 +7,10 @@ use Rattle.cn_agree.specs.declared.local.Stage.TheVariants.{Write, Apply, Read, 
 use Rattle.cn_agree.specs.declared.local.Local.{Local}
 use Rattle.cn_agree.specs.declared.local.Local.TheVariants.{NotBegun, Active, Decided}
 use Rattle.cn_proto.specs.Protocol.{Protocol, place_of}
-use Rattle.cn_agree.specs.World.{World, node_at, local_at, input_at, register}
+use Rattle.cn_agree.specs.World.{World, local_at}
 use Rattle.cn_agree.specs.Steps.{after_action, first_after, onward, after_step, after_step_from}
-use Rattle.cn_proto.specs.Sound.{IsSound, IsPlace}
-use Rattle.cn_agree.proofs.Invariant.{LocalHolds, Holds, fixed_at}
+use Rattle.cn_proto.specs.Sound.{IsSound}
+use Rattle.cn_agree.proofs.Invariant.{LocalHolds, Holds}
 use Rattle.cn_agree.specs.Rounds.{steps_taken, actions_done}
 use Rattle.cn_agree.proofs.Actions.{extended, keeps_write, keeps_apply, keeps_read, keeps_take, found_is, onward_steps}
 

@@ -1,5 +1,5 @@
 -- Where values come from.
-use Rattle.std.proofs.Common.{ℕ, zero, suc, ◌≡◌, ◌≢◌, ◌⊎◌, inl, inr, Bool, true, false, ◌+◌, ◌*◌, ◌<◌, ◌≤◌, List, [], ◌∷◌, ◌++◌, length, slice_set, slice_index_or, Option, Some, None, refl, sym, ap, ◌∙◌, arith, if◌then◌else◌, nat_lt, get_or, set}
+use Rattle.std.proofs.Common.{ℕ, zero, suc, ◌≡◌, ◌⊎◌, inl, inr, Bool, true, false, ◌+◌, List, [], ◌∷◌, length, slice_set, slice_index_or, Option, Some, None, refl, ap, nat_lt, get_or, set}
 use Rattle.cn_agree.specs.declared.node.Node.{Node}
 use Rattle.cn_table.specs.declared.elements.State.{State}
 use Rattle.cn_table.specs.declared.elements.Response.{Response}

@@ -6,7 +6,6 @@ use Rattle.cn_proto.specs.declared.place.Place.{Place}
 use Rattle.cn_agree.specs.declared.node.Node.{Node}
 use Rattle.cn_agree.specs.declared.local.Stage.{Stage}
 use Rattle.cn_agree.specs.declared.local.Stage.TheVariants.{Write, Apply, Read, Take}
-use Rattle.cn_agree.specs.declared.local.Local.{Local}
 use Rattle.cn_agree.specs.declared.local.Local.TheVariants.{Active}
 use Rattle.cn_agree.specs.World.{World, node_at, local_at, register}
 use Rattle.cn_agree.specs.Steps.{after_step}

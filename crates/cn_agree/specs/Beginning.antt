@@ -1,5 +1,5 @@
 -- A round while its processes begin.
-use Rattle.std.specs.Prelude.{ℕ, ◌≡◌, ◌<◌, List, [], ◌++◌, map, take, drop, replicate, Option, Some, None}
+use Rattle.std.specs.Prelude.{ℕ, ◌≡◌, ◌<◌, List, [], ◌++◌, map, take, drop, replicate, Some, None}
 use Rattle.cn_proto.specs.Plan.{Plan, protocol_of, processes_of, nodes_of}
 use Rattle.cn_proto.specs.Protocol.{Protocol}
 use Rattle.cn_agree.specs.declared.local.Stage.TheVariants.{Write}

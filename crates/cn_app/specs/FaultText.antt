@@ -6,42 +6,78 @@ use Rattle.cn_table.specs.declared.fault.TableFault.TheVariants as table
 use Rattle.cn_search.specs.FaultText.{find_fault_text}
 use Rattle.cn_search.specs.declared.fault.FindFault.{FindFault}
 use Rattle.cn_search.specs.declared.fault.FindFault.TheVariants as find
+use Rattle.cn_cert.specs.FaultText.{cert_fault_text}
+use Rattle.cn_cert.specs.declared.fault.CertFault.{CertFault}
+use Rattle.cn_cert.specs.declared.fault.CertFault.TheVariants as cert
+use Rattle.cn_check.specs.FaultText.{check_fault_text}
+use Rattle.cn_agree.specs.FaultText.{schedule_fault_text}
+use Rattle.cn_agree.specs.declared.fault.ScheduleFault.{ScheduleFault}
+use Rattle.cn_agree.specs.declared.fault.ScheduleFault.TheVariants as schedule
 use Rattle.cn_app.specs.declared.fault.AppFault.{AppFault}
 use Rattle.cn_app.specs.declared.fault.AppFault.TheVariants as fault
+use Rattle.cn_app.specs.declared.fault.Part.{Part}
+use Rattle.cn_app.specs.declared.fault.Part.TheVariants as part
 use Rattle.cn_app.specs.declared.fault.Source.{Source}
 use Rattle.cn_app.specs.declared.fault.Source.TheVariants as source
 
 abbrev pub source_text : Source → List ℕ
 source_text source.Table = codes "table"
+source_text source.Certificate = codes "certificate"
+
+abbrev pub part_text : Part → List ℕ
+part_text part.Inputs = codes "INPUTS"
+part_text part.Schedule = codes "SCHEDULE"
 
 -- want of memory reads the same in whatever layer it was met
 abbrev pub fault_text : AppFault → List ℕ
 fault_text fault.Words = codes "words refused"
+fault_text (fault.Argument p) = codes "argument: " ++ part_text p
 fault_text (fault.Table table.OutOfMemory) = codes "out of memory"
 fault_text (fault.Table f) = codes "table: " ++ table_fault_text f
+fault_text (fault.Certificate cert.OutOfMemory) = codes "out of memory"
+fault_text (fault.Certificate f) = codes "certificate: " ++ cert_fault_text f
 fault_text (fault.TooLong s) = source_text s ++ codes ": too long"
+fault_text (fault.Check f) = codes "check: " ++ check_fault_text f
+fault_text fault.NoWitness = codes "certificate: no witness"
 fault_text (fault.Find find.OutOfMemory) = codes "out of memory"
 fault_text (fault.Find f) = codes "find: " ++ find_fault_text f
+fault_text (fault.Schedule schedule.OutOfMemory) = codes "out of memory"
+fault_text (fault.Schedule f) = codes "schedule: " ++ schedule_fault_text f
 fault_text (fault.Read s) = codes "cannot read " ++ source_text s
 fault_text fault.Write = codes "cannot write"
 fault_text fault.OutOfMemory = codes "out of memory"
 
 abbrev pub status_of : AppFault → ℕ
 status_of fault.Words = 3
+status_of (fault.Argument p) = 3
 status_of (fault.Table table.OutOfMemory) = 5
 status_of (fault.Table f) = 2
+status_of (fault.Certificate cert.OutOfMemory) = 5
+status_of (fault.Certificate f) = 2
 status_of (fault.TooLong s) = 2
+status_of (fault.Check f) = 1
+status_of fault.NoWitness = 1
 status_of (fault.Find find.OutOfMemory) = 5
 status_of (fault.Find f) = 3
+status_of (fault.Schedule schedule.OutOfMemory) = 5
+status_of (fault.Schedule f) = 3
 status_of (fault.Read s) = 4
 status_of fault.Write = 4
 status_of fault.OutOfMemory = 5
 
--- the fault of the command for a fault of the table, and of the search
+-- the fault of the command for a fault of the table, of the certificate's text, of the search, and of the schedule
 abbrev pub of_table : TableFault → AppFault
 of_table table.OutOfMemory = fault.OutOfMemory
 of_table f = fault.Table f
 
+abbrev pub of_certificate : CertFault → AppFault
+of_certificate cert.OutOfMemory = fault.OutOfMemory
+of_certificate f = fault.Certificate f
+
 abbrev pub of_find : FindFault → AppFault
 of_find find.OutOfMemory = fault.OutOfMemory
 of_find f = fault.Find f
+
+abbrev pub of_schedule : ScheduleFault → AppFault
+of_schedule schedule.OutOfMemory = fault.OutOfMemory
+of_schedule f = fault.Schedule f

@@ -2,6 +2,9 @@
 ghost use Rattle.std.specs.Prelude.{◌≡◌, Some};
 ghost use Rattle.cn_app.specs.declared.fault.AppFault.TheVariants.{OutOfMemory};
 
+use cn_agree::ScheduleFault;
+use cn_cert::CertFault;
+use cn_check::CheckFault;
 use cn_search::FindFault;
 use cn_table::TableFault;
 use std::alloc::{AllocError, AllocFailed};
@@ -13,6 +16,17 @@ use std::fmt;
 pub enum Source {
     /// The type table.
     Table,
+    /// The certificate.
+    Certificate,
+}
+
+/// An argument that a command reads from its text.
+#[derive(Clone, Copy, Debug, PartialEq, Eq)]
+pub enum Part {
+    /// The numbers that the processes begin with.
+    Inputs,
+    /// The processes in the order of their steps.
+    Schedule,
 }
 
 /// Why a command wrote nothing, or could not write.
@@ -20,12 +34,22 @@ pub enum Source {
 pub enum AppFault {
     /// The words of the command line were refused; made by the program alone.
     Words,
+    /// An argument is not spelled as it should be.
+    Argument(Part),
     /// The text of the type table was refused.
     Table(TableFault),
+    /// The text of the certificate was refused.
+    Certificate(CertFault),
     /// A text is longer than its limit.
     TooLong(Source),
+    /// The check refused the certificate.
+    Check(CheckFault),
+    /// The certificate has no witness.
+    NoWitness,
     /// The limit, or the count of choices at the limit, was refused.
     Find(FindFault),
+    /// The inputs or the schedule were refused.
+    Schedule(ScheduleFault),
     /// A reader failed.
     Read(Source),
     /// The writer failed.
@@ -76,6 +100,42 @@ impl From<FindFault> for AppFault {
     }
 }
 
+impl From<CertFault> for AppFault {
+    ghost use Rattle.cn_app.specs.FaultText.{of_certificate};
+
+    ghost from_gives = { λ fault e. e ≡ of_certificate fault };
+
+    fn from(fault: CertFault) -> AppFault {
+        match fault {
+            CertFault::OutOfMemory => AppFault::OutOfMemory,
+            fault => AppFault::Certificate(fault),
+        }
+    }
+}
+
+impl From<CheckFault> for AppFault {
+    ghost use Rattle.cn_app.specs.declared.fault.AppFault.TheVariants.{Check};
+
+    ghost from_gives = { λ fault e. e ≡ Check fault };
+
+    fn from(fault: CheckFault) -> AppFault {
+        AppFault::Check(fault)
+    }
+}
+
+impl From<ScheduleFault> for AppFault {
+    ghost use Rattle.cn_app.specs.FaultText.{of_schedule};
+
+    ghost from_gives = { λ fault e. e ≡ of_schedule fault };
+
+    fn from(fault: ScheduleFault) -> AppFault {
+        match fault {
+            ScheduleFault::OutOfMemory => AppFault::OutOfMemory,
+            fault => AppFault::Schedule(fault),
+        }
+    }
+}
+
 impl fmt::Display for Source {
     ghost use Rattle.cn_app.specs.FaultText.{source_text};
 
@@ -84,6 +144,20 @@ impl fmt::Display for Source {
     fn fmt<W: fmt::Write>(&self, f: &mut fmt::Formatter<W>) -> fmt::Result {
         f.write_str(match self {
             Source::Table => "table",
+            Source::Certificate => "certificate",
+        })
+    }
+}
+
+impl fmt::Display for Part {
+    ghost use Rattle.cn_app.specs.FaultText.{part_text};
+
+    ghost output = { λ p. Some (part_text p) };
+
+    fn fmt<W: fmt::Write>(&self, f: &mut fmt::Formatter<W>) -> fmt::Result {
+        f.write_str(match self {
+            Part::Inputs => "INPUTS",
+            Part::Schedule => "SCHEDULE",
         })
     }
 }
@@ -96,12 +170,19 @@ impl fmt::Display for AppFault {
     fn fmt<W: fmt::Write>(&self, f: &mut fmt::Formatter<W>) -> fmt::Result {
         match self {
             AppFault::Table(TableFault::OutOfMemory)
+            | AppFault::Certificate(CertFault::OutOfMemory)
             | AppFault::Find(FindFault::OutOfMemory)
+            | AppFault::Schedule(ScheduleFault::OutOfMemory)
             | AppFault::OutOfMemory => f.write_str("out of memory"),
             AppFault::Words => f.write_str("words refused"),
+            AppFault::Argument(part) => write!(f, "argument: {part}"),
             AppFault::Table(fault) => write!(f, "table: {fault}"),
+            AppFault::Certificate(fault) => write!(f, "certificate: {fault}"),
             AppFault::TooLong(source) => write!(f, "{source}: too long"),
+            AppFault::Check(fault) => write!(f, "check: {fault}"),
+            AppFault::NoWitness => f.write_str("certificate: no witness"),
             AppFault::Find(fault) => write!(f, "find: {fault}"),
+            AppFault::Schedule(fault) => write!(f, "schedule: {fault}"),
             AppFault::Read(source) => write!(f, "cannot read {source}"),
             AppFault::Write => f.write_str("cannot write"),
         }
@@ -113,17 +194,22 @@ impl Error for AppFault {}
 impl AppFault {
     ghost use Rattle.cn_app.specs.FaultText.{status_of};
 
-    /// The exit status of the program: 2 for a refused text, 3 for refused words, a refused limit
-    /// or too many choices, 4 where reading or writing failed, 5 for want of memory.
+    /// The exit status of the program: 1 where the certificate was checked and is refused or has no
+    /// witness, 2 for a text that is refused, 3 for words, an argument, a limit, a count of choices
+    /// or a schedule that is refused, 4 where reading or writing failed, 5 for want of memory.
     pub fn status(&self) -> u8
         ensures { result ≡ status_of self.now }
     {
         match self {
             AppFault::Table(TableFault::OutOfMemory)
+            | AppFault::Certificate(CertFault::OutOfMemory)
             | AppFault::Find(FindFault::OutOfMemory)
+            | AppFault::Schedule(ScheduleFault::OutOfMemory)
             | AppFault::OutOfMemory => 5,
-            AppFault::Table(_) | AppFault::TooLong(_) => 2,
-            AppFault::Words | AppFault::Find(_) => 3,
+            AppFault::Check(_) | AppFault::NoWitness => 1,
+            AppFault::Table(_) | AppFault::Certificate(_) | AppFault::TooLong(_) => 2,
+            AppFault::Words | AppFault::Argument(_) => 3,
+            AppFault::Find(_) | AppFault::Schedule(_) => 3,
             AppFault::Read(_) | AppFault::Write => 4,
         }
     }

@@ -4,12 +4,25 @@
 //! command that fails writes nothing.
 #![tactic(auto)]
 
+mod agree;
+mod arguments;
+mod check;
 mod fault;
 mod find;
+pub mod laws;
+mod output;
+mod plan;
+mod show;
 mod source;
+mod texts;
 
-pub use fault::{AppFault, Source};
-pub use find::{Outcome, run_find};
+pub use agree::run_agree;
+pub use arguments::{read_inputs, read_schedule};
+pub use check::run_check;
+pub use fault::{AppFault, Part, Source};
+pub use find::run_find;
+pub use output::Outcome;
+pub use show::run_show;
 
 #[cfg(test)]
 mod tests;

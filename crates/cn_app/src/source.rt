@@ -7,9 +7,6 @@ use crate::fault::{AppFault, Source};
 use std::alloc::Global;
 use std::io::Read;
 
-/// How many bytes the text of a table may have.
-pub(crate) const TEXT_LIMIT: usize = 65_536;
-
 /// How many bytes are asked for at once.
 const CHUNK: usize = 1024;
 

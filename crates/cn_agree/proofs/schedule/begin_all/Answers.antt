@@ -1,4 +1,4 @@
-use Rattle.std.proofs.Common.{◌≡◌, ◌<◌, ℕ, [], length, refl, arith}
+use Rattle.std.proofs.Common.{◌<◌, [], refl, arith}
 use Rattle.cn_proto.specs.Plan.{processes_of}
 use Rattle.cn_agree.proofs.Running.{one_more_begun}
 use Rattle.cn_agree.proofs.schedule.begin_all.Goals as goal

@@ -1,4 +1,3 @@
-use Rattle.std.proofs.Common.{◌≡◌}
 use Rattle.cn_agree.proofs.Running.{all_have_begun, world_is, many_are}
 use Rattle.cn_agree.proofs.schedule.round_after.Goals as goal
 

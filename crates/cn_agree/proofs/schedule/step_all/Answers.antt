@@ -1,4 +1,4 @@
-use Rattle.std.proofs.Common.{◌≡◌, ◌<◌, ℕ, length, get_or, slice_index_or, refl, arith, ap, ◌∙◌, not}
+use Rattle.std.proofs.Common.{◌<◌, get_or, refl, arith, ap, ◌∙◌, not}
 use Rattle.std.proofs.lemmas.List.Elements.{All-from_recursion}
 use Rattle.cn_proto.specs.Plan.{processes_of}
 use Rattle.cn_agree.proofs.PlanRounds.{processes_are}

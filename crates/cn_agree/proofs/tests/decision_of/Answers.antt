@@ -1,4 +1,4 @@
-use Rattle.std.proofs.Common.{◌<◌, length, arith}
+use Rattle.std.proofs.Common.{arith}
 use Rattle.cn_agree.proofs.PlanRounds.{processes_are}
 use Rattle.cn_agree.proofs.tests.decision_of.Goals as goal
 

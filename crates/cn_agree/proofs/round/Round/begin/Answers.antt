@@ -1,4 +1,4 @@
-use Rattle.std.proofs.Common.{◌≡◌, ◌<◌, length, ap, arith}
+use Rattle.std.proofs.Common.{◌≡◌, length, ap, arith}
 use Rattle.cn_agree.specs.World.{World}
 use Rattle.cn_agree.proofs.PlanRounds.{inputs_many, begins_round, begins_of}
 use Rattle.cn_agree.proofs.round.Round.begin.Goals as goal

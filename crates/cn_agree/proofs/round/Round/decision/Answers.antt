@@ -1,5 +1,4 @@
-use Rattle.std.proofs.Common.{◌≡◌, ◌∙◌, ap, sym}
-use Rattle.cn_agree.specs.Rounds.{decided}
+use Rattle.std.proofs.Common.{◌∙◌}
 use Rattle.cn_agree.specs.World.{World}
 use Rattle.cn_agree.proofs.PlanRounds.{decision_is, decision_fixed, decision_in_time}
 use Rattle.cn_agree.proofs.round.Round.decision.Goals as goal

@@ -1,4 +1,4 @@
-use Rattle.std.proofs.Common.{◌≡◌, ◌∙◌, arith}
+use Rattle.std.proofs.Common.{◌∙◌, arith}
 use Rattle.cn_agree.specs.World.{World}
 use Rattle.cn_agree.proofs.PlanRounds.{has_root, fixed_none, fixed_some, fixed_valid_of, fixed_since}
 use Rattle.cn_agree.proofs.round.Round.fixed.Goals as goal

@@ -1,13 +1,13 @@
-use Rattle.std.proofs.Common.{◌≡◌, ◌∙◌, [], sym, subst}
+use Rattle.std.proofs.Common.{◌∙◌, [], sym, subst}
 use Rattle.cn_agree.specs.World.{World}
-use Rattle.cn_agree.specs.Rounds.{IsRound, IsRoundOf}
+use Rattle.cn_agree.specs.Rounds.{IsRoundOf}
 use Rattle.cn_agree.proofs.Running.{first_is, opens}
 use Rattle.cn_agree.proofs.round.Round.new.Goals as goal
 
 pub returns-clause-world : goal.returns-clause-world
 returns-clause-world g c =
     first_is c.args.plan.now c.in_ok-filled.field-0.items c.in_ok-filled-2.field-0.items c.in_ok-filled-3.field-0.items c.start.result c.from.result c.from-processes.result
-    c.start.ensures.start (c.from.ensures ∙ c.nodes.ensures) (c.from-processes.ensures ∙ c.processes.ensures.number) c.in_ok-filled.ensures c.in_ok-filled-2.ensures c.in_ok-filled-3.ensures
+    c.start.ensures.start (c.from.ensures ∙ c.nodes.ensures.number) (c.from-processes.ensures ∙ c.processes.ensures.number) c.in_ok-filled.ensures c.in_ok-filled-2.ensures c.in_ok-filled-3.ensures
 
 pub returns-clause-of_plan : goal.returns-clause-of_plan
 returns-clause-of_plan g c =

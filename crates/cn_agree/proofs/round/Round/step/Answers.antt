@@ -1,9 +1,9 @@
-use Rattle.std.proofs.Common.{ℕ, ◌≡◌, ◌<◌, ◌*◌, ◌++◌, ◌∷◌, [], List, length, slice_set, Some, None, ap, sym, ◌∙◌, subst, arith}
-use Rattle.cn_proto.specs.Plan.{Plan, protocol_of, processes_of, nodes_of}
+use Rattle.std.proofs.Common.{◌≡◌, ◌++◌, ◌∷◌, [], slice_set, ap, sym, ◌∙◌, subst, arith}
+use Rattle.cn_proto.specs.Plan.{protocol_of}
 use Rattle.cn_agree.specs.Steps.{after_step}
-use Rattle.cn_agree.specs.Rounds.{IsRound, IsRoundOf, decided, fixed_value, decision_at}
+use Rattle.cn_agree.specs.Rounds.{IsRound, IsRoundOf, fixed_value}
 use Rattle.cn_agree.specs.World.{World}
-use Rattle.cn_agree.proofs.PlanRounds.{Stands, stands_at, local_within, under_way, steps_is, round_steps, state_below_of, next_decides, fixed_goes_on}
+use Rattle.cn_agree.proofs.PlanRounds.{stands_at, local_within, under_way, steps_is, round_steps, state_below_of, next_decides, fixed_goes_on}
 use Rattle.cn_agree.proofs.round.Round.step.Goals as goal
 
 pub offset_bounds-path-place : goal.offset_bounds-path-place

@@ -1,0 +1,6 @@
+pub mod AcceptedWitnesses
+pub mod Failing
+pub mod FailingPlans
+pub mod FailingRuns
+pub mod NumberLemmas
+pub mod OneOutput

@@ -1,0 +1,93 @@
+//! The command `agree`.
+ghost use Rattle.std.specs.Prelude.{◌≡◌, ◌⊎◌, ℕ, List, IfOk, IfErr, OnOk, string_bytes};
+ghost use Rattle.std.specs.Io.KnownBytes.{Appends, Keeps};
+ghost use Rattle.cn_proto.specs.Plan.{Plan};
+ghost use Rattle.cn_app.specs.Agree.{decision_line, decision_lines, IsAgreed, IsRunFault, ListsFail, ListsGive, RunFails};
+ghost use Rattle.cn_app.specs.Check.{FailsChecked, GivesChecked};
+ghost use Rattle.cn_app.specs.Plans.{IsPlanOf, PlanFails};
+
+use crate::arguments::{read_inputs, read_schedule};
+use crate::fault::AppFault;
+use crate::output::{Outcome, write_whole};
+use crate::plan::read_plan;
+use cn_agree::run_schedule;
+use std::alloc::{AllocError, Global};
+use std::io::{Read, Write};
+
+/// What a process has decided, or that it has not.
+fn line_of(alloc: Global, process: usize, decision: Option<u64>) -> Result<String, AllocError>
+    ensures { IfOk result (λ line. string_bytes line ≡ decision_line process decision) }
+{
+    match decision {
+        Some(value) => format!(in alloc; "{process}: {value}\n"),
+        None => format!(in alloc; "{process}: undecided\n"),
+    }
+}
+
+/// A line for each process.
+fn lines_of(alloc: Global, decisions: &[Option<u64>]) -> Result<String, AllocError>
+    ensures { IfOk result (λ lines. string_bytes lines ≡ decision_lines 0 decisions.now) }
+{
+    let mut lines = String::new(alloc);
+    for (process, decision) in decisions.iter().enumerate() {
+        let line = line_of(alloc, process, *decision)?;
+        lines.push_str(&line)?;
+    }
+    Ok(lines)
+}
+
+/// Reads a table and a certificate, checks the one against the other, and runs the plan of the
+/// certificate's witness by a schedule: a line for each process.
+fn agreed_lines<R: Read, C: Read>(
+    alloc: Global,
+    table: &mut R,
+    certificate: &mut C,
+    inputs: &[u64],
+    schedule: &[u8],
+) -> Result<String, AppFault>
+    ensures lines { IfOk result (λ lines. GivesChecked (R.remaining table.old) (C.remaining certificate.old) (λ t c. (plan : Plan)
+        × IsPlanOf t c plan × IsAgreed plan inputs.now schedule.now (string_bytes lines))) }
+    ensures refused { IfErr result (λ e. (e ≡ AppFault.OutOfMemory)
+        ⊎ FailsChecked (R.remaining table.old) (C.remaining certificate.old) e (λ t c. PlanFails t c e (λ plan. IsRunFault plan inputs.now schedule.now e))) }
+{
+    let plan = read_plan(alloc, table, certificate)?;
+    let decided = run_schedule(alloc, &plan, inputs, schedule)?;
+    Ok(lines_of(alloc, &decided.decisions)?)
+}
+
+/// Reads a type table and a certificate, checks the one against the other, runs the plan of the
+/// certificate's witness by a schedule, and writes for each process a line with what it has decided,
+/// or that it has not.
+///
+/// `inputs` are the numbers that the processes begin with, and `schedule` the processes in the order
+/// of their steps, both as [`read_inputs`] and [`read_schedule`] read them. Whatever the schedule,
+/// the decisions are equal, they are the input of a process that it names, and a process has decided
+/// exactly when it is named four times for each place of its path.
+///
+/// # Errors
+///
+/// The first of these: `inputs`, then `schedule`, is not spelled as it should be; one of the
+/// refusals of [`run_show`](crate::run_show) but that of the writer; there are not as many inputs
+/// as processes, or the schedule names a process that there is not; the writer fails. Want of memory
+/// can stand in place of any answer. Nothing is written unless all else went well.
+pub fn run_agree<T, R: Read, C: Read, W: Write>(
+    _rt: &T,
+    alloc: Global,
+    table: &mut R,
+    certificate: &mut C,
+    writer: &mut W,
+    inputs: &str,
+    schedule: &str,
+) -> Result<Outcome, AppFault>
+    ensures whole { IfOk result (λ outcome. outcome ≡ Outcome.Whole) }
+    ensures written { OnOk result (ListsGive inputs.now schedule.now (λ xs s. GivesChecked (R.remaining table.old) (C.remaining certificate.old) (λ t c. (plan : Plan)
+        × IsPlanOf t c plan × ((lines : List ℕ) × IsAgreed plan xs s lines × Appends (W.contents writer.old) (W.contents writer.new) lines)))) }
+    ensures refused { IfErr result (λ e. (e ≡ AppFault.OutOfMemory) ⊎ ListsFail inputs.now schedule.now e (λ xs s.
+        FailsChecked (R.remaining table.old) (C.remaining certificate.old) e (λ t c. PlanFails t c e (λ plan. RunFails plan xs s e)))) }
+    ensures silent { IfErr result (λ e. (e ≡ AppFault.Write) ⊎ Keeps (W.contents writer.old) (W.contents writer.new)) }
+{
+    let inputs = read_inputs(alloc, inputs)?;
+    let schedule = read_schedule(alloc, schedule)?;
+    let lines = agreed_lines(alloc, table, certificate, &inputs, &schedule)?;
+    write_whole(writer, lines.as_bytes())
+}

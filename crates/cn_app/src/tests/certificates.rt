@@ -1,0 +1,20 @@
+//! Certificates of these types.
+
+pub(super) const TEST_AND_SET_AT_3: &str =
+    r#"{"collisions":[[0,[0],[0,0],1,[0,1],[2,1]],[1,[0],[0,0],0,[0],[1,0]]],"limit":3,"number":2,"type":"test_and_set","version":1,"witness":[0,[0],[0]]}"#;
+
+pub(super) const IDLE_AT_2: &str =
+    r#"{"collisions":[[0,[0],[0],0,[0],[1,0]]],"limit":2,"number":null,"type":"idle","version":1,"witness":null}"#;
+
+pub(super) const STICKY_BIT_AT_4: &str =
+    r#"{"collisions":[],"limit":4,"number":4,"type":"sticky_bit","version":1,"witness":[0,[0],[1,1,1]]}"#;
+
+// Another witness than the first one.
+pub(super) const STICKY_BIT_IN_PAIRS: &str =
+    r#"{"collisions":[],"limit":4,"number":4,"type":"sticky_bit","version":1,"witness":[0,[0,0],[1,1]]}"#;
+
+pub(super) const STICKY_BIT_AT_3: &str =
+    r#"{"collisions":[],"limit":3,"number":3,"type":"sticky_bit","version":1,"witness":[0,[0],[1,1]]}"#;
+
+pub(super) const THREE_SHOT_AT_3: &str =
+    r#"{"collisions":[],"limit":3,"number":3,"type":"three_shot","version":1,"witness":[0,[0],[1,1]]}"#;

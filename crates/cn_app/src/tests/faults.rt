@@ -1,0 +1,80 @@
+//! The texts and the statuses of faults.
+use super::*;
+use cn_agree::ScheduleFault;
+use cn_cert::CertFault;
+use cn_check::CheckFault;
+use cn_search::FindFault;
+use cn_table::TableFault;
+
+#[test]
+fn reads_as_the_formats_say(rt: HostRuntime) -> Result<(), Fail> {
+    for (fault, text, status) in [
+        (AppFault::Words, "words refused", 3),
+        (AppFault::Argument(Part::Inputs), "argument: INPUTS", 3),
+        (AppFault::Argument(Part::Schedule), "argument: SCHEDULE", 3),
+        (
+            AppFault::Table(TableFault::RowLength),
+            "table: 8 RowLength",
+            2,
+        ),
+        (
+            AppFault::Certificate(CertFault::Range),
+            "certificate: 4 Range",
+            2,
+        ),
+        (AppFault::TooLong(Source::Table), "table: too long", 2),
+        (
+            AppFault::TooLong(Source::Certificate),
+            "certificate: too long",
+            2,
+        ),
+        (
+            AppFault::Check(CheckFault::NotNext(8)),
+            "check: 6 NotNext 8",
+            1,
+        ),
+        (AppFault::NoWitness, "certificate: no witness", 1),
+        (
+            AppFault::Find(FindFault::TooManyChoices(407_616)),
+            "find: 2 TooManyChoices 407616",
+            3,
+        ),
+        (
+            AppFault::Schedule(ScheduleFault::InputCount),
+            "schedule: 1 InputCount",
+            3,
+        ),
+        (AppFault::Read(Source::Table), "cannot read table", 4),
+        (
+            AppFault::Read(Source::Certificate),
+            "cannot read certificate",
+            4,
+        ),
+        (AppFault::Write, "cannot write", 4),
+        (AppFault::OutOfMemory, "out of memory", 5),
+    ] {
+        let said = format!(in rt.alloc(); "{fault}")?;
+        assert_eq!(rt; said.as_str(), text);
+        assert_eq!(rt; fault.status(), status, "{text}");
+    }
+    Ok(())
+}
+
+#[test]
+fn want_of_memory_is_one_fault(rt: HostRuntime) -> Result<(), Fail> {
+    for fault in [
+        AppFault::Table(TableFault::OutOfMemory),
+        AppFault::Certificate(CertFault::OutOfMemory),
+        AppFault::Find(FindFault::OutOfMemory),
+        AppFault::Schedule(ScheduleFault::OutOfMemory),
+        AppFault::from(TableFault::OutOfMemory),
+        AppFault::from(CertFault::OutOfMemory),
+        AppFault::from(FindFault::OutOfMemory),
+        AppFault::from(ScheduleFault::OutOfMemory),
+    ] {
+        let said = format!(in rt.alloc(); "{fault}")?;
+        assert_eq!(rt; said.as_str(), "out of memory");
+        assert_eq!(rt; fault.status(), 5);
+    }
+    Ok(())
+}

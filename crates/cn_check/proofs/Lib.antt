@@ -1,0 +1,11 @@
+pub mod CollisionLemmas
+pub mod DistinctLemmas
+pub mod EntryLemmas
+pub mod FaultLemmas
+pub mod MarkLemmas
+pub mod NumberingLemmas
+pub mod ProgressLemmas
+pub mod ResultSetLemmas
+pub mod StandingLemmas
+pub mod TurnLemmas
+pub mod VerdictLemmas

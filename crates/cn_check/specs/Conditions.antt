@@ -1,0 +1,27 @@
+-- What a certificate of a table has to meet.
+use Rattle.std.specs.Prelude.{◌≡◌, ℕ, ◌≤◌, Option, Some, None, IfSome}
+use Rattle.cn_table.specs.TypeTable.{TypeTable}
+use Rattle.cn_choice.specs.RawChoices.{IsRawChoice}
+use Rattle.cn_choice.specs.Canonical.{Choice, raw_choice_of}
+use Rattle.cn_choice.specs.Collisions.{Collision, IsCollision}
+
+-- the limit is from 2 to 6, and the number, if there is one, from 2 to the limit
+pub record IsInRange (limit : ℕ) (number : Option ℕ) : Type 0 where
+  pub some : 2 ≤ limit
+  pub few : limit ≤ 6
+  pub number_in_limit : IfSome number (λ n. (2 ≤ n) × (n ≤ limit))
+
+-- a choice of the table for as many processes as the number; where there is no number, no choice
+abbrev pub HasWitnessFor : TypeTable → Option ℕ → Option Choice → Type 0
+HasWitnessFor t None None = Unit {0}
+HasWitnessFor t None (Some w) = ⊥
+HasWitnessFor t (Some n) None = ⊥
+HasWitnessFor t (Some n) (Some w) = IsRawChoice t n (raw_choice_of w)
+
+-- the entry's process and lists are a collision of its choice
+abbrev pub HoldsCollision : TypeTable → Collision → Type 0
+HoldsCollision t entry = IsCollision t (raw_choice_of entry.choice) entry.process entry.alpha entry.beta
+
+-- the entry refutes the choice: it is of this choice, and holds a collision of it
+abbrev pub Refutes : TypeTable → Choice → Collision → Type 0
+Refutes t choice entry = (entry.choice ≡ choice) × HoldsCollision t entry

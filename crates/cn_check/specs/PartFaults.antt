@@ -1,0 +1,37 @@
+-- The faults of the witness alone, and of the evidence alone.
+use Rattle.std.specs.Prelude.{◌≡◌, ◌≢◌, ℕ, ◌<◌, List, [], Option, Some, IsSomeAnd}
+use Rattle.cn_table.specs.TypeTable.{TypeTable}
+use Rattle.cn_choice.specs.Discerning.{ResultSetsMeet}
+use Rattle.cn_choice.specs.Canonical.{Choice, raw_choice_of}
+use Rattle.cn_choice.specs.Collisions.{Collision}
+use Rattle.cn_search.specs.Evidence.{choices_to_refute}
+use Rattle.cn_check.specs.Conditions.{HasWitnessFor}
+use Rattle.cn_check.specs.Progress.{IsFirstEntryFault}
+use Rattle.cn_check.specs.declared.fault.CheckFault.{CheckFault}
+use Rattle.cn_check.specs.declared.fault.CheckFault.TheVariants.{OtherType, BadNumber, WitnessShape, WitnessMeets, Unexpected, NotNext, NotACollision, TooFew}
+
+-- the result sets of process j meet, and of no process before it
+abbrev pub MeetFirst : TypeTable → Choice → ℕ → Type 0
+MeetFirst t w j = ResultSetsMeet t (raw_choice_of w) j × ((i : ℕ) → i < j → ¬ ResultSetsMeet t (raw_choice_of w) i)
+
+-- the first fault of the number's witness
+abbrev pub IsWitnessFault : TypeTable → Option ℕ → Option Choice → CheckFault → Type 0
+IsWitnessFault t number witness WitnessShape = ¬ HasWitnessFor t number witness
+IsWitnessFault t number witness (WitnessMeets j) = HasWitnessFor t number witness × IsSomeAnd witness (λ w. MeetFirst t w j)
+IsWitnessFault t number witness OtherType = ⊥
+IsWitnessFault t number witness BadNumber = ⊥
+IsWitnessFault t number witness Unexpected = ⊥
+IsWitnessFault t number witness (NotNext i) = ⊥
+IsWitnessFault t number witness (NotACollision i) = ⊥
+IsWitnessFault t number witness TooFew = ⊥
+
+-- the first fault of the entries, for this limit and this number
+abbrev pub IsEvidenceFault : TypeTable → ℕ → Option ℕ → List Collision → CheckFault → Type 0
+IsEvidenceFault t limit number entries Unexpected = (number ≡ Some limit) × (entries ≢ [])
+IsEvidenceFault t limit number entries (NotNext i) = (number ≢ Some limit) × IsFirstEntryFault t (choices_to_refute t limit number) entries (NotNext i)
+IsEvidenceFault t limit number entries (NotACollision i) = (number ≢ Some limit) × IsFirstEntryFault t (choices_to_refute t limit number) entries (NotACollision i)
+IsEvidenceFault t limit number entries TooFew = (number ≢ Some limit) × IsFirstEntryFault t (choices_to_refute t limit number) entries TooFew
+IsEvidenceFault t limit number entries OtherType = ⊥
+IsEvidenceFault t limit number entries BadNumber = ⊥
+IsEvidenceFault t limit number entries WitnessShape = ⊥
+IsEvidenceFault t limit number entries (WitnessMeets j) = ⊥

@@ -1,0 +1,103 @@
+//! What a choice is: its processes, and whether it is one of a table.
+ghost use Rattle.std.specs.Prelude.{◌≡◌, ◌≢◌, ◌<◌, ◌≤◌, ◌+◌, ◌↔◌, ℕ, length, slice_get, slice_index, All, IsTrue, Some};
+ghost use Rattle.std.specs.List.Sorted.{IsNonDecreasing};
+ghost use Rattle.std.specs.Ordering.{nat_cmp};
+ghost use Rattle.std.specs.declared.cmp.Ordering.TheVariants.{Greater};
+ghost use Rattle.std.specs.Cmp.Lexicographic.{slice_cmp};
+ghost use Rattle.cn_choice.specs.Canonical.{Choice, FitsTable, IsCanonical, raw_choice_of};
+ghost use Rattle.cn_choice.specs.RawChoices.{IsRawChoice};
+
+use cn_choice::{Choice, Team};
+use cn_table::{Operation, Table};
+
+/// Whether each of the numbers is below the limit.
+pub(crate) fn are_below(numbers: &[u8], limit: u8) -> bool
+    ensures { IsTrue result ↔ All (λ x. x < limit) numbers.now }
+{
+    numbers.iter().all(|x| *x < limit)
+}
+
+/// Whether the state and the operations of the choice are the table's.
+fn is_of_table(choice: &Choice, table: &Table) -> bool
+    ensures { IsTrue result ↔ ((choice.now.state < length table.now.states) × All (λ operation. operation < length table.now.operations) choice.now.a × All (λ operation. operation < length table.now.operations) choice.now.b) }
+{
+    let operations = table.operations();
+    are_below(choice.a.as_slice(), operations)
+        && are_below(choice.b.as_slice(), operations)
+        && choice.state.0 < table.states()
+}
+
+/// Whether both teams have someone, and together they are n.
+fn has_processes(choice: &Choice, n: u8) -> bool
+    ensures { IsTrue result ↔ ((1 ≤ length choice.now.a) × (1 ≤ length choice.now.b) × (length choice.now.a + length choice.now.b ≡ n)) }
+{
+    !choice.a.is_empty() && !choice.b.is_empty() && choice.a.len() + choice.b.len() == n as usize
+}
+
+/// Whether the choice is one of the table for n processes.
+pub(crate) fn is_choice_for(choice: &Choice, table: &Table, n: u8) -> bool
+    ensures { IsTrue result ↔ IsRawChoice table.now n (raw_choice_of choice.now) }
+{
+    has_processes(choice, n) && is_of_table(choice, table)
+}
+
+/// How many processes the choice has.
+pub(crate) fn processes(table: &Table, choice: &Choice) -> u8
+    requires { FitsTable table.now choice.now }
+    ensures { result ≡ length choice.now.a + length choice.now.b }
+{
+    (choice.a.len() + choice.b.len()) as u8
+}
+
+/// The operation of a process.
+pub(crate) fn operation_of(choice: &Choice, process: u8) -> Operation
+    requires { process < length choice.now.a + length choice.now.b }
+    ensures { result.0 ≡ slice_index (raw_choice_of choice.now).operations process }
+{
+    let (a, b) = (choice.a.as_slice(), choice.b.as_slice());
+    let place = process as usize;
+    if place < a.len() {
+        Operation(a[place])
+    } else {
+        Operation(b[place - a.len()])
+    }
+}
+
+/// The team of a process.
+pub(crate) fn team_of(choice: &Choice, process: u8) -> Team
+    requires { process < length choice.now.a + length choice.now.b }
+    ensures { slice_get (raw_choice_of choice.now).marks process ≡ Some result }
+{
+    if (process as usize) < choice.a.len() {
+        Team::A
+    } else {
+        Team::B
+    }
+}
+
+/// Whether the list is the shorter one, or of two of one length not above the other in
+/// lexicographic order.
+fn comes_first(list: &[u8], other: &[u8]) -> bool
+    ensures { IsTrue result ↔ ((length list.now ≤ length other.now) × (length list.now ≡ length other.now → slice_cmp nat_cmp list.now other.now ≢ Greater)) }
+{
+    if list.len() == other.len() {
+        list <= other
+    } else {
+        list.len() < other.len()
+    }
+}
+
+/// Whether no number of the list is above a later one.
+fn never_falls(list: &[u8]) -> bool
+    ensures { IsTrue result ↔ IsNonDecreasing list.now }
+{
+    list.is_sorted()
+}
+
+/// Whether choices of these teams are canonical: neither list falls, both have someone, `a` is not
+/// the longer, and of two of one length it is not above `b`.
+pub(crate) fn are_canonical(a: &[u8], b: &[u8]) -> bool
+    ensures { (state : ℕ) → IsTrue result ↔ IsCanonical (record { state = state; a = a.now; b = b.now }) }
+{
+    !a.is_empty() && never_falls(a) && never_falls(b) && comes_first(a, b)
+}

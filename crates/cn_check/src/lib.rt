@@ -1,0 +1,22 @@
+//! The checker of certificates, which finds for itself whether what a certificate says holds.
+//!
+//! [`check`] goes through the evidence by code of its own and takes no memory: it shares only the
+//! definitions with the search. Where it answers `Ok`, the number is that of the type, whoever made
+//! the certificate; otherwise a [`CheckFault`] says what is wrong.
+#![tactic(auto)]
+
+mod choice;
+mod fault;
+pub mod laws;
+mod marks;
+mod numbering;
+mod refutation;
+mod seeing;
+mod verdict;
+mod witness;
+
+pub use fault::CheckFault;
+pub use verdict::check;
+
+#[cfg(test)]
+mod tests;

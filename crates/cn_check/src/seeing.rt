@@ -1,0 +1,81 @@
+//! What an order shows to a process.
+ghost use Rattle.std.specs.Prelude.{◌≡◌, ◌<◌, ◌+◌, ◌↔◌, ℕ, length, nat_eq, All, IfSome, IsTrue, Some};
+ghost use Rattle.std.specs.List.{IsDistinct};
+ghost use Rattle.cn_choice.specs.Canonical.{FitsTable, raw_choice_of};
+ghost use Rattle.cn_choice.specs.Orders.{IsOrder};
+ghost use Rattle.cn_choice.specs.ResultSets.{BeginsIn, pair_of};
+ghost use Rattle.cn_check.specs.Seeing.{Shows};
+
+use crate::choice::{are_below, operation_of, processes, team_of};
+use cn_choice::{Choice, Team};
+use cn_table::Table;
+
+/// Whether no number stands twice in the list.
+fn are_distinct(list: &[u8]) -> bool
+    ensures { IsTrue result ↔ IsDistinct nat_eq list.now }
+{
+    match list {
+        [] => true,
+        [first, rest @ ..] => !rest.contains(first) && are_distinct(rest),
+    }
+}
+
+/// Whether the list is an order of some of n processes.
+fn is_order(list: &[u8], n: u8) -> bool
+    ensures { IsTrue result ↔ IsOrder n list.now }
+{
+    !list.is_empty() && are_below(list, n) && are_distinct(list)
+}
+
+/// Whether the first process of the order is in the team.
+fn begins_in(choice: &Choice, team: Team, order: &[u8]) -> bool
+    requires known { All (λ p. p < length choice.now.a + length choice.now.b) order.now }
+    ensures { IsTrue result ↔ BeginsIn (raw_choice_of choice.now) team order.now }
+{
+    match order {
+        [] => false,
+        [first, ..] => team_of(choice, *first) == team,
+    }
+}
+
+/// The response of the process and the last state, where the processes move in this order.
+fn pair_seen(table: &Table, choice: &Choice, order: &[u8], process: u8) -> Option<(u8, u8)>
+    requires fits { FitsTable table.now choice.now }
+    requires known { All (λ p. p < length choice.now.a + length choice.now.b) order.now }
+    ensures pair { result ≡ pair_of table.now (raw_choice_of choice.now) order.now process }
+    ensures range { IfSome result (λ pair. (pair.0 < length table.now.responses) × (pair.1 < length table.now.states)) }
+{
+    let mut state = choice.state;
+    let mut seen = None;
+    for p in order {
+        let (response, next) = table.apply(operation_of(choice, *p), state);
+        if *p == process && seen.is_none() {
+            seen = Some(response.0);
+        }
+        state = next;
+    }
+    match seen {
+        Some(response) => Some((response, state.0)),
+        None => None,
+    }
+}
+
+/// The pair that the list shows to the process, if it is an order of processes of the choice that
+/// begins in the team and has the process.
+pub(crate) fn pair_shown(
+    table: &Table,
+    choice: &Choice,
+    team: Team,
+    list: &[u8],
+    process: u8,
+) -> Option<(u8, u8)>
+    requires fits { FitsTable table.now choice.now }
+    ensures pair { (pair : ℕ × ℕ) → (result ≡ Some pair) ↔ Shows table.now (raw_choice_of choice.now) team process pair list.now }
+    ensures range { IfSome result (λ pair. (pair.0 < length table.now.responses) × (pair.1 < length table.now.states)) }
+{
+    if is_order(list, processes(table, choice)) && begins_in(choice, team, list) {
+        pair_seen(table, choice, list, process)
+    } else {
+        None
+    }
+}

@@ -1,0 +1,113 @@
+//! The check of a certificate.
+ghost use Rattle.std.specs.Prelude.{◌≡◌, ◌≤◌, ◌↔◌, ℕ, length, IfErr, IfSome, IsOk, IsTrue, None, OnOk};
+ghost use Rattle.std.specs.List.{AllZip};
+ghost use Rattle.cn_choice.specs.Canonical.{raw_choice_of};
+ghost use Rattle.cn_choice.specs.Discerning.{IsNumberUpTo, IsWitness};
+ghost use Rattle.cn_search.specs.Evidence.{IsFindingFor, choices_to_refute};
+ghost use Rattle.cn_search.specs.Faults.{find_fault};
+ghost use Rattle.cn_search.specs.Finding.{Finding};
+ghost use Rattle.cn_cert.specs.Certificate.{certificate_of};
+ghost use Rattle.cn_check.specs.Conditions.{HasWitnessFor, IsInRange, Refutes};
+ghost use Rattle.cn_check.specs.Faults.{IsFirstFault};
+ghost use Rattle.cn_check.specs.PartFaults.{IsEvidenceFault, IsWitnessFault};
+ghost use Rattle.cn_check.specs.Verdict.{IsAccepted};
+
+use crate::CheckFault;
+use crate::choice::is_choice_for;
+use crate::refutation::check_entries;
+use crate::witness::first_meeting;
+use cn_cert::Certificate;
+use cn_choice::{Choice, Collision};
+use cn_table::Table;
+
+/// The greatest limit.
+const GREATEST_LIMIT: u8 = 6;
+
+/// Whether the certificate is of a type of the table's name.
+fn is_of_type(certificate: &Certificate, table: &Table) -> bool
+    ensures { IsTrue result ↔ (certificate.now.type_name ≡ table.now.name) }
+{
+    certificate.type_name.as_str() == table.name()
+}
+
+/// Whether the limit is from 2 to 6, and the number, if there is one, from 2 to the limit.
+fn is_in_range(limit: u8, number: Option<u8>) -> bool
+    ensures { IsTrue result ↔ IsInRange limit number }
+{
+    let limit_is = 2 <= limit && limit <= GREATEST_LIMIT;
+    match number {
+        Some(n) => limit_is && 2 <= n && n <= limit,
+        None => limit_is,
+    }
+}
+
+/// Checks that the witness, which need not be canonical, is a witness of the table for the number,
+/// and that there is none where there is no number.
+fn check_witness(
+    table: &Table,
+    number: Option<u8>,
+    witness: &Option<Choice>,
+) -> Result<(), CheckFault>
+    requires some { IfSome number (λ n. 2 ≤ n) }
+    requires few { IfSome number (λ n. n ≤ 8) }
+    ensures fits { OnOk result (HasWitnessFor table.now number witness.now) }
+    ensures witness { OnOk result (IfSome witness.now (λ w. IsWitness table.now (raw_choice_of w))) }
+    ensures fault { IfErr result (IsWitnessFault table.now number witness.now) }
+{
+    match (number, witness) {
+        (None, None) => Ok(()),
+        (Some(n), Some(choice)) if is_choice_for(choice, table, n) => {
+            match first_meeting(table, choice) {
+                Some(process) => Err(CheckFault::WitnessMeets(process)),
+                None => Ok(()),
+            }
+        }
+        _ => Err(CheckFault::WitnessShape),
+    }
+}
+
+/// Checks that the entries refute what has to be refuted: the canonical choices for one process
+/// more than the number, for two where there is no number, and none where the number is the limit.
+fn check_evidence(
+    table: &Table,
+    limit: u8,
+    number: Option<u8>,
+    entries: &[Collision],
+) -> Result<(), CheckFault>
+    requires { IsInRange limit number }
+    ensures refuted { OnOk result (AllZip (Refutes table.now) (choices_to_refute table.now limit number) entries.now) }
+    ensures fault { IfErr result (IsEvidenceFault table.now limit number entries.now) }
+{
+    match number {
+        None => check_entries(table, entries, 2),
+        Some(n) if n < limit => check_entries(table, entries, n + 1),
+        Some(_) if entries.is_empty() => Ok(()),
+        Some(_) => Err(CheckFault::Unexpected),
+    }
+}
+
+/// Checks a certificate against the table of its type.
+///
+/// `Ok` says that the certificate is of this type and that its number is the type's up to its
+/// limit. Each certificate of a finding of this table is accepted. No memory is taken.
+///
+/// # Errors
+///
+/// The first fault of the certificate, in the order that [`CheckFault`] gives.
+pub fn check(table: &Table, certificate: &Certificate) -> Result<(), CheckFault>
+    ensures accepted { OnOk result (IsAccepted table.now certificate.now) }
+    ensures passes { IsAccepted table.now certificate.now → IsOk result }
+    ensures refused { IfErr result (IsFirstFault table.now certificate.now) }
+    ensures number { OnOk result (IsNumberUpTo table.now certificate.now.limit certificate.now.number) }
+    ensures found { (f : Finding) → IsFindingFor table.now f.limit f → find_fault (length table.now.states) (length table.now.operations) f.limit ≡ None → certificate.now ≡ certificate_of table.now.name f → IsOk result }
+{
+    if !is_of_type(certificate, table) {
+        return Err(CheckFault::OtherType);
+    }
+    let (limit, number) = (certificate.limit, certificate.number);
+    if !is_in_range(limit, number) {
+        return Err(CheckFault::BadNumber);
+    }
+    check_witness(table, number, &certificate.witness)?;
+    check_evidence(table, limit, number, certificate.collisions.as_slice())
+}

@@ -1,0 +1,37 @@
+//! Files that are opened late.
+use std::fs::File;
+use std::io;
+use std::io::Read;
+use std::rt::Files;
+
+/// A file that is opened at its first read, so that it is not touched where an earlier text is
+/// refused. A fault of opening it is a fault of that read.
+#[derive(Drop)]
+pub struct LazyFile<'a, R: Files> {
+    rt: &'a R,
+    path: &'a str,
+    file: Option<R::File>,
+}
+
+impl<'a, R: Files> LazyFile<'a, R> {
+    /// The file of this name.
+    pub fn new(rt: &'a R, path: &'a str) -> LazyFile<'a, R> {
+        LazyFile {
+            rt,
+            path,
+            file: None,
+        }
+    }
+}
+
+impl<'a, R: Files> Read for LazyFile<'a, R> {
+    fn read(&mut self, buffer: &mut [u8]) -> io::Result<usize> {
+        if self.file.is_none() {
+            self.file = Some(File::open(self.rt, self.path)?);
+        }
+        match &mut self.file {
+            Some(file) => file.read(buffer),
+            None => Ok(0),
+        }
+    }
+}

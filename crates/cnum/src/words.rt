@@ -1,0 +1,147 @@
+//! The words of the command line, and the help on them.
+use clap::{Arg, ArgAction, Command, value_parser};
+use std::alloc::{AllocError, Global};
+
+const ABOUT: &str = "Finds and checks the consensus number of a shared object type";
+
+const AFTER: &str = "\
+Input: a type table in TOML on standard input, at most 65536 bytes; CERT is a file that holds a
+certificate, at most 16777216 bytes.
+Output: on standard output, whole or not at all; a fault is one line on standard error.
+
+Exit status:
+  0  done
+  1  the check refuses the certificate, or it has no witness
+  2  the text of the table or of the certificate is refused
+  3  the words, an argument, the limit, the count of choices or the schedule are refused
+  4  reading or writing failed
+  5  out of memory
+
+Example:
+  cnum find --limit 3 < types/test_and_set.toml";
+
+const FIND_ABOUT: &str = "Writes the certificate of the consensus number of the type";
+
+const FIND_AFTER: &str = "\
+Reads a type table in TOML from standard input: the keys name, states, responses and, for each
+operation, name, response and next. Looks for the greatest n from 2 to N for which the type is
+n-discerning, that is, the number of processes that the type with registers can bring to
+agreement, as far as N shows. N is from 2 to 6. A search of more than 100000 choices for N
+processes is refused.
+
+Writes a certificate, one line of JSON: the number, or null; a witness for it; and for each
+choice of operations and teams for one process more a collision, which shows that it is none.
+
+Exit status: 0 done, 2 the table is refused, 3 the words, the limit or the count of choices are
+refused, 4 reading or writing failed, 5 out of memory.
+
+Example:
+  cnum find --limit 3 < types/test_and_set.toml
+writes a certificate with \"number\":2.";
+
+const CHECK_ABOUT: &str = "Checks a certificate against the type";
+
+const CHECK_AFTER: &str = "\
+Reads a type table in TOML from standard input and a certificate in JSON from the file CERT.
+Writes ok where the certificate is of this type and shows its number: its witness is one, and it
+has a collision for each choice for one process more, in order. What find writes is accepted, and
+so is a certificate with another witness or other collisions.
+
+Exit status: 0 done, 1 the check refuses the certificate, 2 the text of the table or of the
+certificate is refused, 3 the words are refused, 4 reading or writing failed, 5 out of memory.
+
+Example:
+  cnum check tests/cli/check_ok/cert.json < types/test_and_set.toml
+writes ok.";
+
+const SHOW_ABOUT: &str = "Writes the plan of a certificate's witness";
+
+const SHOW_AFTER: &str = "\
+Reads a type table in TOML from standard input and a certificate in JSON from the file CERT, and
+checks the certificate. Writes how the processes come to agree by its witness: a line on the type,
+a line for each role with its team, its operation and the pairs response/state by which it knows
+that team A came first, and a line for each process with its places, from its lowest node to the
+root.
+
+Exit status: 0 done, 1 the check refuses the certificate, or it has no witness, 2 the text of the
+table or of the certificate is refused, 3 the words are refused, 4 reading or writing failed, 5 out
+of memory.
+
+Example:
+  cnum show tests/cli/check_ok/cert.json < types/test_and_set.toml
+writes five lines, the last of which is process 1: node 0 B role 1.";
+
+const AGREE_ABOUT: &str = "Runs the plan of a certificate's witness by a schedule";
+
+const AGREE_AFTER: &str = "\
+Reads a type table in TOML from standard input and a certificate in JSON from the file CERT, and
+checks the certificate. Lets each process of the plan begin with its number of INPUTS and take a
+step wherever SCHEDULE names it. Writes for each process P a line, P: V where it has decided V,
+else P: undecided. Whatever the schedule, all decisions are equal and are the number of a process
+that the schedule names.
+
+A list is numbers with a comma and no space between two, at most 65536 of them, or the word none.
+INPUTS are from 0 to 18446744073709551615, one for each process, SCHEDULE is processes from 0 on.
+
+Exit status: 0 done, 1 the check refuses the certificate, or it has no witness, 2 the text of the
+table or of the certificate is refused, 3 the words, an argument or the schedule are refused, 4
+reading or writing failed, 5 out of memory.
+
+Example:
+  cnum agree tests/cli/check_ok/cert.json 10,20 1,1,0,0,0,0 < types/test_and_set.toml
+writes 0: 20 and 1: undecided.";
+
+fn find<'a>(alloc: Global) -> Result<Command<'a>, AllocError> {
+    let limit = Arg::new(alloc, "limit")
+        .long("limit")
+        .value_name("N")
+        .help("The greatest number looked for, from 2 to 6")
+        .required(true)
+        .action(ArgAction::Set)
+        .value_parser(value_parser!(u8));
+    Command::new(alloc, "find")
+        .about(FIND_ABOUT)
+        .after_help(FIND_AFTER)
+        .arg(limit)
+}
+
+/// A word that has to stand there.
+fn word<'a>(alloc: Global, name: &'a str, help: &'a str) -> Arg<'a> {
+    Arg::new(alloc, name).help(help).required(true)
+}
+
+/// A command that reads a certificate.
+fn with_certificate<'a>(
+    alloc: Global,
+    name: &'a str,
+    about: &'a str,
+    after: &'a str,
+) -> Result<Command<'a>, AllocError> {
+    Command::new(alloc, name)
+        .about(about)
+        .after_help(after)
+        .arg(word(alloc, "CERT", "The file that holds the certificate"))
+}
+
+fn agree<'a>(alloc: Global) -> Result<Command<'a>, AllocError> {
+    with_certificate(alloc, "agree", AGREE_ABOUT, AGREE_AFTER)?
+        .arg(word(alloc, "INPUTS", "The numbers that the processes begin with"))?
+        .arg(word(
+            alloc,
+            "SCHEDULE",
+            "The processes in the order of their steps",
+        ))
+}
+
+/// All that the program takes.
+pub fn command<'a>(alloc: Global) -> Result<Command<'a>, AllocError> {
+    Command::new(alloc, "cnum")
+        .version("0.1.0")
+        .about(ABOUT)
+        .after_help(AFTER)
+        .subcommand_required(true)
+        .subcommand(find(alloc)?)?
+        .subcommand(with_certificate(alloc, "check", CHECK_ABOUT, CHECK_AFTER)?)?
+        .subcommand(with_certificate(alloc, "show", SHOW_ABOUT, SHOW_AFTER)?)?
+        .subcommand(agree(alloc)?)
+}
