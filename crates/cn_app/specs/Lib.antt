@@ -6,3 +6,4 @@ pub mod Find
 pub mod Check
 pub mod Plans
 pub mod Agree
+pub mod Headline

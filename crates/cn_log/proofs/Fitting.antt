@@ -1,0 +1,162 @@
+-- The fields of a core: at its opening, and after a call.
+use Rattle.std.proofs.Common.{ℕ, zero, suc, ◌≡◌, inl, inr, ◌+◌, ◌<◌, ◌≤◌, List, [], ◌∷◌, ◌++◌, length, replicate, Option, Some, None, refl, sym, ap, ◌∙◌, arith, slice_index_or, slice_set, get_or, length-set, get_or-set_same, get_or-set_other, length-append}
+use Rattle.std.proofs.lemmas.Bool.{cases_eq}
+use Rattle.std.proofs.lemmas.List.{get_or_default, length-replicate}
+use Rattle.cn_table.specs.declared.elements.State.{State}
+use Rattle.cn_log.specs.declared.entry.Entry.{Entry}
+use Rattle.cn_log.specs.declared.event.Event.{Event}
+use Rattle.cn_log.specs.declared.event.Event.TheVariants.{Invoke, Step}
+use Rattle.cn_log.specs.declared.progress.Phase.{Phase}
+use Rattle.cn_log.specs.declared.progress.Phase.TheVariants.{Idle, Looks, Runs}
+use Rattle.cn_log.specs.declared.progress.Progress.{Progress}
+use Rattle.cn_log.specs.Agreement.{Agrees}
+use Rattle.cn_log.specs.Fields.{no_progress, IsProgressOf, Fits, Keeps}
+use Rattle.cn_log.specs.Log.{Setting, World, Caller, put, after_events, after_event, after_step, after_decision, phase_after, first_world, state_of, MayCome, MayAllCome, IsEventList, MayInvoke}
+use Rattle.cn_log.proofs.ListLemmas.{put_same, put_other}
+use Rattle.cn_log.proofs.Invariant.{PhaseHolds, Holds}
+use Rattle.cn_log.proofs.Invoking.{keeps_event}
+use Rattle.cn_log.proofs.Bypassing.{first_holds}
+use Rattle.cn_log.proofs.EventLists.{run_append}
+use Rattle.cn_log.proofs.EntryLists.{fixed_from_is}
+
+abbrev busy : Phase → ℕ
+busy Idle = 0
+busy (Looks e) = 1
+busy (Runs e) = 1
+
+-- a process has replayed a slot for each of its calls but the pending one
+abbrev IsLow : ℕ → Caller → Type 0
+IsLow capacity here = (here.calls ≤ length here.seen + busy here.phase) × (length here.seen ≤ capacity)
+
+module _ {R : Type 0} (L : Setting R) where
+  pub state_push : (s : List Event) (e : Event) → state_of L (s ++ e ∷ []) ≡ after_event L (state_of L s) e
+  state_push s e = run_append L s (e ∷ []) (first_world L)
+
+  pub may_push : (s : List Event) (e : Event) → IsEventList L s → MayCome L (state_of L s) e → IsEventList L (s ++ e ∷ [])
+  may_push s e may come = go s (first_world L) may come
+    where
+      go : (s : List Event) (w : World R) → MayAllCome L s w → MayCome L (after_events L s w) e → MayAllCome L (s ++ e ∷ []) w
+      go [] w may come = (come, tt)
+      go (x ∷ s) w may come = (may.0, go s (after_event L w x) may.1 come)
+
+  put_low : (w : World R) → ((q : ℕ) → IsLow L.capacity (w.caller q)) → (p : ℕ) (s : Caller) → IsLow L.capacity s → (q : ℕ) → IsLow L.capacity (put w.caller p s q)
+  put_low w low p s now q = elim (cases_eq q p) [
+    | inl f ↦ rw (f, put_same w.caller p s) now
+    | inr ne ↦ rw (put_other w.caller p s q ne) (low q)
+  ]
+
+  low_step : (w : World R) → ((q : ℕ) → IsLow L.capacity (w.caller q)) → (p : ℕ) (here : Caller) → w.caller p ≡ here → (ph : Phase) → here.phase ≡ ph → PhaseHolds L w p ph → (q : ℕ) → IsLow L.capacity ((after_step L w p here ph).caller q)
+  low_step w low p here is Idle ph holds q = low q
+  low_step w low p here is (Looks mine) ph holds q =
+      let was : IsLow L.capacity here = rw is at (low p) in
+      let b : busy here.phase ≡ 1 = ap busy ph in
+      let a = was.0 in
+      put_low w low p (record here { phase = Runs mine }) (omega arith, was.1) q
+  low_step w low p here is (Runs mine) ph holds q = go (L.consensus.decided (L.consensus.step p (w.round (length here.seen))) p)
+    where
+      w1 : World R
+      w1 = record w { round = put w.round (length here.seen) (L.consensus.step p (w.round (length here.seen))) }
+
+      go : (o : Option Entry) → IsLow L.capacity ((after_decision L w1 p here mine o).caller q)
+      go None = low q
+      go (Some x) =
+          let was : IsLow L.capacity here = rw is at (low p) in
+          let b : busy here.phase ≡ 1 = ap busy ph in
+          let a = was.0 in
+          let n : length (here.seen ++ x ∷ []) ≡ length here.seen + 1 = length-append here.seen (x ∷ []) in
+          let room : length here.seen < L.capacity = rw is at holds.room in
+          put_low w low p (record { seen = here.seen ++ x ∷ []; calls = here.calls; phase = phase_after L (length here.seen) mine x }) (omega arith, omega arith) q
+
+  low_invoke : (w : World R) → ((q : ℕ) → IsLow L.capacity (w.caller q)) → (p operation : ℕ) → MayInvoke L w p operation
+      → ((w.caller p).calls < L.capacity) × IsLow L.capacity (record { seen = (w.caller p).seen; calls = (w.caller p).calls + 1; phase = Looks (record { process = p; operation = record { 0 = operation }; call = (w.caller p).calls }) })
+  low_invoke w low p operation may =
+      let was = low p in
+      let b : busy (w.caller p).phase ≡ 0 = ap busy may.idle in
+      let a = was.0 in
+      let m = may.not_at_end in
+      (omega arith, (omega arith, was.1))
+
+  pub progress_put : (w : World R) (rounds : List R) (announced : List (Option Entry)) (progress : List Progress) (entries : List Entry) → Fits L w rounds announced progress entries → (p : ℕ) → p < L.processes → (x : Progress) (s : Caller) → IsProgressOf L x s
+      → (q : ℕ) → q < L.processes → IsProgressOf L (slice_index_or (slice_set progress p x) q no_progress) (put w.caller p s q)
+  progress_put w rounds announced progress entries fits p lt x s is q less = elim (cases_eq q p) [
+    | inl f ↦ (let many = fits.progress_many in rw (f, put_same w.caller p s, get_or-set_same progress p x no_progress (omega arith)) is)
+    | inr ne ↦ rw (put_other w.caller p s q ne, get_or-set_other progress p q x no_progress ne) (fits.caller q less)
+  ]
+
+  pub progress_here : (s : List Event) (rounds : List R) (announced : List (Option Entry)) (progress : List Progress) (entries : List Entry) → Keeps L s rounds announced progress entries → (p : ℕ) → p < L.processes → (here : Progress) → here ≡ get_or progress p here → IsProgressOf L here ((state_of L s).caller p)
+  progress_here s rounds announced progress entries keeps p lt here read =
+      let many = keeps.fits.progress_many in
+      let is : here ≡ get_or progress p no_progress = read ∙ get_or_default progress p here no_progress (omega arith) in
+      rw is (keeps.fits.caller p lt)
+
+module _ {R : Type 0} (L : Setting R) (Good : R → Type 0) (agrees : Agrees L Good) where
+  low_event : (w : World R) → Holds L Good w → ((q : ℕ) → IsLow L.capacity (w.caller q)) → (e : Event) → MayCome L w e → (q : ℕ) → IsLow L.capacity ((after_event L w e).caller q)
+  low_event w holds low (Invoke p operation) may q = put_low L w low p _ (low_invoke L w low p operation may).1 q
+  low_event w holds low (Step p) may q = low_step L w low p (w.caller p) refl (w.caller p).phase refl (holds.phases p) q
+
+  low_run : (s : List Event) (w : World R) → Holds L Good w → ((q : ℕ) → IsLow L.capacity (w.caller q)) → MayAllCome L s w → (q : ℕ) → IsLow L.capacity ((after_events L s w).caller q)
+  low_run [] w holds low may q = low q
+  low_run (e ∷ s) w holds low may q = low_run s (after_event L w e) (keeps_event L Good agrees w holds e may.0) (low_event w holds low e may.0) may.1 q
+
+  low_after : (s : List Event) → IsEventList L s → (q : ℕ) → IsLow L.capacity ((state_of L s).caller q)
+  low_after s may q = low_run s (first_world L) (first_holds L Good agrees) (λ q. (omega arith, omega arith)) may q
+
+  -- a process replays no more slots than there are
+  pub seen_few : (s : List Event) → IsEventList L s → (q : ℕ) → length ((state_of L s).caller q).seen ≤ L.capacity
+  seen_few s may q = (low_after s may q).1
+
+  -- a process makes no more calls than there are slots
+  pub calls_few : (s : List Event) (rounds : List R) (announced : List (Option Entry)) (progress : List Progress) (entries : List Entry) → Keeps L s rounds announced progress entries → (p operation : ℕ) → MayInvoke L (state_of L s) p operation → (here : Progress) → here ≡ get_or progress p here → here.calls < L.capacity
+  calls_few s rounds announced progress entries keeps p operation may here read =
+      let low = (low_invoke L (state_of L s) (low_after s keeps.events) p operation may).0 in
+      let d = (progress_here L s rounds announced progress entries keeps p may.process here read).calls in
+      omega arith
+
+  pub invoke_keeps : (s : List Event) (rounds : List R) (announced : List (Option Entry)) (progress : List Progress) (entries : List Entry) → Keeps L s rounds announced progress entries → (p operation : ℕ) → MayInvoke L (state_of L s) p operation → (here : Progress) → here ≡ get_or progress p here
+      → Keeps L (s ++ Invoke p operation ∷ []) rounds (slice_set announced p (Some (record { process = p; operation = record { 0 = operation }; call = here.calls })))
+      (slice_set progress p (record { replayed = here.replayed; calls = here.calls + 1; phase = Looks (record { process = p; operation = record { 0 = operation }; call = here.calls }); state = here.state })) entries
+  invoke_keeps s rounds announced progress entries keeps p operation may here read =
+      let w = state_of L s in
+      let d = progress_here L s rounds announced progress entries keeps p may.process here read in
+      let fits = keeps.fits in
+      let many = fits.announced_many in
+      let lt = may.process in
+      let entry : ℕ → Entry = λ c. record { process = p; operation = record { 0 = operation }; call = c } in
+      rw d.calls (record {
+        events = may_push L s (Invoke p operation) keeps.events may;
+        fits = rw (state_push L s (Invoke p operation)) (record {
+          rounds_many = fits.rounds_many;
+          round = fits.round;
+          announced_many = length-set announced p _ ∙ fits.announced_many;
+          announcement = λ q less. elim (cases_eq q p) [
+            | inl f ↦ rw (f, put_same w.announced p (Some (entry (w.caller p).calls)), get_or-set_same announced p (Some (entry (w.caller p).calls)) None (omega arith)) refl
+            | inr ne ↦ rw (put_other w.announced p (Some (entry (w.caller p).calls)) q ne, get_or-set_other announced p q (Some (entry (w.caller p).calls)) None ne) (fits.announcement q less)
+          ];
+          progress_many = length-set progress p _ ∙ fits.progress_many;
+          caller = progress_put L w rounds announced progress entries fits p may.process _ _ (record { replayed = d.replayed; calls = refl; phase = refl; state = d.state; known = d.known });
+          entries_are = fits.entries_are;
+        });
+      })
+
+  get_replicate : {A : Type 0} (n k : ℕ) (x d : A) → k < n → slice_index_or (replicate n x) k d ≡ x
+  get_replicate zero k x d less = absurd (omega arith)
+  get_replicate (suc n) zero x d less = refl
+  get_replicate (suc n) (suc k) x d less = get_replicate n k x d (omega arith)
+
+  pub new_keeps : (start : State) → start.0 ≡ L.start → start.0 < length L.object.states
+      → Keeps L [] (replicate L.capacity L.untouched) (replicate L.processes None) (replicate L.processes (record { replayed = 0; calls = 0; phase = Idle; state = start })) []
+  new_keeps start is known = record {
+    events = tt;
+    fits = record {
+      rounds_many = length-replicate L.capacity _;
+      round = λ k less. get_replicate L.capacity k _ _ less;
+      announced_many = length-replicate L.processes _;
+      announcement = λ p less. get_replicate L.processes p _ _ less;
+      progress_many = length-replicate L.processes _;
+      caller = λ p less. rw (get_replicate L.processes p none no_progress less) (record { replayed = refl; calls = refl; phase = refl; state = is; known = known });
+      entries_are = sym (fixed_from_is L (first_world L).round L.capacity 0 [] (omega arith) (λ j x h. absurd cc) (inr agrees.unfixed));
+    };
+  }
+    where
+      none : Progress
+      none = record { replayed = 0; calls = 0; phase = Idle; state = start }

@@ -1,0 +1,14 @@
+pub mod ListLemmas
+pub mod Invariant
+pub mod Looking
+pub mod Running
+pub mod Invoking
+pub mod Bypassing
+pub mod EventLists
+pub mod Records
+pub mod EntryLists
+pub mod Linearizing
+pub mod Fitting
+pub mod Stepping
+pub mod RoundLemmas
+pub mod FaultLemmas

@@ -1,0 +1,312 @@
+-- Every list of events is linearized.
+use Rattle.std.proofs.Common.{ℕ, zero, suc, ◌≡◌, ◌≢◌, ◌⊎◌, inl, inr, Bool, true, false, ◌+◌, ◌%◌, ◌<◌, ◌≤◌, ◌==◌, List, [], ◌∷◌, ◌++◌, length, take, drop, slice_get, Option, Some, None, refl, sym, ap, ◌∙◌, arith, if◌then◌else◌}
+use Rattle.std.proofs.lemmas.Bool.{cases_eq}
+use Rattle.cn_table.specs.declared.elements.Response.{Response}
+use Rattle.cn_log.specs.declared.entry.Entry.{Entry}
+use Rattle.cn_log.specs.declared.event.Event.{Event}
+use Rattle.cn_log.specs.declared.event.Event.TheVariants.{Invoke, Step}
+use Rattle.cn_log.specs.declared.event.StepAnswer.TheVariants.{Working, Answered, Full}
+use Rattle.cn_log.specs.declared.progress.Phase.{Phase}
+use Rattle.cn_log.specs.declared.progress.Phase.TheVariants.{Idle, Looks, Runs}
+use Rattle.cn_log.specs.Agreement.{Agrees}
+use Rattle.cn_log.specs.Log.{Setting, World, Caller, Note, Called, Replied, Refused, put, same_entry, proposed, entries_of, response_after, after_events, after_event, after_step, after_decision, first_world, state_of, MayInvoke, MayCome, MayAllCome, IsEventList, entries, answer_from, answer_with}
+use Rattle.cn_log.specs.Linearized.{calls_of, IsCall, IsStepOf, IsAnswered, IsEnded, sequential_replies, IsLinearized, BeginsInTurn, Grows}
+use Rattle.cn_log.specs.Linearized.{Stands as StandsAt}
+use Rattle.cn_log.specs.Bypass.{fixed_before, IsBypassBounded}
+use Rattle.cn_log.proofs.ListLemmas.{put_same, put_other, get_within}
+use Rattle.cn_log.proofs.Invariant.{IsNoted, IsCalled, IsPending, PhaseHolds, Holds, Facts, IsReply, fixed_begun, stands_once, in_order}
+use Rattle.cn_log.proofs.Invoking.{keeps_events, facts_events, keeps_event}
+use Rattle.cn_log.proofs.Bypassing.{first_holds, first_facts, none_left_out, bypass, bypass_none}
+use Rattle.cn_log.proofs.EventLists.{get_take, get_take_low, take_take, split_at, number_once, run_append, may_left, may_right}
+use Rattle.cn_log.proofs.Records.{noted_run, calls_run, noted_invoked}
+use Rattle.cn_log.proofs.EntryLists.{entry_fixed, fixed_entry, all_fixed, entries_few, entries_stay, response_there}
+
+module _ {R : Type 0} (L : Setting R) (Good : R → Type 0) (agrees : Agrees L Good) where
+  abbrev IsSafe : World R → Type 0
+  IsSafe w = Holds L Good w
+
+  pub holds_after : (events : List Event) → IsEventList L events → IsSafe (state_of L events)
+  holds_after events may = keeps_events L Good agrees events (first_world L) (first_holds L Good agrees) may
+
+  pub facts_after : (events : List Event) → IsEventList L events → Facts L (state_of L events)
+  facts_after events may = facts_events L Good agrees events (first_world L) (first_holds L Good agrees) (first_facts L Good agrees) may
+
+  pub prefix_may : (before rest : List Event) → IsEventList L (before ++ rest) → IsEventList L before
+  prefix_may before rest may = may_left L before rest (first_world L) may
+
+  abbrev next : World R → Event → World R
+  next w e = after_event L w e
+
+  -- what is fixed stays
+  abbrev Stay : World R → World R → Type 0
+  Stay w w' = (k : ℕ) (y : Entry) → L.consensus.fixed (w.round k) ≡ Some y → L.consensus.fixed (w'.round k) ≡ Some y
+
+  stay_put : (w : World R) (k0 k : ℕ) (r : R) (y : Entry) → (L.consensus.fixed (w.round k0) ≡ Some y → L.consensus.fixed r ≡ Some y) → (k ≡ k0) ⊎ (k ≢ k0) → L.consensus.fixed (w.round k) ≡ Some y → L.consensus.fixed (put w.round k0 r k) ≡ Some y
+  stay_put w k0 k r y now (inl same) h = rw (same, put_same w.round k0 r) (now (rw same at h))
+  stay_put w k0 k r y now (inr ne) h = rw (put_other w.round k0 r k ne) h
+
+  cases_nat : (a b : ℕ) → (a ≡ b) ⊎ (a ≢ b)
+  cases_nat a b = cases_eq a b
+
+  replayed_round : (w : World R) (p : ℕ) (here : Caller) (mine : Entry) (o : Option Entry) → (after_decision L w p here mine o).round ≡ w.round
+  replayed_round w p here mine None = refl
+  replayed_round w p here mine (Some x) = refl
+
+  stay_stepped : (w : World R) (p : ℕ) → p < L.processes → IsSafe w → (here : Caller) (ph : Phase) → Stay w (after_step L w p here ph)
+  stay_stepped w p lt holds here Idle k y h = h
+  stay_stepped w p lt holds here (Looks mine) k y h = (let r : R = L.consensus.begin p (proposed (w.announced (length here.seen % L.processes)) here.seen mine) (w.round (length here.seen)) in
+      stay_put w (length here.seen) k r y (λ g. agrees.quiet (w.round (length here.seen)) p (proposed (w.announced (length here.seen % L.processes)) here.seen mine) ∙ g) (cases_nat k (length here.seen)) h)
+  stay_stepped w p lt holds here (Runs mine) k y h =
+      let r = L.consensus.step p (w.round (length here.seen)) in
+      let same = replayed_round (record w { round = put w.round (length here.seen) r }) p here mine (L.consensus.decided r p) in
+      rw same (stay_put w (length here.seen) k r y (λ g. agrees.keeps (w.round (length here.seen)) p y lt (holds.good (length here.seen)) g) (cases_nat k (length here.seen)) h)
+
+  stay_next : (w : World R) → IsSafe w → (e : Event) → MayCome L w e → Stay w (next w e)
+  stay_next w holds (Invoke p operation) may k y h = h
+  stay_next w holds (Step p) may k y h = stay_stepped w p may.process holds (w.caller p) (w.caller p).phase k y h
+
+  stay_run : (events : List Event) (w : World R) → IsSafe w → MayAllCome L events w → Stay w (after_events L events w)
+  stay_run [] w holds may k y h = h
+  stay_run (e ∷ events) w holds may k y h =
+      stay_run events (next w e) (keeps_event L Good agrees w holds e may.0) may.1 k y (stay_next w holds e may.0 k y h)
+
+  pub grows : (before after : List Event) → IsEventList L (before ++ after) → Grows L before after
+  grows before after may =
+      let all = run_append L before after (first_world L) in
+      let holds = holds_after before (prefix_may before after may) in
+      let rest = may_right L before after (first_world L) may in
+      rw all (entries_stay L (state_of L before).round (after_events L after (state_of L before)).round (stay_run after (state_of L before) holds rest) L.capacity 0)
+
+  -- a step that answers or ends leaves its note
+  abbrev LeftBy : World R → ℕ → Caller → Phase → (Entry → Note) → Type 0
+  LeftBy w p here ph note = (mine : Entry) × (ph ≡ Runs mine) × ((after_step L w p here ph).history ≡ note mine ∷ w.history)
+
+  answer_noted : (w : World R) (p : ℕ) (here : Caller) (ph : Phase) (slot response : ℕ) → answer_from L w p here ph ≡ Answered slot (record { 0 = response }) → LeftBy w p here ph (λ mine. Replied mine slot response)
+  answer_noted w p here Idle slot response h = absurd cc
+  answer_noted w p here (Looks mine) slot response h = absurd cc
+  answer_noted w p here (Runs mine) slot response h = (mine, refl, with_it (L.consensus.decided r p) h)
+    where
+      r : R
+      r = L.consensus.step p (w.round (length here.seen))
+
+      w1 : World R
+      w1 = record w { round = put w.round (length here.seen) r }
+
+      with_it : (o : Option Entry) → answer_with L here.seen mine o ≡ Answered slot (record { 0 = response }) → (after_decision L w1 p here mine o).history ≡ Replied mine slot response ∷ w.history
+      with_it None h = absurd cc
+      with_it (Some x) h = go (same_entry x mine) (length here.seen + 1 == L.capacity) h
+        where
+          go : (b d : Bool) → (if b then Answered (length here.seen) (record { 0 = response_after L here.seen mine.operation.0 }) else (if d then Full else Working)) ≡ Answered slot (record { 0 = response })
+              → (if b then Replied mine (length here.seen) (response_after L here.seen mine.operation.0) ∷ w.history else (if d then Refused mine ∷ w.history else w.history)) ≡ Replied mine slot response ∷ w.history
+          go true d g = let a : length here.seen ≡ slot = cc in let s : (let z : Response = record { 0 = response_after L here.seen mine.operation.0 } in z) ≡ record { 0 = response } = cc in let b : response_after L here.seen mine.operation.0 ≡ response = ap (λ (z : Response). z.0) s in rw (a, b) refl
+          go false true g = absurd cc
+          go false false g = absurd cc
+
+  full_noted : (w : World R) (p : ℕ) (here : Caller) (ph : Phase) → answer_from L w p here ph ≡ Full → LeftBy w p here ph (λ mine. Refused mine)
+  full_noted w p here Idle h = absurd cc
+  full_noted w p here (Looks mine) h = absurd cc
+  full_noted w p here (Runs mine) h = (mine, refl, with_it (L.consensus.decided r p) h)
+    where
+      r : R
+      r = L.consensus.step p (w.round (length here.seen))
+
+      w1 : World R
+      w1 = record w { round = put w.round (length here.seen) r }
+
+      with_it : (o : Option Entry) → answer_with L here.seen mine o ≡ Full → (after_decision L w1 p here mine o).history ≡ Refused mine ∷ w.history
+      with_it None h = absurd cc
+      with_it (Some x) h = go (same_entry x mine) (length here.seen + 1 == L.capacity) h
+        where
+          go : (b d : Bool) → (if b then Answered (length here.seen) (record { 0 = response_after L here.seen mine.operation.0 }) else (if d then Full else Working)) ≡ Full
+              → (if b then Replied mine (length here.seen) (response_after L here.seen mine.operation.0) ∷ w.history else (if d then Refused mine ∷ w.history else w.history)) ≡ Refused mine ∷ w.history
+          go true d g = absurd cc
+          go false true g = refl
+          go false false g = absurd cc
+
+  -- what is called is an event
+  pub called_event : (events : List Event) (e : Entry) → IsCalled e (state_of L events).history → (i : ℕ) × IsCall events i e
+  called_event events e c = elim (noted_invoked L e c.since events (first_world L) c.noted) [
+    | inl old ↦ absurd (let g = old.there in cc g)
+    | inr new ↦ (new.at, record { invoke = new.invoke; number = (let m = new.number in omega arith) })
+  ]
+
+  -- the pending entry is the call of the step
+  pending_is : (events : List Event) (i : ℕ) (e mine : Entry) → IsStepOf events i e → IsPending L (state_of L (take i events)) e.process mine → mine ≡ e
+  pending_is events i e mine step pending =
+      let made = called_event (take i events) mine pending.called in
+      let calls = calls_run L (take i events) (first_world L) e.process in
+      let number = pending.call in
+      let last = step.last in
+      let call : mine.call ≡ e.call = omega arith in
+      let p = pending.process in
+      let low = get_take_low events i made.0 _ made.1.invoke in
+      let there : slice_get events made.0 ≡ Some (Invoke e.process mine.operation.0) = sym (get_take events i made.0 low) ∙ made.1.invoke ∙ ap (λ q. Some (Invoke q mine.operation.0)) p in
+      let counted : mine.call ≡ calls_of e.process (take made.0 events) = made.1.number ∙ ap (λ q. calls_of q (take made.0 (take i events))) p ∙ ap (calls_of e.process) (take_take events i made.0 (omega arith)) in
+      let operation = number_once events e.process mine.operation.0 e.operation.0 made.0 step.call there step.is.invoke (sym counted ∙ call ∙ step.is.number) in
+      λ j. record { process = p j; operation = record { 0 = operation j }; call = call j }
+
+  -- the state at a step, and the one after it
+  module _ (events : List Event) (may : IsEventList L events) (i : ℕ) (event : Event) (at : slice_get events i ≡ Some event) where
+    here_may : IsEventList L (take i events)
+    here_may = prefix_may (take i events) (event ∷ drop (suc i) events) (rw (← split_at events i event at) may)
+
+    event_may : MayCome L (state_of L (take i events)) event
+    event_may = (may_right L (take i events) (event ∷ drop (suc i) events) (first_world L) (rw (← split_at events i event at) may)).0
+
+    whole : state_of L events ≡ after_events L (drop (suc i) events) (next (state_of L (take i events)) event)
+    whole = ap (state_of L) (split_at events i event at) ∙ run_append L (take i events) (event ∷ drop (suc i) events) (first_world L)
+
+    noted_later : (note : Note) → IsNoted note (next (state_of L (take i events)) event).history → IsNoted note (state_of L events).history
+    noted_later note h = rw whole (noted_run L note (drop (suc i) events) (next (state_of L (take i events)) event) h)
+
+  runs_pending : (w : World R) (p : ℕ) → IsSafe w → (mine : Entry) → (w.caller p).phase ≡ Runs mine → IsPending L w p mine
+  runs_pending w p holds mine is = let h : PhaseHolds L w p (Runs mine) = rw is at (holds.phases p) in h
+
+  left_note : (events : List Event) → IsEventList L events → (i : ℕ) (e : Entry) → IsStepOf events i e → (note : Entry → Note)
+      → LeftBy (state_of L (take i events)) e.process ((state_of L (take i events)).caller e.process) ((state_of L (take i events)).caller e.process).phase note → IsNoted (note e) (state_of L events).history
+  left_note events may i e step note left =
+      let holds = holds_after (take i events) (here_may events may i (Step e.process) step.step) in
+      let same = pending_is events i e left.0 step (runs_pending (state_of L (take i events)) e.process holds left.0 left.1) in
+      noted_later events may i (Step e.process) step.step (note e) (record { place = zero; there = rw (left.2, same) refl })
+
+  pub answered_note : (events : List Event) → IsEventList L events → (i : ℕ) (e : Entry) (slot response : ℕ) → IsAnswered L events i e slot response → IsNoted (Replied e slot response) (state_of L events).history
+  answered_note events may i e slot response a =
+      let w = state_of L (take i events) in
+      left_note events may i e a.step (λ mine. Replied mine slot response) (answer_noted w e.process (w.caller e.process) (w.caller e.process).phase slot response a.answers)
+
+  pub ended_note : (events : List Event) → IsEventList L events → (i : ℕ) (e : Entry) → IsEnded L events i e → IsNoted (Refused e) (state_of L events).history
+  ended_note events may i e a =
+      let w = state_of L (take i events) in
+      left_note events may i e a.step (λ mine. Refused mine) (full_noted w e.process (w.caller e.process) (w.caller e.process).phase a.answers)
+
+  -- what was answered within a prefix
+  earlier_answer : (events : List Event) (i j : ℕ) (e : Entry) (slot response : ℕ) → i < j → IsAnswered L events i e slot response → IsAnswered L (take j events) i e slot response
+  earlier_answer events i j e slot response less a =
+      let s = a.step in
+      let b = s.before in
+      let t : take i (take j events) ≡ take i events = take_take events j i (omega arith) in
+      record {
+        step = record {
+          call = s.call;
+          before = s.before;
+          is = record { invoke = get_take events j s.call (omega arith) ∙ s.is.invoke; number = s.is.number ∙ ap (calls_of e.process) (sym (take_take events j s.call (omega arith))) };
+          last = rw t s.last;
+          step = get_take events j i less ∙ s.step;
+        };
+        answers = rw t a.answers;
+      }
+
+  module _ (events : List Event) (may : IsEventList L events) where
+    abbrev w : World R
+    w = state_of L events
+
+    pub holds_now : IsSafe w
+    holds_now = holds_after events may
+
+    facts_now : Facts L w
+    facts_now = facts_after events may
+
+    pub fixed_of : (k : ℕ) (e : Entry) → StandsAt L events k e → L.consensus.fixed (w.round k) ≡ Some e
+    fixed_of k e h = let z : 0 + k ≡ k = omega arith in rw z at (entry_fixed L w.round L.capacity 0 k e h).1
+
+    pub stands_of : (k : ℕ) (e : Entry) → k < L.capacity → L.consensus.fixed (w.round k) ≡ Some e → StandsAt L events k e
+    stands_of k e less h =
+        let z : 0 + k ≡ k = omega arith in
+        fixed_entry L w.round L.capacity 0 k e less (λ j l. (let z : 0 + j ≡ j = omega arith in rw z (in_order L Good agrees w holds_now j k e l h))) (rw z h)
+
+    room_of : (k : ℕ) (e : Entry) → StandsAt L events k e → k < L.capacity
+    room_of k e h = (entry_fixed L w.round L.capacity 0 k e h).0
+
+    reply_of : (e : Entry) (slot response : ℕ) → IsReply L w e slot response → StandsAt L events slot e × (slice_get (sequential_replies L events) slot ≡ Some response)
+    reply_of e slot response r =
+        let within = r.within in
+        let stands = stands_of slot e r.within r.stands in
+        let many = r.many in
+        let there = response_there L.object r.before (entries L events) L.start slot e r.many (λ j x h. stands_of j x (let l = get_low r.before j x h in omega arith) (r.are j x h)) stands in
+        (stands, there ∙ ap Some (sym r.reply))
+      where
+        get_low : (xs : List Entry) (k : ℕ) (x : Entry) → slice_get xs k ≡ Some x → k < length xs
+        get_low [] k x h = absurd cc
+        get_low (y ∷ xs) zero x h = omega arith
+        get_low (y ∷ xs) (suc k) x h = let l = get_low xs k x h in omega arith
+
+    -- a call is on record, with the number of slots fixed when it was made
+    call_noted : (j : ℕ) (f : Entry) → IsCall events j f → IsNoted (Called f (length (entries_of L (state_of L (take j events))))) w.history
+    call_noted j f c =
+        let at_j = state_of L (take j events) in
+        let top = length (entries_of L at_j) in
+        let number : (at_j.caller f.process).calls ≡ f.call = (let r = calls_run L (take j events) (first_world L) f.process in let m = c.number in omega arith) in
+        let is : (let g : Entry = record { process = f.process; operation = f.operation; call = (at_j.caller f.process).calls } in g) ≡ f = λ m. record { process = f.process; operation = f.operation; call = number m } in
+        noted_later events may j (Invoke f.process f.operation.0) c.invoke (Called f top) (record { place = zero; there = ap (λ (g : Entry). Some (Called g top)) is })
+
+    call_may : (j : ℕ) (f : Entry) → IsCall events j f → f.process < L.processes
+    call_may j f c = let m : MayInvoke L (state_of L (take j events)) f.process f.operation.0 = event_may events may j (Invoke f.process f.operation.0) c.invoke in m.process
+
+    -- the entry of a fixed slot names an operation of the object
+    pub known_operation : (k : ℕ) (e : Entry) → L.consensus.fixed (w.round k) ≡ Some e → e.operation.0 < length L.object.operations
+    known_operation k e h =
+        let c = called_event events e (fixed_begun L Good agrees w holds_now k e h).0 in
+        let m : MayInvoke L (state_of L (take c.0 events)) e.process e.operation.0 = event_may events may c.0 (Invoke e.process e.operation.0) c.1.invoke in
+        m.operation
+
+    pub in_turn : BeginsInTurn L events
+    in_turn = record { before = λ k p x h j less. (let o = (holds_now.begun k p x h).1 j less in (o.entry, o.fixed)) }
+
+    waits : (i : ℕ) (e : Entry) → IsCall events i e → ((k : ℕ) → StandsAt L events k e → ⊥) → length (entries L events) ≤ fixed_before L events i + L.processes
+    waits i e c none = elim (cases_le L.capacity (fixed_before L events i + L.processes)) [
+      | inl short ↦ (let few = entries_few L w.round L.capacity 0 in omega arith)
+      | inr room ↦ (let o = bypass_none L Good agrees w holds_now facts_now e (fixed_before L events i) (call_noted i e c) (call_may i e c) (λ k less h. none k (stands_of k e less h)) room in not_beyond room o)
+    ]
+      where
+        cases_le : (a b : ℕ) → (a ≤ b) ⊎ (b < a)
+        cases_le a b = grind arith
+
+        not_beyond : fixed_before L events i + L.processes < L.capacity → L.consensus.fixed (w.round (fixed_before L events i + L.processes)) ≡ None → length (entries L events) ≤ fixed_before L events i + L.processes
+        not_beyond room o = elim (cases_le (length (entries L events)) (fixed_before L events i + L.processes)) [
+          | inl le ↦ le
+          | inr more ↦ (let x = get_within (entries L events) (fixed_before L events i + L.processes) more in let f = fixed_of (fixed_before L events i + L.processes) x.0 x.1 in absurd (cc (f, o)))
+        ]
+
+    pub bypass_bounded : IsBypassBounded L events
+    bypass_bounded = record {
+      stands = λ i k e c h. bypass L Good agrees w holds_now facts_now e (fixed_before L events i) k (call_noted i e c) (call_may i e c) (room_of k e h) (fixed_of k e h);
+      waits = waits;
+    }
+
+    before_call : (i j : ℕ) (e f : Entry) (slot response k : ℕ) → IsAnswered L events i e slot response → IsCall events j f → i < j → StandsAt L events k f → slot < k
+    before_call i j e f slot response k a c less h =
+        let at_j = state_of L (take j events) in
+        let made : Event = Invoke f.process f.operation.0 in
+        let may_j = here_may events may j made c.invoke in
+        let top = length (entries_of L at_j) in
+        let noted = call_noted j f c in
+        let facts_j = facts_events L Good agrees (made ∷ []) at_j (holds_after (take j events) may_j) (facts_after (take j events) may_j) (event_may events may j made c.invoke, tt) in
+        let old = answered_note (take j events) may_j i e slot response (earlier_answer events i j e slot response less a) in
+        let low = facts_j.ordered.0 e slot response old in
+        let high = facts_now.stood f top k noted (fixed_of k f h) in
+        omega arith
+
+    no_slot : (i : ℕ) (e : Entry) → IsEnded L events i e → (length (entries L events) ≡ L.capacity) × ((k : ℕ) → StandsAt L events k e → ⊥)
+    no_slot i e a =
+        let all = facts_now.ended e (ended_note events may i e a) in (
+          all_fixed L w.round L.capacity 0 (λ k less. (let z : 0 + k ≡ k = omega arith in rw z ((all k less).entry, (all k less).fixed))),
+          λ k h. (let o = all k (room_of k e h) in let f = o.fixed in let g = fixed_of k e h in let same : o.entry ≡ e = cc (f, g) in o.other same),
+        )
+
+    ordered_calls : (k : ℕ) (e : Entry) (call : ℕ) → StandsAt L events k e → call < e.call → (j : ℕ) × (f : Entry) × (j < k) × (f.process ≡ e.process) × (f.call ≡ call) × StandsAt L events j f
+    ordered_calls k e call h less =
+        let r = none_left_out L Good agrees w holds_now facts_now e k call (fixed_of k e h) less in
+        let room = room_of k e h in
+        let j = r.1 in
+        let l : j < k = r.4 in
+        (j, r.0, l, r.2, r.3, stands_of j r.0 (omega arith) r.5)
+
+    pub linearized : IsLinearized L events
+    linearized = record {
+      answered = λ i e slot response a. reply_of e slot response (facts_now.answered e slot response (answered_note events may i e slot response a));
+      called = λ k e h. called_event events e (fixed_begun L Good agrees w holds_now k e (fixed_of k e h)).0;
+      once = λ j k e hj hk. stands_once L Good agrees w holds_now j k e (fixed_of j e hj) (fixed_of k e hk);
+      in_order = ordered_calls;
+      real_time = before_call;
+      full = no_slot;
+    }

@@ -1,0 +1,38 @@
+-- Which lists of events cannot be replayed, and why.
+use Rattle.std.specs.Prelude.{ℕ, ◌≡◌, List, length, take, slice_get, nat_lt, if◌then◌else◌, Option, Some, None}
+use Rattle.cn_log.specs.declared.event.Event.{Event}
+use Rattle.cn_log.specs.declared.event.Event.TheVariants.{Invoke, Step}
+use Rattle.cn_log.specs.declared.fault.ReplayFault.{ReplayFault}
+use Rattle.cn_log.specs.declared.fault.ReplayFault.TheVariants.{NoSuchProcess, NoSuchOperation, NotIdle, Idle, AtEnd}
+use Rattle.cn_log.specs.declared.progress.Phase.{Phase}
+use Rattle.cn_log.specs.declared.progress.Phase.TheVariants.{Looks, Runs}
+use Rattle.cn_log.specs.declared.progress.Phase.TheVariants.{Idle as IsIdle}
+use Rattle.cn_log.specs.Log.{Setting, World, Caller, state_of, IsEventList}
+
+-- the fault of a call by a process that exists with an operation that exists: it is in a call already, or at the end of the log
+abbrev pub invoke_fault : ℕ → ℕ → Caller → Phase → Option ReplayFault
+invoke_fault capacity i here IsIdle = if nat_lt (length here.seen) capacity then None else Some (AtEnd i)
+invoke_fault capacity i here (Looks e) = Some (NotIdle i)
+invoke_fault capacity i here (Runs e) = Some (NotIdle i)
+
+-- the fault of a step of a process that exists: it is in no call
+abbrev pub step_fault : ℕ → Phase → Option ReplayFault
+step_fault i IsIdle = Some (Idle i)
+step_fault i (Looks e) = None
+step_fault i (Runs e) = None
+
+-- why this event cannot come as event i, if it cannot: of two reasons, the one with the least number
+abbrev pub event_fault : {R : Type 0} → Setting R → World R → ℕ → Event → Option ReplayFault
+event_fault L w i (Invoke p operation) =
+    if nat_lt p L.processes
+    then (if nat_lt operation (length L.object.operations) then invoke_fault L.capacity i (w.caller p) (w.caller p).phase else Some (NoSuchOperation i))
+    else Some (NoSuchProcess i)
+event_fault L w i (Step p) = if nat_lt p L.processes then step_fault i (w.caller p).phase else Some (NoSuchProcess i)
+
+-- this is the fault of the first event of the list that cannot come
+pub record IsFirstFault {R : Type 0} (L : Setting R) (events : List Event) (fault : ReplayFault) : Type 0 where
+  pub place : ℕ
+  pub event : Event
+  pub before : IsEventList L (take place events)
+  pub there : slice_get events place ≡ Some event
+  pub why : event_fault L (state_of L (take place events)) place event ≡ Some fault

@@ -1,0 +1,9 @@
+pub mod Agreement
+pub mod Bypass
+pub mod Consensus
+pub mod FaultText
+pub mod Faults
+pub mod Fields
+pub mod Linearized
+pub mod Log
+pub mod Opening

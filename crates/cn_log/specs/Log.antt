@@ -1,0 +1,203 @@
+-- The universal log, event by event: processes agree slot by slot on the next call of an object, and each replays the calls on its own copy.
+use Rattle.std.specs.Prelude.{ℕ, zero, suc, ◌≡◌, ◌≢◌, ◌+◌, ◌%◌, ◌<◌, ◌==◌, ◌&&◌, Bool, List, [], ◌∷◌, ◌++◌, length, map, if◌then◌else◌, Option, Some, None}
+use Rattle.std.specs.List.{list_any}
+use Rattle.cn_table.specs.TypeTable.{TypeTable, transition}
+use Rattle.cn_table.specs.Run.{state_after}
+use Rattle.cn_log.specs.Consensus.{Consensus}
+use Rattle.cn_log.specs.declared.entry.Entry.{Entry}
+use Rattle.cn_log.specs.declared.event.Event.{Event}
+use Rattle.cn_log.specs.declared.event.Event.TheVariants.{Invoke, Step}
+use Rattle.cn_log.specs.declared.event.StepAnswer.{StepAnswer}
+use Rattle.cn_log.specs.declared.event.StepAnswer.TheVariants.{Working, Answered, Full}
+use Rattle.cn_log.specs.declared.progress.Phase.{Phase}
+use Rattle.cn_log.specs.declared.progress.Phase.TheVariants.{Idle, Looks, Runs}
+
+-- what a log runs by: consensus in each slot and a round in which nothing has happened, how many processes and slots there are, and the object with its start state
+pub record Setting (R : Type 0) : Type 0 where
+  pub consensus : Consensus R
+  pub untouched : R
+  pub processes : ℕ
+  pub capacity : ℕ
+  pub object : TypeTable
+  pub start : ℕ
+
+-- what a process knows: the entries that it has replayed, how many calls it has made, and what it does next
+pub record Caller : Type 0 where
+  pub seen : List Entry
+  pub calls : ℕ
+  pub phase : Phase
+
+-- what is on record: a call, with the number of slots fixed when it was made; an answer to a call, with its slot and response; a call that found no slot
+pub data Note : Type 0 where
+  Called : Entry → ℕ → Note
+  Replied : Entry → ℕ → ℕ → Note
+  Refused : Entry → Note
+
+-- the round of each slot, the announcement register of each process, what each process knows, and what is on record, newest first, which no step reads
+pub record World (R : Type 0) : Type 0 where
+  pub round : ℕ → R
+  pub announced : ℕ → Option Entry
+  pub caller : ℕ → Caller
+  pub history : List Note
+
+-- a function changed at one place
+abbrev pub put : {A : Type 0} → (ℕ → A) → ℕ → A → ℕ → A
+put f i x j = if j == i then x else f j
+
+abbrev pub same_entry : Entry → Entry → Bool
+same_entry e f = (e.process == f.process) && ((e.operation.0 == f.operation.0) && (e.call == f.call))
+
+-- the entry is listed
+abbrev pub has_entry : List Entry → Entry → Bool
+has_entry entries e = list_any (λ f. same_entry f e) entries
+
+-- the operations of the entries, in order
+abbrev pub operations_of : List Entry → List ℕ
+operations_of entries = map (λ e. e.operation.0) entries
+
+-- what a process proposes for its slot: the call that it finds announced, unless that stands in the slots that it has replayed or nothing is announced, and else its own
+abbrev pub proposed : Option Entry → List Entry → Entry → Entry
+proposed None seen mine = mine
+proposed (Some other) seen mine = if has_entry seen other then mine else other
+
+-- the entry of a fixed slot and those behind it, or none from an open slot on
+abbrev pub up_to_open : Option Entry → List Entry → List Entry
+up_to_open None rest = []
+up_to_open (Some e) rest = e ∷ rest
+
+module _ {R : Type 0} (L : Setting R) where
+  -- the object after the entries: one sequential run of their operations
+  abbrev pub object_after : List Entry → ℕ
+  object_after entries = state_after L.object L.start (operations_of entries)
+
+  -- the response of the object to an operation after the entries
+  abbrev pub response_after : List Entry → ℕ → ℕ
+  response_after entries operation = (transition L.object operation (object_after entries)).0
+
+  -- of so many slots from slot k on, the entries of those before the first that is not fixed
+  abbrev pub fixed_from : ℕ → ℕ → (ℕ → R) → List Entry
+  fixed_from zero k round = []
+  fixed_from (suc slots) k round = up_to_open (L.consensus.fixed (round k)) (fixed_from slots (suc k) round)
+
+  -- the entries of the fixed slots, in order
+  abbrev pub entries_of : World R → List Entry
+  entries_of w = fixed_from L.capacity 0 w.round
+
+  -- process p makes its next call: it writes it to its announcement register
+  abbrev pub after_invoke : World R → ℕ → ℕ → Caller → World R
+  after_invoke w p operation here =
+      let e : Entry = record { process = p; operation = record { 0 = operation }; call = here.calls } in
+      record w {
+        announced = put w.announced p (Some e);
+        caller = put w.caller p (record { seen = here.seen; calls = here.calls + 1; phase = Looks e });
+        history = Called e (length (entries_of w)) ∷ w.history;
+      }
+
+  -- process p, with this call pending, reads the announcement of the process whose turn it is to be helped in this slot, and begins in the round of the slot
+  abbrev pub after_look : World R → ℕ → Caller → Entry → World R
+  after_look w p here mine =
+      let k : ℕ = length here.seen in
+      record w {
+        round = put w.round k (L.consensus.begin p (proposed (w.announced (k % L.processes)) here.seen mine) (w.round k));
+        caller = put w.caller p (record here { phase = Runs mine });
+      }
+
+  -- what a process does next that has decided x in slot k: its call is over where it is x, and where there is no slot more; else it looks at the next slot
+  abbrev pub phase_after : ℕ → Entry → Entry → Phase
+  phase_after k mine x = if same_entry x mine then Idle else (if k + 1 == L.capacity then Idle else Looks mine)
+
+  abbrev pub record_after : List Entry → Entry → Entry → List Note → List Note
+  record_after seen mine x notes =
+      if same_entry x mine
+      then Replied mine (length seen) (response_after seen mine.operation.0) ∷ notes
+      else (if length seen + 1 == L.capacity then Refused mine ∷ notes else notes)
+
+  -- after a step in its round, process p replays the entry that it has decided there, if it has
+  abbrev pub after_decision : World R → ℕ → Caller → Entry → Option Entry → World R
+  after_decision w p here mine None = w
+  after_decision w p here mine (Some x) =
+      record w {
+        caller = put w.caller p (record { seen = here.seen ++ x ∷ []; calls = here.calls; phase = phase_after (length here.seen) mine x });
+        history = record_after here.seen mine x w.history;
+      }
+
+  -- one step of process p in the round of its slot
+  abbrev pub after_run : World R → ℕ → Caller → Entry → World R
+  after_run w p here mine =
+      let k : ℕ = length here.seen in
+      let r : R = L.consensus.step p (w.round k) in
+      after_decision (record w { round = put w.round k r }) p here mine (L.consensus.decided r p)
+
+  abbrev pub after_step : World R → ℕ → Caller → Phase → World R
+  after_step w p here Idle = w
+  after_step w p here (Looks mine) = after_look w p here mine
+  after_step w p here (Runs mine) = after_run w p here mine
+
+  -- one event
+  abbrev pub after_event : World R → Event → World R
+  after_event w (Invoke p operation) = after_invoke w p operation (w.caller p)
+  after_event w (Step p) = after_step w p (w.caller p) (w.caller p).phase
+
+  -- one event after the other
+  abbrev pub after_events : List Event → World R → World R
+  after_events [] w = w
+  after_events (e ∷ es) w = after_events es (after_event w e)
+
+  -- nothing has happened
+  abbrev pub first_world : World R
+  first_world = record {
+    round = λ k. L.untouched;
+    announced = λ p. None;
+    caller = λ p. record { seen = []; calls = 0; phase = Idle };
+    history = [];
+  }
+
+  -- the state after these events
+  abbrev pub state_of : List Event → World R
+  state_of events = after_events events first_world
+
+  -- process p can make a call of operation o: both exist, p is in no call, and p has not replayed every slot
+  pub record MayInvoke (w : World R) (p o : ℕ) : Type 0 where
+    pub process : p < L.processes
+    pub operation : o < length L.object.operations
+    pub idle : (w.caller p).phase ≡ Idle
+    pub not_at_end : length (w.caller p).seen < L.capacity
+
+  -- process p can take a step: it exists and is in a call
+  pub record MayStep (w : World R) (p : ℕ) : Type 0 where
+    pub process : p < L.processes
+    pub in_call : (w.caller p).phase ≢ Idle
+
+  -- the event can come next
+  abbrev pub MayCome : World R → Event → Type 0
+  MayCome w (Invoke p operation) = MayInvoke w p operation
+  MayCome w (Step p) = MayStep w p
+
+  abbrev pub MayAllCome : List Event → World R → Type 0
+  MayAllCome [] w = Unit {0}
+  MayAllCome (e ∷ es) w = MayCome w e × MayAllCome es (after_event w e)
+
+  -- each event can come where it stands in the list
+  abbrev pub IsEventList : List Event → Type 0
+  IsEventList events = MayAllCome events first_world
+
+  -- the entries of the fixed slots after these events, in order
+  abbrev pub entries : List Event → List Entry
+  entries events = entries_of (state_of events)
+
+  -- what a process that has replayed these entries answers, with this call pending, once it has decided: the call is answered with its slot and its response where it is what was decided
+  abbrev pub answer_with : List Entry → Entry → Option Entry → StepAnswer
+  answer_with seen mine None = Working
+  answer_with seen mine (Some x) =
+      if same_entry x mine
+      then Answered (length seen) (record { 0 = response_after seen mine.operation.0 })
+      else (if length seen + 1 == L.capacity then Full else Working)
+
+  abbrev pub answer_from : World R → ℕ → Caller → Phase → StepAnswer
+  answer_from w p here Idle = Working
+  answer_from w p here (Looks mine) = Working
+  answer_from w p here (Runs mine) = answer_with here.seen mine (L.consensus.decided (L.consensus.step p (w.round (length here.seen))) p)
+
+  -- what a step of process p answers after these events
+  abbrev pub answer : List Event → ℕ → StepAnswer
+  answer events p = answer_from (state_of events) p ((state_of events).caller p) ((state_of events).caller p).phase

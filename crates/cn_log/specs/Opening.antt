@@ -1,0 +1,49 @@
+-- What a log is made of, and what has happened in it.
+use Rattle.std.specs.Prelude.{ℕ, ◌≤◌, ◌<◌, List, length}
+use Rattle.cn_table.specs.TypeTable.{TypeTable}
+use Rattle.cn_proto.specs.Plan.{Plan, IsPlan, protocol_of, processes_of, nodes_of}
+use Rattle.cn_proto.specs.Sound.{IsSound}
+use Rattle.cn_proto.specs.Tournament.{team_of}
+use Rattle.cn_agree.specs.World.{World as RoundWorld}
+use Rattle.cn_agree.specs.Reached.{first_world}
+use Rattle.cn_log.specs.declared.entry.Entry.{Entry}
+use Rattle.cn_log.specs.declared.event.Event.{Event}
+use Rattle.cn_log.specs.Consensus.{consensus_by}
+use Rattle.cn_log.specs.Log.{Setting}
+
+-- the plan of its rounds, the object that it serves and the state in which that starts, and how many slots it has
+pub record Opening : Type 0 where
+  pub plan : Plan
+  pub object : TypeTable
+  pub start : ℕ
+  pub capacity : ℕ
+
+abbrev pub opening_of : Plan → TypeTable → ℕ → ℕ → Opening
+opening_of plan object start capacity = record { plan = plan; object = object; start = start; capacity = capacity }
+
+-- its opening, and what has happened since
+pub record Log : Type 0 where
+  pub opening : Opening
+  pub schedule : List Event
+
+-- a log of this opening runs by rounds of its plan
+abbrev pub setting_of : Opening → Setting (RoundWorld Entry)
+setting_of o = record {
+  consensus = consensus_by (protocol_of o.plan);
+  untouched = first_world (protocol_of o.plan) (processes_of o.plan) (nodes_of o.plan);
+  processes = processes_of o.plan;
+  capacity = o.capacity;
+  object = o.object;
+  start = o.start;
+}
+
+abbrev pub setting : Log → Setting (RoundWorld Entry)
+setting c = setting_of c.opening
+
+-- the plan is one, so that its rounds agree, the start state is one of the object, and there are 1 to 1024 slots
+pub record IsOpening (o : Opening) : Type 0 where
+  pub plan : IsPlan o.plan
+  pub sound : IsSound (protocol_of o.plan) (processes_of o.plan) (nodes_of o.plan) (team_of (length o.plan.choice.a))
+  pub start : o.start < length o.object.states
+  pub some : 1 ≤ o.capacity
+  pub few : o.capacity ≤ 1024

@@ -1,0 +1,32 @@
+//! Entries of the log.
+ghost use Rattle.std.specs.Prelude.{◌≡◌};
+ghost use Rattle.cn_log.specs.Log.{has_entry, same_entry};
+
+use cn_table::Operation;
+
+/// A call as it stands in the log: the process, its operation, and the number of the call among
+/// those of the process, from 0.
+#[derive(Clone, Copy, Debug, PartialEq, Eq)]
+pub struct Entry {
+    pub process: u8,
+    pub operation: Operation,
+    pub call: u16,
+}
+
+impl Entry {
+    /// Whether both are the same call.
+    pub(crate) fn is(self, other: Entry) -> bool
+        ensures { result ≡ same_entry self other }
+    {
+        self.process == other.process
+            && self.operation.0 == other.operation.0
+            && self.call == other.call
+    }
+}
+
+/// Whether the entry is listed.
+pub(crate) fn has_entry(entries: &[Entry], entry: Entry) -> bool
+    ensures { result ≡ has_entry entries.now entry }
+{
+    entries.iter().any(|other| other.is(entry))
+}

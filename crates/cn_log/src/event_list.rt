@@ -1,0 +1,104 @@
+//! A core of a list of events.
+ghost use Rattle.std.specs.Prelude.{◌≡◌, ◌≢◌, ◌<◌, ◌≤◌, ◌++◌, ◌∷◌, [], List, length, IfErr, IfOk, OnErr, OnOk, None};
+ghost use Rattle.cn_log.specs.declared.event.Event.{Event as EventOf};
+ghost use Rattle.cn_log.specs.declared.fault.ReplayFault.TheVariants.{OutOfMemory};
+ghost use Rattle.cn_log.specs.Bypass.{IsBypassBounded};
+ghost use Rattle.cn_log.specs.Faults.{IsFirstFault, event_fault};
+ghost use Rattle.cn_log.specs.Linearized.{BeginsInTurn, Grows, IsLinearized};
+ghost use Rattle.cn_log.specs.Log.{MayCome, IsEventList, state_of};
+ghost use Rattle.cn_log.specs.Opening.{opening_of, setting, setting_of};
+
+use crate::event::Event;
+use crate::fault::ReplayFault;
+use crate::log_core::LogCore;
+use cn_proto::Plan;
+use cn_table::{Operation, State, Table};
+use std::alloc::{AllocError, Global};
+
+/// The core in which these events happened, one after the other.
+///
+/// The object starts in a state of its table, and there are 1 to 1024 slots.
+///
+/// # Errors
+///
+/// The fault of the first event that cannot come, with its place in the list; of several the one
+/// with the least number. `OutOfMemory` can stand in place of any answer.
+pub fn replay(
+    alloc: Global,
+    plan: &Plan,
+    object: &Table,
+    start: State,
+    capacity: u16,
+    events: &[Event],
+) -> Result<LogCore, ReplayFault>
+    requires start { start.0 < length object.now.states }
+    requires some { 1 ≤ capacity }
+    requires few { capacity ≤ 1024 }
+    ensures opening { IfOk result (λ core. core.opening ≡ opening_of plan.now object.now start.0 capacity) }
+    ensures schedule { IfOk result (λ core. core.schedule ≡ events.now) }
+    ensures fault { IfErr result (λ fault. fault ≢ OutOfMemory → IsFirstFault (setting_of (opening_of plan.now object.now start.0 capacity)) events.now fault) }
+
+    // Where there is no fault, these are events that can come, and the log is as it should be.
+    ensures events { OnOk result (IsEventList (setting_of (opening_of plan.now object.now start.0 capacity)) events.now) }
+    ensures linearized { OnOk result (IsLinearized (setting_of (opening_of plan.now object.now start.0 capacity)) events.now) }
+    ensures grows { OnOk result ((before after : List EventOf) → events.now ≡ before ++ after → Grows (setting_of (opening_of plan.now object.now start.0 capacity)) before after) }
+    ensures in_turn { OnOk result (BeginsInTurn (setting_of (opening_of plan.now object.now start.0 capacity)) events.now) }
+    ensures bypass { OnOk result (IsBypassBounded (setting_of (opening_of plan.now object.now start.0 capacity)) events.now) }
+{
+    let mut core = LogCore::new(alloc, plan, object, start, capacity)?;
+    for (place, event) in events.iter().enumerate() {
+        if let Some(fault) = fault_of(&core, place as u64, *event) {
+            return Err(fault);
+        }
+        come(&mut core, *event)?;
+    }
+    core.is_linearized();
+    Ok(core)
+}
+
+/// Why the event cannot come as event `place`, if it cannot.
+pub(crate) fn fault_of(core: &LogCore, place: u64, event: Event) -> Option<ReplayFault>
+    ensures fault { result ≡ event_fault (setting core.now) (state_of (setting core.now) core.now.schedule) place event }
+    ensures events { IsEventList (setting core.now) core.now.schedule }
+{
+    core.is_linearized();
+    let (Event::Invoke(p, _) | Event::Step(p)) = event;
+    if p >= core.processes() {
+        return Some(ReplayFault::NoSuchProcess(place));
+    }
+    match event {
+        Event::Invoke(p, operation) => {
+            if operation >= core.operations() {
+                Some(ReplayFault::NoSuchOperation(place))
+            } else if !core.is_idle(p) {
+                Some(ReplayFault::NotIdle(place))
+            } else if core.at_end(p) {
+                Some(ReplayFault::AtEnd(place))
+            } else {
+                None
+            }
+        }
+        Event::Step(p) => {
+            if core.is_idle(p) {
+                Some(ReplayFault::Idle(place))
+            } else {
+                None
+            }
+        }
+    }
+}
+
+/// The event comes.
+fn come(core: &mut LogCore, event: Event) -> Result<(), AllocError>
+    requires { MayCome (setting core.old) (state_of (setting core.old) core.old.schedule) event }
+    ensures ok { IfOk result (λ _. core.new ≡ record core.old { schedule = core.old.schedule ++ event ∷ [] }) }
+    ensures err { OnErr result (core.new ≡ core.old) }
+{
+    match event {
+        Event::Invoke(p, operation) => core.invoke(p, Operation(operation)),
+        Event::Step(p) => {
+            core.step(p)?;
+            Ok(())
+        }
+    }
+}

@@ -1,0 +1,32 @@
+//! The universal log: a server for any tabulated object, by rounds of consensus among the
+//! processes of a plan.
+//!
+//! A [`LogCore`] has so many slots, and a round of consensus for each. A process that makes a call
+//! announces it, and then goes through the slots, one after the other: it looks at the
+//! announcement of the process whose turn it is to be helped there, begins in the round of the
+//! slot with that call or with its own, and takes steps until it has decided. What it decides it
+//! replays on its own copy of the object. Its call is answered when it replays it.
+//!
+//! What happens is a list of [`Event`]s: a process makes a call, or takes one step. A core is what
+//! its own list of events makes of it, and [`replay`] makes a core of a list. For every list the
+//! answers are those of one sequential run of the calls, in the order of the log ([`laws`]).
+#![tactic(auto)]
+
+mod entry;
+mod event;
+mod event_list;
+mod fault;
+pub mod laws;
+mod log_core;
+mod log_state;
+mod opening;
+mod progress;
+
+pub use entry::Entry;
+pub use event::{Event, StepAnswer};
+pub use event_list::replay;
+pub use fault::ReplayFault;
+pub use log_core::LogCore;
+
+#[cfg(test)]
+mod tests;

@@ -1,0 +1,190 @@
+//! The core of a log.
+ghost use Rattle.std.specs.Prelude.{◌≡◌, ◌<◌, ◌≤◌, ◌↔◌, ◌++◌, ◌∷◌, [], ℕ, List, length, IfOk, OnErr, IsFalse, IsTrue};
+ghost use Rattle.cn_proto.specs.Plan.{processes_of};
+ghost use Rattle.cn_log.specs.declared.event.Event.{Event as EventOf};
+ghost use Rattle.cn_log.specs.declared.event.Event.TheVariants.{Invoke, Step};
+ghost use Rattle.cn_log.specs.declared.progress.Phase.TheVariants.{Idle};
+ghost use Rattle.cn_log.specs.Bypass.{IsBypassBounded};
+ghost use Rattle.cn_log.specs.Linearized.{BeginsInTurn, Grows, IsLinearized};
+ghost use Rattle.cn_log.specs.Log.{MayCome, IsEventList, answer, entries, state_of};
+ghost use Rattle.cn_log.specs.Opening.{IsOpening, opening_of, setting, setting_of};
+
+use crate::entry::Entry;
+use crate::event::{Event, StepAnswer};
+use crate::log_state::LogState;
+use crate::opening::Opening;
+use crate::progress::Phase;
+use cn_proto::Plan;
+use cn_table::{Operation, State, Table};
+use std::alloc::{AllocError, Global};
+use std::marker::Model;
+
+/// The universal log over the rounds of a plan, for one object.
+///
+/// It is what its schedule, the list of all events so far, makes of its opening: plan, object,
+/// start state and number of slots. Each event goes to the end of the schedule. Only want of memory
+/// refuses one, and then the core is as it was.
+#[derive(Drop)]
+pub struct LogCore {
+    opening: Opening,
+    state: LogState,
+    schedule: Vec<Event>,
+}
+
+impl Model for LogCore {
+    ghost use Rattle.cn_log.specs.Fields.{Keeps};
+    ghost use Rattle.cn_log.specs.Opening.{Log, setting_of};
+
+    ghost Value = { Log };
+
+    ghost view = { λ c. record { opening = c.opening; schedule = c.schedule.items } };
+
+    ghost invariant = { λ c. Keeps (setting_of c.opening) c.schedule.items c.state.rounds.items c.state.announced.items c.state.progress.items c.state.entries.items };
+}
+
+impl LogCore {
+    /// A core in which nothing has happened, with a plan and a table of its own: the object starts
+    /// in a state of its table, and there are 1 to 1024 slots.
+    ///
+    /// # Errors
+    ///
+    /// Fails only for want of memory.
+    pub fn new(
+        alloc: Global,
+        plan: &Plan,
+        object: &Table,
+        start: State,
+        capacity: u16,
+    ) -> Result<LogCore, AllocError>
+        requires start { start.0 < length object.now.states }
+        requires some { 1 ≤ capacity }
+        requires few { capacity ≤ 1024 }
+        ensures opening { IfOk result (λ core. core.opening ≡ opening_of plan.now object.now start.0 capacity) }
+        ensures empty { IfOk result (λ core. core.schedule ≡ []) }
+    {
+        let opening = Opening::new(alloc, plan, object, start, capacity)?;
+        let state = LogState::new(alloc, &opening)?;
+        Ok(LogCore {
+            opening,
+            state,
+            schedule: Vec::new(alloc),
+        })
+    }
+
+    /// The law of cores, however they came to be: `opening`, the plan's rounds agree, the start
+    /// state is one of the object, and there are 1 to 1024 slots; `events`, each event of the
+    /// schedule could come where it stands; `linearized`, the answers are those of one sequential
+    /// run of the calls in the order of the log; `grows`, entries stay, and new ones come behind
+    /// them; `in_turn`, a slot begins only after those before it are fixed; `bypass`, no call is
+    /// passed by for long.
+    pub fn is_linearized(&self)
+        ensures opening { IsOpening self.now.opening }
+        ensures events { IsEventList (setting self.now) self.now.schedule }
+        ensures linearized { IsLinearized (setting self.now) self.now.schedule }
+        ensures grows { (before after : List EventOf) → self.now.schedule ≡ before ++ after → Grows (setting self.now) before after }
+        ensures in_turn { BeginsInTurn (setting self.now) self.now.schedule }
+        ensures bypass { IsBypassBounded (setting self.now) self.now.schedule }
+    {
+        self.opening.is_opening();
+        crate::laws::every_log();
+    }
+
+    /// Process `p` makes a call of an operation of the object. It is in no call, and has not
+    /// replayed every slot.
+    ///
+    /// # Errors
+    ///
+    /// Fails only for want of memory, and then the core is as it was.
+    pub fn invoke(&mut self, p: u8, operation: Operation) -> Result<(), AllocError>
+        requires { MayCome (setting self.old) (state_of (setting self.old) self.old.schedule) (Invoke p operation.0) }
+        ensures ok { IfOk result (λ _. self.new ≡ record self.old { schedule = self.old.schedule ++ Invoke p operation.0 ∷ [] }) }
+        ensures err { OnErr result (self.new ≡ self.old) }
+    {
+        self.schedule.push(Event::Invoke(p, operation.0))?;
+        self.state.invoke(&self.opening, p, operation);
+        Ok(())
+    }
+
+    /// Process `p`, which is in a call, takes one step. `Answered` is the answer to its call, with
+    /// its slot and response; `Full` ends the call with no answer, since every slot is fixed and
+    /// none to it.
+    ///
+    /// # Errors
+    ///
+    /// Fails only for want of memory, and then the core is as it was.
+    pub fn step(&mut self, p: u8) -> Result<StepAnswer, AllocError>
+        requires { MayCome (setting self.old) (state_of (setting self.old) self.old.schedule) (Step p) }
+        ensures ok { IfOk result (λ _. self.new ≡ record self.old { schedule = self.old.schedule ++ Step p ∷ [] }) }
+        ensures answer { IfOk result (λ given. given ≡ answer (setting self.old) self.old.schedule p) }
+        ensures err { OnErr result (self.new ≡ self.old) }
+    {
+        self.state.entries.reserve(1)?;
+        self.schedule.push(Event::Step(p))?;
+        Ok(self.state.step(&self.opening, p))
+    }
+
+    /// The entries of the fixed slots, in order.
+    pub fn entries(&self) -> &[Entry]
+        ensures { result.now ≡ entries (setting self.now) self.now.schedule }
+    {
+        self.state.entries.as_slice()
+    }
+
+    /// All events so far.
+    pub fn schedule(&self) -> &[Event]
+        ensures { result.now ≡ self.now.schedule }
+    {
+        self.schedule.as_slice()
+    }
+
+    /// How many processes there are: 2 to 8.
+    pub fn processes(&self) -> u8
+        ensures number { result ≡ processes_of self.now.opening.plan }
+        ensures range { (2 ≤ result) × (result ≤ 8) }
+    {
+        self.opening.plan.processes()
+    }
+
+    /// How many slots there are: 1 to 1024.
+    pub fn capacity(&self) -> u16
+        ensures number { result ≡ self.now.opening.capacity }
+        ensures range { (1 ≤ result) × (result ≤ 1024) }
+    {
+        self.opening.is_opening();
+        self.opening.capacity
+    }
+
+    /// How many operations the object has.
+    pub(crate) fn operations(&self) -> u8
+        ensures { result ≡ length self.now.opening.object.operations }
+    {
+        self.opening.object.operations()
+    }
+
+    /// How many slots process `p` has replayed.
+    pub fn replayed(&self, p: u8) -> u16
+        requires { p < processes_of self.now.opening.plan }
+        ensures number { result ≡ length ((state_of (setting self.now) self.now.schedule).caller p).seen }
+        ensures range { result ≤ self.now.opening.capacity }
+    {
+        self.opening.is_opening();
+        self.state.progress[usize::from(p)].replayed
+    }
+
+    /// Whether process `p` is in no call.
+    pub fn is_idle(&self, p: u8) -> bool
+        requires { p < processes_of self.now.opening.plan }
+        ensures { IsTrue result ↔ (((state_of (setting self.now) self.now.schedule).caller p).phase ≡ Idle) }
+    {
+        matches!(self.state.progress[usize::from(p)].phase, Phase::Idle)
+    }
+
+    /// Whether process `p` has replayed every slot; else it has replayed fewer.
+    pub fn at_end(&self, p: u8) -> bool
+        requires { p < processes_of self.now.opening.plan }
+        ensures end { IsTrue result ↔ (length ((state_of (setting self.now) self.now.schedule).caller p).seen ≡ self.now.opening.capacity) }
+        ensures before { IsFalse result ↔ (length ((state_of (setting self.now) self.now.schedule).caller p).seen < self.now.opening.capacity) }
+    {
+        self.replayed(p) == self.opening.capacity
+    }
+}
