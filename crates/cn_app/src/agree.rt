@@ -62,7 +62,7 @@ fn agreed_lines<R: Read, C: Read>(
 /// `inputs` are the numbers that the processes begin with, and `schedule` the processes in the order
 /// of their steps, both as [`read_inputs`] and [`read_schedule`] read them. Whatever the schedule,
 /// the decisions are equal, they are the input of a process that it names, and a process has decided
-/// exactly when it is named four times for each place of its path.
+/// exactly when it is named at least four times for each place of its path.
 ///
 /// # Errors
 ///
