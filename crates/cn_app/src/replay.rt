@@ -25,16 +25,16 @@ use std::io::{Read, Write};
 
 /// The plan of a witness, and the object that its processes serve.
 #[derive(Drop)]
-struct Service {
-    plan: Plan,
-    object: Table,
+pub(crate) struct Service {
+    pub plan: Plan,
+    pub object: Table,
 }
 
 /// What serving comes to: the lines, and how it ends.
 #[derive(Drop)]
-struct Served {
-    lines: String,
-    outcome: Outcome,
+pub(crate) struct Served {
+    pub lines: String,
+    pub outcome: Outcome,
 }
 
 /// Reads the table of an object.
@@ -52,7 +52,7 @@ fn object_from<R: Read>(alloc: Global, reader: &mut R) -> Result<Table, AppFault
 
 /// Reads a table, then a certificate, then an object, checks the certificate against the table, and
 /// makes the plan of its witness.
-fn read_service<R: Read, C: Read, O: Read>(
+pub(crate) fn read_service<R: Read, C: Read, O: Read>(
     alloc: Global,
     table: &mut R,
     certificate: &mut C,
@@ -128,7 +128,7 @@ fn serve(
 }
 
 /// Serves the object from the state of this name.
-fn serve_from(
+pub(crate) fn serve_from(
     alloc: Global,
     service: &Service,
     start: &str,

@@ -6,14 +6,14 @@ const ABOUT: &str = "Finds and checks the consensus number of a shared object ty
 
 const AFTER: &str = "\
 Input: a type table in TOML on standard input, at most 65536 bytes; CERT is a file that holds a
-certificate, at most 16777216 bytes.
+certificate, at most 16777216 bytes, OBJECT one that holds the table of an object, at most 65536.
 Output: on standard output, whole or not at all; a fault is one line on standard error.
 
 Exit status:
   0  done
-  1  the check refuses the certificate, or it has no witness
-  2  the text of the table or of the certificate is refused
-  3  the words, an argument, the limit, the count of choices or the schedule are refused
+  1  the check refuses the certificate, or it has no witness, or a call found no slot
+  2  the text of a table or of the certificate is refused
+  3  the words, an argument, the limit, the count of choices, the schedule or an event are refused
   4  reading or writing failed
   5  out of memory
 
