@@ -13,7 +13,7 @@ use Rattle.cn_app.specs.declared.fault.Source.{Source}
 use Rattle.cn_app.specs.declared.fault.Source.TheVariants as source
 
 -- the text gives x, with which what comes later fails
-Fails-later : {X : Type 0} (s : Source) (known : Option (List ℕ)) (reads : List ℕ → Result X AppFault) (e : AppFault) (later : X → Type 0) (x : X)
+pub Fails-later : {X : Type 0} (s : Source) (known : Option (List ℕ)) (reads : List ℕ → Result X AppFault) (e : AppFault) (later : X → Type 0) (x : X)
     → IfSome known (λ bytes. reads bytes ≡ Ok x) → later x → Fails s known reads e later
 Fails-later s None reads e later x read fails = inr tt
 Fails-later {X} s (Some bytes) reads e later x read fails = inr (subst (λ (r : Result X AppFault). MatchResult r later (λ fault. e ≡ fault)) (sym read) fails)
@@ -26,7 +26,7 @@ check_fails table certificate x y fault e later table_is certificate_is first is
     Fails-later source.Table table table_in e (λ t. Fails source.Certificate certificate certificate_in e (λ c. CheckFails t c e (later t c))) x table_is
     (Fails-later source.Certificate certificate certificate_in e (λ c. CheckFails x c e (later x c)) y certificate_is (inl (fault, first, is)))
 
-Fails-weaker : {X : Type 0} (s : Source) (known : Option (List ℕ)) (reads : List ℕ → Result X AppFault) (e : AppFault) (P Q : X → Type 0) → ((x : X) → P x → Q x)
+pub Fails-weaker : {X : Type 0} (s : Source) (known : Option (List ℕ)) (reads : List ℕ → Result X AppFault) (e : AppFault) (P Q : X → Type 0) → ((x : X) → P x → Q x)
     → Fails s known reads e P → Fails s known reads e Q
 Fails-weaker s known reads e P Q more (inl read) = inl read
 Fails-weaker s None reads e P Q more (inr h) = inr tt
@@ -36,7 +36,7 @@ Fails-weaker s (Some bytes) reads e P Q more (inr h) = inr (by_result (reads byt
     by_result (Ok x) h = more x h
     by_result (Err fault) h = h
 
-CheckFails-weaker : (t : TypeTable) (c : Certificate) (e : AppFault) (P Q : Type 0) → (P → Q) → CheckFails t c e P → CheckFails t c e Q
+pub CheckFails-weaker : (t : TypeTable) (c : Certificate) (e : AppFault) (P Q : Type 0) → (P → Q) → CheckFails t c e P → CheckFails t c e Q
 CheckFails-weaker t c e P Q more (inl refused) = inl refused
 CheckFails-weaker t c e P Q more (inr later) = inr (later.0, more later.1)
 
@@ -54,7 +54,7 @@ pub fails_before : (table certificate : Option (List ℕ)) (e : AppFault) (later
 fails_before table certificate e later (inl memory) = inl memory
 fails_before table certificate e later (inr h) = inr (FailsChecked-weaker table certificate e (λ _ _. ⊥) later (λ _ _ never. absurd never) h)
 
-Gives-weaker : {X : Type 0} (known : Option (List ℕ)) (reads : List ℕ → Result X AppFault) (P Q : X → Type 0) → ((x : X) → P x → Q x) → Gives known reads P → Gives known reads Q
+pub Gives-weaker : {X : Type 0} (known : Option (List ℕ)) (reads : List ℕ → Result X AppFault) (P Q : X → Type 0) → ((x : X) → P x → Q x) → Gives known reads P → Gives known reads Q
 Gives-weaker None reads P Q more h = tt
 Gives-weaker (Some bytes) reads P Q more h = by_result (reads bytes) h
   where

@@ -1,7 +1,11 @@
 pub mod AcceptedWitnesses
+pub mod EventLemmas
 pub mod Failing
+pub mod FailingLogs
+pub mod FailingObjects
 pub mod FailingPlans
 pub mod FailingRuns
 pub mod HeadlineLemmas
+pub mod LogLemmas
 pub mod NumberLemmas
 pub mod OneOutput

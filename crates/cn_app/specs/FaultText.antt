@@ -13,6 +13,9 @@ use Rattle.cn_check.specs.FaultText.{check_fault_text}
 use Rattle.cn_agree.specs.FaultText.{schedule_fault_text}
 use Rattle.cn_agree.specs.declared.fault.ScheduleFault.{ScheduleFault}
 use Rattle.cn_agree.specs.declared.fault.ScheduleFault.TheVariants as schedule
+use Rattle.cn_log.specs.FaultText.{replay_fault_text}
+use Rattle.cn_log.specs.declared.fault.ReplayFault.{ReplayFault}
+use Rattle.cn_log.specs.declared.fault.ReplayFault.TheVariants as replay
 use Rattle.cn_app.specs.declared.fault.AppFault.{AppFault}
 use Rattle.cn_app.specs.declared.fault.AppFault.TheVariants as fault
 use Rattle.cn_app.specs.declared.fault.Part.{Part}
@@ -23,10 +26,14 @@ use Rattle.cn_app.specs.declared.fault.Source.TheVariants as source
 abbrev pub source_text : Source → List ℕ
 source_text source.Table = codes "table"
 source_text source.Certificate = codes "certificate"
+source_text source.Object = codes "object"
 
 abbrev pub part_text : Part → List ℕ
 part_text part.Inputs = codes "INPUTS"
 part_text part.Schedule = codes "SCHEDULE"
+part_text part.Start = codes "START"
+part_text part.Capacity = codes "CAPACITY"
+part_text part.Events = codes "EVENTS"
 
 -- want of memory reads the same in whatever layer it was met
 abbrev pub fault_text : AppFault → List ℕ
@@ -34,6 +41,8 @@ fault_text fault.Words = codes "words refused"
 fault_text (fault.Argument p) = codes "argument: " ++ part_text p
 fault_text (fault.Table table.OutOfMemory) = codes "out of memory"
 fault_text (fault.Table f) = codes "table: " ++ table_fault_text f
+fault_text (fault.Object table.OutOfMemory) = codes "out of memory"
+fault_text (fault.Object f) = codes "object: " ++ table_fault_text f
 fault_text (fault.Certificate cert.OutOfMemory) = codes "out of memory"
 fault_text (fault.Certificate f) = codes "certificate: " ++ cert_fault_text f
 fault_text (fault.TooLong s) = source_text s ++ codes ": too long"
@@ -43,6 +52,8 @@ fault_text (fault.Find find.OutOfMemory) = codes "out of memory"
 fault_text (fault.Find f) = codes "find: " ++ find_fault_text f
 fault_text (fault.Schedule schedule.OutOfMemory) = codes "out of memory"
 fault_text (fault.Schedule f) = codes "schedule: " ++ schedule_fault_text f
+fault_text (fault.Replay replay.OutOfMemory) = codes "out of memory"
+fault_text (fault.Replay f) = codes "replay: " ++ replay_fault_text f
 fault_text (fault.Read s) = codes "cannot read " ++ source_text s
 fault_text fault.Write = codes "cannot write"
 fault_text fault.OutOfMemory = codes "out of memory"
@@ -52,6 +63,8 @@ status_of fault.Words = 3
 status_of (fault.Argument p) = 3
 status_of (fault.Table table.OutOfMemory) = 5
 status_of (fault.Table f) = 2
+status_of (fault.Object table.OutOfMemory) = 5
+status_of (fault.Object f) = 2
 status_of (fault.Certificate cert.OutOfMemory) = 5
 status_of (fault.Certificate f) = 2
 status_of (fault.TooLong s) = 2
@@ -61,14 +74,20 @@ status_of (fault.Find find.OutOfMemory) = 5
 status_of (fault.Find f) = 3
 status_of (fault.Schedule schedule.OutOfMemory) = 5
 status_of (fault.Schedule f) = 3
+status_of (fault.Replay replay.OutOfMemory) = 5
+status_of (fault.Replay f) = 3
 status_of (fault.Read s) = 4
 status_of fault.Write = 4
 status_of fault.OutOfMemory = 5
 
--- the fault of the command for a fault of the table, of the certificate's text, of the search, and of the schedule
+-- the fault of the command for a fault of the table, of the object's table, of the certificate's text, of the search, of the schedule, and of the events
 abbrev pub of_table : TableFault → AppFault
 of_table table.OutOfMemory = fault.OutOfMemory
 of_table f = fault.Table f
+
+abbrev pub of_object : TableFault → AppFault
+of_object table.OutOfMemory = fault.OutOfMemory
+of_object f = fault.Object f
 
 abbrev pub of_certificate : CertFault → AppFault
 of_certificate cert.OutOfMemory = fault.OutOfMemory
@@ -81,3 +100,7 @@ of_find f = fault.Find f
 abbrev pub of_schedule : ScheduleFault → AppFault
 of_schedule schedule.OutOfMemory = fault.OutOfMemory
 of_schedule f = fault.Schedule f
+
+abbrev pub of_replay : ReplayFault → AppFault
+of_replay replay.OutOfMemory = fault.OutOfMemory
+of_replay f = fault.Replay f

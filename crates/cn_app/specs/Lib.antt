@@ -6,4 +6,6 @@ pub mod Find
 pub mod Check
 pub mod Plans
 pub mod Agree
+pub mod Events
+pub mod Replay
 pub mod Headline

@@ -17,7 +17,7 @@ const MOST_ITEMS: usize = 65_536;
 const MOST_DIGITS: usize = 20;
 
 /// What a list may be of.
-trait Item {
+pub(crate) trait Item {
     ghost item_of: { List ℕ → Option Self };
 
     /// The item that a text spells, if it spells one.
@@ -51,7 +51,7 @@ fn has_digits_only(text: &str) -> bool
 }
 
 /// The number that 1 to 20 decimal digits write.
-fn read_number(text: &str) -> Option<u64>
+pub(crate) fn read_number(text: &str) -> Option<u64>
     ensures { result ≡ number_up_to 18446744073709551615 text.now }
 {
     if !has_digits_only(text) || text.len() > MOST_DIGITS {
@@ -88,7 +88,11 @@ fn read_items<T: Item + Drop>(
 }
 
 /// The items of a list.
-fn read_list<T: Item + Drop>(alloc: Global, text: &str, argument: Part) -> Result<Vec<T>, AppFault>
+pub(crate) fn read_list<T: Item + Drop>(
+    alloc: Global,
+    text: &str,
+    argument: Part,
+) -> Result<Vec<T>, AppFault>
     ensures list { IfOk result (λ items. list_of T.item_of text.now ≡ Some items.items) }
     ensures refused { IfErr result (λ e. (e ≡ OutOfMemory) ⊎ ((e ≡ Argument argument) × (list_of T.item_of text.now ≡ None))) }
 {

@@ -5,6 +5,7 @@ ghost use Rattle.cn_app.specs.declared.fault.AppFault.TheVariants.{OutOfMemory};
 use cn_agree::ScheduleFault;
 use cn_cert::CertFault;
 use cn_check::CheckFault;
+use cn_log::ReplayFault;
 use cn_search::FindFault;
 use cn_table::TableFault;
 use std::alloc::{AllocError, AllocFailed};
@@ -18,6 +19,8 @@ pub enum Source {
     Table,
     /// The certificate.
     Certificate,
+    /// The table of the object that is served.
+    Object,
 }
 
 /// An argument that a command reads from its text.
@@ -27,6 +30,12 @@ pub enum Part {
     Inputs,
     /// The processes in the order of their steps.
     Schedule,
+    /// The state in which the object starts.
+    Start,
+    /// How many slots the log has.
+    Capacity,
+    /// The events of the log.
+    Events,
 }
 
 /// Why a command wrote nothing, or could not write.
@@ -38,6 +47,8 @@ pub enum AppFault {
     Argument(Part),
     /// The text of the type table was refused.
     Table(TableFault),
+    /// The text of the object's table was refused.
+    Object(TableFault),
     /// The text of the certificate was refused.
     Certificate(CertFault),
     /// A text is longer than its limit.
@@ -50,6 +61,8 @@ pub enum AppFault {
     Find(FindFault),
     /// The inputs or the schedule were refused.
     Schedule(ScheduleFault),
+    /// The events were refused.
+    Replay(ReplayFault),
     /// A reader failed.
     Read(Source),
     /// The writer failed.
@@ -136,6 +149,19 @@ impl From<ScheduleFault> for AppFault {
     }
 }
 
+impl From<ReplayFault> for AppFault {
+    ghost use Rattle.cn_app.specs.FaultText.{of_replay};
+
+    ghost from_gives = { λ fault e. e ≡ of_replay fault };
+
+    fn from(fault: ReplayFault) -> AppFault {
+        match fault {
+            ReplayFault::OutOfMemory => AppFault::OutOfMemory,
+            fault => AppFault::Replay(fault),
+        }
+    }
+}
+
 impl fmt::Display for Source {
     ghost use Rattle.cn_app.specs.FaultText.{source_text};
 
@@ -145,6 +171,7 @@ impl fmt::Display for Source {
         f.write_str(match self {
             Source::Table => "table",
             Source::Certificate => "certificate",
+            Source::Object => "object",
         })
     }
 }
@@ -158,6 +185,9 @@ impl fmt::Display for Part {
         f.write_str(match self {
             Part::Inputs => "INPUTS",
             Part::Schedule => "SCHEDULE",
+            Part::Start => "START",
+            Part::Capacity => "CAPACITY",
+            Part::Events => "EVENTS",
         })
     }
 }
@@ -170,19 +200,23 @@ impl fmt::Display for AppFault {
     fn fmt<W: fmt::Write>(&self, f: &mut fmt::Formatter<W>) -> fmt::Result {
         match self {
             AppFault::Table(TableFault::OutOfMemory)
+            | AppFault::Object(TableFault::OutOfMemory)
             | AppFault::Certificate(CertFault::OutOfMemory)
             | AppFault::Find(FindFault::OutOfMemory)
             | AppFault::Schedule(ScheduleFault::OutOfMemory)
+            | AppFault::Replay(ReplayFault::OutOfMemory)
             | AppFault::OutOfMemory => f.write_str("out of memory"),
             AppFault::Words => f.write_str("words refused"),
             AppFault::Argument(part) => write!(f, "argument: {part}"),
             AppFault::Table(fault) => write!(f, "table: {fault}"),
+            AppFault::Object(fault) => write!(f, "object: {fault}"),
             AppFault::Certificate(fault) => write!(f, "certificate: {fault}"),
             AppFault::TooLong(source) => write!(f, "{source}: too long"),
             AppFault::Check(fault) => write!(f, "check: {fault}"),
             AppFault::NoWitness => f.write_str("certificate: no witness"),
             AppFault::Find(fault) => write!(f, "find: {fault}"),
             AppFault::Schedule(fault) => write!(f, "schedule: {fault}"),
+            AppFault::Replay(fault) => write!(f, "replay: {fault}"),
             AppFault::Read(source) => write!(f, "cannot read {source}"),
             AppFault::Write => f.write_str("cannot write"),
         }
@@ -195,21 +229,24 @@ impl AppFault {
     ghost use Rattle.cn_app.specs.FaultText.{status_of};
 
     /// The exit status of the program: 1 where the certificate was checked and is refused or has no
-    /// witness, 2 for a text that is refused, 3 for words, an argument, a limit, a count of choices
-    /// or a schedule that is refused, 4 where reading or writing failed, 5 for want of memory.
+    /// witness, 2 for a text that is refused, 3 for words, an argument, a limit, a count of
+    /// choices, a schedule or events that are refused, 4 where reading or writing failed, 5 for want of memory.
     pub fn status(&self) -> u8
         ensures { result ≡ status_of self.now }
     {
         match self {
             AppFault::Table(TableFault::OutOfMemory)
+            | AppFault::Object(TableFault::OutOfMemory)
             | AppFault::Certificate(CertFault::OutOfMemory)
             | AppFault::Find(FindFault::OutOfMemory)
             | AppFault::Schedule(ScheduleFault::OutOfMemory)
+            | AppFault::Replay(ReplayFault::OutOfMemory)
             | AppFault::OutOfMemory => 5,
             AppFault::Check(_) | AppFault::NoWitness => 1,
-            AppFault::Table(_) | AppFault::Certificate(_) | AppFault::TooLong(_) => 2,
+            AppFault::Table(_) | AppFault::Object(_) => 2,
+            AppFault::Certificate(_) | AppFault::TooLong(_) => 2,
             AppFault::Words | AppFault::Argument(_) => 3,
-            AppFault::Find(_) | AppFault::Schedule(_) => 3,
+            AppFault::Find(_) | AppFault::Schedule(_) | AppFault::Replay(_) => 3,
             AppFault::Read(_) | AppFault::Write => 4,
         }
     }

@@ -5,13 +5,17 @@
 #![tactic(auto)]
 
 mod agree;
+mod answers;
 mod arguments;
 mod check;
+mod events;
 mod fault;
 mod find;
 pub mod laws;
+mod log_lines;
 mod output;
 mod plan;
+mod replay;
 mod show;
 mod source;
 mod texts;
@@ -19,9 +23,11 @@ mod texts;
 pub use agree::run_agree;
 pub use arguments::{read_inputs, read_schedule};
 pub use check::run_check;
+pub use events::read_events;
 pub use fault::{AppFault, Part, Source};
 pub use find::run_find;
 pub use output::Outcome;
+pub use replay::run_replay;
 pub use show::run_show;
 
 #[cfg(test)]

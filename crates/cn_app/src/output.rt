@@ -10,6 +10,8 @@ use std::io::Write;
 pub enum Outcome {
     /// All was done.
     Whole,
+    /// All was done, but some call found no room: the output says which.
+    Cut,
 }
 
 /// Writes the output, at once.

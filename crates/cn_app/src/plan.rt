@@ -11,7 +11,7 @@ use std::alloc::Global;
 use std::io::Read;
 
 /// The plan of the certificate's witness.
-fn plan_of(alloc: Global, checked: &Checked) -> Result<Plan, AppFault>
+pub(crate) fn plan_of(alloc: Global, checked: &Checked) -> Result<Plan, AppFault>
     requires { IsAccepted checked.now.table checked.now.certificate }
     ensures plan { IfOk result (IsPlanOf checked.now.table checked.now.certificate) }
     ensures refused { IfErr result (λ e. (e ≡ AppFault.OutOfMemory) ⊎ ((e ≡ AppFault.NoWitness) × (checked.now.certificate.witness ≡ None))) }

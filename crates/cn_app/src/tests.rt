@@ -6,6 +6,7 @@ mod certificates;
 mod check;
 mod faults;
 mod find;
+mod replay;
 mod show;
 mod streams;
 mod types;
@@ -21,7 +22,9 @@ fn told(
     written: Vec<u8>,
 ) -> Result<String, Fail> {
     match outcome {
-        Ok(Outcome::Whole) => Ok(String::from_utf8(written).ok().ok_or("not a text")?),
+        Ok(Outcome::Whole | Outcome::Cut) => Ok(
+            String::from_utf8(written).ok().ok_or("not a text")?,
+        ),
         Err(_) if !written.is_empty() => Err("written in spite of a fault")?,
         Err(fault) => Ok(format!(in alloc; "{fault}")?),
     }

@@ -11,7 +11,7 @@ use std::alloc::Global;
 use std::io::Read;
 
 /// How many bytes the text of a table may have.
-const TABLE_LIMIT: usize = 65_536;
+pub(crate) const TABLE_LIMIT: usize = 65_536;
 
 /// How many bytes the text of a certificate may have.
 const CERTIFICATE_LIMIT: usize = 16_777_216;

@@ -6,7 +6,7 @@ mod lazy_file;
 mod words;
 
 use clap::{ArgMatches, Error};
-use cn_app::{AppFault, Outcome, run_agree, run_check, run_find, run_show};
+use cn_app::{AppFault, Outcome, run_agree, run_check, run_find, run_replay, run_show};
 use lazy_file::LazyFile;
 use std::alloc::Global;
 use std::io::{ErrorKind, Read, Write};
@@ -40,6 +40,22 @@ fn run<T: Threads + Sync + Files, I: Read, O: Write>(
             let (inputs, schedule) = (text(words, "INPUTS")?, text(words, "SCHEDULE")?);
             run_agree(rt, alloc, table, &mut certificate, output, inputs, schedule)
         }
+        "replay" => {
+            let mut object = LazyFile::new(rt, text(words, "OBJECT")?);
+            let (start, capacity) = (text(words, "START")?, text(words, "CAPACITY")?);
+            let events = text(words, "EVENTS")?;
+            run_replay(
+                rt,
+                alloc,
+                table,
+                &mut certificate,
+                &mut object,
+                output,
+                start,
+                capacity,
+                events,
+            )
+        }
         _ => Err(AppFault::Words),
     }
 }
@@ -49,6 +65,7 @@ fn run<T: Threads + Sync + Files, I: Read, O: Write>(
 fn ended(rt: &impl Eprint, outcome: Result<Outcome, AppFault>) -> ExitCode {
     match outcome {
         Ok(Outcome::Whole) => ExitCode::SUCCESS,
+        Ok(Outcome::Cut) => ExitCode::FAILURE,
         Err(fault) => {
             let _ = eprintln!(rt; "cnum: {fault}");
             ExitCode::from(fault.status())

@@ -6,14 +6,14 @@ const ABOUT: &str = "Finds and checks the consensus number of a shared object ty
 
 const AFTER: &str = "\
 Input: a type table in TOML on standard input, at most 65536 bytes; CERT is a file that holds a
-certificate, at most 16777216 bytes.
+certificate, at most 16777216 bytes, OBJECT one that holds the table of an object, at most 65536.
 Output: on standard output, whole or not at all; a fault is one line on standard error.
 
 Exit status:
   0  done
-  1  the check refuses the certificate, or it has no witness
-  2  the text of the table or of the certificate is refused
-  3  the words, an argument, the limit, the count of choices or the schedule are refused
+  1  the check refuses the certificate, or it has no witness, or a call found no slot
+  2  the text of a table or of the certificate is refused
+  3  the words, an argument, the limit, the count of choices, the schedule or an event are refused
   4  reading or writing failed
   5  out of memory
 
@@ -91,6 +91,28 @@ Example:
   cnum agree tests/cli/check_ok/cert.json 10,20 1,1,0,0,0,0 < types/test_and_set.toml
 writes 0: 20 and 1: undecided.";
 
+const REPLAY_ABOUT: &str = "Serves an object by a list of events, with a certificate's witness";
+
+const REPLAY_AFTER: &str = "\
+Reads a type table in TOML from standard input, a certificate in JSON from the file CERT and the
+table of an object in TOML from the file OBJECT, and checks the certificate. The processes of the
+plan serve the object, which starts in the state START, by a log of CAPACITY slots, from 1 to 1024.
+EVENTS are iP:O, process P calls operation number O, and sP, process P takes a step, with a comma
+and no space between two, at most 65536 of them, or the word none.
+
+Writes answer P K R for each call of process P that is answered, with its slot K and its response
+R, and full P for each that finds no slot, in the order of the events. Then writes entry K P O R S
+for each fixed slot K: process P, operation O, response R and the state S of the object afterwards.
+Whatever the events, the answers are those of one sequential run, in the order of the slots.
+
+Exit status: 0 done, 1 some call found no slot, the check refuses the certificate, or it has no
+witness, 2 the text of a table or of the certificate is refused, 3 the words, an argument or an
+event are refused, 4 reading or writing failed, 5 out of memory.
+
+Example:
+  cnum replay tests/cli/check_ok/cert.json types/counter_3.toml 0 4 i0:0,s0,s0,s0 < types/test_and_set.toml
+writes entry 0 0 inc 0 1.";
+
 fn find<'a>(alloc: Global) -> Result<Command<'a>, AllocError> {
     let limit = Arg::new(alloc, "limit")
         .long("limit")
@@ -133,6 +155,18 @@ fn agree<'a>(alloc: Global) -> Result<Command<'a>, AllocError> {
         ))
 }
 
+fn replay<'a>(alloc: Global) -> Result<Command<'a>, AllocError> {
+    with_certificate(alloc, "replay", REPLAY_ABOUT, REPLAY_AFTER)?
+        .arg(word(
+            alloc,
+            "OBJECT",
+            "The file that holds the table of the object",
+        ))?
+        .arg(word(alloc, "START", "The state in which the object starts"))?
+        .arg(word(alloc, "CAPACITY", "How many slots the log has"))?
+        .arg(word(alloc, "EVENTS", "The events, in order"))
+}
+
 /// All that the program takes.
 pub fn command<'a>(alloc: Global) -> Result<Command<'a>, AllocError> {
     Command::new(alloc, "cnum")
@@ -143,5 +177,6 @@ pub fn command<'a>(alloc: Global) -> Result<Command<'a>, AllocError> {
         .subcommand(find(alloc)?)?
         .subcommand(with_certificate(alloc, "check", CHECK_ABOUT, CHECK_AFTER)?)?
         .subcommand(with_certificate(alloc, "show", SHOW_ABOUT, SHOW_AFTER)?)?
-        .subcommand(agree(alloc)?)
+        .subcommand(agree(alloc)?)?
+        .subcommand(replay(alloc)?)
 }

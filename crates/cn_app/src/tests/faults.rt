@@ -3,6 +3,7 @@ use super::*;
 use cn_agree::ScheduleFault;
 use cn_cert::CertFault;
 use cn_check::CheckFault;
+use cn_log::ReplayFault;
 use cn_search::FindFault;
 use cn_table::TableFault;
 
@@ -12,9 +13,17 @@ fn reads_as_the_formats_say(rt: HostRuntime) -> Result<(), Fail> {
         (AppFault::Words, "words refused", 3),
         (AppFault::Argument(Part::Inputs), "argument: INPUTS", 3),
         (AppFault::Argument(Part::Schedule), "argument: SCHEDULE", 3),
+        (AppFault::Argument(Part::Start), "argument: START", 3),
+        (AppFault::Argument(Part::Capacity), "argument: CAPACITY", 3),
+        (AppFault::Argument(Part::Events), "argument: EVENTS", 3),
         (
             AppFault::Table(TableFault::RowLength),
             "table: 8 RowLength",
+            2,
+        ),
+        (
+            AppFault::Object(TableFault::RowLength),
+            "object: 8 RowLength",
             2,
         ),
         (
@@ -23,6 +32,7 @@ fn reads_as_the_formats_say(rt: HostRuntime) -> Result<(), Fail> {
             2,
         ),
         (AppFault::TooLong(Source::Table), "table: too long", 2),
+        (AppFault::TooLong(Source::Object), "object: too long", 2),
         (
             AppFault::TooLong(Source::Certificate),
             "certificate: too long",
@@ -44,7 +54,13 @@ fn reads_as_the_formats_say(rt: HostRuntime) -> Result<(), Fail> {
             "schedule: 1 InputCount",
             3,
         ),
+        (
+            AppFault::Replay(ReplayFault::AtEnd(7)),
+            "replay: 5 AtEnd 7",
+            3,
+        ),
         (AppFault::Read(Source::Table), "cannot read table", 4),
+        (AppFault::Read(Source::Object), "cannot read object", 4),
         (
             AppFault::Read(Source::Certificate),
             "cannot read certificate",
@@ -64,13 +80,16 @@ fn reads_as_the_formats_say(rt: HostRuntime) -> Result<(), Fail> {
 fn want_of_memory_is_one_fault(rt: HostRuntime) -> Result<(), Fail> {
     for fault in [
         AppFault::Table(TableFault::OutOfMemory),
+        AppFault::Object(TableFault::OutOfMemory),
         AppFault::Certificate(CertFault::OutOfMemory),
         AppFault::Find(FindFault::OutOfMemory),
         AppFault::Schedule(ScheduleFault::OutOfMemory),
+        AppFault::Replay(ReplayFault::OutOfMemory),
         AppFault::from(TableFault::OutOfMemory),
         AppFault::from(CertFault::OutOfMemory),
         AppFault::from(FindFault::OutOfMemory),
         AppFault::from(ScheduleFault::OutOfMemory),
+        AppFault::from(ReplayFault::OutOfMemory),
     ] {
         let said = format!(in rt.alloc(); "{fault}")?;
         assert_eq!(rt; said.as_str(), "out of memory");

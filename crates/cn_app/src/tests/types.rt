@@ -80,3 +80,11 @@ name = "o7"
 response = ["ok", "ok", "ok", "ok", "ok", "ok", "ok", "ok", "ok", "ok", "ok", "ok", "ok", "ok", "ok", "ok"]
 next = ["s0", "s1", "s2", "s3", "s4", "s5", "s6", "s7", "s8", "s9", "s10", "s11", "s12", "s13", "s14", "s15"]
 "#;
+
+pub(super) const COUNTER_3: &str = r#"name = "counter_3"
+states = ["0", "1", "2"]
+responses = ["0", "1", "2"]
+[[operation]]
+name = "inc"
+response = ["0", "1", "2"]
+next = ["1", "2", "0"]"#;

@@ -1,0 +1,26 @@
+-- Events and entries, one at a time.
+use Rattle.std.proofs.Common.{◌≡◌, ℕ, zero, suc, ◌<◌, List, [], ◌∷◌, length, take, slice_get, slice_index_or, Some, subst}
+use Rattle.std.proofs.lemmas.Option.{slice_get-get_or}
+use Rattle.cn_log.specs.declared.entry.Entry.{Entry}
+use Rattle.cn_log.specs.declared.event.Event.{Event}
+use Rattle.cn_log.specs.declared.event.Event.TheVariants.{Invoke}
+use Rattle.cn_log.specs.Linearized.{IsLinearized}
+use Rattle.cn_log.specs.Log.{Setting, World, IsEventList, MayAllCome, MayCome, after_event, after_events, entries, first_world, state_of}
+
+module _ {R : Type 0} (L : Setting R) where
+  may_come_from : (events : List Event) (w : World R) (i : ℕ) (e : Event) → MayAllCome L events w → slice_get events i ≡ Some e → MayCome L (after_events L (take i events) w) e
+  may_come_from [] w i e may there = absurd cc
+  may_come_from (x ∷ events) w zero e may there = let is : x ≡ e = cc in subst (λ (y : Event). MayCome L w y) is may.0
+  may_come_from (x ∷ events) w (suc i) e may there = may_come_from events (after_event L w x) i e may.1 there
+
+  -- the event at a place can come there
+  pub may_come_at : (events : List Event) (i : ℕ) (e : Event) → IsEventList L events → slice_get events i ≡ Some e → MayCome L (state_of L (take i events)) e
+  may_come_at events i e may there = may_come_from events (first_world L) i e may there
+
+  -- each entry has an operation of the object
+  pub known_entries : (events : List Event) → IsEventList L events → IsLinearized L events
+      → (k : ℕ) (d : Entry) → k < length (entries L events) → (slice_index_or (entries L events) k d).operation.0 < length L.object.operations
+  known_entries events may linearized k d less =
+      let e : Entry = slice_index_or (entries L events) k d in
+      let called = linearized.called k e (slice_get-get_or (entries L events) k d less) in
+      (may_come_at events called.0 (Invoke e.process e.operation.0) may called.1.invoke).operation

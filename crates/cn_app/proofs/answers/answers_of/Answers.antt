@@ -1,0 +1,10 @@
+use Rattle.std.proofs.lemmas.Option.{slice_get-get_or}
+use Rattle.cn_log.specs.Opening.{opening_of, setting_of}
+use Rattle.cn_app.proofs.LogLemmas.{may_come_at}
+use Rattle.cn_app.proofs.answers.answers_of.Goals as goal
+
+pub tell-requires : goal.tell-requires
+tell-requires c =
+    rw (c.loop-event.invariant.opening, c.loop-event.invariant.schedule)
+    (may_come_at (setting_of (opening_of c.args.plan.now c.args.object.now c.args.start.0 c.args.capacity)) c.args.events.now c.loop-event.event-index _ c.requires.may_come
+    (slice_get-get_or c.args.events.now c.loop-event.event-index _ c.loop-event-test.true))

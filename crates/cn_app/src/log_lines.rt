@@ -1,0 +1,93 @@
+//! The lines of a log: of what its steps answered, and of its entries.
+ghost use Rattle.std.specs.Prelude.{◌≡◌, ◌<◌, length, string_bytes, All, IfOk};
+ghost use Rattle.cn_proto.specs.PlanText.{name_at};
+ghost use Rattle.cn_app.specs.Replay.{answer_line, answer_lines, entry_line, entry_lines};
+
+use crate::answers::Told;
+use cn_log::{Entry, StepAnswer};
+use cn_table::{Response, State, Table};
+use std::alloc::{AllocError, Global};
+
+/// The name of a response; empty where the object has none of this number.
+fn response_name(object: &Table, response: Response) -> &str
+    ensures { result.now ≡ name_at object.now.responses response.0 }
+{
+    if response.0 < object.responses() {
+        object.response_name(response)
+    } else {
+        ""
+    }
+}
+
+/// The line of what a step answered, which is empty where no call is over.
+fn answer_line(alloc: Global, object: &Table, told: Told) -> Result<String, AllocError>
+    ensures { IfOk result (λ line. string_bytes line ≡ answer_line object.now told.process told.answer) }
+{
+    let process = told.process;
+    match told.answer {
+        StepAnswer::Working => Ok(String::new(alloc)),
+        StepAnswer::Answered { slot, response } => {
+            let name = response_name(object, response);
+            format!(in alloc; "answer {process} {slot} {name}\n")
+        }
+        StepAnswer::Full => format!(in alloc; "full {process}\n"),
+    }
+}
+
+/// The lines of what the steps answered, in order.
+pub(crate) fn answer_lines(
+    alloc: Global,
+    object: &Table,
+    told: &[Told],
+) -> Result<String, AllocError>
+    ensures { IfOk result (λ lines. string_bytes lines ≡ answer_lines object.now told.now) }
+{
+    let mut lines = String::new(alloc);
+    for step in told {
+        let line = answer_line(alloc, object, *step)?;
+        lines.push_str(&line)?;
+    }
+    Ok(lines)
+}
+
+/// The line of the entry of a slot, with what the object answers there and its state afterwards.
+fn entry_line(
+    alloc: Global,
+    object: &Table,
+    slot: usize,
+    entry: Entry,
+    given: (Response, State),
+) -> Result<String, AllocError>
+    requires operation { entry.operation.0 < length object.now.operations }
+    requires response { given.0.0 < length object.now.responses }
+    requires state { given.1.0 < length object.now.states }
+    ensures { IfOk result (λ line. string_bytes line ≡ entry_line object.now slot entry (given.0.0, given.1.0)) }
+{
+    let process = entry.process;
+    let operation = object.operation_name(entry.operation);
+    let response = object.response_name(given.0);
+    let state = object.state_name(given.1);
+    format!(in alloc; "entry {slot} {process} {operation} {response} {state}\n")
+}
+
+/// The lines of the entries, in order: one sequential run of the object.
+pub(crate) fn entry_lines(
+    alloc: Global,
+    object: &Table,
+    start: State,
+    entries: &[Entry],
+) -> Result<String, AllocError>
+    requires start { start.0 < length object.now.states }
+    requires known { All (λ e. e.operation.0 < length object.now.operations) entries.now }
+    ensures { IfOk result (λ lines. string_bytes lines ≡ entry_lines object.now 0 start.0 entries.now) }
+{
+    let mut lines = String::new(alloc);
+    let mut state = start;
+    for (slot, entry) in entries.iter().enumerate() {
+        let given = object.apply(entry.operation, state);
+        let line = entry_line(alloc, object, slot, *entry, given)?;
+        lines.push_str(&line)?;
+        state = given.1;
+    }
+    Ok(lines)
+}
