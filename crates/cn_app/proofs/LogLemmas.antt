@@ -1,11 +1,16 @@
 -- Events and entries, one at a time.
-use Rattle.std.proofs.Common.{◌≡◌, ℕ, zero, suc, ◌<◌, List, [], ◌∷◌, length, take, slice_get, slice_index_or, Some, subst}
+use Rattle.std.proofs.Common.{◌≡◌, ℕ, zero, suc, ◌<◌, List, [], ◌∷◌, ◌++◌, length, take, slice_get, slice_index_or, Some, subst}
+use Rattle.std.proofs.lemmas.List.Elements.{All-append}
 use Rattle.std.proofs.lemmas.Option.{slice_get-get_or}
+use Rattle.cn_table.specs.TypeTable.{TypeTable}
+use Rattle.cn_log.specs.Callers.{HasResponse}
 use Rattle.cn_log.specs.declared.entry.Entry.{Entry}
 use Rattle.cn_log.specs.declared.event.Event.{Event}
 use Rattle.cn_log.specs.declared.event.Event.TheVariants.{Invoke}
 use Rattle.cn_log.specs.Linearized.{IsLinearized}
 use Rattle.cn_log.specs.Log.{Setting, World, IsEventList, MayAllCome, MayCome, after_event, after_events, entries, first_world, state_of}
+use Rattle.cn_app.specs.Replay.{HaveResponses}
+use Rattle.cn_app.specs.declared.answers.Told.{Told}
 
 module _ {R : Type 0} (L : Setting R) where
   may_come_from : (events : List Event) (w : World R) (i : ℕ) (e : Event) → MayAllCome L events w → slice_get events i ≡ Some e → MayCome L (after_events L (take i events) w) e
@@ -24,3 +29,7 @@ module _ {R : Type 0} (L : Setting R) where
       let e : Entry = slice_index_or (entries L events) k d in
       let called = linearized.called k e (slice_get-get_or (entries L events) k d less) in
       (may_come_at events called.0 (Invoke e.process e.operation.0) may called.1.invoke).operation
+
+-- what is told more has responses too
+pub responses_more : (object other : TypeTable) (told more : List Told) → other ≡ object → HaveResponses object told → HaveResponses other more → HaveResponses object (told ++ more)
+responses_more object other told more same have here = All-append (λ t. HasResponse object t.answer) told more have (subst (λ (o : TypeTable). HaveResponses o more) same here)

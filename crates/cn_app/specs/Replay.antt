@@ -1,7 +1,7 @@
 -- What `replay` writes, by the plan, the object, the state in which it starts, the number of slots and the events.
 use Rattle.std.specs.Prelude.{◌≡◌, ◌⊎◌, ℕ, ◌+◌, List, [], ◌∷◌, ◌++◌, Bool, true, false, codes, if◌then◌else◌, Option, Result, IsSomeAnd, MatchOption}
 use Rattle.std.specs.Fmt.{decimal}
-use Rattle.std.specs.List.{list_any}
+use Rattle.std.specs.List.{All, list_any}
 use Rattle.cn_table.specs.Faults as table
 use Rattle.cn_table.specs.Names.{number_of}
 use Rattle.cn_table.specs.TypeTable.{TypeTable, operation_names, transition}
@@ -9,6 +9,7 @@ use Rattle.cn_cert.specs.Certificate.{Certificate}
 use Rattle.cn_check.specs.Verdict.{IsAccepted}
 use Rattle.cn_proto.specs.Plan.{Plan}
 use Rattle.cn_proto.specs.PlanText.{name_at}
+use Rattle.cn_log.specs.Callers.{HasResponse}
 use Rattle.cn_log.specs.Faults.{IsFirstFault}
 use Rattle.cn_log.specs.Linearized.{IsLinearized}
 use Rattle.cn_log.specs.Log.{Setting, IsEventList, answer, entries}
@@ -40,6 +41,10 @@ told_by L before (Step p) = record { process = p; answer = answer L before p } �
 abbrev pub told_after : {R : Type 0} → Setting R → List Event → List Event → List Told
 told_after L before [] = []
 told_after L before (e ∷ es) = told_by L before e ++ told_after L (before ++ e ∷ []) es
+
+-- the response of each answer is one of the object's
+abbrev pub HaveResponses : TypeTable → List Told → Type 0
+HaveResponses object told = All (λ t. HasResponse object t.answer) told
 
 -- the line of a call that a step answers with this, if it ends one
 abbrev pub answer_line : TypeTable → ℕ → StepAnswer → List ℕ

@@ -2,7 +2,7 @@
 ghost use Rattle.std.specs.Prelude.{◌≡◌, ◌<◌, ◌≤◌, ◌++◌, ◌∷◌, [], length, IfOk, OnOk};
 ghost use Rattle.cn_log.specs.Log.{IsEventList, MayCome, state_of};
 ghost use Rattle.cn_log.specs.Opening.{opening_of, setting, setting_of};
-ghost use Rattle.cn_app.specs.Replay.{is_full, told_after, told_by};
+ghost use Rattle.cn_app.specs.Replay.{is_full, told_after, told_by, HaveResponses};
 
 use cn_log::{Event, LogCore, StepAnswer};
 use cn_proto::Plan;
@@ -30,6 +30,7 @@ fn tell(core: &mut LogCore, event: Event, told: &mut Vec<Told>) -> Result<(), Al
     requires { MayCome (setting core.old) (state_of (setting core.old) core.old.schedule) event }
     ensures core { OnOk result (core.new ≡ record core.old { schedule = core.old.schedule ++ event ∷ [] }) }
     ensures told { OnOk result (told.new.items ≡ told.old.items ++ told_by (setting core.old) core.old.schedule event) }
+    ensures responses { OnOk result (HaveResponses core.old.opening.object (told_by (setting core.old) core.old.schedule event)) }
 {
     match event {
         Event::Invoke(process, operation) => core.invoke(process, Operation(operation)),
@@ -54,7 +55,8 @@ pub(crate) fn answers_of(
     requires some { 1 ≤ capacity }
     requires few { capacity ≤ 1024 }
     requires may_come { IsEventList (setting_of (opening_of plan.now object.now start.0 capacity)) events.now }
-    ensures { IfOk result (λ told. told.items ≡ told_after (setting_of (opening_of plan.now object.now start.0 capacity)) [] events.now) }
+    ensures told { IfOk result (λ told. told.items ≡ told_after (setting_of (opening_of plan.now object.now start.0 capacity)) [] events.now) }
+    ensures responses { IfOk result (λ told. HaveResponses object.now told.items) }
 {
     let mut core = LogCore::new(alloc, plan, object, start, capacity)?;
     let mut told = Vec::new(alloc);

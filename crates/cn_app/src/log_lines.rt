@@ -1,33 +1,23 @@
 //! The lines of a log: of what its steps answered, and of its entries.
 ghost use Rattle.std.specs.Prelude.{◌≡◌, ◌<◌, length, string_bytes, All, IfOk};
-ghost use Rattle.cn_proto.specs.PlanText.{name_at};
-ghost use Rattle.cn_app.specs.Replay.{answer_line, answer_lines, entry_line, entry_lines};
+ghost use Rattle.cn_log.specs.Callers.{HasResponse};
+ghost use Rattle.cn_app.specs.Replay.{answer_line, answer_lines, entry_line, entry_lines, HaveResponses};
 
 use crate::answers::Told;
 use cn_log::{Entry, StepAnswer};
 use cn_table::{Response, State, Table};
 use std::alloc::{AllocError, Global};
 
-/// The name of a response; empty where the object has none of this number.
-fn response_name(object: &Table, response: Response) -> &str
-    ensures { result.now ≡ name_at object.now.responses response.0 }
-{
-    if response.0 < object.responses() {
-        object.response_name(response)
-    } else {
-        ""
-    }
-}
-
 /// The line of what a step answered, which is empty where no call is over.
 fn answer_line(alloc: Global, object: &Table, told: Told) -> Result<String, AllocError>
+    requires { HasResponse object.now told.answer }
     ensures { IfOk result (λ line. string_bytes line ≡ answer_line object.now told.process told.answer) }
 {
     let process = told.process;
     match told.answer {
         StepAnswer::Working => Ok(String::new(alloc)),
         StepAnswer::Answered { slot, response } => {
-            let name = response_name(object, response);
+            let name = object.response_name(response);
             format!(in alloc; "answer {process} {slot} {name}\n")
         }
         StepAnswer::Full => format!(in alloc; "full {process}\n"),
@@ -40,6 +30,7 @@ pub(crate) fn answer_lines(
     object: &Table,
     told: &[Told],
 ) -> Result<String, AllocError>
+    requires { HaveResponses object.now told.now }
     ensures { IfOk result (λ lines. string_bytes lines ≡ answer_lines object.now told.now) }
 {
     let mut lines = String::new(alloc);

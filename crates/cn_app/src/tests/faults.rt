@@ -6,10 +6,21 @@ use cn_check::CheckFault;
 use cn_log::ReplayFault;
 use cn_search::FindFault;
 use cn_table::TableFault;
+use std::process::Abort;
+
+/// Each fault reads so, and ends the program with this status.
+fn read_as(rt: &impl Abort, alloc: Global, rows: &[(AppFault, &str, u8)]) -> Result<(), Fail> {
+    for (fault, text, status) in rows {
+        let said = format!(in alloc; "{fault}")?;
+        assert_eq!(rt; said.as_str(), *text);
+        assert_eq!(rt; fault.status(), *status, "{text}");
+    }
+    Ok(())
+}
 
 #[test]
 fn reads_as_the_formats_say(rt: HostRuntime) -> Result<(), Fail> {
-    for (fault, text, status) in [
+    let rows = [
         (AppFault::Words, "words refused", 3),
         (AppFault::Argument(Part::Inputs), "argument: INPUTS", 3),
         (AppFault::Argument(Part::Schedule), "argument: SCHEDULE", 3),
@@ -68,12 +79,8 @@ fn reads_as_the_formats_say(rt: HostRuntime) -> Result<(), Fail> {
         ),
         (AppFault::Write, "cannot write", 4),
         (AppFault::OutOfMemory, "out of memory", 5),
-    ] {
-        let said = format!(in rt.alloc(); "{fault}")?;
-        assert_eq!(rt; said.as_str(), text);
-        assert_eq!(rt; fault.status(), status, "{text}");
-    }
-    Ok(())
+    ];
+    read_as(&rt, rt.alloc(), &rows)
 }
 
 #[test]

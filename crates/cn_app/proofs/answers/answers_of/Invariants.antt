@@ -1,6 +1,6 @@
 use Rattle.std.proofs.Common.{◌≡◌, ◌++◌, [], drop, take}
 use Rattle.cn_log.specs.Opening.{opening_of, setting_of}
-use Rattle.cn_app.specs.Replay.{told_after}
+use Rattle.cn_app.specs.Replay.{told_after, HaveResponses}
 use Rattle.cn_app.proofs.answers.answers_of.Given as goal
 
 abbrev pub invariant-loop-event : goal.invariant-loop-event
@@ -9,4 +9,5 @@ invariant-loop-event l = record {
   schedule : l.core.schedule ≡ take l.event-index l.events;
   told : l.told.items ++ told_after (setting_of (opening_of l.plan l.object l.fn.start.0 l.capacity)) (take l.event-index l.events) (drop l.event-index l.events)
       ≡ told_after (setting_of (opening_of l.plan l.object l.fn.start.0 l.capacity)) [] l.events;
+  responses : HaveResponses l.object l.told.items;
 }
