@@ -1,0 +1,71 @@
+-- What a call does to a seat.
+use Rattle.std.specs.Prelude.{◌≡◌, ℕ, ◌⊎◌, ◌==◌, if◌then◌else◌, List, [], ◌∷◌, ◌++◌, length, Some, None, Result, Ok, Err}
+use Rattle.cn_log.specs.Log.{Setting, response_after}
+use Rattle.cn_log.specs.Opening.{Log, setting}
+use Rattle.cn_log.specs.declared.entry.Entry.{Entry}
+use Rattle.cn_log.specs.declared.event.Event.{Event}
+use Rattle.cn_log.specs.declared.event.Event.TheVariants.{Invoke, Step}
+use Rattle.cn_hall.specs.Rule.{IsLater, Without}
+use Rattle.cn_hall.specs.Seats.{SeatState, IsInvoke, caller, pending, seen}
+use Rattle.cn_hall.specs.declared.call.CallFault.{CallFault}
+use Rattle.cn_hall.specs.declared.call.CallFault.TheVariants.{LogFull, Stopped, OutOfMemory}
+use Rattle.cn_hall.specs.declared.call.Go.{Go}
+use Rattle.cn_hall.specs.declared.call.Go.TheVariants.{On, Stop}
+use Rattle.cn_hall.specs.declared.call.Reply.{Reply}
+
+-- the list begins with that one
+abbrev pub BeginsWith : {A : Type 0} → List A → List A → Type 0
+BeginsWith {A} list front = (rest : List A) × (list ≡ front ++ rest)
+
+-- the same seat of the same hall, over a core of the same opening
+abbrev pub IsSameSeat : SeatState → SeatState → Type 0
+IsSameSeat old new = (new.hall ≡ old.hall) × (new.process ≡ old.process) × (new.core.opening ≡ old.core.opening)
+
+-- no event of the list is a call of the process
+abbrev pub NoCall : ℕ → List Event → Type 0
+NoCall p [] = Unit {0}
+NoCall p (Invoke q operation ∷ events) = (q ≡ p → ⊥) × NoCall p events
+NoCall p (Step q ∷ events) = NoCall p events
+
+-- the core has come further, and the new events of the process are steps
+abbrev pub GoesOn : ℕ → Log → Log → Type 0
+GoesOn p before now = (now.opening ≡ before.opening) × (rest : List Event) × (now.schedule ≡ before.schedule ++ rest) × NoCall p rest
+
+-- the process has made one call, of this operation, and then taken steps
+abbrev pub Called : ℕ → ℕ → Log → Log → Type 0
+Called p operation before now = (mid : Log) × IsInvoke p operation before mid × GoesOn p mid now
+
+-- the next call of the seat's process, where it is of this operation
+abbrev pub next_call : SeatState → ℕ → Entry
+next_call s operation = record { process = s.process; operation = record { 0 = operation }; call = (caller s).calls }
+
+-- the last entry seen is this call, in the slot replied, no call is pending, and the response is that of one sequential run of the entries there
+abbrev pub IsReply : Entry → SeatState → Reply → Type 0
+IsReply mine s r = (pending s ≡ None) × (front : List Entry) × (seen s ≡ front ++ mine ∷ []) × (r.slot ≡ length front) × (r.response.0 ≡ response_after (setting s.core) front mine.operation.0)
+
+-- no call is pending, and every slot has been seen
+abbrev pub IsFull : SeatState → Type 0
+IsFull s = (pending s ≡ None) × (length (seen s) ≡ s.core.opening.capacity)
+
+-- how a call that was begun has ended
+abbrev pub EndsBy : Entry → CallFault → SeatState → Type 0
+EndsBy mine LogFull s = IsFull s
+EndsBy mine Stopped s = pending s ≡ Some mine
+EndsBy mine OutOfMemory s = pending s ≡ Some mine
+
+-- how a call that answered a fault has left the seat: it had seen every slot, or memory ran out before it was made; else it was made, and has ended so
+abbrev pub CallFails : ℕ → CallFault → SeatState → SeatState → Type 0
+CallFails operation LogFull old new = ((length (seen old) ≡ old.core.opening.capacity) × (new ≡ old)) ⊎ (Called old.process operation old.core new.core × EndsBy (next_call old operation) LogFull new)
+CallFails operation Stopped old new = Called old.process operation old.core new.core × EndsBy (next_call old operation) Stopped new
+CallFails operation OutOfMemory old new = (new ≡ old) ⊎ (Called old.process operation old.core new.core × EndsBy (next_call old operation) OutOfMemory new)
+
+-- what the gate has said after a call with this answer
+abbrev pub said_after : Result Reply CallFault → Go
+said_after (Ok r) = On
+said_after (Err LogFull) = On
+said_after (Err Stopped) = Stop
+said_after (Err OutOfMemory) = On
+
+-- one core is the other, or has come further, with no event since of the process of the seat that saw less
+abbrev pub HaveMet : SeatState → SeatState → Type 0
+HaveMet a b = ((rest : List Event) × (b.core.schedule ≡ a.core.schedule ++ rest) × Without a.process rest) ⊎ ((rest : List Event) × (a.core.schedule ≡ b.core.schedule ++ rest) × Without b.process rest)
