@@ -31,7 +31,7 @@ met_here v u w x p log sits some is h = let a : Agrees (joined v (knower u)) x =
     )
 
 pub met : (v u w : View) (x : Item) (p : ℕ) (log : Log) → SitsAs v p log → u.pairs ≢ [] → w ≡ joined v (knower u) → Agrees w x → (s : Log) × Carries p log s × IsLater s (core_of u)
-met v u w x p log sits some is h = (x.core, met_here v u w x p log sits some is h)
+met v u w x p log sits some is h = let here = met_here v u w x p log sits some is h in (x.core, here.0, here.1)
 
 -- the pass has put its core back, one event later
 pub sits_later : (v w u : View) (p : ℕ) (log : Log) (t : Item) (core : Log) → SitsAs v p log → w ≡ holding v t → u ≡ later w (item_of core 0) → SitsAs u p core
