@@ -76,7 +76,7 @@ ends_answered a b mine slot response same h e = let k = seat_after a b (Answered
     (ap pending_in k.0, seen a, k.1, k.2, k.3 ∙ sym (λ i. response_after (setting_of (same.2 i)) (seen a) mine.operation.0))
 
 pub same_again : (a b d : SeatState) → IsSameSeat a b → IsSameSeat b d → IsSameSeat a d
-same_again a b d h k = (k.0 ∙ h.0, k.1 ∙ h.1, k.2 ∙ h.2)
+same_again a b d h k = (k.0 ∙ h.0, k.1 ∙ h.1, k.2 ∙ h.2, k.3 ∙ h.3)
 
 -- a call of the seat's process
 invoked_at : (p operation : ℕ) (core now : Log) → IsInvoke p operation core now → caller_at now p ≡ record { seen = (caller_at core p).seen; calls = (caller_at core p).calls + 1; phase = Looks (record { process = p; operation = record { 0 = operation }; call = (caller_at core p).calls }) }

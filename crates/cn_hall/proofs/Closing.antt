@@ -1,17 +1,21 @@
 -- All passes are joined into one, and the core that it takes agrees with all pairs.
-use Rattle.std.proofs.Common.{◌≡◌, ◌<◌, ℕ, List, [], ◌∷◌, ◌++◌, length, None, Some, All, refl, sym, ap, ◌∙◌, subst, arith}
+use Rattle.std.proofs.Common.{◌≡◌, ◌<◌, ℕ, Bool, false, List, [], ◌∷◌, ◌++◌, length, None, Some, All, refl, sym, ap, ◌∙◌, subst, arith}
 use Rattle.std.proofs.lemmas.List.Elements.{All-pop, All-push, All-nil}
 use Rattle.cn_log.specs.Log.{Caller, entries}
-use Rattle.cn_log.specs.Opening.{Log, setting}
+use Rattle.cn_log.specs.Opening.{Log, Opening, setting, setting_of}
+use Rattle.cn_hall.specs.Answers.{own, replies_from}
 use Rattle.cn_hall.specs.Calls.{BeginsWith}
+use Rattle.cn_hall.specs.declared.call.Reply.{Reply}
 use Rattle.cn_hall.proofs.Callers.{caller_carried}
+use Rattle.cn_hall.proofs.Owning.{replies_append}
 use Rattle.cn_hall.specs.declared.rule.Item.{Item}
 use Rattle.cn_hall.specs.declared.rule.Pair.{Pair}
 use Rattle.cn_hall.specs.declared.rule.View.{View}
 use Rattle.cn_hall.specs.declared.rule.Stage.TheVariants.{Live}
 use Rattle.cn_hall.specs.Rule.{Every, Carries, Agrees, joined}
-use Rattle.cn_hall.specs.Seats.{HallId, SeatState, IsSeatOf, SitsAs, caller_at, seen}
+use Rattle.cn_hall.specs.Seats.{HallId, SeatState, IsOfSeat, IsSeatOf, SitsAs, caller_at, core_of, is_held, seen}
 use Rattle.cn_hall.proofs.Keeps.{every_map, every_left, every_right}
+use Rattle.cn_hall.proofs.Sitting.{seat_free}
 
 -- the pass is that of this seat
 abbrev pub SatAs : View → SeatState → Type 0
@@ -31,6 +35,13 @@ Kept core y = Carries y.process y.core core
 -- where the core agrees with the pairs of the pass and the seats xs, it agrees with all
 abbrev pub Rests : View → List SeatState → List SeatState → Type 0
 Rests v xs all = (core : Log) → Every (λ y. Carries y.process y.core core) v.pairs → All (IsKept core) xs → All (IsKept core) all
+
+-- the pass of a seat that stands in the list, of which none holds the core
+pub popped : (h : HallId) (xs ys : List SeatState) (t : SeatState) → xs ≡ ys ++ t ∷ [] → All (IsSeatOf h) xs → IsSeatOf h t
+popped h xs ys t e all = (All-pop (IsSeatOf h) xs ys (Some t) e all).1
+
+pub sat_as : (h id : HallId) (p : ℕ) (v : View) (t : SeatState) → IsOfSeat v p (core_of v) → record { hall = id; process = p; core = core_of v; held = is_held v.held } ≡ t → IsSeatOf h t → SatAs v t
+sat_as h id p v t sits is of = subst (λ (s : SeatState). SitsAs v s.process s.core) is (seat_free v p (core_of v) sits (ap (λ (s : SeatState). s.held) is ∙ of.1))
 
 one_pair : (v : View) (t : SeatState) (core : Log) → SatAs v t → Every (Kept core) v.pairs → IsKept core t
 one_pair v t core h k = (subst (λ (y : List Pair). Every (Kept core) y) (ap (λ (u : View). u.pairs) h) k).0
@@ -63,3 +74,13 @@ ends all xs v x none rests a = rests x.core (every_map (λ y. (y.process < x.sea
 -- what the seat has seen stands first in the core
 pub kept_seen : (core : Log) (s : SeatState) → IsKept core s → BeginsWith (entries (setting core) core.schedule) (caller_at core s.process).seen → BeginsWith (entries (setting core) core.schedule) (seen s)
 kept_seen core s h k = subst (λ (x : Caller). BeginsWith (entries (setting core) core.schedule) x.seen) (caller_carried s.process s.core core h) k
+
+-- and what it has been answered stands first among the replies to its process's entries there
+pub kept_own : (core : Log) (s : SeatState) → IsKept core s → BeginsWith (entries (setting core) core.schedule) (caller_at core s.process).seen → BeginsWith (replies_from (setting core) s.process [] (entries (setting core) core.schedule)) (own s)
+kept_own core s h k =
+    let b = kept_seen core s h k in
+    let p = s.process in
+    let more : List Reply = replies_from (setting core) p (seen s) b.0 in (
+      more,
+      ap (replies_from (setting core) p []) b.1 ∙ replies_append (setting core) p [] (seen s) b.0 ∙ ap (λ (o : Opening). replies_from (setting_of o) p [] (seen s) ++ more) h.0,
+    )

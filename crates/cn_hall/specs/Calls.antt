@@ -1,6 +1,7 @@
 -- What a call does to a seat.
-use Rattle.std.specs.Prelude.{◌≡◌, ℕ, ◌⊎◌, ◌==◌, if◌then◌else◌, List, [], ◌∷◌, ◌++◌, length, Some, None, Result, Ok, Err}
+use Rattle.std.specs.Prelude.{◌≡◌, ℕ, ◌⊎◌, ◌==◌, if◌then◌else◌, List, [], ◌∷◌, ◌++◌, length, slice_get, Some, None, Result, Ok, Err}
 use Rattle.cn_log.specs.Log.{Setting, response_after}
+use Rattle.cn_log.specs.Linearized.{IsCall}
 use Rattle.cn_log.specs.Opening.{Log, setting}
 use Rattle.cn_log.specs.declared.entry.Entry.{Entry}
 use Rattle.cn_log.specs.declared.event.Event.{Event}
@@ -17,9 +18,9 @@ use Rattle.cn_hall.specs.declared.call.Reply.{Reply}
 abbrev pub BeginsWith : {A : Type 0} → List A → List A → Type 0
 BeginsWith {A} list front = (rest : List A) × (list ≡ front ++ rest)
 
--- the same seat of the same hall, over a core of the same opening
+-- the same seat of the same hall, over a core of the same opening, which it holds or not as before
 abbrev pub IsSameSeat : SeatState → SeatState → Type 0
-IsSameSeat old new = (new.hall ≡ old.hall) × (new.process ≡ old.process) × (new.core.opening ≡ old.core.opening)
+IsSameSeat old new = (new.hall ≡ old.hall) × (new.process ≡ old.process) × (new.core.opening ≡ old.core.opening) × (new.held ≡ old.held)
 
 -- no event of the list is a call of the process
 abbrev pub NoCall : ℕ → List Event → Type 0
@@ -69,3 +70,7 @@ said_after (Err OutOfMemory) = On
 -- one core is the other, or has come further, with no event since of the process of the seat that saw less
 abbrev pub HaveMet : SeatState → SeatState → Type 0
 HaveMet a b = ((rest : List Event) × (b.core.schedule ≡ a.core.schedule ++ rest) × Without a.process rest) ⊎ ((rest : List Event) × (a.core.schedule ≡ b.core.schedule ++ rest) × Without b.process rest)
+
+-- what the first seat has seen of the process of the second are calls made for that
+abbrev pub HasOnlyMade : SeatState → SeatState → Type 0
+HasOnlyMade a b = (k : ℕ) (x : Entry) → slice_get (seen a) k ≡ Some x → x.process ≡ b.process → (i : ℕ) × IsCall b.core.schedule i x

@@ -11,6 +11,7 @@ use Rattle.cn_log.specs.declared.event.StepAnswer.{StepAnswer}
 use Rattle.cn_log.specs.declared.progress.Phase.{Phase}
 use Rattle.cn_log.specs.declared.progress.Phase.TheVariants.{Idle, Looks, Runs}
 use Rattle.cn_hall.specs.declared.hands.Standing.{Standing}
+use Rattle.cn_hall.specs.declared.rule.Item.{Item}
 use Rattle.cn_hall.specs.declared.rule.Pair.{Pair}
 use Rattle.cn_hall.specs.declared.rule.Stage.TheVariants.{Live}
 use Rattle.cn_hall.specs.declared.rule.View.{View}
@@ -20,18 +21,20 @@ use Rattle.cn_hall.specs.Rule.{Carries, later_core, pair, view_of}
 abbrev pub HallId : Type 0
 HallId = TableId
 
--- a seat: its hall, its process, and the core as it was when the seat last put an event in, at first as it was opened
+-- a seat: its hall, its process, the core as it was when the seat last put an event in, at first as it was opened, and whether the seat holds the hall's core
 pub record SeatState : Type 0 where
   pub hall : HallId
   pub process : ℕ
   pub core : Log
+  pub held : Bool
 
+-- a seat that does not hold the core
 abbrev pub seat_state : HallId → ℕ → Log → SeatState
-seat_state hall p core = record { hall = hall; process = p; core = core }
+seat_state hall p core = record { hall = hall; process = p; core = core; held = false }
 
--- the seat is one of the hall
+-- the seat is one of the hall, and does not hold its core
 abbrev pub IsSeatOf : HallId → SeatState → Type 0
-IsSeatOf hall s = s.hall ≡ hall
+IsSeatOf hall s = (s.hall ≡ hall) × (s.held ≡ false)
 
 -- what a process knows of the core
 abbrev pub caller_at : Log → ℕ → Caller
@@ -81,7 +84,15 @@ core_in (x ∷ pairs) = x.core
 abbrev pub core_of : View → Log
 core_of v = core_in v.pairs
 
--- the pass is that of a seat: it holds no core, and has one pair, that of the process
+abbrev pub is_held : Option Item → Bool
+is_held None = false
+is_held (Some x) = true
+
+-- the pass is that of a seat: it has one pair, that of the process
+abbrev pub IsOfSeat : View → ℕ → Log → Type 0
+IsOfSeat v p core = v ≡ view_of Live (pair p core ∷ []) v.notes v.held
+
+-- and it holds no core
 abbrev pub SitsAs : View → ℕ → Log → Type 0
 SitsAs v p core = v ≡ view_of Live (pair p core ∷ []) v.notes None
 

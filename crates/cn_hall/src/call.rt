@@ -19,11 +19,13 @@ pub enum Go {
 /// What is asked before each step of a call, while the seat does not hold the core.
 pub trait Gate {
     ghost use Rattle.cn_hall.specs.declared.call.Go.{Go};
+    ghost use Rattle.std.specs.Prelude.{◌≡◌, false};
 
     ghost says: { Self → Go };
 
     /// Whether the call takes its step of this number, from 1 on, of those that it takes now.
     fn before(&mut self, seat: &Seat, step: u32) -> Go
+        requires free { seat.now.held ≡ false }
         ensures { result ≡ says self.new };
 
     /// What was answered last, or `On`.

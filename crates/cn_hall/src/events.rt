@@ -5,12 +5,11 @@ ghost use Rattle.cn_proto.specs.Plan.{processes_of};
 ghost use Rattle.cn_log.specs.Opening.{Log};
 ghost use Rattle.cn_log.specs.declared.progress.Phase.TheVariants.{Idle};
 ghost use Rattle.cn_hall.specs.Rule.{Carries, IsLater};
-ghost use Rattle.cn_hall.specs.Seats.{IsInvoke, IsLog, IsStanding, IsStep, SitsAs, caller_at, core_of};
+ghost use Rattle.cn_hall.specs.Seats.{IsInvoke, IsStanding, IsStep, SitsAs, caller_at, core_of};
 ghost use Rattle.cn_hall.specs.declared.rule.Stage.TheVariants.{Live};
 ghost use Rattle.crossbeam_queue.specs.Passes.{view, IsPassOf, IsSamePass, ruled_capacity};
 
 use crate::hands::{self, Standing};
-use crate::laws;
 use crate::rule::{Joins, Knows, Pass, Queue};
 use cn_log::StepAnswer;
 use cn_table::Operation;
@@ -91,11 +90,9 @@ pub(crate) fn look<R: Wait>(rt: &R, queue: &Queue, pass: &mut Pass, other: &mut 
     ensures same { IsSamePass pass.old pass.new × SitsAs (view pass.new) process (core_of (view pass.old)) }
     ensures other { IsSamePass other.old other.new × (view other.new ≡ view other.old) }
     ensures met { (s : Log) × Carries process (core_of (view pass.old)) s × IsLater s (core_of (view other.old)) }
-    ensures log { IsLog (core_of (view pass.old)) }
 {
     let note = queue.another::<Knows>(other);
     queue.absorb::<Joins>(pass, note);
     let item = hands::take(rt, queue, pass);
-    laws::is_log(&item.core);
     hands::put_back(rt, queue, pass, item);
 }

@@ -1,8 +1,8 @@
 //! The hall: threads hand one core on.
-ghost use Rattle.std.specs.Prelude.{◌≡◌, ◌≢◌, ◌<◌, ◌⊎◌, Some, None, All, IfErr, IfOk, OnErr, length};
+ghost use Rattle.std.specs.Prelude.{◌≡◌, ◌≢◌, ◌<◌, ◌⊎◌, [], Some, None, All, IfErr, IfOk, OnErr, length};
 ghost use Rattle.cn_log.specs.declared.entry.Entry.{Entry};
-ghost use Rattle.cn_hall.specs.Answers.{Adds, own};
-ghost use Rattle.cn_hall.specs.Calls.{BeginsWith, CallFails, Called, EndsBy, GoesOn, HaveMet, IsReply, IsSameSeat, next_call, said_after};
+ghost use Rattle.cn_hall.specs.Answers.{Adds, own, replies_from};
+ghost use Rattle.cn_hall.specs.Calls.{BeginsWith, CallFails, Called, EndsBy, GoesOn, HasOnlyMade, HaveMet, IsReply, IsSameSeat, next_call, said_after};
 ghost use Rattle.cn_hall.specs.Rule.{Carries};
 ghost use Rattle.cn_hall.specs.Seats.{IsInvoke, IsSeatOf, IsStep, caller, caller_at, pending, seen};
 ghost use Rattle.cn_log.specs.Log.{entries};
@@ -159,6 +159,7 @@ impl Hall {
         ensures same { (first.new ≡ first.old) × (second.new ≡ second.old) }
         ensures opening { second.old.core.opening ≡ first.old.core.opening }
         ensures met { HaveMet first.old second.old }
+        ensures made { HasOnlyMade first.old second.old × HasOnlyMade second.old first.old }
         ensures seen { BeginsWith (seen second.old) (seen first.old) ⊎ BeginsWith (seen first.old) (seen second.old) }
         ensures order { result ≡ nat_cmp (length (seen first.old)) (length (seen second.old)) }
     {
@@ -166,6 +167,7 @@ impl Hall {
         events::look(rt, &self.queue, &mut first.pass, &mut second.pass, one);
         events::look(rt, &self.queue, &mut second.pass, &mut first.pass, two);
         laws::every_replay();
+        cn_log::laws::every_log();
         first.seen.cmp(&second.seen)
     }
 
@@ -178,6 +180,7 @@ impl Hall {
         ensures carries { All (λ s. Carries s.process s.core result) seats.items }
         ensures replayed { All (λ s. caller_at result s.process ≡ caller s) seats.items }
         ensures entries { All (λ s. BeginsWith (entries (setting result) result.schedule) (seen s)) seats.items }
+        ensures answers { All (λ s. BeginsWith (replies_from (setting result) s.process [] (entries (setting result) result.schedule)) (own s)) seats.items }
     {
         let Hall { queue } = self;
         let mut seats = seats;

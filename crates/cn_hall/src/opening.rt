@@ -3,6 +3,7 @@ ghost use Rattle.std.specs.Prelude.{◌≡◌, ◌≤◌, ◌<◌, [], None, Som
 ghost use Rattle.std.specs.List.{slice_get};
 ghost use Rattle.std.specs.Vec.{vec_capacity};
 ghost use Rattle.cn_proto.specs.Plan.{processes_of};
+ghost use Rattle.cn_hall.specs.Answers.{own};
 ghost use Rattle.cn_hall.specs.Rule.{first_view};
 ghost use Rattle.cn_hall.specs.Seats.{IsSeatOf, KnowsOnly, note_in, pending, seat_state};
 ghost use Rattle.cn_hall.specs.declared.opening.OpenFault.TheVariants.{OutOfMemory};
@@ -14,6 +15,8 @@ use crate::rule::{Item, Knows, Pass, Queue};
 use crate::seat::Seat;
 use cn_log::LogCore;
 use std::alloc::Global;
+use std::error::Error;
+use std::fmt;
 use std::sync::Wait;
 use std::thread;
 
@@ -23,6 +26,27 @@ pub enum OpenFault {
     /// Memory ran out. The core is handed back as it was.
     OutOfMemory(LogCore),
 }
+
+impl fmt::Display for OpenFault {
+    ghost use Rattle.std.specs.Prelude.{Some};
+    ghost use Rattle.cn_hall.specs.FaultText.{open_fault_text};
+
+    ghost output = { λ fault. Some (open_fault_text fault) };
+
+    fn fmt<W: fmt::Write>(&self, f: &mut fmt::Formatter<W>) -> fmt::Result {
+        match self {
+            OpenFault::OutOfMemory(_) => f.write_str("1 OutOfMemory"),
+        }
+    }
+}
+
+impl fmt::Debug for OpenFault {
+    fn fmt<W: fmt::Write>(&self, f: &mut fmt::Formatter<W>) -> fmt::Result {
+        fmt::Display::fmt(self, f)
+    }
+}
+
+impl Error for OpenFault {}
 
 /// Opens a hall over a core. Place p of the vector holds the seat of process p.
 ///
@@ -35,6 +59,7 @@ pub fn open<R: Wait>(rt: &R, alloc: Global, core: LogCore) -> Result<(Hall, Vec<
     ensures of { IfOk result (λ r. All (IsSeatOf r.0) r.1.items) }
     ensures core { IfOk result (λ r. All (λ s. s.core ≡ core) r.1.items) }
     ensures idle { IfOk result (λ r. core.schedule ≡ [] → All (λ s. pending s ≡ None) r.1.items) }
+    ensures own { IfOk result (λ r. core.schedule ≡ [] → All (λ s. own s ≡ []) r.1.items) }
     ensures fault { IfErr result (λ e. e ≡ OutOfMemory core) }
 {
     let Ok(seats) = Vec::with_capacity(alloc, usize::from(core.processes())) else {

@@ -18,14 +18,14 @@ pub struct Seat {
 impl Model for Seat {
     ghost use Rattle.std.specs.Prelude.{◌≡◌, ◌<◌, ◌≤◌, [], length};
     ghost use Rattle.cn_proto.specs.Plan.{processes_of};
-    ghost use Rattle.cn_hall.specs.Seats.{SeatState, SitsAs, caller_at, core_of, is_in_call, seat_state};
+    ghost use Rattle.cn_hall.specs.Seats.{IsLog, IsOfSeat, SeatState, caller_at, core_of, is_held, is_in_call};
     ghost use Rattle.crossbeam_queue.specs.Passes.{view as known};
 
     ghost Value = { SeatState };
 
-    ghost view = { λ s. seat_state s.pass.table_id s.process (core_of (known s.pass)) };
+    ghost view = { λ s. record { hall = s.pass.table_id; process = s.process; core = core_of (known s.pass); held = is_held (known s.pass).held } };
 
-    ghost invariant = { λ s. let core = core_of (known s.pass) in (s.pass.me.1 ≡ []) × SitsAs (known s.pass) s.process core × (s.process < processes_of core.opening.plan) × (s.capacity ≡ core.opening.capacity) × (s.seen ≡ length (caller_at core s.process).seen) × (s.seen ≤ s.capacity) × (s.in_call ≡ is_in_call (caller_at core s.process).phase) };
+    ghost invariant = { λ s. let core = core_of (known s.pass) in (s.pass.me.1 ≡ []) × IsOfSeat (known s.pass) s.process core × (s.process < processes_of core.opening.plan) × (s.capacity ≡ core.opening.capacity) × (s.seen ≡ length (caller_at core s.process).seen) × (s.seen ≤ s.capacity) × (s.in_call ≡ is_in_call (caller_at core s.process).phase) × IsLog core };
 }
 
 impl Seat {

@@ -5,7 +5,7 @@ use Rattle.cn_hall.specs.declared.rule.View.{View}
 use Rattle.cn_hall.specs.Rule.{Carries, IsLater}
 use Rattle.cn_hall.specs.Seats.{SeatState, IsLog, core_of, seen}
 use Rattle.cn_hall.specs.Calls.{BeginsWith, HaveMet}
-use Rattle.cn_hall.proofs.Meeting.{both_see, one_opening, have_met, met_seen}
+use Rattle.cn_hall.proofs.Meeting.{both_see, one_opening, have_met, log_of, met_seen, only_made}
 use Rattle.cn_hall.proofs.hall.Hall.meet.Goals as goal
 
 pub look-requires-2-clause-other : goal.look-requires-2-clause-other
@@ -19,11 +19,15 @@ pub returns-clause-met : goal.returns-clause-met
 returns-clause-met g c = let see = both_see _ _ c.args.first.now c.args.second.now (core_of (view c.look.new.other)) (core_of (view c.look.new.pass)) c.first.view_is c.second.view_is c.look.ensures.met (ap core_of c.look.ensures.other.1) (ap core_of c.look.ensures.same.1) c.look-2.ensures.met in
     have_met c.args.first.now c.args.second.now see.0 see.1
 
+pub returns-clause-made : goal.returns-clause-made
+returns-clause-made g c = let see = both_see _ _ c.args.first.now c.args.second.now (core_of (view c.look.new.other)) (core_of (view c.look.new.pass)) c.first.view_is c.second.view_is c.look.ensures.met (ap core_of c.look.ensures.other.1) (ap core_of c.look.ensures.same.1) c.look-2.ensures.met in
+    only_made c.args.first.now c.args.second.now c.every_replay.ensures c.every_log.ensures.linearized (log_of _ c.args.first.now c.first.view_is c.first.invariant.7) (log_of _ c.args.second.now c.second.view_is c.second.invariant.7)
+    (have_met c.args.first.now c.args.second.now see.0 see.1)
+
 pub returns-clause-seen : goal.returns-clause-seen
 returns-clause-seen g c = let see = both_see _ _ c.args.first.now c.args.second.now (core_of (view c.look.new.other)) (core_of (view c.look.new.pass)) c.first.view_is c.second.view_is c.look.ensures.met (ap core_of c.look.ensures.other.1) (ap core_of c.look.ensures.same.1) c.look-2.ensures.met in
-    let one : IsLog c.args.first.now.core = subst (λ (s : SeatState). IsLog s.core) c.first.view_is c.look.ensures.log in
-    let two : IsLog c.args.second.now.core = subst (λ (s : SeatState). IsLog s.core) c.second.view_is (subst (λ (l : Log). IsLog l) (ap core_of c.look.ensures.other.1) c.look-2.ensures.log) in
-    met_seen c.args.first.now c.args.second.now c.every_replay.ensures one two (one_opening c.args.first.now c.args.second.now see.0) (have_met c.args.first.now c.args.second.now see.0 see.1)
+    met_seen c.args.first.now c.args.second.now c.every_replay.ensures (log_of _ c.args.first.now c.first.view_is c.first.invariant.7) (log_of _ c.args.second.now c.second.view_is c.second.invariant.7)
+    (one_opening c.args.first.now c.args.second.now see.0) (have_met c.args.first.now c.args.second.now see.0 see.1)
 
 pub returns-clause-order : goal.returns-clause-order
 returns-clause-order g c =

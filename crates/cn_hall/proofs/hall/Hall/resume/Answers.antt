@@ -9,7 +9,7 @@ use Rattle.cn_hall.proofs.Calling.{some_of, begins_same, begins_again, goes_same
 use Rattle.cn_hall.proofs.hall.Hall.resume.Goals as goal
 
 pub loop-init : goal.loop-init
-loop-init g c = record { same = (refl, refl, refl); events = goes_same c.args.seat.now.process c.args.seat.now.core; pending = refl; seen = begins_same (seen c.args.seat.now); own = refl; says = c.requires.gate }
+loop-init g c = record { same = (refl, refl, refl, refl); events = goes_same c.args.seat.now.process c.args.seat.now.core; pending = refl; seen = begins_same (seen c.args.seat.now); own = refl; says = c.requires.gate }
 
 pub loop-preserved : goal.loop-preserved
 loop-preserved g c =
