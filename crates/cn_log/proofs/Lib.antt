@@ -12,3 +12,5 @@ pub mod Fitting
 pub mod Stepping
 pub mod RoundLemmas
 pub mod FaultLemmas
+pub mod Knowing
+pub mod OwnCalls

@@ -1,5 +1,6 @@
 pub mod Agreement
 pub mod Bypass
+pub mod Callers
 pub mod Consensus
 pub mod FaultText
 pub mod Faults

@@ -1,11 +1,15 @@
 //! Laws of the log. A law is a function that does nothing: its contract is the law.
-ghost use Rattle.std.specs.Prelude.{◌≡◌, ◌↔◌, ◌++◌, ℕ, List, None};
+ghost use Rattle.std.specs.Prelude.{◌≡◌, ◌↔◌, ◌+◌, ◌++◌, ◌∷◌, [], ℕ, List, None, Some};
 ghost use Rattle.cn_log.specs.Bypass.{IsBypassBounded};
+ghost use Rattle.cn_log.specs.Callers.{BeginsWith, HasReplayedBy, HasReplayedItsOwn, IsPendingCall, IsStepped, Without, call_of, caller_of, calls_by, entries_by, pending_in};
 ghost use Rattle.cn_log.specs.Linearized.{BeginsInTurn, Grows, IsLinearized};
 ghost use Rattle.cn_log.specs.Faults.{event_fault};
-ghost use Rattle.cn_log.specs.Log.{IsEventList, MayCome, state_of};
+ghost use Rattle.cn_log.specs.Log.{IsEventList, MayCome, answer, entries, state_of};
 ghost use Rattle.cn_log.specs.Opening.{IsOpening, Opening as OpeningOf, setting_of};
+ghost use Rattle.cn_log.specs.declared.entry.Entry.{Entry as EntryOf};
 ghost use Rattle.cn_log.specs.declared.event.Event.{Event as EventOf};
+ghost use Rattle.cn_log.specs.declared.event.Event.TheVariants.{Invoke, Step};
+ghost use Rattle.cn_log.specs.declared.progress.Phase.TheVariants.{Looks};
 
 use crate::Entry;
 
@@ -26,3 +30,36 @@ pub fn every_log()
 pub fn every_fault()
     ensures { (o : OpeningOf) (events : List EventOf) (place : ℕ) (event : EventOf) → (event_fault (setting_of o) (state_of (setting_of o) events) place event ≡ None) ↔ MayCome (setting_of o) (state_of (setting_of o) events) event }
 {}
+
+/// The law of what a process knows: `front`, a beginning of a list of events is one; `stays`, events
+/// of others change nothing of it; `invoked`, a call adds itself, pending, and the process has seen
+/// what it had seen; `pending`, the pending call is the last that the process has made, and it has
+/// replayed neither that nor every slot; `stepped`, what a step makes of it, by its answer;
+/// `replayed`, the entries of the log begin with those that the process has replayed.
+pub fn every_caller()
+    ensures front { (o : OpeningOf) (before rest : List EventOf) → IsEventList (setting_of o) (before ++ rest) → IsEventList (setting_of o) before }
+    ensures stays { (o : OpeningOf) (before rest : List EventOf) (p : ℕ) → Without p rest → caller_of (setting_of o) (before ++ rest) p ≡ caller_of (setting_of o) before p }
+    ensures invoked { (o : OpeningOf) (events : List EventOf) (p operation : ℕ) → caller_of (setting_of o) (events ++ Invoke p operation ∷ []) p ≡ record { seen = (caller_of (setting_of o) events p).seen; calls = (caller_of (setting_of o) events p).calls + 1; phase = Looks (call_of p operation (caller_of (setting_of o) events p).calls) } }
+    ensures pending { (o : OpeningOf) (events : List EventOf) (p : ℕ) (mine : EntryOf) → IsOpening o → IsEventList (setting_of o) events → pending_in (caller_of (setting_of o) events p).phase ≡ Some mine → IsPendingCall (setting_of o) events p mine }
+    ensures stepped { (o : OpeningOf) (events : List EventOf) (p : ℕ) (mine : EntryOf) → IsOpening o → IsEventList (setting_of o) (events ++ Step p ∷ []) → pending_in (caller_of (setting_of o) events p).phase ≡ Some mine → IsStepped (setting_of o) p (caller_of (setting_of o) events p) mine (caller_of (setting_of o) (events ++ Step p ∷ []) p) (answer (setting_of o) events p) }
+    ensures replayed { (o : OpeningOf) (events : List EventOf) (p : ℕ) → IsOpening o → IsEventList (setting_of o) events → BeginsWith (entries (setting_of o) events) (caller_of (setting_of o) events p).seen }
+{
+    cn_agree::laws::every_round::<Entry>();
+}
+
+/// The law of the calls of a process: `grow`, `stay`, `called`, a call is an event of its process,
+/// and its number is how many it made before; `own`, its calls are the entries of its own that it has
+/// replayed, in order, and then the one that it has no answer to, if there is one; `own_stepped`,
+/// the same after a step, by its answer; `made`, `seen_made`, the entries of the process in the log,
+/// and among those that any process has replayed, are the first of its calls, in order.
+pub fn every_call()
+    ensures grow { (before rest : List EventOf) (p : ℕ) → BeginsWith (calls_by p (before ++ rest)) (calls_by p before) }
+    ensures stay { (before rest : List EventOf) (p : ℕ) → Without p rest → calls_by p (before ++ rest) ≡ calls_by p before }
+    ensures called { (o : OpeningOf) (events : List EventOf) (p operation : ℕ) → calls_by p (events ++ Invoke p operation ∷ []) ≡ calls_by p events ++ call_of p operation (caller_of (setting_of o) events p).calls ∷ [] }
+    ensures own { (o : OpeningOf) (events : List EventOf) (p : ℕ) → IsOpening o → IsEventList (setting_of o) events → HasReplayedItsOwn (setting_of o) events p }
+    ensures own_stepped { (o : OpeningOf) (events : List EventOf) (p : ℕ) (mine : EntryOf) → IsOpening o → IsEventList (setting_of o) (events ++ Step p ∷ []) → pending_in (caller_of (setting_of o) events p).phase ≡ Some mine → HasReplayedBy (setting_of o) (events ++ Step p ∷ []) p mine (answer (setting_of o) events p) }
+    ensures made { (o : OpeningOf) (events : List EventOf) (p : ℕ) → IsOpening o → IsEventList (setting_of o) events → BeginsWith (calls_by p events) (entries_by p (entries (setting_of o) events)) }
+    ensures seen_made { (o : OpeningOf) (events : List EventOf) (p q : ℕ) → IsOpening o → IsEventList (setting_of o) events → BeginsWith (calls_by p events) (entries_by p (caller_of (setting_of o) events q).seen) }
+{
+    cn_agree::laws::every_round::<Entry>();
+}

@@ -5,6 +5,7 @@ ghost use Rattle.cn_log.specs.declared.event.Event.{Event as EventOf};
 ghost use Rattle.cn_log.specs.declared.event.Event.TheVariants.{Invoke, Step};
 ghost use Rattle.cn_log.specs.declared.progress.Phase.TheVariants.{Idle};
 ghost use Rattle.cn_log.specs.Bypass.{IsBypassBounded};
+ghost use Rattle.cn_log.specs.Callers.{HasResponse};
 ghost use Rattle.cn_log.specs.Linearized.{BeginsInTurn, Grows, IsLinearized};
 ghost use Rattle.cn_log.specs.Log.{MayCome, IsEventList, answer, entries, state_of};
 ghost use Rattle.cn_log.specs.Opening.{IsOpening, opening_of, setting, setting_of};
@@ -106,7 +107,7 @@ impl LogCore {
     }
 
     /// Process `p`, which is in a call, takes one step. `Answered` is the answer to its call, with
-    /// its slot and response; `Full` ends the call with no answer, since every slot is fixed and
+    /// its slot and a response of the object; `Full` ends the call with no answer, since every slot is fixed and
     /// none to it.
     ///
     /// # Errors
@@ -116,6 +117,7 @@ impl LogCore {
         requires { MayCome (setting self.old) (state_of (setting self.old) self.old.schedule) (Step p) }
         ensures ok { IfOk result (λ _. self.new ≡ record self.old { schedule = self.old.schedule ++ Step p ∷ [] }) }
         ensures answer { IfOk result (λ given. given ≡ answer (setting self.old) self.old.schedule p) }
+        ensures range { IfOk result (λ given. HasResponse self.old.opening.object given) }
         ensures err { OnErr result (self.new ≡ self.old) }
     {
         self.state.entries.reserve(1)?;
@@ -155,7 +157,7 @@ impl LogCore {
     }
 
     /// How many operations the object has.
-    pub(crate) fn operations(&self) -> u8
+    pub fn operations(&self) -> u8
         ensures { result ≡ length self.now.opening.object.operations }
     {
         self.opening.object.operations()

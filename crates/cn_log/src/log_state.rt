@@ -6,6 +6,7 @@ ghost use Rattle.cn_log.specs.declared.entry.Entry.{Entry as EntryOf};
 ghost use Rattle.cn_log.specs.declared.event.Event.{Event as EventOf};
 ghost use Rattle.cn_log.specs.declared.event.Event.TheVariants.{Invoke, Step};
 ghost use Rattle.cn_log.specs.declared.progress.Phase.TheVariants.{Idle, Looks, Runs};
+ghost use Rattle.cn_log.specs.Callers.{HasResponse};
 ghost use Rattle.cn_log.specs.Fields.{no_progress, reply, entered, Keeps, IsAt};
 ghost use Rattle.cn_log.specs.Log.{MayInvoke, MayStep, answer, phase_after, proposed, state_of};
 ghost use Rattle.cn_log.specs.Opening.{setting_of};
@@ -76,6 +77,7 @@ impl LogState {
         requires may { (s : List EventOf) × Keeps (setting_of opening.now) s self.old.rounds.items self.old.announced.items self.old.progress.items self.old.entries.items × MayStep (setting_of opening.now) (state_of (setting_of opening.now) s) p }
         ensures keeps { (s : List EventOf) → Keeps (setting_of opening.now) s self.old.rounds.items self.old.announced.items self.old.progress.items self.old.entries.items → MayStep (setting_of opening.now) (state_of (setting_of opening.now) s) p → Keeps (setting_of opening.now) (s ++ Step p ∷ []) self.new.rounds.items self.new.announced.items self.new.progress.items self.new.entries.items }
         ensures answer { (s : List EventOf) → Keeps (setting_of opening.now) s self.old.rounds.items self.old.announced.items self.old.progress.items self.old.entries.items → MayStep (setting_of opening.now) (state_of (setting_of opening.now) s) p → result ≡ answer (setting_of opening.now) s p }
+        ensures range { HasResponse opening.now.object result }
     {
         match self.progress[usize::from(p)].phase {
             Phase::Idle => unreachable!(),
@@ -115,6 +117,7 @@ impl LogState {
         requires at { (s : List EventOf) × IsAt (setting_of opening.now) s self.old.rounds.items self.old.announced.items self.old.progress.items self.old.entries.items p (Runs mine) }
         ensures keeps { (s : List EventOf) → IsAt (setting_of opening.now) s self.old.rounds.items self.old.announced.items self.old.progress.items self.old.entries.items p (Runs mine) → Keeps (setting_of opening.now) (s ++ Step p ∷ []) self.new.rounds.items self.new.announced.items self.new.progress.items self.new.entries.items }
         ensures answer { (s : List EventOf) → IsAt (setting_of opening.now) s self.old.rounds.items self.old.announced.items self.old.progress.items self.old.entries.items p (Runs mine) → result ≡ answer (setting_of opening.now) s p }
+        ensures range { HasResponse opening.now.object result }
     {
         opening.is_opening();
         let here = self.progress[usize::from(p)];
@@ -187,6 +190,7 @@ fn replay_entry(opening: &Opening, here: Progress, mine: Entry, entry: Entry) ->
     ensures state { result.progress.state.0 ≡ (transition opening.now.object entry.operation.0 here.state.0).1 }
     ensures known { result.progress.state.0 < length opening.now.object.states }
     ensures answer { result.answer ≡ reply (setting_of opening.now) here.replayed here.state.0 mine entry }
+    ensures range { HasResponse opening.now.object result.answer }
 {
     let (response, state) = opening.object.apply(entry.operation, here.state);
     let slot = here.replayed;

@@ -1,0 +1,121 @@
+-- What a process knows of a log, what its events make of that, and what has become of its calls.
+use Rattle.std.specs.Prelude.{ℕ, ◌≡◌, ◌≢◌, ◌⊎◌, ◌+◌, ◌<◌, ◌==◌, if◌then◌else◌, List, [], ◌∷◌, ◌++◌, length, slice_get, Option, Some, None}
+use Rattle.std.specs.List.{filter}
+use Rattle.cn_table.specs.TypeTable.{TypeTable}
+use Rattle.cn_log.specs.declared.entry.Entry.{Entry}
+use Rattle.cn_log.specs.declared.event.Event.{Event}
+use Rattle.cn_log.specs.declared.event.Event.TheVariants.{Invoke, Step}
+use Rattle.cn_log.specs.declared.event.StepAnswer.{StepAnswer}
+use Rattle.cn_log.specs.declared.event.StepAnswer.TheVariants.{Working, Answered, Full}
+use Rattle.cn_log.specs.declared.progress.Phase.{Phase}
+use Rattle.cn_log.specs.declared.progress.Phase.TheVariants.{Idle, Looks, Runs}
+use Rattle.cn_log.specs.Linearized.{calls_of}
+use Rattle.cn_log.specs.Log.{Setting, Caller, state_of, response_after}
+
+-- the list begins with that one
+abbrev pub BeginsWith : {A : Type 0} → List A → List A → Type 0
+BeginsWith {A} list front = (rest : List A) × (list ≡ front ++ rest)
+
+-- it holds of each
+abbrev pub Every : {A : Type 0} → (A → Type 0) → List A → Type 0
+Every P [] = Unit {0}
+Every P (x ∷ xs) = P x × Every P xs
+
+-- whose event it is
+abbrev pub process_of : Event → ℕ
+process_of (Invoke p operation) = p
+process_of (Step p) = p
+
+-- no event of the list is the process's
+abbrev pub Without : ℕ → List Event → Type 0
+Without p events = Every (λ e. process_of e ≢ p) events
+
+-- the response of an answer is one of the object's
+abbrev pub HasResponse : TypeTable → StepAnswer → Type 0
+HasResponse t Working = Unit {0}
+HasResponse t (Answered slot response) = response.0 < length t.responses
+HasResponse t Full = Unit {0}
+
+-- the call that is pending in a phase
+abbrev pub pending_in : Phase → Option Entry
+pending_in Idle = None
+pending_in (Looks mine) = Some mine
+pending_in (Runs mine) = Some mine
+
+-- call number k of process p, of this operation
+abbrev pub call_of : ℕ → ℕ → ℕ → Entry
+call_of p operation k = record { process = p; operation = record { 0 = operation }; call = k }
+
+-- the calls that process p makes in these events, in order, numbered from k on
+abbrev pub calls_from : ℕ → ℕ → List Event → List Entry
+calls_from p k [] = []
+calls_from p k (Invoke q operation ∷ events) = if q == p then call_of p operation k ∷ calls_from p (k + 1) events else calls_from p k events
+calls_from p k (Step q ∷ events) = calls_from p k events
+
+-- the calls that process p makes in these events, in order
+abbrev pub calls_by : ℕ → List Event → List Entry
+calls_by p events = calls_from p 0 events
+
+-- the entries of process p among these, in order
+abbrev pub entries_by : ℕ → List Entry → List Entry
+entries_by p entries = filter (λ (e : Entry). e.process == p) entries
+
+-- the process sees one entry more, of another process
+abbrev pub SeesOther : ℕ → Caller → Caller → Type 0
+SeesOther p before after = (x : Entry) × (after.seen ≡ before.seen ++ x ∷ []) × (x.process ≢ p)
+
+-- a step of process p after which its call goes on
+pub record CallGoesOn (p : ℕ) (before : Caller) (mine : Entry) (after : Caller) : Type 0 where
+  pub pending : pending_in after.phase ≡ Some mine
+  pub calls : after.calls ≡ before.calls
+  pub seen : (after.seen ≡ before.seen) ⊎ SeesOther p before after
+
+module _ {R : Type 0} (L : Setting R) where
+  -- what process p knows after these events
+  abbrev pub caller_of : List Event → ℕ → Caller
+  caller_of events p = (state_of L events).caller p
+
+  -- the pending call of process p: the last that it has made. The process has replayed neither this call nor every slot
+  pub record IsPendingCall (events : List Event) (p : ℕ) (mine : Entry) : Type 0 where
+    pub process : mine.process ≡ p
+    pub last : mine.call + 1 ≡ calls_of p events
+    pub unseen : (k : ℕ) → slice_get (caller_of events p).seen k ≢ Some mine
+    pub room : length (caller_of events p).seen < L.capacity
+
+  -- a step that answers the pending call: the process replays it, in the next slot, with the response of one sequential run there
+  pub record EndsAnswered (before : Caller) (mine : Entry) (after : Caller) (k given : ℕ) : Type 0 where
+    pub idle : after.phase ≡ Idle
+    pub calls : after.calls ≡ before.calls
+    pub seen : after.seen ≡ before.seen ++ mine ∷ []
+    pub slot : k ≡ length before.seen
+    pub response : given ≡ response_after L before.seen mine.operation.0
+
+  -- a step of process p that ends the pending call with no answer: the process has replayed every slot, and the call stands in none
+  pub record EndsFull (p : ℕ) (before : Caller) (mine : Entry) (after : Caller) : Type 0 where
+    pub idle : after.phase ≡ Idle
+    pub calls : after.calls ≡ before.calls
+    pub seen : SeesOther p before after
+    pub all : length after.seen ≡ L.capacity
+    pub unseen : (k : ℕ) → slice_get after.seen k ≢ Some mine
+
+  -- what a step of process p, with this call pending, makes of what it knew, by its answer
+  abbrev pub IsStepped : ℕ → Caller → Entry → Caller → StepAnswer → Type 0
+  IsStepped p before mine after Working = CallGoesOn p before mine after
+  IsStepped p before mine after (Answered slot response) = EndsAnswered before mine after slot response.0
+  IsStepped p before mine after Full = EndsFull p before mine after
+
+  -- the calls that a process has no answer to: in a call, that one; else none, but perhaps one where it has replayed every slot and that stands in none
+  abbrev pub IsUnanswered : Caller → Phase → List Entry → Type 0
+  IsUnanswered here Idle calls = (calls ≡ []) ⊎ ((length here.seen ≡ L.capacity) × (e : Entry) × (calls ≡ e ∷ []) × ((k : ℕ) → slice_get here.seen k ≢ Some e))
+  IsUnanswered here (Looks mine) calls = calls ≡ mine ∷ []
+  IsUnanswered here (Runs mine) calls = calls ≡ mine ∷ []
+
+  -- the calls of process p are the entries of its own that it has replayed, and then what it has no answer to
+  abbrev pub HasReplayedItsOwn : List Event → ℕ → Type 0
+  HasReplayedItsOwn events p = (rest : List Entry) × (calls_by p events ≡ entries_by p (caller_of events p).seen ++ rest) × IsUnanswered (caller_of events p) (caller_of events p).phase rest
+
+  -- the same after a step of process p with this call pending, by its answer
+  abbrev pub HasReplayedBy : List Event → ℕ → Entry → StepAnswer → Type 0
+  HasReplayedBy events p mine Working = calls_by p events ≡ entries_by p (caller_of events p).seen ++ mine ∷ []
+  HasReplayedBy events p mine (Answered slot response) = calls_by p events ≡ entries_by p (caller_of events p).seen
+  HasReplayedBy events p mine Full = calls_by p events ≡ entries_by p (caller_of events p).seen ++ mine ∷ []
