@@ -4,15 +4,16 @@ use Rattle.std.proofs.lemmas.List.Elements.{All-pop, All-push, All-nil}
 use Rattle.cn_log.specs.Log.{Caller, entries}
 use Rattle.cn_log.specs.Opening.{Log, Opening, setting, setting_of}
 use Rattle.cn_hall.specs.Answers.{own, replies_from}
-use Rattle.cn_hall.specs.Calls.{BeginsWith}
+use Rattle.cn_log.specs.Callers.{BeginsWith, Every}
 use Rattle.cn_hall.specs.declared.call.Reply.{Reply}
 use Rattle.cn_hall.proofs.Callers.{caller_carried}
+use Rattle.cn_hall.proofs.LogLaws.{Stays}
 use Rattle.cn_hall.proofs.Owning.{replies_append}
 use Rattle.cn_hall.specs.declared.rule.Item.{Item}
 use Rattle.cn_hall.specs.declared.rule.Pair.{Pair}
 use Rattle.cn_hall.specs.declared.rule.View.{View}
 use Rattle.cn_hall.specs.declared.rule.Stage.TheVariants.{Live}
-use Rattle.cn_hall.specs.Rule.{Every, Carries, Agrees, joined}
+use Rattle.cn_hall.specs.Rule.{Carries, Agrees, joined}
 use Rattle.cn_hall.specs.Seats.{HallId, SeatState, IsOfSeat, IsSeatOf, SitsAs, caller_at, core_of, is_held, seen}
 use Rattle.cn_hall.proofs.Keeps.{every_map, every_left, every_right}
 use Rattle.cn_hall.proofs.Sitting.{seat_free}
@@ -72,13 +73,13 @@ ends all xs v x none rests a = rests x.core (every_map (λ y. (y.process < x.sea
     (subst (λ (y : List SeatState). All (IsKept x.core) y) (sym (none_left xs none)) (All-nil (IsKept x.core)))
 
 -- what the seat has seen stands first in the core
-pub kept_seen : (core : Log) (s : SeatState) → IsKept core s → BeginsWith (entries (setting core) core.schedule) (caller_at core s.process).seen → BeginsWith (entries (setting core) core.schedule) (seen s)
-kept_seen core s h k = subst (λ (x : Caller). BeginsWith (entries (setting core) core.schedule) x.seen) (caller_carried s.process s.core core h) k
+pub kept_seen : Stays → (core : Log) (s : SeatState) → IsKept core s → BeginsWith (entries (setting core) core.schedule) (caller_at core s.process).seen → BeginsWith (entries (setting core) core.schedule) (seen s)
+kept_seen stays core s h k = subst (λ (x : Caller). BeginsWith (entries (setting core) core.schedule) x.seen) (caller_carried stays s.process s.core core h) k
 
 -- and what it has been answered stands first among the replies to its process's entries there
-pub kept_own : (core : Log) (s : SeatState) → IsKept core s → BeginsWith (entries (setting core) core.schedule) (caller_at core s.process).seen → BeginsWith (replies_from (setting core) s.process [] (entries (setting core) core.schedule)) (own s)
-kept_own core s h k =
-    let b = kept_seen core s h k in
+pub kept_own : Stays → (core : Log) (s : SeatState) → IsKept core s → BeginsWith (entries (setting core) core.schedule) (caller_at core s.process).seen → BeginsWith (replies_from (setting core) s.process [] (entries (setting core) core.schedule)) (own s)
+kept_own stays core s h k =
+    let b = kept_seen stays core s h k in
     let p = s.process in
     let more : List Reply = replies_from (setting core) p (seen s) b.0 in (
       more,

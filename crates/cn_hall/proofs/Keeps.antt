@@ -10,7 +10,8 @@ use Rattle.cn_hall.specs.declared.rule.Item.{Item}
 use Rattle.cn_hall.specs.declared.rule.Pair.{Pair}
 use Rattle.cn_hall.specs.declared.rule.Stage.TheVariants.{First, Live, Spent}
 use Rattle.cn_hall.specs.declared.rule.View.{View}
-use Rattle.cn_hall.specs.Rule.{Every, process_of, Without, later_core, IsLater, Carries, pair, item_of, view_of, first_view, spent_view, IsSeated, HeldFits, Apart, Fits, Lies, IsHeld, Running, Holds, Agrees, holding, bare, knower, joined, later, seated}
+use Rattle.cn_hall.specs.Rule.{later_core, IsLater, Carries, pair, item_of, view_of, first_view, spent_view, IsSeated, HeldFits, Apart, Fits, Lies, IsHeld, Running, Holds, Agrees, holding, bare, knower, joined, later, seated}
+use Rattle.cn_log.specs.Callers.{Every, process_of, Without}
 
 -- lists
 pub every_map : {A : Type 0} (P Q : A → Type 0) → ((x : A) → P x → Q x) → (xs : List A) → Every P xs → Every Q xs

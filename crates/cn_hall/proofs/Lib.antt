@@ -1,9 +1,9 @@
 pub mod Keeps
+pub mod LogLaws
 pub mod Callers
 pub mod Sitting
 pub mod Calling
 pub mod Closing
 pub mod Opened
-pub mod Replaying
 pub mod Meeting
 pub mod Owning

@@ -1,16 +1,16 @@
 -- Two seats that have looked at one core.
-use Rattle.std.proofs.Common.{◌≡◌, ◌≢◌, ℕ, zero, suc, take, slice_get, Some, List, [], ◌∷◌, ◌++◌, length, ◌⊎◌, inl, inr, ⊎_elim, sym, refl, ap, ◌∙◌, subst, length-append, arith}
+use Rattle.std.proofs.Common.{◌≡◌, ℕ, List, [], ◌∷◌, ◌++◌, length, ◌⊎◌, inl, inr, ⊎_elim, sym, refl, ap, ◌∙◌, subst, length-append, arith}
 use Rattle.cn_log.specs.declared.entry.Entry.{Entry}
 use Rattle.cn_log.specs.declared.event.Event.{Event}
-use Rattle.cn_log.specs.declared.event.Event.TheVariants.{Invoke, Step}
-use Rattle.cn_log.specs.Log.{Caller, IsEventList, entries}
-use Rattle.cn_log.specs.Linearized.{IsCall, IsLinearized, calls_of}
-use Rattle.cn_log.specs.Opening.{IsOpening, Log, Opening, setting, setting_of}
-use Rattle.cn_hall.specs.Calls.{BeginsWith, HasOnlyMade, HaveMet}
-use Rattle.cn_hall.specs.Rule.{Carries, Every, IsLater, Without, process_of}
-use Rattle.cn_hall.specs.Seats.{SeatState, IsLog, caller_at, seen}
-use Rattle.cn_hall.proofs.Callers.{caller_carried}
+use Rattle.cn_log.specs.Callers.{BeginsWith, Without, calls_by, entries_by}
+use Rattle.cn_log.specs.Log.{Caller, entries}
+use Rattle.cn_log.specs.Opening.{Log, setting}
+use Rattle.cn_hall.specs.Calls.{HasOnlyMade, HaveMet}
+use Rattle.cn_hall.specs.Rule.{Carries, IsLater}
+use Rattle.cn_hall.specs.Seats.{SeatState, IsLog, made, seen}
+use Rattle.cn_hall.proofs.Callers.{begins_again, caller_carried}
 use Rattle.cn_hall.proofs.Keeps.{every_left}
+use Rattle.cn_hall.proofs.LogLaws.{Grows, Replayed, SeenMade, Stay, Stays}
 
 cons_tail : {A : Type 0} (x y : A) (a b : List A) → x ∷ a ≡ y ∷ b → (x ≡ y) × (a ≡ b)
 cons_tail x y a b e = (cc, cc)
@@ -56,69 +56,25 @@ have_met a b h k =
     (two_fronts b.core.schedule a.core.schedule k.1.1 k.2.1 (sym k.1.2 ∙ k.2.2)))
     (two_fronts a.core.schedule b.core.schedule h.1.1 h.2.1 (sym h.1.2 ∙ h.2.2))
 
--- what processes have replayed stands first in the log
-abbrev pub Replay : Type 0
-Replay = (core : Log) (p : ℕ) → IsLog core → BeginsWith (entries (setting core) core.schedule) (caller_at core p).seen
-
-longer_seen : (a b : SeatState) → Replay → IsLog b.core → b.core.opening ≡ a.core.opening → (rest : List Event) × (b.core.schedule ≡ a.core.schedule ++ rest) × Without a.process rest → BeginsWith (seen b) (seen a) ⊎ BeginsWith (seen a) (seen b)
-longer_seen a b law log o h =
-    let mine : BeginsWith (entries (setting b.core) b.core.schedule) (seen a) = subst (λ (x : Caller). BeginsWith (entries (setting b.core) b.core.schedule) x.seen) (caller_carried a.process a.core b.core (o, h.0, h.1, h.2)) (law b.core a.process log) in
-    let his = law b.core b.process log in
+longer_seen : Stays → Replayed → (a b : SeatState) → IsLog b.core → b.core.opening ≡ a.core.opening → (rest : List Event) × (b.core.schedule ≡ a.core.schedule ++ rest) × Without a.process rest → BeginsWith (seen b) (seen a) ⊎ BeginsWith (seen a) (seen b)
+longer_seen stays law a b log o h =
+    let L = setting b.core in
+    let mine : BeginsWith (entries L b.core.schedule) (seen a) = subst (λ (x : Caller). BeginsWith (entries L b.core.schedule) x.seen) (caller_carried stays a.process a.core b.core (o, h.0, h.1, h.2)) (law b.core.opening b.core.schedule a.process log.opening log.events) in
+    let his : BeginsWith (entries L b.core.schedule) (seen b) = law b.core.opening b.core.schedule b.process log.opening log.events in
     ⊎_elim (λ (t : (x : List Entry) × (seen b ≡ seen a ++ x) × (mine.0 ≡ x ++ his.0)). inl (t.0, t.1)) (λ (t : (x : List Entry) × (seen a ≡ seen b ++ x) × (his.0 ≡ x ++ mine.0)). inr (t.0, t.1)) (two_fronts (seen a) (seen b) mine.0 his.0 (sym mine.1 ∙ his.1))
 
-pub met_seen : (a b : SeatState) → Replay → IsLog a.core → IsLog b.core → b.core.opening ≡ a.core.opening → HaveMet a b → BeginsWith (seen b) (seen a) ⊎ BeginsWith (seen a) (seen b)
-met_seen a b law la lb o (inl h) = longer_seen a b law lb o h
-met_seen a b law la lb o (inr h) = ⊎_elim (λ (k : BeginsWith (seen a) (seen b)). inr k) (λ (k : BeginsWith (seen b) (seen a)). inl k) (longer_seen b a law la (sym o) h)
+pub met_seen : Stays → Replayed → (a b : SeatState) → IsLog a.core → IsLog b.core → b.core.opening ≡ a.core.opening → HaveMet a b → BeginsWith (seen b) (seen a) ⊎ BeginsWith (seen a) (seen b)
+met_seen stays law a b la lb o (inl h) = longer_seen stays law a b lb o h
+met_seen stays law a b la lb o (inr h) = ⊎_elim (λ (k : BeginsWith (seen a) (seen b)). inr k) (λ (k : BeginsWith (seen b) (seen a)). inl k) (longer_seen stays law b a la (sym o) h)
 
-get_front : {A : Type 0} (xs ys : List A) (k : ℕ) (x : A) → slice_get xs k ≡ Some x → slice_get (xs ++ ys) k ≡ Some x
-get_front [] ys k x h = absurd cc
-get_front (z ∷ xs) ys zero x h = h
-get_front (z ∷ xs) ys (suc k) x h = get_front xs ys k x h
+-- of the process of b, the seat a has seen only calls that it has made: where b has come further, and where a has with no event of b's since
+made_longer : Grows → SeenMade → (a b : SeatState) → IsLog a.core → (rest : List Event) → b.core.schedule ≡ a.core.schedule ++ rest → HasOnlyMade a b
+made_longer grows law a b log rest is = begins_again (entries_by b.process (seen a)) (calls_by b.process a.core.schedule) (made b) (law a.core.opening a.core.schedule b.process a.process log.opening log.events)
+    (subst (λ l. BeginsWith (calls_by b.process l) (calls_by b.process a.core.schedule)) (sym is) (grows a.core.schedule rest b.process))
 
-get_cases : {A : Type 0} (xs ys : List A) (k : ℕ) (x : A) → slice_get (xs ++ ys) k ≡ Some x → (slice_get xs k ≡ Some x) ⊎ ((j : ℕ) × (slice_get ys j ≡ Some x))
-get_cases [] ys k x h = inr (k, h)
-get_cases (z ∷ xs) ys zero x h = inl h
-get_cases (z ∷ xs) ys (suc k) x h = get_cases xs ys k x h
+made_shorter : Stay → SeenMade → (a b : SeatState) → IsLog a.core → (rest : List Event) → a.core.schedule ≡ b.core.schedule ++ rest → Without b.process rest → HasOnlyMade a b
+made_shorter stay law a b log rest is without = subst (λ l. BeginsWith l (entries_by b.process (seen a))) (ap (calls_by b.process) is ∙ stay b.core.schedule rest b.process without) (law a.core.opening a.core.schedule b.process a.process log.opening log.events)
 
-take_front : {A : Type 0} (xs ys : List A) (k : ℕ) (x : A) → slice_get xs k ≡ Some x → take k (xs ++ ys) ≡ take k xs
-take_front [] ys k x h = absurd cc
-take_front (z ∷ xs) ys zero x h = refl
-take_front (z ∷ xs) ys (suc k) x h = ap (λ l. z ∷ l) (take_front xs ys k x h)
-
-every_at : {A : Type 0} (P : A → Type 0) (xs : List A) (k : ℕ) (x : A) → Every P xs → slice_get xs k ≡ Some x → P x
-every_at P [] k x h at = absurd cc
-every_at P (y ∷ xs) zero x h at = let e : y ≡ x = cc in subst P e h.0
-every_at P (y ∷ xs) (suc k) x h at = every_at P xs k x h.1 at
-
--- a call of a list is one of a longer list, and of a shorter one where the rest has no event of its process
-call_longer : (events rest : List Event) (i : ℕ) (x : Entry) → IsCall events i x → IsCall (events ++ rest) i x
-call_longer events rest i x h = record { invoke = get_front events rest i _ h.invoke; number = h.number ∙ ap (λ l. calls_of x.process l) (sym (take_front events rest i _ h.invoke)) }
-
-call_shorter : (events rest : List Event) (i : ℕ) (x : Entry) → Without x.process rest → IsCall (events ++ rest) i x → IsCall events i x
-call_shorter events rest i x without h = go (get_cases events rest i _ h.invoke)
-  where
-    go : (slice_get events i ≡ Some (Invoke x.process x.operation.0)) ⊎ ((j : ℕ) × (slice_get rest j ≡ Some (Invoke x.process x.operation.0))) → IsCall events i x
-    go (inl at) = record { invoke = at; number = h.number ∙ ap (λ l. calls_of x.process l) (take_front events rest i _ at) }
-    go (inr at) = absurd (every_at (λ e. process_of e ≢ x.process) rest at.0 _ without at.1 refl)
-
--- each entry is a call that was made
-abbrev pub Linear : Type 0
-Linear = (o : Opening) (events : List Event) → IsOpening o → IsEventList (setting_of o) events → IsLinearized (setting_of o) events
-
-seen_called : (a : SeatState) → Replay → Linear → IsLog a.core → (k : ℕ) (x : Entry) → slice_get (seen a) k ≡ Some x → (i : ℕ) × IsCall a.core.schedule i x
-seen_called a replay linear log k x at =
-    let front = replay a.core a.process log in
-    let stands : slice_get (entries (setting a.core) a.core.schedule) k ≡ Some x = ap (λ l. slice_get l k) front.1 ∙ get_front (seen a) front.0 k x at in
-    (linear a.core.opening a.core.schedule log.opening log.events).called k x stands
-
--- where the second has come further, and where the first has with no event of the second since
-made_longer : (a b : SeatState) → Replay → Linear → IsLog a.core → (rest : List Event) → b.core.schedule ≡ a.core.schedule ++ rest → HasOnlyMade a b
-made_longer a b replay linear log rest is k x at mine = let h = seen_called a replay linear log k x at in (h.0, subst (λ l. IsCall l h.0 x) (sym is) (call_longer a.core.schedule rest h.0 x h.1))
-
-made_shorter : (a b : SeatState) → Replay → Linear → IsLog a.core → (rest : List Event) → a.core.schedule ≡ b.core.schedule ++ rest → Without b.process rest → HasOnlyMade a b
-made_shorter a b replay linear log rest is without k x at mine = let h = seen_called a replay linear log k x at in
-    (h.0, call_shorter b.core.schedule rest h.0 x (subst (λ q. Without q rest) (sym mine) without) (subst (λ l. IsCall l h.0 x) is h.1))
-
-pub only_made : (a b : SeatState) → Replay → Linear → IsLog a.core → IsLog b.core → HaveMet a b → HasOnlyMade a b × HasOnlyMade b a
-only_made a b replay linear la lb (inl h) = (made_longer a b replay linear la h.0 h.1, made_shorter b a replay linear lb h.0 h.1 h.2)
-only_made a b replay linear la lb (inr h) = (made_shorter a b replay linear la h.0 h.1 h.2, made_longer b a replay linear lb h.0 h.1)
+pub only_made : Grows → Stay → SeenMade → (a b : SeatState) → IsLog a.core → IsLog b.core → HaveMet a b → HasOnlyMade a b × HasOnlyMade b a
+only_made grows stay law a b la lb (inl h) = (made_longer grows law a b la h.0 h.1, made_shorter stay law b a lb h.0 h.1 h.2)
+only_made grows stay law a b la lb (inr h) = (made_shorter stay law a b la h.0 h.1 h.2, made_longer grows law b a lb h.0 h.1)

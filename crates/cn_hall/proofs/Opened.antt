@@ -8,7 +8,8 @@ use Rattle.cn_log.specs.declared.event.Event.{Event}
 use Rattle.cn_hall.specs.declared.rule.Item.{Item}
 use Rattle.cn_hall.specs.declared.rule.View.{View}
 use Rattle.cn_log.proofs.ListLemmas.{get_push_new, get_push_old}
-use Rattle.cn_hall.specs.Rule.{Every, IsLater, Agrees, knower}
+use Rattle.cn_hall.specs.Rule.{IsLater, Agrees, knower}
+use Rattle.cn_log.specs.Callers.{Every}
 use Rattle.cn_hall.specs.Seats.{SeatState, KnowsOnly, note_in}
 
 nothing : (l : List Event) → length l ≡ 0 → l ≡ []

@@ -4,7 +4,8 @@ use Rattle.cn_log.specs.Opening.{Log}
 use Rattle.cn_hall.specs.declared.rule.Item.{Item}
 use Rattle.cn_hall.specs.declared.rule.Pair.{Pair}
 use Rattle.cn_hall.specs.declared.rule.View.{View}
-use Rattle.cn_hall.specs.Rule.{Every, pair, Carries, IsLater, Agrees, joined, knower, later, holding, item_of, view_of}
+use Rattle.cn_hall.specs.Rule.{pair, Carries, IsLater, Agrees, joined, knower, later, holding, item_of, view_of}
+use Rattle.cn_log.specs.Callers.{Every}
 use Rattle.cn_hall.specs.declared.rule.Stage.TheVariants.{Live}
 use Rattle.cn_hall.specs.Seats.{core_in, core_of, is_held, IsOfSeat, SitsAs}
 use Rattle.cn_hall.proofs.Keeps.{every_left, every_right}

@@ -1,22 +1,18 @@
 -- What a call does to a seat.
-use Rattle.std.specs.Prelude.{◌≡◌, ℕ, ◌⊎◌, ◌==◌, if◌then◌else◌, List, [], ◌∷◌, ◌++◌, length, slice_get, Some, None, Result, Ok, Err}
+use Rattle.std.specs.Prelude.{◌≡◌, ◌≢◌, ℕ, ◌⊎◌, ◌==◌, if◌then◌else◌, List, [], ◌∷◌, ◌++◌, length, slice_get, Some, None, Result, Ok, Err}
 use Rattle.cn_log.specs.Log.{Setting, response_after}
-use Rattle.cn_log.specs.Linearized.{IsCall}
 use Rattle.cn_log.specs.Opening.{Log, setting}
 use Rattle.cn_log.specs.declared.entry.Entry.{Entry}
 use Rattle.cn_log.specs.declared.event.Event.{Event}
 use Rattle.cn_log.specs.declared.event.Event.TheVariants.{Invoke, Step}
-use Rattle.cn_hall.specs.Rule.{IsLater, Without}
-use Rattle.cn_hall.specs.Seats.{SeatState, IsInvoke, caller, pending, seen}
+use Rattle.cn_hall.specs.Rule.{IsLater}
+use Rattle.cn_log.specs.Callers.{BeginsWith, Without, entries_by}
+use Rattle.cn_hall.specs.Seats.{SeatState, IsInvoke, caller, made, pending, placed, seen}
 use Rattle.cn_hall.specs.declared.call.CallFault.{CallFault}
 use Rattle.cn_hall.specs.declared.call.CallFault.TheVariants.{LogFull, Stopped, OutOfMemory}
 use Rattle.cn_hall.specs.declared.call.Go.{Go}
 use Rattle.cn_hall.specs.declared.call.Go.TheVariants.{On, Stop}
 use Rattle.cn_hall.specs.declared.call.Reply.{Reply}
-
--- the list begins with that one
-abbrev pub BeginsWith : {A : Type 0} → List A → List A → Type 0
-BeginsWith {A} list front = (rest : List A) × (list ≡ front ++ rest)
 
 -- the same seat of the same hall, over a core of the same opening, which it holds or not as before
 abbrev pub IsSameSeat : SeatState → SeatState → Type 0
@@ -40,9 +36,17 @@ Called p operation before now = (mid : Log) × IsInvoke p operation before mid �
 abbrev pub next_call : SeatState → ℕ → Entry
 next_call s operation = record { process = s.process; operation = record { 0 = operation }; call = (caller s).calls }
 
--- the last entry seen is this call, in the slot replied, no call is pending, and the response is that of one sequential run of the entries there
+-- the last entry seen is this call, in the slot replied, no call is pending, and the response is that of one sequential run of the entries there. The entries of the seat's process that it has seen are the calls that it has made
 abbrev pub IsReply : Entry → SeatState → Reply → Type 0
-IsReply mine s r = (pending s ≡ None) × (front : List Entry) × (seen s ≡ front ++ mine ∷ []) × (r.slot ≡ length front) × (r.response.0 ≡ response_after (setting s.core) front mine.operation.0)
+IsReply mine s r = (pending s ≡ None) × (front : List Entry) × (seen s ≡ front ++ mine ∷ []) × (r.slot ≡ length front) × (r.response.0 ≡ response_after (setting s.core) front mine.operation.0) × (made s ≡ placed s)
+
+-- the entries of the seat's process that it has seen are the calls that it has made, but the last, which is this one
+abbrev pub AllButLast : Entry → SeatState → Type 0
+AllButLast mine s = made s ≡ placed s ++ mine ∷ []
+
+-- the seat has not seen the call in any slot
+abbrev pub IsUnseen : Entry → SeatState → Type 0
+IsUnseen mine s = (k : ℕ) → slice_get (seen s) k ≢ Some mine
 
 -- no call is pending, and every slot has been seen
 abbrev pub IsFull : SeatState → Type 0
@@ -50,15 +54,20 @@ IsFull s = (pending s ≡ None) × (length (seen s) ≡ s.core.opening.capacity)
 
 -- how a call that was begun has ended
 abbrev pub EndsBy : Entry → CallFault → SeatState → Type 0
-EndsBy mine LogFull s = IsFull s
-EndsBy mine Stopped s = pending s ≡ Some mine
-EndsBy mine OutOfMemory s = pending s ≡ Some mine
+EndsBy mine LogFull s = IsFull s × IsUnseen mine s × AllButLast mine s
+EndsBy mine Stopped s = (pending s ≡ Some mine) × AllButLast mine s
+EndsBy mine OutOfMemory s = (pending s ≡ Some mine) × AllButLast mine s
 
 -- how a call that answered a fault has left the seat: it had seen every slot, or memory ran out before it was made; else it was made, and has ended so
 abbrev pub CallFails : ℕ → CallFault → SeatState → SeatState → Type 0
 CallFails operation LogFull old new = ((length (seen old) ≡ old.core.opening.capacity) × (new ≡ old)) ⊎ (Called old.process operation old.core new.core × EndsBy (next_call old operation) LogFull new)
 CallFails operation Stopped old new = Called old.process operation old.core new.core × EndsBy (next_call old operation) Stopped new
 CallFails operation OutOfMemory old new = (new ≡ old) ⊎ (Called old.process operation old.core new.core × EndsBy (next_call old operation) OutOfMemory new)
+
+-- after a call with this answer, the entries of the seat's process that it has seen are the calls that it has made, each once and in order; where there was no reply, perhaps without the last
+abbrev pub HasPlaced : SeatState → Result Reply CallFault → Type 0
+HasPlaced s (Ok r) = made s ≡ placed s
+HasPlaced s (Err e) = (made s ≡ placed s) ⊎ ((mine : Entry) × AllButLast mine s)
 
 -- what the gate has said after a call with this answer
 abbrev pub said_after : Result Reply CallFault → Go
@@ -71,6 +80,6 @@ said_after (Err OutOfMemory) = On
 abbrev pub HaveMet : SeatState → SeatState → Type 0
 HaveMet a b = ((rest : List Event) × (b.core.schedule ≡ a.core.schedule ++ rest) × Without a.process rest) ⊎ ((rest : List Event) × (a.core.schedule ≡ b.core.schedule ++ rest) × Without b.process rest)
 
--- what the first seat has seen of the process of the second are calls made for that
+-- of the process of the second seat, the first has seen only calls that it has made, the first of them, in order
 abbrev pub HasOnlyMade : SeatState → SeatState → Type 0
-HasOnlyMade a b = (k : ℕ) (x : Entry) → slice_get (seen a) k ≡ Some x → x.process ≡ b.process → (i : ℕ) × IsCall b.core.schedule i x
+HasOnlyMade a b = BeginsWith (made b) (entries_by b.process (seen a))

@@ -3,7 +3,8 @@ use Rattle.std.specs.Prelude.{◌≡◌, ◌≢◌, ◌<◌, ◌≤◌, ℕ, Boo
 use Rattle.atomic_table.specs.Seated.{TableId}
 use Rattle.cn_table.specs.TypeTable.{TypeTable}
 use Rattle.cn_proto.specs.Plan.{Plan, processes_of}
-use Rattle.cn_log.specs.Log.{Caller, IsEventList, state_of, answer}
+use Rattle.cn_log.specs.Callers.{caller_of, calls_by, entries_by, pending_in}
+use Rattle.cn_log.specs.Log.{Caller, IsEventList, answer}
 use Rattle.cn_log.specs.Opening.{IsOpening, Log, opening_of, setting}
 use Rattle.cn_log.specs.declared.entry.Entry.{Entry}
 use Rattle.cn_log.specs.declared.event.Event.TheVariants.{Invoke, Step}
@@ -38,13 +39,7 @@ IsSeatOf hall s = (s.hall ≡ hall) × (s.held ≡ false)
 
 -- what a process knows of the core
 abbrev pub caller_at : Log → ℕ → Caller
-caller_at core p = (state_of (setting core) core.schedule).caller p
-
--- the call that a process has pending in this phase
-abbrev pub pending_in : Phase → Option Entry
-pending_in Idle = None
-pending_in (Looks mine) = Some mine
-pending_in (Runs mine) = Some mine
+caller_at core p = caller_of (setting core) core.schedule p
 
 abbrev pub is_in_call : Phase → Bool
 is_in_call Idle = false
@@ -57,6 +52,14 @@ caller s = caller_at s.core s.process
 -- the entries that the seat has seen: its process has replayed them
 abbrev pub seen : SeatState → List Entry
 seen s = (caller s).seen
+
+-- the calls that the seat's process has made, in order
+abbrev pub made : SeatState → List Entry
+made s = calls_by s.process s.core.schedule
+
+-- those of the entries that the seat has seen that are of its process, in order
+abbrev pub placed : SeatState → List Entry
+placed s = entries_by s.process (seen s)
 
 -- the call that the seat's process has pending, with its operation and its number
 abbrev pub pending : SeatState → Option Entry

@@ -2,6 +2,7 @@
 //! back.
 ghost use Rattle.std.specs.Prelude.{◌≡◌, ◌≢◌, ◌<◌, [], IfOk, OnErr, length};
 ghost use Rattle.cn_proto.specs.Plan.{processes_of};
+ghost use Rattle.cn_log.specs.Callers.{HasResponse};
 ghost use Rattle.cn_log.specs.Opening.{Log};
 ghost use Rattle.cn_log.specs.declared.progress.Phase.TheVariants.{Idle};
 ghost use Rattle.cn_hall.specs.Rule.{Carries, IsLater};
@@ -12,6 +13,7 @@ ghost use Rattle.crossbeam_queue.specs.Passes.{view, IsPassOf, IsSamePass, ruled
 use crate::hands::{self, Standing};
 use crate::rule::{Joins, Knows, Pass, Queue};
 use cn_log::StepAnswer;
+use cn_log::laws::every_caller;
 use cn_table::Operation;
 use std::alloc::AllocError;
 use std::sync::Wait;
@@ -30,9 +32,11 @@ pub(crate) fn step<R: Wait>(
     ensures same { IsSamePass pass.old pass.new × SitsAs (view pass.new) process (core_of (view pass.new)) }
     ensures opening { (core_of (view pass.new)).opening ≡ (core_of (view pass.old)).opening }
     ensures step { IfOk result (λ r. IsStep process (core_of (view pass.old)) r.0 (core_of (view pass.new))) }
+    ensures range { IfOk result (λ r. HasResponse (core_of (view pass.old)).opening.object r.0) }
     ensures standing { IfOk result (λ r. IsStanding (core_of (view pass.new)) process r.1) }
     ensures err { OnErr result (view pass.new ≡ view pass.old) }
 {
+    every_caller();
     let mut item = hands::take(rt, queue, pass);
     match item.core.step(process) {
         Ok(answer) => {
@@ -68,6 +72,7 @@ pub(crate) fn invoke<R: Wait>(
     ensures standing { IfOk result (λ r. IsStanding (core_of (view pass.new)) process r) }
     ensures err { OnErr result (view pass.new ≡ view pass.old) }
 {
+    every_caller();
     let mut item = hands::take(rt, queue, pass);
     match item.core.invoke(process, operation) {
         Ok(()) => {

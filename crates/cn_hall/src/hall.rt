@@ -2,7 +2,8 @@
 ghost use Rattle.std.specs.Prelude.{◌≡◌, ◌≢◌, ◌<◌, ◌⊎◌, [], Some, None, All, IfErr, IfOk, OnErr, length};
 ghost use Rattle.cn_log.specs.declared.entry.Entry.{Entry};
 ghost use Rattle.cn_hall.specs.Answers.{Adds, own, replies_from};
-ghost use Rattle.cn_hall.specs.Calls.{BeginsWith, CallFails, Called, EndsBy, GoesOn, HasOnlyMade, HaveMet, IsReply, IsSameSeat, next_call, said_after};
+ghost use Rattle.cn_hall.specs.Calls.{CallFails, Called, EndsBy, GoesOn, HasOnlyMade, HasPlaced, HaveMet, IsReply, IsSameSeat, next_call, said_after};
+ghost use Rattle.cn_log.specs.Callers.{BeginsWith, HasResponse};
 ghost use Rattle.cn_hall.specs.Rule.{Carries};
 ghost use Rattle.cn_hall.specs.Seats.{IsInvoke, IsSeatOf, IsStep, caller, caller_at, pending, seen};
 ghost use Rattle.cn_log.specs.Log.{entries};
@@ -14,6 +15,7 @@ use crate::call::{CallFault, Gate, Go, Reply};
 use crate::rule::{Item, Joins, Queue};
 use crate::seat::Seat;
 use crate::{events, hands, laws};
+use cn_log::laws::{every_call, every_caller};
 use cn_log::{LogCore, StepAnswer};
 use cn_table::Operation;
 use std::alloc::AllocError;
@@ -46,6 +48,7 @@ impl Hall {
         requires in_call { pending seat.old ≢ None }
         ensures same { IsSameSeat seat.old seat.new }
         ensures step { IfOk result (λ given. IsStep seat.old.process seat.old.core given seat.new.core) }
+        ensures range { IfOk result (λ given. HasResponse seat.old.core.opening.object given) }
         ensures err { OnErr result (seat.new ≡ seat.old) }
     {
         let process = seat.process;
@@ -99,9 +102,13 @@ impl Hall {
         ensures reply { IfOk result (λ r. (mine : Entry) → pending seat.old ≡ Some mine → IsReply mine seat.new r) }
         ensures fault { IfErr result (λ e. (mine : Entry) → pending seat.old ≡ Some mine → EndsBy mine e seat.new) }
         ensures own { Adds (own seat.old) (own seat.new) result }
+        ensures calls { HasPlaced seat.new result }
+        ensures range { IfOk result (λ r. r.response.0 < length seat.old.core.opening.object.responses) }
         ensures said { G.says gate.new ≡ said_after result }
     {
-        laws::every_answer();
+        seat.has_its_calls();
+        every_caller();
+        every_call();
         let mut step: u32 = 0;
         for _ in rt.forever() {
             step = step.saturating_add(1);
@@ -142,8 +149,13 @@ impl Hall {
         ensures reply { IfOk result (λ r. Called seat.old.process operation.0 seat.old.core seat.new.core × IsReply (next_call seat.old operation.0) seat.new r) }
         ensures fault { IfErr result (λ e. CallFails operation.0 e seat.old seat.new) }
         ensures own { Adds (own seat.old) (own seat.new) result }
+        ensures calls { HasPlaced seat.new result }
+        ensures range { IfOk result (λ r. r.response.0 < length seat.old.core.opening.object.responses) }
         ensures said { G.says gate.new ≡ said_after result }
     {
+        seat.has_its_calls();
+        every_caller();
+        every_call();
         if seat.seen == seat.capacity {
             return Err(CallFault::LogFull);
         }
@@ -166,8 +178,8 @@ impl Hall {
         let (one, two) = (first.process, second.process);
         events::look(rt, &self.queue, &mut first.pass, &mut second.pass, one);
         events::look(rt, &self.queue, &mut second.pass, &mut first.pass, two);
-        laws::every_replay();
-        cn_log::laws::every_log();
+        every_caller();
+        every_call();
         first.seen.cmp(&second.seen)
     }
 
@@ -194,7 +206,7 @@ impl Hall {
         }
         let Item { core, .. } = hands::take(rt, &queue, &mut pass);
         laws::is_log(&core);
-        laws::every_replay();
+        every_caller();
         core
     }
 }

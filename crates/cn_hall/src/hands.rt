@@ -1,6 +1,7 @@
 //! One removal of the core from the queue, or its return.
 ghost use Rattle.std.specs.Prelude.{◌≡◌, ◌+◌, ◌∷◌, ◌<◌, [], Some, ℕ};
-ghost use Rattle.cn_hall.specs.Rule.{Agrees, bare, first_view, holding, item_of, later, later_core, opened, pair, process_of, seated};
+ghost use Rattle.cn_hall.specs.Rule.{Agrees, bare, first_view, holding, item_of, later, later_core, opened, pair, seated};
+ghost use Rattle.cn_log.specs.Callers.{process_of};
 ghost use Rattle.cn_hall.specs.declared.rule.Item.{Item as ItemOf};
 ghost use Rattle.cn_hall.specs.declared.rule.Stage.TheVariants.{Live};
 ghost use Rattle.cn_log.specs.Opening.{Log};

@@ -1,11 +1,14 @@
 //! A seat of a hall.
 ghost use Rattle.std.specs.Prelude.{◌≡◌, ◌≤◌, length};
-ghost use Rattle.cn_hall.specs.Seats.{caller, is_in_call, seen};
+ghost use Rattle.cn_log.specs.Callers.{HasReplayedItsOwn};
+ghost use Rattle.cn_log.specs.Opening.{setting};
+ghost use Rattle.cn_hall.specs.Seats.{IsLog, caller, is_in_call, seen};
 
 use crate::rule::Pass;
 use std::marker::Model;
 
-/// What a thread has of a hall: a process, and what it has seen of the core.
+/// What a thread has of a hall: a process, what this has seen, and the core as it was when the seat
+/// last put an event in. A seat can be given to any thread.
 #[derive(Drop)]
 pub struct Seat {
     pub(crate) process: u8,
@@ -29,6 +32,17 @@ impl Model for Seat {
 }
 
 impl Seat {
+    /// The law of seats, however they came to be: `log`, what has happened in the seat's core could
+    /// happen; `calls`, the calls of its process are the entries of its own that it has seen, in
+    /// order, and then the one that has no answer, if there is one.
+    pub fn has_its_calls(&self)
+        ensures log { IsLog self.now.core }
+        ensures calls { HasReplayedItsOwn (setting self.now.core) self.now.core.schedule self.now.process }
+    {
+        cn_log::laws::every_call();
+        let _process = self.process;
+    }
+
     /// The process of the seat.
     pub fn process(&self) -> u8
         ensures { result ≡ self.now.process }

@@ -1,5 +1,6 @@
 use Rattle.std.proofs.Common.{◌≡◌, ◌<◌, sym, refl, ap, ◌∙◌, subst}
 use Rattle.cn_proto.specs.Plan.{processes_of}
+use Rattle.cn_log.specs.Callers.{HasResponse}
 use Rattle.cn_log.specs.Log.{Caller}
 use Rattle.cn_log.specs.Opening.{Log, Opening}
 use Rattle.cn_log.specs.declared.event.Event.TheVariants.{Step}
@@ -15,7 +16,7 @@ step-requires g c = let v = view c.args.pass.now in let x = c.take-item.result i
     let k = agreed v x c.args.process (core_of v) c.requires.sits c.take-item.ensures.agrees in
     record {
       process = subst (λ (o : Opening). c.args.process < processes_of o.plan) (sym k.0) c.requires.process;
-      in_call = λ idle. c.requires.in_call (sym (ap (λ (y : Caller). y.phase) (caller_carried c.args.process (core_of v) x.core k)) ∙ idle);
+      in_call = λ idle. c.requires.in_call (sym (ap (λ (y : Caller). y.phase) (caller_carried c.every_caller.ensures.stays c.args.process (core_of v) x.core k)) ∙ idle);
     }
 
 pub put_step-requires-clause-event : goal.put_step-requires-clause-event
@@ -39,3 +40,7 @@ returns-in-Ok-clause-step g c = let v = view c.args.pass.now in
       c.in-Ok.ensures.answer,
       subst (λ (x : Log). IsLog x) (sym same) c.of-standing.ensures.log,
     )
+
+pub returns-in-Ok-clause-range : goal.returns-in-Ok-clause-range
+returns-in-Ok-clause-range g c = let k = agreed (view c.args.pass.now) c.take-item.result c.args.process (core_of (view c.args.pass.now)) c.requires.sits c.take-item.ensures.agrees in
+    subst (λ (o : Opening). HasResponse o.object c.in-Ok.answer) k.0 c.in-Ok.ensures.range

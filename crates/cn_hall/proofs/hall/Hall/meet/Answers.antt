@@ -4,7 +4,8 @@ use Rattle.cn_log.specs.Opening.{Log}
 use Rattle.cn_hall.specs.declared.rule.View.{View}
 use Rattle.cn_hall.specs.Rule.{Carries, IsLater}
 use Rattle.cn_hall.specs.Seats.{SeatState, IsLog, core_of, seen}
-use Rattle.cn_hall.specs.Calls.{BeginsWith, HaveMet}
+use Rattle.cn_hall.specs.Calls.{HaveMet}
+use Rattle.cn_log.specs.Callers.{BeginsWith}
 use Rattle.cn_hall.proofs.Meeting.{both_see, one_opening, have_met, log_of, met_seen, only_made}
 use Rattle.cn_hall.proofs.hall.Hall.meet.Goals as goal
 
@@ -21,12 +22,12 @@ returns-clause-met g c = let see = both_see _ _ c.args.first.now c.args.second.n
 
 pub returns-clause-made : goal.returns-clause-made
 returns-clause-made g c = let see = both_see _ _ c.args.first.now c.args.second.now (core_of (view c.look.new.other)) (core_of (view c.look.new.pass)) c.first.view_is c.second.view_is c.look.ensures.met (ap core_of c.look.ensures.other.1) (ap core_of c.look.ensures.same.1) c.look-2.ensures.met in
-    only_made c.args.first.now c.args.second.now c.every_replay.ensures c.every_log.ensures.linearized (log_of _ c.args.first.now c.first.view_is c.first.invariant.7) (log_of _ c.args.second.now c.second.view_is c.second.invariant.7)
+    only_made c.every_call.ensures.grow c.every_call.ensures.stay c.every_call.ensures.seen_made c.args.first.now c.args.second.now (log_of _ c.args.first.now c.first.view_is c.first.invariant.7) (log_of _ c.args.second.now c.second.view_is c.second.invariant.7)
     (have_met c.args.first.now c.args.second.now see.0 see.1)
 
 pub returns-clause-seen : goal.returns-clause-seen
 returns-clause-seen g c = let see = both_see _ _ c.args.first.now c.args.second.now (core_of (view c.look.new.other)) (core_of (view c.look.new.pass)) c.first.view_is c.second.view_is c.look.ensures.met (ap core_of c.look.ensures.other.1) (ap core_of c.look.ensures.same.1) c.look-2.ensures.met in
-    met_seen c.args.first.now c.args.second.now c.every_replay.ensures (log_of _ c.args.first.now c.first.view_is c.first.invariant.7) (log_of _ c.args.second.now c.second.view_is c.second.invariant.7)
+    met_seen c.every_caller.ensures.stays c.every_caller.ensures.replayed c.args.first.now c.args.second.now (log_of _ c.args.first.now c.first.view_is c.first.invariant.7) (log_of _ c.args.second.now c.second.view_is c.second.invariant.7)
     (one_opening c.args.first.now c.args.second.now see.0) (have_met c.args.first.now c.args.second.now see.0 see.1)
 
 pub returns-clause-order : goal.returns-clause-order
