@@ -1,5 +1,5 @@
 -- What a process knows, as the core of its seat has it.
-use Rattle.std.proofs.Common.{ℕ, ◌≡◌, ◌⊎◌, Option, Some, None, List, [], ◌∷◌, ◌++◌, inl, inr, sym, refl, ap, ◌∙◌, append-nil, append_assoc, subst}
+use Rattle.std.proofs.Common.{ℕ, ◌≡◌, ◌≢◌, ◌⊎◌, ◌↔◌, Bool, true, false, IsTrue, IsFalse, Option, Some, None, List, [], ◌∷◌, ◌++◌, inl, inr, sym, refl, ap, ◌∙◌, append-nil, append_assoc, subst}
 use Rattle.cn_log.specs.Callers.{BeginsWith, IsStepped, SeesOther, caller_of, pending_in}
 use Rattle.cn_log.specs.Log.{Caller, Setting, answer}
 use Rattle.cn_log.specs.Opening.{Log, Opening, setting, setting_of}
@@ -8,7 +8,9 @@ use Rattle.cn_log.specs.declared.event.Event.TheVariants.{Step}
 use Rattle.cn_log.specs.declared.event.StepAnswer.{StepAnswer}
 use Rattle.cn_log.specs.declared.event.StepAnswer.TheVariants.{Working, Answered, Full}
 use Rattle.cn_hall.specs.Rule.{Carries, later_core}
-use Rattle.cn_hall.specs.Seats.{IsLog, IsStep, caller_at}
+use Rattle.cn_log.specs.declared.progress.Phase.{Phase}
+use Rattle.cn_log.specs.declared.progress.Phase.TheVariants.{Idle, Looks, Runs}
+use Rattle.cn_hall.specs.Seats.{IsLog, IsStep, caller_at, is_in_call}
 use Rattle.cn_hall.proofs.LogLaws.{Stays, Stepped}
 
 pub begins_same : {A : Type 0} (l : List A) → BeginsWith l l
@@ -39,3 +41,14 @@ stepped_seen L p here now mine Working h = go h.seen
     go (inr o) = (o.0 ∷ [], o.1)
 stepped_seen L p here now mine (Answered slot response) h = (mine ∷ [], h.seen)
 stepped_seen L p here now mine Full h = (h.seen.0 ∷ [], h.seen.1)
+
+-- a phase is in a call where one is pending
+pub in_call_is : (ph : Phase) (b : Bool) → b ≡ is_in_call ph → IsTrue b ↔ (pending_in ph ≢ None)
+in_call_is Idle b e = ((λ t. absurd (let x : true ≡ false = sym t ∙ e in cc)), (λ some. absurd (some refl)))
+in_call_is (Looks mine) b e = ((λ t none. let x : Some mine ≡ None = none in cc), (λ some. e))
+in_call_is (Runs mine) b e = ((λ t none. let x : Some mine ≡ None = none in cc), (λ some. e))
+
+pub idle_is : (ph : Phase) (b : Bool) → b ≡ is_in_call ph → IsFalse b ↔ (pending_in ph ≡ None)
+idle_is Idle b e = ((λ t. refl), (λ none. e))
+idle_is (Looks mine) b e = ((λ t. absurd (let x : false ≡ true = sym t ∙ e in cc)), (λ none. absurd (let x : Some mine ≡ None = none in cc)))
+idle_is (Runs mine) b e = ((λ t. absurd (let x : false ≡ true = sym t ∙ e in cc)), (λ none. absurd (let x : Some mine ≡ None = none in cc)))

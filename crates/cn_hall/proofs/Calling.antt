@@ -131,7 +131,7 @@ if_err (Ok x) P Q f h = tt
 if_err (Err e) P Q f h = f e h
 
 pub fails : (a d : SeatState) (operation : ℕ) (e : CallFault) → Called a.process operation a.core d.core → EndsBy (next_call a operation) e d → CallFails operation e a d
-fails a d operation LogFull h k = inr (h, k)
+fails a d operation LogFull h k = (k.0, k.1, inr (h, k.2))
 fails a d operation Stopped h k = (h, k)
 fails a d operation OutOfMemory h k = inr (h, k)
 

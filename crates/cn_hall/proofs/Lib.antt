@@ -7,3 +7,4 @@ pub mod Closing
 pub mod Opened
 pub mod Meeting
 pub mod Owning
+pub mod Numbering

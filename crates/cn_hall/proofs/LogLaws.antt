@@ -53,3 +53,7 @@ SeenMade = (o : Opening) (events : List Event) (p q : ℕ) → IsOpening o → I
 abbrev pub OwnStepped : Type 0
 OwnStepped = (o : Opening) (events : List Event) (p : ℕ) (mine : Entry) → IsOpening o → IsEventList (setting_of o) (events ++ Step p ∷ []) → pending_in (caller_of (setting_of o) events p).phase ≡ Some mine
     → HasReplayedBy (setting_of o) (events ++ Step p ∷ []) p mine (answer (setting_of o) events p)
+
+-- a call comes behind the calls that its process has made, and its number is how many these are
+abbrev pub Called : Type 0
+Called = (o : Opening) (events : List Event) (p operation : ℕ) → calls_by p (events ++ Invoke p operation ∷ []) ≡ calls_by p events ++ call_of p operation (caller_of (setting_of o) events p).calls ∷ []

@@ -58,9 +58,9 @@ EndsBy mine LogFull s = IsFull s × IsUnseen mine s × AllButLast mine s
 EndsBy mine Stopped s = (pending s ≡ Some mine) × AllButLast mine s
 EndsBy mine OutOfMemory s = (pending s ≡ Some mine) × AllButLast mine s
 
--- how a call that answered a fault has left the seat: it had seen every slot, or memory ran out before it was made; else it was made, and has ended so
+-- how a call that answered a fault has left the seat: where the log is full, every slot has been seen and the call in none of them, and it was made unless the seat had seen every slot before; where memory ran out before it was made, the seat is as it was; else it was made, and has ended so
 abbrev pub CallFails : ℕ → CallFault → SeatState → SeatState → Type 0
-CallFails operation LogFull old new = ((length (seen old) ≡ old.core.opening.capacity) × (new ≡ old)) ⊎ (Called old.process operation old.core new.core × EndsBy (next_call old operation) LogFull new)
+CallFails operation LogFull old new = IsFull new × IsUnseen (next_call old operation) new × ((new ≡ old) ⊎ (Called old.process operation old.core new.core × AllButLast (next_call old operation) new))
 CallFails operation Stopped old new = Called old.process operation old.core new.core × EndsBy (next_call old operation) Stopped new
 CallFails operation OutOfMemory old new = (new ≡ old) ⊎ (Called old.process operation old.core new.core × EndsBy (next_call old operation) OutOfMemory new)
 

@@ -16,9 +16,8 @@ use crate::seat::Seat;
 use cn_log::LogCore;
 use std::alloc::Global;
 use std::error::Error;
-use std::fmt;
 use std::sync::Wait;
-use std::thread;
+use std::{fmt, thread};
 
 /// Why no hall was opened.
 #[derive(Drop)]

@@ -1,8 +1,8 @@
 //! A seat of a hall.
-ghost use Rattle.std.specs.Prelude.{◌≡◌, ◌≤◌, length};
+ghost use Rattle.std.specs.Prelude.{◌≡◌, ◌≢◌, ◌≤◌, ◌↔◌, IsFalse, IsTrue, None, length};
 ghost use Rattle.cn_log.specs.Callers.{HasReplayedItsOwn};
 ghost use Rattle.cn_log.specs.Opening.{setting};
-ghost use Rattle.cn_hall.specs.Seats.{IsLog, caller, is_in_call, seen};
+ghost use Rattle.cn_hall.specs.Seats.{IsLog, pending, seen};
 
 use crate::rule::Pass;
 use std::marker::Model;
@@ -52,7 +52,8 @@ impl Seat {
 
     /// Whether the process is in a call.
     pub fn in_call(&self) -> bool
-        ensures { result ≡ is_in_call (caller self.now).phase }
+        ensures call { IsTrue result ↔ (pending self.now ≢ None) }
+        ensures idle { IsFalse result ↔ (pending self.now ≡ None) }
     {
         self.in_call
     }

@@ -1,5 +1,6 @@
 //! Calls on one thread, and calls that overlap on two.
 ghost use Rattle.std.specs.Prelude.{◌≡◌, ◌≤◌, ◌<◌, [], IfOk, None, length};
+ghost use Rattle.cn_proto.specs.Plan.{processes_of};
 ghost use Rattle.std.specs.Thread.{IsSync};
 ghost use Rattle.std.specs.Vec.{vec_capacity};
 ghost use Rattle.cn_hall.specs.Seats.{IsSeatOf, pending};
@@ -9,7 +10,7 @@ mod types;
 
 use super::*;
 use cn_choice::Choices;
-use cn_log::{Event, LogCore};
+use cn_log::{Event, LogCore, replay};
 use cn_proto::Plan;
 use cn_table::{Operation, Response, State, read_table};
 use std::alloc::{AllocError, Global};
@@ -22,7 +23,7 @@ use std::thread;
 use std::thread::{Threads, join};
 use types::*;
 
-/// The schedule of both tests: each event so many times.
+/// The schedule of the calls that overlap: each event so many times.
 const PARTS: [(Event, u8); 5] = [
     (Event::Invoke(1, 0), 1),
     (Event::Step(1), 2),
@@ -111,13 +112,18 @@ fn is_raised(awaited: &AtomicBool) -> bool {
     false
 }
 
-/// A hall over a new core of four slots for two processes, its seats 0 and 1, and the vector that
-/// they came from.
-fn opened<R: Wait + Abort>(rt: &R, alloc: Global) -> Result<(Hall, Seat, Seat, Vec<Seat>), Fail>
-    ensures of { IfOk result (λ r. IsSeatOf r.0 r.1 × IsSeatOf r.0 r.2) }
-    ensures idle { IfOk result (λ r. (pending r.1 ≡ None) × (pending r.2 ≡ None)) }
-    ensures operation { IfOk result (λ r. (0 < length r.1.core.opening.object.operations) × (0 < length r.2.core.opening.object.operations)) }
-    ensures rest { IfOk result (λ r. (r.3.items ≡ []) × (2 ≤ vec_capacity r.3)) }
+/// A core for two processes, in which the counter starts at 0, after these events.
+fn core_after(
+    rt: &impl Abort,
+    alloc: Global,
+    capacity: u16,
+    events: &[Event],
+) -> Result<LogCore, Fail>
+    requires some { 1 ≤ capacity }
+    requires few { capacity ≤ 1024 }
+    ensures events { IfOk result (λ core. core.schedule ≡ events.now) }
+    ensures two { IfOk result (λ core. processes_of core.opening.plan ≡ 2) }
+    ensures operation { IfOk result (λ core. 0 < length core.opening.object.operations) }
 {
     let table = read_table(alloc, TEST_AND_SET.as_bytes())?;
     let object = read_table(alloc, COUNTER_3.as_bytes())?;
@@ -128,8 +134,26 @@ fn opened<R: Wait + Abort>(rt: &R, alloc: Global) -> Result<(Hall, Seat, Seat, V
     let Ok(plan) = Plan::from_witness(alloc, &table, &choice) else {
         panic!(rt; "no witness")
     };
-    let core = LogCore::new(alloc, &plan, &object, State(0), 4)?;
-    assert!(rt; core.processes() == 2);
+    assert!(rt; object.states() >= 1);
+    let core = replay(alloc, &plan, &object, State(0), capacity, events)?;
+    assert!(rt; core.processes() == 2 && core.operations() == 1);
+    Ok(core)
+}
+
+/// A hall over a new core for two processes, its seats 0 and 1, and the vector that they came from.
+fn opened<R: Wait + Abort>(
+    rt: &R,
+    alloc: Global,
+    capacity: u16,
+) -> Result<(Hall, Seat, Seat, Vec<Seat>), Fail>
+    requires some { 1 ≤ capacity }
+    requires few { capacity ≤ 1024 }
+    ensures of { IfOk result (λ r. IsSeatOf r.0 r.1 × IsSeatOf r.0 r.2) }
+    ensures idle { IfOk result (λ r. (pending r.1 ≡ None) × (pending r.2 ≡ None)) }
+    ensures operation { IfOk result (λ r. (0 < length r.1.core.opening.object.operations) × (0 < length r.2.core.opening.object.operations)) }
+    ensures rest { IfOk result (λ r. (r.3.items ≡ []) × (2 ≤ vec_capacity r.3)) }
+{
+    let core = core_after(rt, alloc, capacity, &[])?;
     let Ok((hall, mut seats)) = open(rt, alloc, core) else {
         panic!(rt; "no memory")
     };
@@ -142,7 +166,7 @@ fn opened<R: Wait + Abort>(rt: &R, alloc: Global) -> Result<(Hall, Seat, Seat, V
     Ok((hall, zero, one, seats))
 }
 
-/// Closes the hall, and sees that its schedule is the one that both tests end with.
+/// Closes the hall, and sees that its schedule has each of these events so many times.
 fn close<R: Wait + Abort>(
     rt: &R,
     alloc: Global,
@@ -150,6 +174,7 @@ fn close<R: Wait + Abort>(
     zero: Seat,
     one: Seat,
     seats: Vec<Seat>,
+    parts: &[(Event, u8)],
 ) -> Result<(), AllocError>
     requires of { IsSeatOf hall zero × IsSeatOf hall one }
     requires rest { (seats.items ≡ []) × (2 ≤ vec_capacity seats) }
@@ -159,9 +184,9 @@ fn close<R: Wait + Abort>(
     seats.push_reserved(one);
     let core = hall.close(rt, seats);
     let mut expected = Vec::new(alloc);
-    for (event, times) in PARTS {
-        for _time in 0..times {
-            expected.push(event)?;
+    for (event, times) in parts {
+        for _time in 0..*times {
+            expected.push(*event)?;
         }
     }
     assert!(rt; core.schedule() == expected.as_slice());
@@ -171,7 +196,7 @@ fn close<R: Wait + Abort>(
 #[test]
 fn resumes_a_stopped_call(rt: HostRuntime) -> Result<(), Fail> {
     let alloc = rt.alloc();
-    let (hall, mut zero, mut one, seats) = opened(&rt, alloc)?;
+    let (hall, mut zero, mut one, seats) = opened(&rt, alloc, 4)?;
     let mut stops = StopsAt {
         stop: 3,
         last: Go::On,
@@ -197,7 +222,7 @@ fn resumes_a_stopped_call(rt: HostRuntime) -> Result<(), Fail> {
                 response: Response(1)
             })
     );
-    close(&rt, alloc, hall, zero, one, seats)?;
+    close(&rt, alloc, hall, zero, one, seats, &PARTS)?;
     Ok(())
 }
 
@@ -248,7 +273,7 @@ fn overlap<R: Threads + Wait + Sync>(
 #[test]
 fn calls_overlap(rt: HostRuntime) -> Result<(), Fail> {
     let alloc = rt.alloc();
-    let (hall, zero, one, seats) = opened(&rt, alloc)?;
+    let (hall, zero, one, seats) = opened(&rt, alloc, 4)?;
     let (mut zero, first, mut one, second) = overlap(&rt, &hall, zero, one);
     assert!(rt;
         first
@@ -265,6 +290,44 @@ fn calls_overlap(rt: HostRuntime) -> Result<(), Fail> {
             })
     );
     assert!(rt; matches!(hall.meet(&rt, &mut zero, &mut one), Order::Less));
-    close(&rt, alloc, hall, zero, one, seats)?;
+    close(&rt, alloc, hall, zero, one, seats, &PARTS)?;
+    Ok(())
+}
+
+#[test]
+fn finds_the_log_full_at_once(rt: HostRuntime) -> Result<(), Fail> {
+    let alloc = rt.alloc();
+    let (hall, mut zero, one, seats) = opened(&rt, alloc, 1)?;
+    let first = hall.call(&rt, &mut zero, Operation(0), &mut AlwaysOn);
+    assert!(rt;
+        first
+            == Ok(Reply {
+                slot: 0,
+                response: Response(0)
+            })
+    );
+    assert!(rt; !zero.in_call() && zero.seen_len() == 1);
+    let second = hall.call(&rt, &mut zero, Operation(0), &mut AlwaysOn);
+    assert!(rt; second == Err(CallFault::LogFull));
+    let parts = [(Event::Invoke(0, 0), 1), (Event::Step(0), 5)];
+    close(&rt, alloc, hall, zero, one, seats, &parts)?;
+    Ok(())
+}
+
+/// Where memory runs out the core comes back as it was: under a refused growth this says so, and
+/// with memory the hall opens.
+#[test]
+fn opens_or_hands_the_core_back(rt: HostRuntime) -> Result<(), Fail> {
+    let alloc = rt.alloc();
+    let events = [Event::Invoke(1, 0), Event::Step(1)];
+    let core = core_after(&rt, alloc, 4, &events)?;
+    let core = match open(&rt, alloc, core) {
+        Ok((hall, seats)) => {
+            assert!(rt; seats.len() == 2 && !seats[0].in_call() && seats[1].in_call());
+            hall.close(&rt, seats)
+        }
+        Err(OpenFault::OutOfMemory(core)) => core,
+    };
+    assert!(rt; core.schedule() == events.as_slice());
     Ok(())
 }

@@ -1,4 +1,4 @@
-use Rattle.std.proofs.Common.{◌≡◌, List, ap, sym, ◌∙◌, Some, None, subst}
+use Rattle.std.proofs.Common.{◌≡◌, List, length, inl, refl, ap, sym, ◌∙◌, Some, None, subst}
 use Rattle.cn_log.specs.declared.entry.Entry.{Entry}
 use Rattle.cn_hall.specs.Seats.{SeatState, pending, seen}
 use Rattle.cn_hall.specs.Answers.{own}
@@ -6,6 +6,7 @@ use Rattle.cn_hall.specs.Calls.{Called, CallFails, EndsBy, IsReply, next_call}
 use Rattle.cn_log.specs.Callers.{BeginsWith}
 use Rattle.cn_hall.proofs.Callers.{begins_same}
 use Rattle.cn_hall.proofs.Calling.{called, call_pending, call_seen, if_ok, if_err, fails, own_called, adds_from}
+use Rattle.cn_hall.proofs.Numbering.{next_unseen}
 use Rattle.cn_hall.proofs.hall.Hall.call.Goals as goal
 
 pub resume-requires-clause-in_call : goal.resume-requires-clause-in_call
@@ -34,3 +35,9 @@ returns-in-Ok-clause-own g c = adds_from (own c.args.seat.now) (own c.invoke.new
 
 pub returns-in-Err-clause-own : goal.returns-in-Err-clause-own
 returns-in-Err-clause-own g c = ap (λ (s : SeatState). own s) c.in-Err.ensures.err
+
+pub returns-then-seat-clause-fault : goal.returns-then-seat-clause-fault
+returns-then-seat-clause-fault g c = let s : SeatState = c.args.seat.now in
+    let one : c.seat.inside.seen ≡ length (seen s) = c.seat.invariant.4 ∙ ap (λ (t : SeatState). length (seen t)) c.seat.view_is in
+    let two : c.seat.inside.capacity ≡ s.core.opening.capacity = c.seat.invariant.3 ∙ ap (λ (t : SeatState). t.core.opening.capacity) c.seat.view_is in
+    ((c.requires.idle, sym one ∙ c.if-seat.true ∙ two), next_unseen c.every_call.ensures.own c.every_call.ensures.called s c.args.operation.0 c.has_its_calls.ensures.log, inl refl)

@@ -79,7 +79,7 @@ pub returns-in-Ok-Answered-clause-own : goal.returns-in-Ok-Answered-clause-own
 returns-in-Ok-Answered-clause-own g c = let some = some_of (pending c.loop.seat) (λ none. c.requires.in_call (sym c.loop.invariant.pending ∙ none)) in
     adds_from (own c.args.seat.now) (own c.loop.seat) (own c.step.new.seat) (Ok (record { slot = c.in-Ok-Answered.slot; response = c.in-Ok-Answered.response })) c.loop.invariant.own
     (own_stepped c.every_caller.ensures.stays c.every_caller.ensures.stepped c.every_caller.ensures.pending c.loop.seat c.step.new.seat (Answered c.in-Ok-Answered.slot c.in-Ok-Answered.response) some.0 c.loop.invariant.log c.step.ensures.same
-        (rw c.in-Ok-Answered.field-0-is at c.in-Ok-Answered.ensures.step) some.1)
+    (rw c.in-Ok-Answered.field-0-is at c.in-Ok-Answered.ensures.step) some.1)
 
 pub returns-in-Ok-Answered-clause-calls : goal.returns-in-Ok-Answered-clause-calls
 returns-in-Ok-Answered-clause-calls g c = let some = some_of (pending c.loop.seat) (λ none. c.requires.in_call (sym c.loop.invariant.pending ∙ none)) in
