@@ -1,7 +1,7 @@
 -- What a process knows, as the core of its seat has it.
-use Rattle.std.proofs.Common.{ℕ, ◌≡◌, ◌≢◌, ◌⊎◌, ◌↔◌, Bool, true, false, IsTrue, IsFalse, Option, Some, None, List, [], ◌∷◌, ◌++◌, inl, inr, sym, refl, ap, ◌∙◌, append-nil, append_assoc, subst}
+use Rattle.std.proofs.Common.{ℕ, ◌≡◌, ◌≢◌, ◌⊎◌, ◌↔◌, Bool, true, false, IsTrue, IsFalse, Some, None, List, [], ◌∷◌, ◌++◌, inl, inr, sym, refl, ap, ◌∙◌, append-nil, append_assoc, subst}
 use Rattle.cn_log.specs.Callers.{BeginsWith, IsStepped, SeesOther, caller_of, pending_in}
-use Rattle.cn_log.specs.Log.{Caller, Setting, answer}
+use Rattle.cn_log.specs.Log.{Caller, Setting}
 use Rattle.cn_log.specs.Opening.{Log, Opening, setting, setting_of}
 use Rattle.cn_log.specs.declared.entry.Entry.{Entry}
 use Rattle.cn_log.specs.declared.event.Event.TheVariants.{Step}

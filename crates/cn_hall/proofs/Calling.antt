@@ -1,19 +1,19 @@
 -- What one event does to a seat, and what a call adds up to.
-use Rattle.std.proofs.Common.{◌≡◌, ◌≢◌, ◌⊎◌, ℕ, ◌+◌, List, [], ◌∷◌, ◌++◌, length, Option, Some, None, Result, Ok, Err, IfOk, IfErr, inl, inr, sym, refl, ap, ◌∙◌, subst, append_assoc, append-nil}
+use Rattle.std.proofs.Common.{◌≡◌, ◌≢◌, ◌⊎◌, ℕ, ◌+◌, List, [], ◌∷◌, ◌++◌, Option, Some, None, Result, Ok, Err, IfOk, IfErr, inl, inr, sym, refl, ap, ◌∙◌, subst, append_assoc, append-nil}
 use Rattle.cn_table.specs.declared.elements.Response.{Response}
-use Rattle.cn_log.specs.Callers.{BeginsWith, HasReplayedBy, HasReplayedItsOwn, IsStepped, IsUnanswered, Without, call_of, calls_by, caller_of, entries_by, pending_in}
+use Rattle.cn_log.specs.Callers.{BeginsWith, HasReplayedBy, HasReplayedItsOwn, IsStepped, IsUnanswered, Without, pending_in}
 use Rattle.cn_log.specs.Log.{Caller, Setting, response_after}
 use Rattle.cn_log.specs.Opening.{Log, Opening, setting, setting_of}
 use Rattle.cn_log.specs.declared.entry.Entry.{Entry}
 use Rattle.cn_log.specs.declared.event.Event.{Event}
 use Rattle.cn_log.specs.declared.event.Event.TheVariants.{Invoke, Step}
 use Rattle.cn_log.specs.declared.event.StepAnswer.{StepAnswer}
-use Rattle.cn_log.specs.declared.event.StepAnswer.TheVariants.{Working, Answered, Full}
+use Rattle.cn_log.specs.declared.event.StepAnswer.TheVariants.{Answered, Full}
 use Rattle.cn_log.specs.declared.progress.Phase.{Phase}
 use Rattle.cn_log.specs.declared.progress.Phase.TheVariants.{Idle, Looks, Runs}
 use Rattle.cn_hall.specs.Answers.{Adds, Answers, own, replies_from}
-use Rattle.cn_hall.specs.Calls.{AllButLast, NoCall, GoesOn, HasPlaced, Called, IsSameSeat, IsReply, IsFull, IsUnseen, EndsBy, CallFails, next_call}
-use Rattle.cn_hall.specs.Rule.{Carries, later_core}
+use Rattle.cn_hall.specs.Calls.{AllButLast, NoCall, GoesOn, Called, IsSameSeat, IsReply, IsFull, IsUnseen, EndsBy, CallFails, next_call}
+use Rattle.cn_hall.specs.Rule.{later_core}
 use Rattle.cn_hall.specs.Seats.{SeatState, IsLog, IsStep, IsInvoke, caller, caller_at, made, pending, placed, seen}
 use Rattle.cn_hall.specs.declared.call.CallFault.{CallFault}
 use Rattle.cn_hall.specs.declared.call.CallFault.TheVariants.{LogFull, Stopped, OutOfMemory}

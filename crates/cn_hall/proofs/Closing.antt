@@ -1,5 +1,5 @@
 -- All passes are joined into one, and the core that it takes agrees with all pairs.
-use Rattle.std.proofs.Common.{◌≡◌, ◌<◌, ℕ, Bool, false, List, [], ◌∷◌, ◌++◌, length, None, Some, All, refl, sym, ap, ◌∙◌, subst, arith}
+use Rattle.std.proofs.Common.{◌≡◌, ◌<◌, ℕ, List, [], ◌∷◌, ◌++◌, length, None, Some, All, refl, sym, ap, ◌∙◌, subst, arith}
 use Rattle.std.proofs.lemmas.List.Elements.{All-pop, All-push, All-nil}
 use Rattle.cn_log.specs.Log.{Caller, entries}
 use Rattle.cn_log.specs.Opening.{Log, Opening, setting, setting_of}

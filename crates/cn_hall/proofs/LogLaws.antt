@@ -1,5 +1,5 @@
 -- Laws of the log, as the proofs here take them: a function that calls them has them among its facts.
-use Rattle.std.proofs.Common.{◌≡◌, ◌≢◌, ℕ, ◌+◌, List, [], ◌∷◌, ◌++◌, Some}
+use Rattle.std.proofs.Common.{◌≡◌, ℕ, ◌+◌, List, [], ◌∷◌, ◌++◌, Some}
 use Rattle.cn_log.specs.Callers.{BeginsWith, HasReplayedBy, HasReplayedItsOwn, IsPendingCall, IsStepped, Without, call_of, caller_of, calls_by, entries_by, pending_in}
 use Rattle.cn_log.specs.Log.{IsEventList, answer, entries}
 use Rattle.cn_log.specs.Opening.{IsOpening, Opening, setting_of}

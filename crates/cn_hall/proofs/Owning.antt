@@ -7,7 +7,6 @@ use Rattle.cn_log.specs.declared.event.StepAnswer.TheVariants.{Working, Answered
 use Rattle.cn_log.specs.Callers.{IsStepped, SeesOther}
 use Rattle.cn_log.specs.Log.{Caller, Setting, response_after}
 use Rattle.cn_hall.specs.Answers.{Answers, replies_from, reply}
-use Rattle.cn_hall.specs.declared.call.Reply.{Reply}
 
 one_more : {R : Type 0} (L : Setting R) (p : ℕ) (f : List Entry) (e : Entry) (a b : List Entry) (t : Bool) → (e.process == p) ≡ t
     → replies_from L p (f ++ e ∷ []) (a ++ b) ≡ replies_from L p (f ++ e ∷ []) a ++ replies_from L p ((f ++ e ∷ []) ++ a) b

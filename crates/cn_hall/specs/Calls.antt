@@ -1,11 +1,10 @@
 -- What a call does to a seat.
-use Rattle.std.specs.Prelude.{◌≡◌, ◌≢◌, ℕ, ◌⊎◌, ◌==◌, if◌then◌else◌, List, [], ◌∷◌, ◌++◌, length, slice_get, Some, None, Result, Ok, Err}
-use Rattle.cn_log.specs.Log.{Setting, response_after}
+use Rattle.std.specs.Prelude.{◌≡◌, ◌≢◌, ℕ, ◌⊎◌, List, [], ◌∷◌, ◌++◌, length, slice_get, Some, None, Result, Ok, Err}
+use Rattle.cn_log.specs.Log.{response_after}
 use Rattle.cn_log.specs.Opening.{Log, setting}
 use Rattle.cn_log.specs.declared.entry.Entry.{Entry}
 use Rattle.cn_log.specs.declared.event.Event.{Event}
 use Rattle.cn_log.specs.declared.event.Event.TheVariants.{Invoke, Step}
-use Rattle.cn_hall.specs.Rule.{IsLater}
 use Rattle.cn_log.specs.Callers.{BeginsWith, Without, entries_by}
 use Rattle.cn_hall.specs.Seats.{SeatState, IsInvoke, caller, made, pending, placed, seen}
 use Rattle.cn_hall.specs.declared.call.CallFault.{CallFault}

@@ -1,8 +1,8 @@
 -- What a contract sees of a hall and of a seat.
-use Rattle.std.specs.Prelude.{◌≡◌, ◌≢◌, ◌<◌, ◌≤◌, ℕ, Bool, true, false, List, [], ◌∷◌, ◌++◌, length, Option, Some, None}
+use Rattle.std.specs.Prelude.{◌≡◌, ◌≤◌, ℕ, Bool, true, false, List, [], ◌∷◌, length, Option, Some, None}
 use Rattle.atomic_table.specs.Seated.{TableId}
 use Rattle.cn_table.specs.TypeTable.{TypeTable}
-use Rattle.cn_proto.specs.Plan.{Plan, processes_of}
+use Rattle.cn_proto.specs.Plan.{Plan}
 use Rattle.cn_log.specs.Callers.{caller_of, calls_by, entries_by, pending_in}
 use Rattle.cn_log.specs.Log.{Caller, IsEventList, answer}
 use Rattle.cn_log.specs.Opening.{IsOpening, Log, opening_of, setting}

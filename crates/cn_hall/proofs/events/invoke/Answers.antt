@@ -1,4 +1,4 @@
-use Rattle.std.proofs.Common.{◌≡◌, ◌<◌, length, sym, refl, ap, ◌∙◌, subst}
+use Rattle.std.proofs.Common.{◌<◌, length, sym, refl, ap, ◌∙◌, subst}
 use Rattle.cn_proto.specs.Plan.{processes_of}
 use Rattle.cn_log.specs.Log.{Caller}
 use Rattle.cn_log.specs.Opening.{Log, Opening}

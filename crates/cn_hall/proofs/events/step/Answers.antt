@@ -1,4 +1,4 @@
-use Rattle.std.proofs.Common.{◌≡◌, ◌<◌, sym, refl, ap, ◌∙◌, subst}
+use Rattle.std.proofs.Common.{◌<◌, sym, refl, ap, ◌∙◌, subst}
 use Rattle.cn_proto.specs.Plan.{processes_of}
 use Rattle.cn_log.specs.Callers.{HasResponse}
 use Rattle.cn_log.specs.Log.{Caller}

@@ -1,4 +1,4 @@
-use Rattle.std.proofs.Common.{◌≡◌, ◌+◌, ◌<◌, ℕ, List, Some, sym, ap, ◌∙◌, subst, rules, arith}
+use Rattle.std.proofs.Common.{◌≡◌, List, Some, sym, ap, ◌∙◌, subst, rules, arith}
 use Rattle.std.specs.List.{slice_get}
 use Rattle.crossbeam_queue.specs.Passes.{view}
 use Rattle.cn_hall.specs.Seats.{SeatState, seat_state}

@@ -1,11 +1,7 @@
-use Rattle.std.proofs.Common.{◌≡◌, sym, ap, ◌∙◌, subst, length, rules}
+use Rattle.std.proofs.Common.{◌≡◌, sym, ap, ◌∙◌, length, rules}
 use Rattle.crossbeam_queue.specs.Passes.{view}
-use Rattle.cn_log.specs.Opening.{Log}
 use Rattle.cn_hall.specs.declared.rule.View.{View}
-use Rattle.cn_hall.specs.Rule.{Carries, IsLater}
-use Rattle.cn_hall.specs.Seats.{SeatState, IsLog, core_of, seen}
-use Rattle.cn_hall.specs.Calls.{HaveMet}
-use Rattle.cn_log.specs.Callers.{BeginsWith}
+use Rattle.cn_hall.specs.Seats.{SeatState, core_of, seen}
 use Rattle.cn_hall.proofs.Meeting.{both_see, one_opening, have_met, log_of, met_seen, only_made}
 use Rattle.cn_hall.proofs.hall.Hall.meet.Goals as goal
 

@@ -1,12 +1,10 @@
-use Rattle.std.proofs.Common.{◌≡◌, Ok, Some, None, inr, sym, ap, ◌∙◌, subst, rules, refl}
-use Rattle.cn_log.specs.declared.entry.Entry.{Entry}
-use Rattle.cn_log.specs.declared.event.StepAnswer.{StepAnswer}
+use Rattle.std.proofs.Common.{◌≡◌, Ok, Some, inr, sym, ap, ◌∙◌, subst, rules, refl}
 use Rattle.cn_log.specs.declared.event.StepAnswer.TheVariants.{Working, Answered, Full}
 use Rattle.cn_log.specs.Callers.{BeginsWith, HasResponse}
 use Rattle.cn_log.specs.Opening.{Opening}
 use Rattle.cn_hall.specs.Seats.{SeatState, IsStep, pending, seen}
 use Rattle.cn_hall.specs.Answers.{own}
-use Rattle.cn_hall.specs.Calls.{AllButLast, EndsBy, GoesOn, IsSameSeat}
+use Rattle.cn_hall.specs.Calls.{AllButLast}
 use Rattle.cn_hall.proofs.Callers.{begins_same, begins_again}
 use Rattle.cn_hall.proofs.Calling.{some_of, goes_same, seat_after, seat_seen, seat_goes, ends_full, ends_answered, but_last, same_again, own_stepped, adds_from}
 use Rattle.cn_hall.proofs.hall.Hall.resume.Goals as goal

@@ -1,4 +1,4 @@
-use Rattle.std.proofs.Common.{◌≡◌, ◌∙◌, ap}
+use Rattle.std.proofs.Common.{◌∙◌, ap}
 use Rattle.cn_hall.specs.Seats.{SeatState, caller, is_in_call}
 use Rattle.cn_hall.proofs.Callers.{in_call_is, idle_is}
 use Rattle.cn_hall.proofs.seat.Seat.in_call.Goals as goal
