@@ -1,0 +1,10 @@
+pub mod Keeps
+pub mod LogLaws
+pub mod Callers
+pub mod Sitting
+pub mod Calling
+pub mod Closing
+pub mod Opened
+pub mod Meeting
+pub mod Owning
+pub mod Numbering

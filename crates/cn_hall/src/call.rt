@@ -1,0 +1,78 @@
+//! What is asked before each step of a call, and what a call answers.
+ghost use Rattle.std.specs.Prelude.{◌≡◌};
+ghost use Rattle.cn_hall.specs.declared.call.CallFault.TheVariants.{OutOfMemory};
+ghost use Rattle.cn_hall.specs.declared.call.Go.{Go as GoOf};
+
+use crate::seat::Seat;
+use cn_table::Response;
+use std::alloc::AllocError;
+use std::error::Error;
+use std::fmt;
+
+/// Whether a call goes on.
+#[derive(Clone, Copy, Debug, PartialEq, Eq)]
+pub enum Go {
+    On,
+    Stop,
+}
+
+/// What is asked before each step of a call, while the seat does not hold the core.
+pub trait Gate {
+    ghost use Rattle.cn_hall.specs.declared.call.Go.{Go};
+    ghost use Rattle.std.specs.Prelude.{◌≡◌, false};
+
+    ghost says: { Self → Go };
+
+    /// Whether the call takes its step of this number, from 1 on, of those that it takes now.
+    fn before(&mut self, seat: &Seat, step: u32) -> Go
+        requires free { seat.now.held ≡ false }
+        ensures { result ≡ says self.new };
+
+    /// What was answered last, or `On`.
+    fn said(&self) -> Go
+        ensures { result ≡ says self.now };
+}
+
+/// The slot in which a call stands, from 0, and its response.
+#[derive(Clone, Copy, Debug, PartialEq, Eq)]
+pub struct Reply {
+    pub slot: u16,
+    pub response: Response,
+}
+
+/// Why a call has no reply.
+#[derive(Clone, Copy, Debug, PartialEq, Eq)]
+pub enum CallFault {
+    /// The call is in no slot, and the seat has seen every slot. It is in no call.
+    LogFull = 1,
+    /// The gate stopped it. The seat is in its call, and `resume` goes on with it.
+    Stopped = 2,
+    /// Memory ran out. Where the call was refused the seat is in no call; where a step was refused
+    /// it is in its call, and `resume` goes on with it.
+    OutOfMemory = 3,
+}
+
+impl From<AllocError> for CallFault {
+    ghost from_gives = { λ _ e. e ≡ OutOfMemory };
+
+    fn from(_e: AllocError) -> CallFault {
+        CallFault::OutOfMemory
+    }
+}
+
+impl fmt::Display for CallFault {
+    ghost use Rattle.std.specs.Prelude.{Some};
+    ghost use Rattle.cn_hall.specs.FaultText.{call_fault_text};
+
+    ghost output = { λ fault. Some (call_fault_text fault) };
+
+    fn fmt<W: fmt::Write>(&self, f: &mut fmt::Formatter<W>) -> fmt::Result {
+        f.write_str(match self {
+            CallFault::LogFull => "1 LogFull",
+            CallFault::Stopped => "2 Stopped",
+            CallFault::OutOfMemory => "3 OutOfMemory",
+        })
+    }
+}
+
+impl Error for CallFault {}

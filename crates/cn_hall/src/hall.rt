@@ -1,0 +1,212 @@
+//! The hall: threads hand one core on.
+ghost use Rattle.std.specs.Prelude.{◌≡◌, ◌≢◌, ◌<◌, ◌⊎◌, [], Some, None, All, IfErr, IfOk, OnErr, length};
+ghost use Rattle.cn_log.specs.declared.entry.Entry.{Entry};
+ghost use Rattle.cn_hall.specs.Answers.{Adds, own, replies_from};
+ghost use Rattle.cn_hall.specs.Calls.{CallFails, Called, EndsBy, GoesOn, HasOnlyMade, HasPlaced, HaveMet, IsReply, IsSameSeat, next_call, said_after};
+ghost use Rattle.cn_log.specs.Callers.{BeginsWith, HasResponse};
+ghost use Rattle.cn_hall.specs.Rule.{Carries};
+ghost use Rattle.cn_hall.specs.Seats.{IsInvoke, IsSeatOf, IsStep, caller, caller_at, pending, seen};
+ghost use Rattle.cn_log.specs.Log.{entries};
+ghost use Rattle.cn_log.specs.Opening.{setting};
+ghost use Rattle.std.specs.Ordering.{nat_cmp};
+ghost use Rattle.cn_hall.specs.declared.call.Go.TheVariants.{On};
+
+use crate::call::{CallFault, Gate, Go, Reply};
+use crate::rule::{Item, Joins, Queue};
+use crate::seat::Seat;
+use crate::{events, hands, laws};
+use cn_log::laws::{every_call, every_caller};
+use cn_log::{LogCore, StepAnswer};
+use cn_table::Operation;
+use std::alloc::AllocError;
+use std::cmp::Ordering;
+use std::marker::Model;
+use std::sync::Wait;
+
+/// The queue of one place through which the threads hand the core on.
+#[derive(Drop)]
+pub struct Hall {
+    pub(crate) queue: Queue,
+}
+
+impl Model for Hall {
+    ghost use Rattle.std.specs.Prelude.{◌≡◌};
+    ghost use Rattle.cn_hall.specs.Seats.{HallId};
+    ghost use Rattle.crossbeam_queue.specs.Passes.{ruled_capacity};
+
+    ghost Value = { HallId };
+
+    ghost view = { λ h. h.queue.table.shared.table_id };
+
+    ghost invariant = { λ h. ruled_capacity h.queue ≡ 1 };
+}
+
+impl Hall {
+    /// One step of the seat's process, which is in a call.
+    fn step<R: Wait>(&self, rt: &R, seat: &mut Seat) -> Result<StepAnswer, AllocError>
+        requires of { IsSeatOf self.now seat.old }
+        requires in_call { pending seat.old ≢ None }
+        ensures same { IsSameSeat seat.old seat.new }
+        ensures step { IfOk result (λ given. IsStep seat.old.process seat.old.core given seat.new.core) }
+        ensures range { IfOk result (λ given. HasResponse seat.old.core.opening.object given) }
+        ensures err { OnErr result (seat.new ≡ seat.old) }
+    {
+        let process = seat.process;
+        let (answer, standing) = events::step(rt, &self.queue, &mut seat.pass, process)?;
+        seat.seen = standing.seen;
+        seat.in_call = standing.in_call;
+        Ok(answer)
+    }
+
+    /// The seat's process, which is in no call and has not seen every slot, makes a call.
+    fn invoke<R: Wait>(
+        &self,
+        rt: &R,
+        seat: &mut Seat,
+        operation: Operation,
+    ) -> Result<(), AllocError>
+        requires of { IsSeatOf self.now seat.old }
+        requires idle { pending seat.old ≡ None }
+        requires operation { operation.0 < length seat.old.core.opening.object.operations }
+        requires room { length (seen seat.old) < seat.old.core.opening.capacity }
+        ensures same { IsSameSeat seat.old seat.new }
+        ensures invoked { IfOk result (λ _. IsInvoke seat.old.process operation.0 seat.old.core seat.new.core) }
+        ensures err { OnErr result (seat.new ≡ seat.old) }
+    {
+        let process = seat.process;
+        let standing = events::invoke(rt, &self.queue, &mut seat.pass, process, operation)?;
+        seat.seen = standing.seen;
+        seat.in_call = standing.in_call;
+        Ok(())
+    }
+
+    /// Goes on with the call that the seat is in.
+    ///
+    /// # Errors
+    ///
+    /// `LogFull` where every slot is fixed and none to the call, which is then over; `Stopped`
+    /// where the gate said so, and `OutOfMemory` where a step found no memory: the seat stays in
+    /// its call.
+    pub fn resume<R: Wait, G: Gate>(
+        &self,
+        rt: &R,
+        seat: &mut Seat,
+        gate: &mut G,
+    ) -> Result<Reply, CallFault>
+        requires of { IsSeatOf self.now seat.old }
+        requires in_call { pending seat.old ≢ None }
+        requires gate { G.says gate.old ≡ On }
+        ensures same { IsSameSeat seat.old seat.new }
+        ensures events { GoesOn seat.old.process seat.old.core seat.new.core }
+        ensures seen { BeginsWith (seen seat.new) (seen seat.old) }
+        ensures reply { IfOk result (λ r. (mine : Entry) → pending seat.old ≡ Some mine → IsReply mine seat.new r) }
+        ensures fault { IfErr result (λ e. (mine : Entry) → pending seat.old ≡ Some mine → EndsBy mine e seat.new) }
+        ensures own { Adds (own seat.old) (own seat.new) result }
+        ensures calls { HasPlaced seat.new result }
+        ensures range { IfOk result (λ r. r.response.0 < length seat.old.core.opening.object.responses) }
+        ensures said { G.says gate.new ≡ said_after result }
+    {
+        seat.has_its_calls();
+        every_caller();
+        every_call();
+        let mut step: u32 = 0;
+        for _ in rt.forever() {
+            step = step.saturating_add(1);
+            if let Go::Stop = gate.before(seat, step) {
+                return Err(CallFault::Stopped);
+            }
+            match self.step(rt, seat) {
+                Err(_) => return Err(CallFault::OutOfMemory),
+                Ok(StepAnswer::Working) => (),
+                Ok(StepAnswer::Answered { slot, response }) => {
+                    return Ok(Reply { slot, response });
+                }
+                Ok(StepAnswer::Full) => return Err(CallFault::LogFull),
+            }
+        }
+        unreachable!()
+    }
+
+    /// Makes a call of an operation of the object for the seat's process, which is in no call.
+    ///
+    /// # Errors
+    ///
+    /// `LogFull` at once where the seat has seen every slot, and else as `resume`; `OutOfMemory`
+    /// also where the call itself found no memory, and then the seat is as it was.
+    pub fn call<R: Wait, G: Gate>(
+        &self,
+        rt: &R,
+        seat: &mut Seat,
+        operation: Operation,
+        gate: &mut G,
+    ) -> Result<Reply, CallFault>
+        requires of { IsSeatOf self.now seat.old }
+        requires idle { pending seat.old ≡ None }
+        requires operation { operation.0 < length seat.old.core.opening.object.operations }
+        requires gate { G.says gate.old ≡ On }
+        ensures same { IsSameSeat seat.old seat.new }
+        ensures seen { BeginsWith (seen seat.new) (seen seat.old) }
+        ensures reply { IfOk result (λ r. Called seat.old.process operation.0 seat.old.core seat.new.core × IsReply (next_call seat.old operation.0) seat.new r) }
+        ensures fault { IfErr result (λ e. CallFails operation.0 e seat.old seat.new) }
+        ensures own { Adds (own seat.old) (own seat.new) result }
+        ensures calls { HasPlaced seat.new result }
+        ensures range { IfOk result (λ r. r.response.0 < length seat.old.core.opening.object.responses) }
+        ensures said { G.says gate.new ≡ said_after result }
+    {
+        seat.has_its_calls();
+        every_caller();
+        every_call();
+        if seat.seen == seat.capacity {
+            return Err(CallFault::LogFull);
+        }
+        match self.invoke(rt, seat, operation) {
+            Ok(()) => self.resume(rt, seat, gate),
+            Err(_) => Err(CallFault::OutOfMemory),
+        }
+    }
+
+    /// Compares how much two seats have seen. One has seen what the other has, and perhaps more.
+    pub fn meet<R: Wait>(&self, rt: &R, first: &mut Seat, second: &mut Seat) -> Ordering
+        requires of { IsSeatOf self.now first.old × IsSeatOf self.now second.old }
+        ensures same { (first.new ≡ first.old) × (second.new ≡ second.old) }
+        ensures opening { second.old.core.opening ≡ first.old.core.opening }
+        ensures met { HaveMet first.old second.old }
+        ensures made { HasOnlyMade first.old second.old × HasOnlyMade second.old first.old }
+        ensures seen { BeginsWith (seen second.old) (seen first.old) ⊎ BeginsWith (seen first.old) (seen second.old) }
+        ensures order { result ≡ nat_cmp (length (seen first.old)) (length (seen second.old)) }
+    {
+        let (one, two) = (first.process, second.process);
+        events::look(rt, &self.queue, &mut first.pass, &mut second.pass, one);
+        events::look(rt, &self.queue, &mut second.pass, &mut first.pass, two);
+        every_caller();
+        every_call();
+        first.seen.cmp(&second.seen)
+    }
+
+    /// Takes the core out for good. It carries each seat's core further, with no event since of the
+    /// seat's process; so the process has replayed there what the seat has seen, and that stands
+    /// first among its entries.
+    pub fn close<R: Wait>(self, rt: &R, seats: Vec<Seat>) -> LogCore
+        requires of { All (IsSeatOf self) seats.items }
+        requires some { 0 < length seats.items }
+        ensures carries { All (λ s. Carries s.process s.core result) seats.items }
+        ensures replayed { All (λ s. caller_at result s.process ≡ caller s) seats.items }
+        ensures entries { All (λ s. BeginsWith (entries (setting result) result.schedule) (seen s)) seats.items }
+        ensures answers { All (λ s. BeginsWith (replies_from (setting result) s.process [] (entries (setting result) result.schedule)) (own s)) seats.items }
+    {
+        let Hall { queue } = self;
+        let mut seats = seats;
+        let Some(last) = seats.pop() else {
+            unreachable!()
+        };
+        let Seat { mut pass, .. } = last;
+        while let Some(seat) = seats.pop() {
+            let Seat { pass: other, .. } = seat;
+            queue.absorb::<Joins>(&mut pass, other);
+        }
+        let Item { core, .. } = hands::take(rt, &queue, &mut pass);
+        laws::is_log(&core);
+        every_caller();
+        core
+    }
+}

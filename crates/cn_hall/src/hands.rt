@@ -1,0 +1,108 @@
+//! One removal of the core from the queue, or its return.
+ghost use Rattle.std.specs.Prelude.{◌≡◌, ◌+◌, ◌∷◌, ◌<◌, [], Some, ℕ};
+ghost use Rattle.cn_hall.specs.Rule.{Agrees, bare, first_view, holding, item_of, later, later_core, opened, pair, seated};
+ghost use Rattle.cn_log.specs.Callers.{process_of};
+ghost use Rattle.cn_hall.specs.declared.rule.Item.{Item as ItemOf};
+ghost use Rattle.cn_hall.specs.declared.rule.Stage.TheVariants.{Live};
+ghost use Rattle.cn_log.specs.Opening.{Log};
+ghost use Rattle.cn_proto.specs.Plan.{processes_of};
+ghost use Rattle.cn_hall.specs.Seats.{IsLog, IsStanding};
+ghost use Rattle.cn_log.specs.declared.event.Event.{Event};
+ghost use Rattle.crossbeam_queue.specs.Passes.{view, IsPassOf, IsSamePass, ruled_capacity};
+
+use crate::laws;
+use crate::rule::{Item, Opens, Pass, Queue, Returns, Seats, Steps, Takes};
+use cn_log::LogCore;
+use std::sync::Wait;
+use std::thread;
+
+/// How far a process has come in the core: how much it has seen, and whether it is in a call.
+#[derive(Clone, Copy)]
+pub(crate) struct Standing {
+    pub seen: u16,
+    pub in_call: bool,
+}
+
+impl Standing {
+    /// That of a process of the core.
+    pub(crate) fn of(core: &LogCore, process: u8) -> Standing
+        requires { process < processes_of core.now.opening.plan }
+        ensures standing { IsStanding core.now process result }
+        ensures log { IsLog core.now }
+    {
+        laws::is_log(core);
+        Standing {
+            seen: core.replayed(process),
+            in_call: !core.is_idle(process),
+        }
+    }
+}
+
+/// Takes the core out of the queue, and waits until it is there.
+pub(crate) fn take<R: Wait>(rt: &R, queue: &Queue, pass: &mut Pass) -> Item
+    requires queue { IsPassOf queue.now pass.old }
+    requires live { (view pass.old).stage ≡ Live }
+    ensures same { IsSamePass pass.old pass.new }
+    ensures held { view pass.new ≡ holding (view pass.old) result }
+    ensures agrees { Agrees (view pass.old) result }
+{
+    for _ in rt.forever() {
+        if let Some(item) = queue.pop_as::<Takes, R>(rt, pass) {
+            return item;
+        }
+        thread::yield_now();
+    }
+    unreachable!()
+}
+
+/// Puts the core back as it was.
+pub(crate) fn put_back<R: Wait>(rt: &R, queue: &Queue, pass: &mut Pass, item: Item)
+    requires queue { IsPassOf queue.now pass.old × (ruled_capacity queue.now ≡ 1) }
+    requires live { (view pass.old).stage ≡ Live }
+    requires held { (view pass.old).held ≡ Some item }
+    ensures same { IsSamePass pass.old pass.new }
+    ensures now { view pass.new ≡ bare (view pass.old) }
+{
+    let Ok(()) = queue.push_as::<Returns, R>(rt, pass, item) else {
+        unreachable!()
+    };
+}
+
+/// Puts the core in for the first time.
+pub(crate) fn put_first<R: Wait>(rt: &R, queue: &Queue, pass: &mut Pass, item: Item)
+    requires queue { IsPassOf queue.now pass.old × (ruled_capacity queue.now ≡ 1) }
+    requires first { view pass.old ≡ first_view }
+    requires one { item.seated ≡ 1 }
+    ensures same { IsSamePass pass.old pass.new }
+    ensures now { view pass.new ≡ opened item }
+{
+    let Ok(()) = queue.push_as::<Opens, R>(rt, pass, item) else {
+        unreachable!()
+    };
+}
+
+/// Puts the core back one event of the pass's process later.
+pub(crate) fn put_step<R: Wait>(rt: &R, queue: &Queue, pass: &mut Pass, item: Item)
+    requires queue { IsPassOf queue.now pass.old × (ruled_capacity queue.now ≡ 1) }
+    requires live { (view pass.old).stage ≡ Live }
+    requires event { (p : ℕ) × (log before : Log) × (e : Event) × ((view pass.old).pairs ≡ pair p log ∷ []) × ((view pass.old).held ≡ Some (item_of before item.seated)) × (item.core ≡ later_core before (e ∷ [])) × (process_of e ≡ p) }
+    ensures same { IsSamePass pass.old pass.new }
+    ensures now { view pass.new ≡ later (view pass.old) item }
+{
+    let Ok(()) = queue.push_as::<Steps, R>(rt, pass, item) else {
+        unreachable!()
+    };
+}
+
+/// Puts the core back with one process more seated, in this pass.
+pub(crate) fn put_seat<R: Wait>(rt: &R, queue: &Queue, pass: &mut Pass, item: Item)
+    requires queue { IsPassOf queue.now pass.old × (ruled_capacity queue.now ≡ 1) }
+    requires live { (view pass.old).stage ≡ Live }
+    requires count { (before : ItemOf) × ((view pass.old).held ≡ Some before) × (item ≡ record before { seated = before.seated + 1 }) }
+    ensures same { IsSamePass pass.old pass.new }
+    ensures now { view pass.new ≡ seated (view pass.old) item }
+{
+    let Ok(()) = queue.push_as::<Seats, R>(rt, pass, item) else {
+        unreachable!()
+    };
+}

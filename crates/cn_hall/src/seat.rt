@@ -1,0 +1,68 @@
+//! A seat of a hall.
+ghost use Rattle.std.specs.Prelude.{◌≡◌, ◌≢◌, ◌≤◌, ◌↔◌, IsFalse, IsTrue, None, length};
+ghost use Rattle.cn_log.specs.Callers.{HasReplayedItsOwn};
+ghost use Rattle.cn_log.specs.Opening.{setting};
+ghost use Rattle.cn_hall.specs.Seats.{IsLog, pending, seen};
+
+use crate::rule::Pass;
+use std::marker::Model;
+
+/// What a thread has of a hall: a process, what this has seen, and the core as it was when the seat
+/// last put an event in. A seat can be given to any thread.
+#[derive(Drop)]
+pub struct Seat {
+    pub(crate) process: u8,
+    pub(crate) in_call: bool,
+    pub(crate) seen: u16,
+    pub(crate) capacity: u16,
+    pub(crate) pass: Pass,
+}
+
+impl Model for Seat {
+    ghost use Rattle.std.specs.Prelude.{◌≡◌, ◌<◌, ◌≤◌, [], length};
+    ghost use Rattle.cn_proto.specs.Plan.{processes_of};
+    ghost use Rattle.cn_hall.specs.Seats.{IsLog, IsOfSeat, SeatState, caller_at, core_of, is_held, is_in_call};
+    ghost use Rattle.crossbeam_queue.specs.Passes.{view as known};
+
+    ghost Value = { SeatState };
+
+    ghost view = { λ s. record { hall = s.pass.table_id; process = s.process; core = core_of (known s.pass); held = is_held (known s.pass).held } };
+
+    ghost invariant = { λ s. let core = core_of (known s.pass) in (s.pass.me.1 ≡ []) × IsOfSeat (known s.pass) s.process core × (s.process < processes_of core.opening.plan) × (s.capacity ≡ core.opening.capacity) × (s.seen ≡ length (caller_at core s.process).seen) × (s.seen ≤ s.capacity) × (s.in_call ≡ is_in_call (caller_at core s.process).phase) × IsLog core };
+}
+
+impl Seat {
+    /// The law of seats, however they came to be: `log`, what has happened in the seat's core could
+    /// happen; `calls`, the calls of its process are the entries of its own that it has seen, in
+    /// order, and then the one that has no answer, if there is one.
+    pub fn has_its_calls(&self)
+        ensures log { IsLog self.now.core }
+        ensures calls { HasReplayedItsOwn (setting self.now.core) self.now.core.schedule self.now.process }
+    {
+        cn_log::laws::every_call();
+        let _process = self.process;
+    }
+
+    /// The process of the seat.
+    pub fn process(&self) -> u8
+        ensures { result ≡ self.now.process }
+    {
+        self.process
+    }
+
+    /// Whether the process is in a call.
+    pub fn in_call(&self) -> bool
+        ensures call { IsTrue result ↔ (pending self.now ≢ None) }
+        ensures idle { IsFalse result ↔ (pending self.now ≡ None) }
+    {
+        self.in_call
+    }
+
+    /// How many entries the seat has seen.
+    pub fn seen_len(&self) -> u16
+        ensures number { result ≡ length (seen self.now) }
+        ensures range { result ≤ self.now.core.opening.capacity }
+    {
+        self.seen
+    }
+}
