@@ -306,6 +306,8 @@ fn names_the_first_fault(rt: HostRuntime) -> Result<(), Fail> {
 fn looks_up_where_processes_stand(rt: HostRuntime) -> Result<(), Fail> {
     let alloc = rt.alloc();
     laws::every_log();
+    laws::every_caller();
+    laws::every_call();
     let plan = plan_for(&rt, alloc, TEST_AND_SET, 2)?;
     let object = read_table(alloc, COUNTER_3.as_bytes())?;
     let parts = [
@@ -316,7 +318,7 @@ fn looks_up_where_processes_stand(rt: HostRuntime) -> Result<(), Fail> {
     let events = events_of(alloc, &parts)?;
     let core = replay(alloc, &plan, &object, State(0), 1, &events)?;
     core.is_linearized();
-    assert!(rt; core.processes() == 2 && core.capacity() == 1);
+    assert!(rt; core.processes() == 2 && core.capacity() == 1 && core.operations() == 1);
     assert!(rt; core.replayed(0) == 0 && core.replayed(1) == 1);
     assert!(rt; !core.is_idle(0) && core.is_idle(1));
     assert!(rt; !core.at_end(0) && core.at_end(1));
