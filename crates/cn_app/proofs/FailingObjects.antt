@@ -13,7 +13,7 @@ use Rattle.cn_app.specs.Replay.{object_in, FailsObject, GivesObject}
 use Rattle.cn_app.specs.SourceBytes.{MayFail}
 use Rattle.cn_app.specs.Texts.{certificate_in, table_in, Fails, Gives}
 use Rattle.cn_app.specs.declared.fault.AppFault.{AppFault}
-use Rattle.cn_app.specs.declared.fault.AppFault.TheVariants.{Check, NoWitness, OutOfMemory, Read}
+use Rattle.cn_app.specs.declared.fault.AppFault.TheVariants.{Check, NoWitness, OutOfMemory}
 use Rattle.cn_app.specs.declared.fault.Source.{Source}
 use Rattle.cn_app.specs.declared.fault.Source.TheVariants as source
 use Rattle.cn_app.proofs.Failing.{CheckFails-weaker, Fails-later, Fails-weaker, Gives-weaker}

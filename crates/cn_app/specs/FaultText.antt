@@ -34,6 +34,7 @@ part_text part.Schedule = codes "SCHEDULE"
 part_text part.Start = codes "START"
 part_text part.Capacity = codes "CAPACITY"
 part_text part.Events = codes "EVENTS"
+part_text part.Calls = codes "CALLS"
 
 -- want of memory reads the same in whatever layer it was met
 abbrev pub fault_text : AppFault → List ℕ
@@ -56,6 +57,7 @@ fault_text (fault.Replay replay.OutOfMemory) = codes "out of memory"
 fault_text (fault.Replay f) = codes "replay: " ++ replay_fault_text f
 fault_text (fault.Read s) = codes "cannot read " ++ source_text s
 fault_text fault.Write = codes "cannot write"
+fault_text fault.Thread = codes "cannot start a thread"
 fault_text fault.OutOfMemory = codes "out of memory"
 
 abbrev pub status_of : AppFault → ℕ
@@ -78,6 +80,7 @@ status_of (fault.Replay replay.OutOfMemory) = 5
 status_of (fault.Replay f) = 3
 status_of (fault.Read s) = 4
 status_of fault.Write = 4
+status_of fault.Thread = 4
 status_of fault.OutOfMemory = 5
 
 -- the fault of the command for a fault of the table, of the object's table, of the certificate's text, of the search, of the schedule, and of the events

@@ -7,5 +7,9 @@ pub mod Check
 pub mod Plans
 pub mod Agree
 pub mod Events
+pub mod Calls
 pub mod Replay
 pub mod Headline
+pub mod Serving
+pub mod Serve
+pub mod Workers

@@ -1,5 +1,5 @@
 //! Arguments that are lists: items with a comma between two, or the word `none`.
-ghost use Rattle.std.specs.Prelude.{◌≡◌, ◌⊎◌, ◌≤◌, ◌↔◌, ℕ, length, map, IfOk, IfErr, IsTrue, List, Option, Some, None, ◌==◌};
+ghost use Rattle.std.specs.Prelude.{◌≡◌, ◌⊎◌, ◌<◌, ◌≤◌, ◌↔◌, ℕ, length, map, IfOk, IfErr, IsTrue, List, Option, Some, None, ◌==◌};
 ghost use Rattle.std.specs.List.{list_all, slice_split};
 ghost use Rattle.std.specs.Char.{is_ascii_digit};
 ghost use Rattle.cn_table.specs.Draft.{all_some};
@@ -60,11 +60,12 @@ pub(crate) fn read_number(text: &str) -> Option<u64>
     text.parse::<u64>().ok()
 }
 
-/// The pieces of a text between its commas.
-fn pieces_of(alloc: Global, text: &str) -> Result<Vec<&str>, AllocError>
-    ensures { IfOk result (λ pieces. map (λ piece. piece.now) pieces.items ≡ slice_split (λ byte. byte == 44) text.now) }
+/// The pieces of a text between its separators.
+pub(crate) fn pieces_of(alloc: Global, text: &str, separator: char) -> Result<Vec<&str>, AllocError>
+    requires { separator < 128 }
+    ensures { IfOk result (λ pieces. map (λ piece. piece.now) pieces.items ≡ slice_split (λ byte. byte == separator) text.now) }
 {
-    text.split(',').collect(alloc)
+    text.split(separator).collect(alloc)
 }
 
 /// The items that the pieces spell.
@@ -99,7 +100,7 @@ pub(crate) fn read_list<T: Item + Drop>(
     if text == "none" {
         return Ok(Vec::new(alloc));
     }
-    let pieces = pieces_of(alloc, text)?;
+    let pieces = pieces_of(alloc, text, ',')?;
     if pieces.len() > MOST_ITEMS {
         return Err(AppFault::Argument(argument));
     }

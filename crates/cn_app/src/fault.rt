@@ -2,6 +2,7 @@
 ghost use Rattle.std.specs.Prelude.{◌≡◌, Some};
 ghost use Rattle.cn_app.specs.declared.fault.AppFault.TheVariants.{OutOfMemory};
 
+use crate::serving::ServeFault;
 use cn_agree::ScheduleFault;
 use cn_cert::CertFault;
 use cn_check::CheckFault;
@@ -36,6 +37,8 @@ pub enum Part {
     Capacity,
     /// The events of the log.
     Events,
+    /// The calls of each process.
+    Calls,
 }
 
 /// Why a command wrote nothing, or could not write.
@@ -67,6 +70,8 @@ pub enum AppFault {
     Read(Source),
     /// The writer failed.
     Write,
+    /// A thread could not be started.
+    Thread,
     /// A growth was refused, in whatever layer.
     OutOfMemory,
 }
@@ -162,6 +167,19 @@ impl From<ReplayFault> for AppFault {
     }
 }
 
+impl From<ServeFault> for AppFault {
+    ghost use Rattle.cn_app.specs.Serve.{of_serving};
+
+    ghost from_gives = { λ fault e. e ≡ of_serving fault };
+
+    fn from(fault: ServeFault) -> AppFault {
+        match fault {
+            ServeFault::Thread => AppFault::Thread,
+            ServeFault::OutOfMemory => AppFault::OutOfMemory,
+        }
+    }
+}
+
 impl fmt::Display for Source {
     ghost use Rattle.cn_app.specs.FaultText.{source_text};
 
@@ -188,6 +206,7 @@ impl fmt::Display for Part {
             Part::Start => "START",
             Part::Capacity => "CAPACITY",
             Part::Events => "EVENTS",
+            Part::Calls => "CALLS",
         })
     }
 }
@@ -219,6 +238,7 @@ impl fmt::Display for AppFault {
             AppFault::Replay(fault) => write!(f, "replay: {fault}"),
             AppFault::Read(source) => write!(f, "cannot read {source}"),
             AppFault::Write => f.write_str("cannot write"),
+            AppFault::Thread => f.write_str("cannot start a thread"),
         }
     }
 }
@@ -230,7 +250,8 @@ impl AppFault {
 
     /// The exit status of the program: 1 where the certificate was checked and is refused or has no
     /// witness, 2 for a text that is refused, 3 for words, an argument, a limit, a count of
-    /// choices, a schedule or events that are refused, 4 where reading or writing failed, 5 for want of memory.
+    /// choices, a schedule or events that are refused, 4 where reading or writing failed or
+    /// no thread could be started, 5 for want of memory.
     pub fn status(&self) -> u8
         ensures { result ≡ status_of self.now }
     {
@@ -247,7 +268,7 @@ impl AppFault {
             AppFault::Certificate(_) | AppFault::TooLong(_) => 2,
             AppFault::Words | AppFault::Argument(_) => 3,
             AppFault::Find(_) | AppFault::Schedule(_) | AppFault::Replay(_) => 3,
-            AppFault::Read(_) | AppFault::Write => 4,
+            AppFault::Read(_) | AppFault::Write | AppFault::Thread => 4,
         }
     }
 }

@@ -9,7 +9,7 @@ use cn_table::{Response, State, Table};
 use std::alloc::{AllocError, Global};
 
 /// The line of what a step answered, which is empty where no call is over.
-fn answer_line(alloc: Global, object: &Table, told: Told) -> Result<String, AllocError>
+pub(crate) fn answer_line(alloc: Global, object: &Table, told: Told) -> Result<String, AllocError>
     requires { HasResponse object.now told.answer }
     ensures { IfOk result (λ line. string_bytes line ≡ answer_line object.now told.process told.answer) }
 {

@@ -2,11 +2,13 @@
 //! writer comes to.
 mod agree;
 mod arguments;
+mod calls;
 mod certificates;
 mod check;
 mod faults;
 mod find;
 mod replay;
+mod serve;
 mod show;
 mod streams;
 mod types;

@@ -2,16 +2,19 @@
 //! What each command does stands in the library `cn_app`.
 #![tactic(auto)]
 
+mod always_on;
 mod lazy_file;
 mod words;
 
+use always_on::AlwaysOn;
 use clap::{ArgMatches, Error};
-use cn_app::{AppFault, Outcome, run_agree, run_check, run_find, run_replay, run_show};
+use cn_app::{AppFault, Outcome, run_agree, run_check, run_find, run_replay, run_serve, run_show};
 use lazy_file::LazyFile;
 use std::alloc::Global;
 use std::io::{ErrorKind, Read, Write};
 use std::process::ExitCode;
 use std::rt::Files;
+use std::sync::Wait;
 use std::thread::Threads;
 
 // The text of a word that has to stand there.
@@ -19,8 +22,49 @@ fn text<'a>(words: &ArgMatches<'a>, name: &str) -> Result<&'a str, AppFault> {
     words.get_str(name).ok_or(AppFault::Words)
 }
 
+// Serves an object, by events or by threads.
+fn run_on_object<T: Threads + Wait + Sync + Files, I: Read, C: Read, O: Write>(
+    rt: &T,
+    alloc: Global,
+    table: &mut I,
+    certificate: &mut C,
+    output: &mut O,
+    command: &str,
+    words: &ArgMatches<'_>,
+) -> Result<Outcome, AppFault> {
+    let mut object = LazyFile::new(rt, text(words, "OBJECT")?);
+    let (start, capacity) = (text(words, "START")?, text(words, "CAPACITY")?);
+    if command == "replay" {
+        let events = text(words, "EVENTS")?;
+        return run_replay(
+            rt,
+            alloc,
+            table,
+            certificate,
+            &mut object,
+            output,
+            start,
+            capacity,
+            events,
+        );
+    }
+    let calls = text(words, "CALLS")?;
+    run_serve(
+        rt,
+        alloc,
+        table,
+        certificate,
+        &mut object,
+        output,
+        start,
+        capacity,
+        calls,
+        |_| AlwaysOn,
+    )
+}
+
 // Does what the words ask for.
-fn run<T: Threads + Sync + Files, I: Read, O: Write>(
+fn run<T: Threads + Wait + Sync + Files, I: Read, O: Write>(
     rt: &T,
     alloc: Global,
     table: &mut I,
@@ -40,21 +84,8 @@ fn run<T: Threads + Sync + Files, I: Read, O: Write>(
             let (inputs, schedule) = (text(words, "INPUTS")?, text(words, "SCHEDULE")?);
             run_agree(rt, alloc, table, &mut certificate, output, inputs, schedule)
         }
-        "replay" => {
-            let mut object = LazyFile::new(rt, text(words, "OBJECT")?);
-            let (start, capacity) = (text(words, "START")?, text(words, "CAPACITY")?);
-            let events = text(words, "EVENTS")?;
-            run_replay(
-                rt,
-                alloc,
-                table,
-                &mut certificate,
-                &mut object,
-                output,
-                start,
-                capacity,
-                events,
-            )
+        "replay" | "serve" => {
+            run_on_object(rt, alloc, table, &mut certificate, output, command, words)
         }
         _ => Err(AppFault::Words),
     }

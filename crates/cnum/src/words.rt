@@ -14,7 +14,7 @@ Exit status:
   1  the check refuses the certificate, or it has no witness, or a call found no slot
   2  the text of a table or of the certificate is refused
   3  the words, an argument, the limit, the count of choices, the schedule or an event are refused
-  4  reading or writing failed
+  4  reading or writing failed, or a thread could not be started
   5  out of memory
 
 Example:
@@ -113,6 +113,32 @@ Example:
   cnum replay tests/cli/check_ok/cert.json types/counter_3.toml 0 4 i0:0,s0,s0,s0 < types/test_and_set.toml
 writes entry 0 0 inc 0 1.";
 
+const SERVE_ABOUT: &str =
+    "Serves an object by threads that make calls, with a certificate's witness";
+
+const SERVE_AFTER: &str = "\
+Reads a type table in TOML from standard input, a certificate in JSON from the file CERT and the
+table of an object in TOML from the file OBJECT, and checks the certificate. Each process of the
+plan makes its calls in a thread of its own; they serve the object, which starts in the state START,
+by a log of CAPACITY slots, from 1 to 1024. CALLS has a list for each process, with / between two:
+the numbers of the operations that it calls, with a comma and no space between two, at most 1024 of
+them, or the word none.
+
+Writes for each process P, from 0 on, answer P K R for each call that is answered, with its slot K
+and its response R, in order, and full P for one that finds no slot, after which the process makes
+no other. Then writes entry K P O R S for each fixed slot K: process P, operation O, response R and
+the state S of the object afterwards. Last writes events L, where L are the events as the threads
+came to make them, which replay reads. However they ran, the answers are those of one sequential
+run, in the order of the slots.
+
+Exit status: 0 done, 1 some call found no slot, the check refuses the certificate, or it has no
+witness, 2 the text of a table or of the certificate is refused, 3 the words or an argument are
+refused, 4 reading or writing failed or a thread could not be started, 5 out of memory.
+
+Example:
+  cnum serve tests/cli/check_ok/cert.json types/counter_3.toml 0 4 0/none < types/test_and_set.toml
+writes answer 0 0 0, entry 0 0 inc 0 1 and events i0:0,s0,s0,s0,s0,s0.";
+
 fn find<'a>(alloc: Global) -> Result<Command<'a>, AllocError> {
     let limit = Arg::new(alloc, "limit")
         .long("limit")
@@ -155,16 +181,37 @@ fn agree<'a>(alloc: Global) -> Result<Command<'a>, AllocError> {
         ))
 }
 
-fn replay<'a>(alloc: Global) -> Result<Command<'a>, AllocError> {
-    with_certificate(alloc, "replay", REPLAY_ABOUT, REPLAY_AFTER)?
+/// A command that serves an object.
+fn with_object<'a>(
+    alloc: Global,
+    name: &'a str,
+    about: &'a str,
+    after: &'a str,
+) -> Result<Command<'a>, AllocError> {
+    with_certificate(alloc, name, about, after)?
         .arg(word(
             alloc,
             "OBJECT",
             "The file that holds the table of the object",
         ))?
         .arg(word(alloc, "START", "The state in which the object starts"))?
-        .arg(word(alloc, "CAPACITY", "How many slots the log has"))?
-        .arg(word(alloc, "EVENTS", "The events, in order"))
+        .arg(word(alloc, "CAPACITY", "How many slots the log has"))
+}
+
+fn replay<'a>(alloc: Global) -> Result<Command<'a>, AllocError> {
+    with_object(alloc, "replay", REPLAY_ABOUT, REPLAY_AFTER)?.arg(word(
+        alloc,
+        "EVENTS",
+        "The events, in order",
+    ))
+}
+
+fn serve<'a>(alloc: Global) -> Result<Command<'a>, AllocError> {
+    with_object(alloc, "serve", SERVE_ABOUT, SERVE_AFTER)?.arg(word(
+        alloc,
+        "CALLS",
+        "The calls of each process, in order",
+    ))
 }
 
 /// All that the program takes.
@@ -178,5 +225,6 @@ pub fn command<'a>(alloc: Global) -> Result<Command<'a>, AllocError> {
         .subcommand(with_certificate(alloc, "check", CHECK_ABOUT, CHECK_AFTER)?)?
         .subcommand(with_certificate(alloc, "show", SHOW_ABOUT, SHOW_AFTER)?)?
         .subcommand(agree(alloc)?)?
-        .subcommand(replay(alloc)?)
+        .subcommand(replay(alloc)?)?
+        .subcommand(serve(alloc)?)
 }

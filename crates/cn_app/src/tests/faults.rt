@@ -27,6 +27,7 @@ fn reads_as_the_formats_say(rt: HostRuntime) -> Result<(), Fail> {
         (AppFault::Argument(Part::Start), "argument: START", 3),
         (AppFault::Argument(Part::Capacity), "argument: CAPACITY", 3),
         (AppFault::Argument(Part::Events), "argument: EVENTS", 3),
+        (AppFault::Argument(Part::Calls), "argument: CALLS", 3),
         (
             AppFault::Table(TableFault::RowLength),
             "table: 8 RowLength",
@@ -78,6 +79,7 @@ fn reads_as_the_formats_say(rt: HostRuntime) -> Result<(), Fail> {
             4,
         ),
         (AppFault::Write, "cannot write", 4),
+        (AppFault::Thread, "cannot start a thread", 4),
         (AppFault::OutOfMemory, "out of memory", 5),
     ];
     read_as(&rt, rt.alloc(), &rows)

@@ -1,0 +1,39 @@
+use Rattle.std.proofs.Common.{◌≡◌, false, List, length, sym, ◌∙◌, subst, arith}
+use Rattle.std.specs.List.{list_any}
+use Rattle.cn_app.specs.Workers.{is_out_of_memory}
+use Rattle.cn_app.specs.declared.workers.Worked.{Worked}
+use Rattle.cn_app.proofs.LeftLemmas.{left_of, none_out_of_memory, may_all_work, same_opening, serve_all}
+use Rattle.cn_app.proofs.serving.serve_calls.Goals as goal
+
+-- src/serving.rt:113:33
+pub answer_each-requires-clause-seats : goal.answer_each-requires-clause-seats
+answer_each-requires-clause-seats g c κs within =
+    let seats = c.in-Ok.seats.items in
+    let count : length seats ≡ length c.args.calls.now = c.in-Ok.ensures.count ∙ sym c.requires.processes in (
+      may_all_work c.in-Ok.hall c.args.core c.args.calls.now seats count (λ p less. c.in-Ok.ensures.seats p (omega (arith, less, c.requires.processes))) c.requires.empty c.requires.operations,
+      omega (arith, count),
+    )
+
+-- src/serving.rt:116:9
+pub close-core-requires-clause-of : goal.close-core-requires-clause-of
+close-core-requires-clause-of g c =
+    let count : length c.in-Ok.seats.items ≡ length c.args.calls.now = c.in-Ok.ensures.count ∙ sym c.requires.processes in
+    left_of c.in-Ok.hall c.args.core c.args.calls.now c.in-Ok.seats.items count (λ p less. c.in-Ok.ensures.seats p (omega (arith, less, c.requires.processes))) c.in-Some.seats.items c.in-Some.worked.items c.in-Some.ensures.seats.0
+    c.in-Some.ensures.rooms.0 c.in-Some.ensures.worked
+
+-- src/serving.rt:88:1
+pub returns-clause-opening : goal.returns-clause-opening
+returns-clause-opening g c =
+    let count : length c.in-Ok.seats.items ≡ length c.args.calls.now = c.in-Ok.ensures.count ∙ sym c.requires.processes in
+    same_opening c.in-Ok.hall c.args.core c.args.calls.now c.in-Ok.seats.items count (λ p less. c.in-Ok.ensures.seats p (omega (arith, less, c.requires.processes))) c.in-Some.seats.items c.in-Some.worked.items
+    c.in-Some.ensures.seats.0 c.in-Some.ensures.rooms.0 c.in-Some.ensures.worked c.close-core.result c.close-core.ensures.carries
+    (omega (arith, c.processes.ensures.range.0, c.processes.ensures.number, c.requires.processes))
+
+-- src/serving.rt:88:1
+pub returns-clause-served : goal.returns-clause-served
+returns-clause-served g c =
+    let count : length c.in-Ok.seats.items ≡ length c.args.calls.now = c.in-Ok.ensures.count ∙ sym c.requires.processes in
+    let none : list_any (λ (w : Worked). is_out_of_memory w.end) c.in-Some.worked.items ≡ false
+    = subst (λ (l : List Worked). list_any (λ (w : Worked). is_out_of_memory w.end) l ≡ false) c.deref.ensures.value (sym c.found_no_memory.ensures ∙ c.if-found_no_memory.false) in
+    serve_all c.in-Ok.hall c.args.core c.args.calls.now c.in-Ok.seats.items count (λ p less. c.in-Ok.ensures.seats p (omega (arith, less, c.requires.processes))) c.in-Some.seats.items c.in-Some.worked.items c.in-Some.ensures.seats.0
+    c.in-Some.ensures.rooms.0 c.in-Some.ensures.worked c.close-core.result c.close-core.ensures.carries c.close-core.ensures.entries c.close-core.ensures.answers (none_out_of_memory c.in-Some.worked.items none)

@@ -1,0 +1,55 @@
+use Rattle.std.proofs.Common.{◌≡◌, ◌<◌, ℕ, ◌+◌, List, [], ◌∷◌, ◌++◌, All, append-nil, length, sym, ap, ◌∙◌, subst, arith, rules}
+use Rattle.std.proofs.lemmas.List.{take_all, take_more}
+use Rattle.std.proofs.lemmas.List.Elements.{All-push}
+use Rattle.cn_log.specs.Opening.{Opening}
+use Rattle.cn_hall.specs.declared.call.Reply.{Reply}
+use Rattle.cn_app.specs.Workers.{EndsAt}
+use Rattle.cn_app.specs.declared.workers.End.{End}
+use Rattle.cn_app.proofs.SeatLemmas.{begins_left, ends_left, one_more}
+use Rattle.cn_app.proofs.workers.answer.Goals as goal
+
+-- src/workers.rt:69:17
+pub returns-in-Err : goal.returns-in-Err
+returns-in-Err g c =
+    let i = c.loop-operation.invariant in
+    let h = c.in-Err.ensures in
+    let more = take_more c.args.operations.now c.loop-operation.operation-index _ c.loop-operation-test.true in
+    record {
+      same = search rules;
+      made = begins_left c.args.operations.now c.loop-operation.operation-index _ more c.loop-operation.seat c.call.new.seat h.same i.made c.in-Err.fault h.fault;
+      replied = h.own ∙ i.own;
+      range = subst (λ (o : Opening). All (λ (r : Reply). r.response.0 < length o.object.responses) c.loop-operation.replies.items) (sym h.same.2) i.range;
+      ended = subst (λ (e : End). EndsAt c.args.operations.now c.call.new.seat c.loop-operation.replies.items e) (sym c.by-end.ensures)
+          (ends_left c.args.operations.now c.loop-operation.operation-index _ more c.loop-operation.seat c.call.new.seat h.same i.made c.loop-operation-test.true c.loop-operation.replies.items i.count c.in-Err.fault h.fault);
+    }
+
+-- src/workers.rt:64:5
+pub loop-operation-preserved : goal.loop-operation-preserved
+loop-operation-preserved g c =
+    let i = c.loop-operation.invariant in
+    let h = c.in-Ok.ensures in
+    let more = take_more c.args.operations.now c.loop-operation.operation-index _ c.loop-operation-test.true in
+    record {
+      same = search rules;
+      idle = h.reply.1.0;
+      made = one_more c.args.operations.now c.loop-operation.operation-index _ more c.loop-operation.seat c.call.new.seat h.same i.made h.reply.0;
+      own = h.own ∙ ap (λ l. l ++ c.in-Ok.reply ∷ []) i.own ∙ sym c.push_reserved.ensures.items;
+      range = subst (λ (z : Opening × List Reply). All (λ (r : Reply). r.response.0 < length z.0.object.responses) z.1) (λ k. (sym h.same.2 k, sym c.push_reserved.ensures.items k))
+          (All-push (λ (r : Reply). r.response.0 < length c.loop-operation.seat.core.opening.object.responses) c.loop-operation.replies.items c.in-Ok.reply i.range h.range);
+      says = h.said;
+      count = search rules;
+      room = search rules;
+    }
+
+-- src/workers.rt:48:1
+pub returns : goal.returns
+returns g c =
+    let i = c.loop-operation.invariant in
+    let all = i.made ∙ take_all c.loop-operation.operation-index c.args.operations.now c.loop-operation-test.false in
+    record {
+      same = i.same;
+      made = ([], sym (append-nil _ ∙ all));
+      replied = i.own;
+      range = i.range;
+      ended = (all, omega (arith, i.count, c.loop-operation-test.false, c.loop-operation.auto.operation-index-end));
+    }

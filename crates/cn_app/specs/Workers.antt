@@ -1,0 +1,64 @@
+-- What the thread of one process has in hand, and what it hands back.
+use Rattle.std.specs.Prelude.{◌≡◌, ◌≤◌, ℕ, ◌+◌, ◌<◌, Bool, true, false, List, [], Some, Vec, All, length, slice_get, vec_capacity}
+use Rattle.std.specs.Global.{Global}
+use Rattle.cn_log.specs.Callers.{BeginsWith}
+use Rattle.cn_hall.specs.Answers.{own}
+use Rattle.cn_hall.specs.Calls.{IsSameSeat}
+use Rattle.cn_hall.specs.Seats.{HallId, IsSeatOf, SeatState, seen}
+use Rattle.cn_hall.specs.declared.call.CallFault.{CallFault}
+use Rattle.cn_hall.specs.declared.call.CallFault.TheVariants as fault
+use Rattle.cn_hall.specs.declared.call.Reply.{Reply}
+use Rattle.cn_app.specs.Serving.{invoked}
+use Rattle.cn_app.specs.declared.workers.End.{End}
+use Rattle.cn_app.specs.declared.workers.End.TheVariants.{Whole, Full, Stopped, OutOfMemory}
+use Rattle.cn_app.specs.declared.workers.Worked.{Worked}
+
+-- how the calls of a process end with a call that has no reply
+abbrev pub end_by : CallFault → End
+end_by fault.LogFull = Full
+end_by fault.Stopped = Stopped
+end_by fault.OutOfMemory = OutOfMemory
+
+-- a call found no memory
+abbrev pub is_out_of_memory : End → Bool
+is_out_of_memory Whole = false
+is_out_of_memory Full = false
+is_out_of_memory Stopped = false
+is_out_of_memory OutOfMemory = true
+
+-- the seat is one of the hall, in whose core nothing has happened, and these are operations of its object
+abbrev pub MayWork : HallId → List ℕ → SeatState → Type 0
+MayWork hall calls s = IsSeatOf hall s × (s.core.schedule ≡ []) × All (λ o. o < length s.core.opening.object.operations) calls
+
+-- there is no reply yet, and room for one to each call
+abbrev pub HasRoom : List ℕ → Worked → Type 0
+HasRoom calls w = (w.replies.items ≡ []) × (length calls ≤ vec_capacity w.replies)
+
+-- how a seat is left by calls that have ended so: each was made and has its reply; or the seat has seen every slot; or one call more was made, which has no reply
+abbrev pub EndsAt : List ℕ → SeatState → List Reply → End → Type 0
+EndsAt calls t replies Whole = (invoked t.process t.core.schedule ≡ calls) × (length replies ≡ length calls)
+EndsAt calls t replies Full = length (seen t) ≡ t.core.opening.capacity
+EndsAt calls t replies Stopped = length (invoked t.process t.core.schedule) ≡ length replies + 1
+EndsAt calls t replies OutOfMemory = Unit {0}
+
+-- the seat has made the first of these calls, and has these replies
+pub record HasWorked (calls : List ℕ) (s t : SeatState) (replies : List Reply) (end : End) : Type 0 where
+  pub same : IsSameSeat s t
+  pub made : BeginsWith calls (invoked t.process t.core.schedule)
+  pub replied : own t ≡ replies
+  pub range : All (λ r. r.response.0 < length t.core.opening.object.responses) replies
+  pub ended : EndsAt calls t replies end
+
+-- the seat at each place may make the calls at its place
+abbrev pub MayAllWork : HallId → List (Vec ℕ Global) → List SeatState → Type 0
+MayAllWork hall calls seats = (p : ℕ) (c : Vec ℕ Global) (s : SeatState) → slice_get calls p ≡ Some c → slice_get seats p ≡ Some s → MayWork hall c.items s
+
+-- at each place there is room for the replies to the calls at that place
+abbrev pub HaveRoom : List (Vec ℕ Global) → List Worked → Type 0
+HaveRoom calls worked = (p : ℕ) (c : Vec ℕ Global) (w : Worked) → slice_get calls p ≡ Some c → slice_get worked p ≡ Some w → HasRoom c.items w
+
+-- the seat at each place has made the first of the calls at its place
+abbrev pub HaveAllWorked : List (Vec ℕ Global) → List SeatState → List SeatState → List Worked → Type 0
+HaveAllWorked calls before after worked =
+    (p : ℕ) (c : Vec ℕ Global) (s t : SeatState) (w : Worked) → slice_get calls p ≡ Some c → slice_get before p ≡ Some s → slice_get after p ≡ Some t → slice_get worked p ≡ Some w
+    → HasWorked c.items s t w.replies.items w.end

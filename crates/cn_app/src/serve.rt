@@ -1,0 +1,204 @@
+//! The command `serve`.
+ghost use Rattle.std.specs.Prelude.{◌≡◌, ◌⊎◌, ◌<◌, ◌≤◌, ℕ, List, length, map, string_bytes, true, IfOk, IfErr};
+ghost use Rattle.std.specs.Io.KnownBytes.{Appends, Keeps};
+ghost use Rattle.cn_proto.specs.Plan.{Plan as PlanOf};
+ghost use Rattle.cn_hall.specs.declared.call.Go.TheVariants.{On};
+ghost use Rattle.cn_app.specs.Calls.{calls_fit};
+ghost use Rattle.cn_app.specs.Plans.{IsPlanOf, PlanFails};
+ghost use Rattle.cn_app.specs.Replay.{FailsObject, GivesObject, StartFails, StartGives};
+ghost use Rattle.cn_app.specs.Serve.{AreNotServed, CallsFail, CallsGive, IsServedByThreads, ThreadsFail, left_lines, EachHasResponses};
+
+use crate::calls::{calls_fit, read_calls};
+use crate::events::read_capacity;
+use crate::fault::{AppFault, Part};
+use crate::log_lines::entry_lines;
+use crate::output::{Outcome, write_whole};
+use crate::replay::{Served, Service, read_service};
+use crate::serve_lines::{events_line, outcome_of, worked_lines};
+use crate::serving::{Served as Left, serve_calls};
+use cn_hall::Gate;
+use cn_log::LogCore;
+use cn_table::{State, Table};
+use std::alloc::{AllocError, Global};
+use std::io::{Read, Write};
+use std::sync::Wait;
+use std::thread::Threads;
+
+/// The lines of what threads left: of the calls of each process, of the entries of the log, and of
+/// its events.
+fn left_lines(
+    alloc: Global,
+    object: &Table,
+    start: State,
+    left: &Left,
+) -> Result<String, AllocError>
+    requires start { start.0 < length object.now.states }
+    requires object { left.now.core.opening.object ≡ object.now }
+    requires few { length left.now.worked.items ≤ 8 }
+    requires range { EachHasResponses object.now left.now.worked.items }
+    ensures { IfOk result (λ lines. string_bytes lines ≡ left_lines object.now start.0 left.now.worked.items left.now.core) }
+{
+    left.core.is_linearized();
+    let mut lines = worked_lines(alloc, object, &left.worked)?;
+    let entries = entry_lines(alloc, object, start, left.core.entries())?;
+    lines.push_str(&entries)?;
+    let events = events_line(alloc, left.core.schedule())?;
+    lines.push_str(&events)?;
+    Ok(lines)
+}
+
+/// Serves the object by threads that make these calls: what they come to, in lines.
+fn serve<T, G, F>(
+    rt: &T,
+    alloc: Global,
+    service: &Service,
+    start: State,
+    capacity: u16,
+    calls: &[Vec<u8>],
+    make_gate: F,
+) -> Result<Served, AppFault>
+where
+    T: Threads + Wait + Sync,
+    G: Gate + Send + Drop,
+    F: Fn(u8) -> G,
+    requires start { start.0 < length service.now.object.states }
+    requires some { 1 ≤ capacity }
+    requires few { capacity ≤ 1024 }
+    requires few_calls { length calls.now ≤ 8 }
+    requires fit { calls_fit service.now.plan service.now.object (map (λ list. list.items) calls.now) ≡ true }
+    requires gates { F.IsAlwaysCallable make_gate }
+    requires on { (p : ℕ) (g : _) → F.post make_gate p g → G.says g ≡ On }
+    ensures served { IfOk result (λ s. IsServedByThreads service.now.plan service.now.object start.0 capacity (map (λ list. list.items) calls.now) (string_bytes s.lines) s.outcome) }
+    ensures refused { IfErr result (λ e. (e ≡ AppFault.OutOfMemory) ⊎ (e ≡ AppFault.Thread)) }
+{
+    let core = LogCore::new(alloc, &service.plan, &service.object, start, capacity)?;
+    let left = serve_calls(rt, alloc, core, calls, make_gate)?;
+    left.core.is_linearized();
+    let lines = left_lines(alloc, &service.object, start, &left)?;
+    let outcome = outcome_of(&left.worked);
+    Ok(Served { lines, outcome })
+}
+
+/// Serves the object from the state of this name, where the calls are ones of the plan's processes
+/// and the object's operations.
+fn serve_from<T, G, F>(
+    rt: &T,
+    alloc: Global,
+    service: &Service,
+    start: &str,
+    capacity: u16,
+    calls: &[Vec<u8>],
+    make_gate: F,
+) -> Result<Served, AppFault>
+where
+    T: Threads + Wait + Sync,
+    G: Gate + Send + Drop,
+    F: Fn(u8) -> G,
+    requires some { 1 ≤ capacity }
+    requires few { capacity ≤ 1024 }
+    requires gates { F.IsAlwaysCallable make_gate }
+    requires on { (p : ℕ) (g : _) → F.post make_gate p g → G.says g ≡ On }
+    ensures served { IfOk result (λ s. StartGives service.now.object start.now (λ q. IsServedByThreads service.now.plan service.now.object q capacity (map (λ list. list.items) calls.now) (string_bytes s.lines) s.outcome)) }
+    ensures refused { IfErr result (λ e. (e ≡ AppFault.OutOfMemory)
+        ⊎ StartFails service.now.object start.now e (λ _. AreNotServed service.now.plan service.now.object (map (λ list. list.items) calls.now) e)) }
+{
+    let Some(state) = service.object.find_state(start) else {
+        return Err(AppFault::Argument(Part::Start));
+    };
+    if !calls_fit(&service.plan, &service.object, calls) {
+        return Err(AppFault::Argument(Part::Calls));
+    }
+    serve(rt, alloc, service, state, capacity, calls, make_gate)
+}
+
+/// Reads the three texts, and serves the object by threads.
+fn serve_texts<T, R: Read, C: Read, O: Read, G, F>(
+    rt: &T,
+    alloc: Global,
+    table: &mut R,
+    certificate: &mut C,
+    object: &mut O,
+    start: &str,
+    capacity: u16,
+    calls: &[Vec<u8>],
+    make_gate: F,
+) -> Result<Served, AppFault>
+where
+    T: Threads + Wait + Sync,
+    G: Gate + Send + Drop,
+    F: Fn(u8) -> G,
+    requires some { 1 ≤ capacity }
+    requires few { capacity ≤ 1024 }
+    requires gates { F.IsAlwaysCallable make_gate }
+    requires on { (p : ℕ) (g : _) → F.post make_gate p g → G.says g ≡ On }
+    ensures served { IfOk result (λ s. GivesObject (R.remaining table.old) (C.remaining certificate.old) (O.remaining object.old) (λ t c o. (plan : PlanOf)
+        × IsPlanOf t c plan × StartGives o start.now (λ q. IsServedByThreads plan o q capacity (map (λ list. list.items) calls.now) (string_bytes s.lines) s.outcome))) }
+    ensures refused { IfErr result (λ e. (e ≡ AppFault.OutOfMemory) ⊎ FailsObject (R.remaining table.old) (C.remaining certificate.old) (O.remaining object.old) e (λ t c o.
+        PlanFails t c e (λ plan. StartFails o start.now e (λ _. AreNotServed plan o (map (λ list. list.items) calls.now) e)))) }
+{
+    let service = read_service(alloc, table, certificate, object)?;
+    serve_from(rt, alloc, &service, start, capacity, calls, make_gate)
+}
+
+/// Reads a type table, a certificate and the table of an object, checks the certificate against the
+/// type table, and serves the object with the plan of the certificate's witness: one thread for
+/// each process makes the calls of its list, one after the other, until one has no reply. Writes
+/// for each process, from 0 on, a line for each of its calls, then a line for each entry of the
+/// log, and last a line with the events.
+///
+/// The object starts in the state of the name `start`; `capacity` is the number of slots, from 1 to
+/// 1024, and `calls` are as [`read_calls`] reads them. The gate that `make_gate` makes for a process
+/// is asked before each step of its calls, and says whether they go on; a gate has said On before it
+/// is asked. However the threads run, what is written is of one log, whose answers are those of one
+/// sequential run of the calls. `Cut` tells that some call found no slot or was stopped.
+///
+/// # Errors
+///
+/// The first of these: `capacity`, then `calls`, is not spelled as it should be; the reader of the
+/// type table fails, or gives more than 65,536 bytes; the type table is refused; so for the
+/// certificate, of at most 16,777,216 bytes, and for the object, of at most 65,536; the check
+/// refuses the certificate; it has no witness; the object has no state of the name `start`; `calls`
+/// has not one list for each process, or a number that is no operation of the object; a thread
+/// could not be started, and then those that run have finished; the writer fails. Want of memory
+/// can stand in place of any answer. Nothing is written unless all else went well.
+pub fn run_serve<T, R: Read, C: Read, O: Read, W: Write, G, F>(
+    rt: &T,
+    alloc: Global,
+    table: &mut R,
+    certificate: &mut C,
+    object: &mut O,
+    writer: &mut W,
+    start: &str,
+    capacity: &str,
+    calls: &str,
+    make_gate: F,
+) -> Result<Outcome, AppFault>
+where
+    T: Threads + Wait + Sync,
+    G: Gate + Send + Drop,
+    F: Fn(u8) -> G,
+    requires gates { F.IsAlwaysCallable make_gate }
+    requires on { (p : ℕ) (g : _) → F.post make_gate p g → G.says g ≡ On }
+    ensures written { IfOk result (λ outcome. CallsGive capacity.now calls.now (λ k cs. GivesObject (R.remaining table.old) (C.remaining certificate.old) (O.remaining object.old) (λ t c o. (plan : PlanOf)
+        × IsPlanOf t c plan × StartGives o start.now (λ q. (lines : List ℕ) × IsServedByThreads plan o q k cs lines outcome × Appends (W.contents writer.old) (W.contents writer.new) lines)))) }
+    ensures refused { IfErr result (λ e. (e ≡ AppFault.OutOfMemory) ⊎ CallsFail capacity.now calls.now e (λ k cs.
+        FailsObject (R.remaining table.old) (C.remaining certificate.old) (O.remaining object.old) e (λ t c o.
+        PlanFails t c e (λ plan. StartFails o start.now e (λ _. ThreadsFail plan o cs e))))) }
+    ensures silent { IfErr result (λ e. (e ≡ AppFault.Write) ⊎ Keeps (W.contents writer.old) (W.contents writer.new)) }
+{
+    let capacity = read_capacity(capacity)?;
+    let calls = read_calls(alloc, calls)?;
+    let served = serve_texts(
+        rt,
+        alloc,
+        table,
+        certificate,
+        object,
+        start,
+        capacity,
+        &calls,
+        make_gate,
+    )?;
+    write_whole(writer, served.lines.as_bytes())?;
+    Ok(served.outcome)
+}
