@@ -8,48 +8,48 @@ use Rattle.std.proofs.Math.Nat.{pow-zero, pow-suc, pow-succ', pow-le-pow_left, p
 use Rattle.std.proofs.lemmas.Nat.{pow-add, same_from_place, mul-le, div_below, mod_below, div-add-mod'}
 use Rattle.std.proofs.lemmas.List.Elements.{All-from_recursion}
 use Rattle.std.proofs.lemmas.Bool.{cases_order}
-use Rattle.cn_check.specs.Numbering.{number_of}
+use Rattle.cn_check.specs.Numbering.{list_number}
 
--- a number below the base is a list of one digit more
-pub number_of-append : (base : ℕ) (xs ys : List ℕ) → number_of base (xs ++ ys) ≡ number_of base xs * base ^ length ys + number_of base ys
-unfolding number_of
-number_of-append base [] ys = omega arith
-number_of-append base (x ∷ xs) ys =
+-- the number of a list with another one behind it
+pub list_number-append : (base : ℕ) (xs ys : List ℕ) → list_number base (xs ++ ys) ≡ list_number base xs * base ^ length ys + list_number base ys
+unfolding list_number
+list_number-append base [] ys = omega arith
+list_number-append base (x ∷ xs) ys =
     let e : base ^ length (xs ++ ys) ≡ base ^ length xs * base ^ length ys = ap (λ (k : ℕ). base ^ k) (length-append xs ys) ∙ pow-add base (length xs) (length ys) in
-    omega (arith, e, ap (λ (k : ℕ). x * k) e, number_of-append base xs ys)
+    omega (arith, e, ap (λ (k : ℕ). x * k) e, list_number-append base xs ys)
 
-pub number_of-push : (base : ℕ) (xs : List ℕ) (x : ℕ) → number_of base (xs ++ x ∷ []) ≡ number_of base xs * base + x
-unfolding number_of
-number_of-push base xs x =
+pub list_number-push : (base : ℕ) (xs : List ℕ) (x : ℕ) → list_number base (xs ++ x ∷ []) ≡ list_number base xs * base + x
+unfolding list_number
+list_number-push base xs x =
     let unit : base ^ length {A = ℕ} [] ≡ 1 = pow-zero base in
     let one : base ^ length (x ∷ []) ≡ base = pow-succ' base 0 ∙ omega (arith, pow-zero base, ap (λ (k : ℕ). base * k) (pow-zero base)) in
-    number_of-append base xs (x ∷ []) ∙ omega (arith, ap (λ (k : ℕ). number_of base xs * k) one, ap (λ (k : ℕ). x * k) unit)
+    list_number-append base xs (x ∷ []) ∙ omega (arith, ap (λ (k : ℕ). list_number base xs * k) one, ap (λ (k : ℕ). x * k) unit)
 
 -- a digit in front of a number
 below_unit : (x base unit rest : ℕ) → x < base → rest < unit → x * unit + rest < base * unit
 below_unit x base unit rest l u = omega (arith, mul-le (x + 1) unit base unit (omega arith) (omega arith))
 
-pub number_below : (base : ℕ) (xs : List ℕ) → AllByRecursion (λ x. x < base) xs → number_of base xs < base ^ length xs
-unfolding number_of
+pub number_below : (base : ℕ) (xs : List ℕ) → AllByRecursion (λ x. x < base) xs → list_number base xs < base ^ length xs
+unfolding list_number
 number_below base [] h = omega (arith, pow-zero base)
-number_below base (x ∷ xs) h = subst (λ (k : ℕ). x * base ^ length xs + number_of base xs < k) (sym (pow-succ' base (length xs))) (below_unit x base (base ^ length xs) (number_of base xs) h.0 (number_below base xs h.1))
+number_below base (x ∷ xs) h = subst (λ (k : ℕ). x * base ^ length xs + list_number base xs < k) (sym (pow-succ' base (length xs))) (below_unit x base (base ^ length xs) (list_number base xs) h.0 (number_below base xs h.1))
 
 -- two lists of one length with one number are the same list
-pub number_tells : (base : ℕ) (xs ys : List ℕ) → AllByRecursion (λ x. x < base) xs → AllByRecursion (λ x. x < base) ys → length xs ≡ length ys → number_of base xs ≡ number_of base ys → xs ≡ ys
-unfolding number_of
+pub number_tells : (base : ℕ) (xs ys : List ℕ) → AllByRecursion (λ x. x < base) xs → AllByRecursion (λ x. x < base) ys → length xs ≡ length ys → list_number base xs ≡ list_number base ys → xs ≡ ys
+unfolding list_number
 number_tells base [] [] h g l e = refl
 number_tells base [] (y ∷ ys) h g l e = absurd (omega arith)
 number_tells base (x ∷ xs) [] h g l e = absurd (omega arith)
 number_tells base (x ∷ xs) (y ∷ ys) h g l e =
     let long : length xs ≡ length ys = omega arith in
     let low = number_below base xs h.1 in
-    let high = subst (λ (k : ℕ). number_of base ys < base ^ k) (sym long) (number_below base ys g.1) in
-    let same = same_from_place x (number_of base xs) y (number_of base ys) (base ^ length xs) low high (e ∙ ap (λ (k : ℕ). y * base ^ k + number_of base ys) (sym long)) in
+    let high = subst (λ (k : ℕ). list_number base ys < base ^ k) (sym long) (number_below base ys g.1) in
+    let same = same_from_place x (list_number base xs) y (list_number base ys) (base ^ length xs) low high (e ∙ ap (λ (k : ℕ). y * base ^ k + list_number base ys) (sym long)) in
     ap (λ (z : ℕ). z ∷ xs) same.0 ∙ ap (λ (zs : List ℕ). y ∷ zs) (number_tells base xs ys h.1 g.1 long same.1)
 
 -- of two lists of one length the one that comes first has the smaller number
-pub number_rises : (base : ℕ) (xs ys : List ℕ) → AllByRecursion (λ x. x < base) xs → length xs ≡ length ys → slice_cmp nat_cmp xs ys ≡ Less → number_of base xs < number_of base ys
-unfolding number_of
+pub number_rises : (base : ℕ) (xs ys : List ℕ) → AllByRecursion (λ x. x < base) xs → length xs ≡ length ys → slice_cmp nat_cmp xs ys ≡ Less → list_number base xs < list_number base ys
+unfolding list_number
 number_rises base [] [] h l e = absurd (cc e)
 number_rises base [] (y ∷ ys) h l e = absurd (omega arith)
 number_rises base (x ∷ xs) [] h l e = absurd (omega arith)
@@ -81,10 +81,10 @@ pub record IsTaken (base size number k : ℕ) (list : List ℕ) (rest unit : ℕ
   pub known : AllByRecursion (λ x. x < base) list
   pub unit_is : unit ≡ base ^ (size - k)
   pub left : rest < unit
-  pub all : number_of base list * unit + rest ≡ number
+  pub all : list_number base list * unit + rest ≡ number
 
 pub none_taken : (base size number : ℕ) (list : List ℕ) (unit : ℕ) → list ≡ [] → unit ≡ base ^ size → number < base ^ size → IsTaken base size number 0 list number unit
-unfolding number_of
+unfolding list_number
 none_taken base size number list unit e f l =
     let taken : IsTaken base size number 0 [] number (base ^ size) = record { long = refl; known = tt; unit_is = ap (λ (j : ℕ). base ^ j) (omega arith); left = l; all = omega arith } in
     rw (e, f) taken
@@ -116,10 +116,10 @@ take_digit base size number k list rest unit some l h =
       unit_is = u.0;
       left = mod_below rest next u.2;
       all =
-          omega (arith, h.all, ap (λ (j : ℕ). j * next) (number_of-push base list digit), ap (λ (j : ℕ). number_of base list * j) u.1, div-add-mod' rest next);
+          omega (arith, h.all, ap (λ (j : ℕ). j * next) (list_number-push base list digit), ap (λ (j : ℕ). list_number base list * j) u.1, div-add-mod' rest next);
     }
 
-pub all_taken : (base size number : ℕ) (list : List ℕ) (rest unit : ℕ) → IsTaken base size number size list rest unit → (length list ≡ size) × All (λ x. x < base) list × (number_of base list ≡ number)
+pub all_taken : (base size number : ℕ) (list : List ℕ) (rest unit : ℕ) → IsTaken base size number size list rest unit → (length list ≡ size) × All (λ x. x < base) list × (list_number base list ≡ number)
 all_taken base size number list rest unit h =
     let one : unit ≡ 1 = h.unit_is ∙ (let none : size - size ≡ 0 = omega arith in ap (λ (j : ℕ). base ^ j) none ∙ pow-zero base) in
-    (h.long, All-from_recursion (λ x. x < base) list h.known, omega (arith, h.all, h.left, one, ap (λ (j : ℕ). number_of base list * j) one))
+    (h.long, All-from_recursion (λ x. x < base) list h.known, omega (arith, h.all, h.left, one, ap (λ (j : ℕ). list_number base list * j) one))

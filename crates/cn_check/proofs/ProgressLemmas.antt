@@ -15,7 +15,7 @@ use Rattle.cn_choice.proofs.CanonicalForms.{IsChoiceFor, IsRawChoice-choice, can
 use Rattle.cn_choice.proofs.Members.{AllPairs-from_Pairs, IsIn-append_left, IsIn-append_right, each_at, each_from}
 use Rattle.cn_search.specs.Evidence.{choices_for}
 use Rattle.cn_check.specs.Conditions.{Refutes}
-use Rattle.cn_check.specs.Numbering.{number_of}
+use Rattle.cn_check.specs.Numbering.{list_number}
 use Rattle.cn_check.specs.Progress.{AreRefuted, HasComeTo, StandsBefore}
 use Rattle.cn_check.proofs.StandingLemmas
 
@@ -51,7 +51,7 @@ module _ (t : TypeTable) (n : ℕ) where
       let here : ChoiceComesBefore (get_or choices i c) (get_or choices k c) = all i k c l (slice_get_within choices k d f) in
       subst (λ x. ChoiceComesBefore x d) (get_or_from_slice_get choices i c c e) (subst (ChoiceComesBefore (get_or choices i c)) (get_or_from_slice_get choices k d c f) here)
 
-  stands_at : (i k : ℕ) (c d : Choice) → i < k → slice_get choices i ≡ Some c → slice_get choices k ≡ Some d → StandsBefore base d.state (length d.a) (StandingLemmas.number_of_choice base d) c
+  stands_at : (i k : ℕ) (c d : Choice) → i < k → slice_get choices i ≡ Some c → slice_get choices k ≡ Some d → StandsBefore base d.state (length d.a) (StandingLemmas.choice_number base d) c
   stands_at i k c d l e f = StandingLemmas.stands_before base n c d (within_at i c e) (within_at k d f) (rises_at i k c d l e f)
 
   place_of : (c : Choice) → IsCanonical c → IsRawChoice t n (raw_choice_of c) → (i : ℕ) × (slice_get choices i ≡ Some c)
@@ -60,7 +60,7 @@ module _ (t : TypeTable) (n : ℕ) where
 
   module _ (entries : List Collision) where
     -- the canonical choice at the position that was come to stands at the place
-    pub choice_here : (place : ℕ) (c : Choice) → IsCanonical c → IsRawChoice t n (raw_choice_of c) → HasComeTo t n entries place c.state (length c.a) (StandingLemmas.number_of_choice base c)
+    pub choice_here : (place : ℕ) (c : Choice) → IsCanonical c → IsRawChoice t n (raw_choice_of c) → HasComeTo t n entries place c.state (length c.a) (StandingLemmas.choice_number base c)
         → slice_get choices place ≡ Some c
     choice_here place c canonical fits h =
         let p = place_of c canonical fits in
@@ -76,8 +76,8 @@ module _ (t : TypeTable) (n : ℕ) where
           ]
         ]
 
-    pub come_past : (place : ℕ) (c : Choice) → slice_get choices place ≡ Some c → HasComeTo t n entries place c.state (length c.a) (StandingLemmas.number_of_choice base c) → AreRefuted t choices entries (place + 1)
-        → HasComeTo t n entries (place + 1) c.state (length c.a) (StandingLemmas.number_of_choice base c + 1)
+    pub come_past : (place : ℕ) (c : Choice) → slice_get choices place ≡ Some c → HasComeTo t n entries place c.state (length c.a) (StandingLemmas.choice_number base c) → AreRefuted t choices entries (place + 1)
+        → HasComeTo t n entries (place + 1) c.state (length c.a) (StandingLemmas.choice_number base c + 1)
     come_past place c at h refuted = record {
       within = omega (arith, slice_get_within choices place c at);
       before = λ i l. if_some _ (slice_get choices i) (λ d e. before i d e (cases_order i place) l);
@@ -85,20 +85,20 @@ module _ (t : TypeTable) (n : ℕ) where
       refuted = refuted;
     }
       where
-        before : (i : ℕ) (d : Choice) → slice_get choices i ≡ Some d → ((i ≡ place) ⊎ ((i < place) ⊎ (place < i))) → i < place + 1 → StandsBefore base c.state (length c.a) (StandingLemmas.number_of_choice base c + 1) d
+        before : (i : ℕ) (d : Choice) → slice_get choices i ≡ Some d → ((i ≡ place) ⊎ ((i < place) ⊎ (place < i))) → i < place + 1 → StandsBefore base c.state (length c.a) (StandingLemmas.choice_number base c + 1) d
         before i d e (inl same) l =
             let is : c ≡ d = same_Some c d (sym at ∙ (ap (slice_get choices) (sym same) ∙ e)) in
-            subst (StandsBefore base c.state (length c.a) (StandingLemmas.number_of_choice base c + 1)) is (inr (refl, inr (refl, omega arith)))
-        before i d e (inr (inl sooner)) l = StandingLemmas.before_next base c.state (length c.a) (StandingLemmas.number_of_choice base c) d (of_some _ (slice_get choices i) d (h.before i sooner) e)
+            subst (StandsBefore base c.state (length c.a) (StandingLemmas.choice_number base c + 1)) is (inr (refl, inr (refl, omega arith)))
+        before i d e (inr (inl sooner)) l = StandingLemmas.before_next base c.state (length c.a) (StandingLemmas.choice_number base c) d (of_some _ (slice_get choices i) d (h.before i sooner) e)
         before i d e (inr (inr later)) l = absurd (omega arith)
 
     -- where the lists at the position are no canonical choice, nothing stands there
-    pub come_on : (place state size : ℕ) (list : List ℕ) → HasComeTo t n entries place state size (number_of base list) → All (λ o. o < base) list → length list ≡ n
-        → ¬ IsCanonical (record { state = state; a = take size list; b = drop size list }) → HasComeTo t n entries place state size (number_of base list + 1)
+    pub come_on : (place state size : ℕ) (list : List ℕ) → HasComeTo t n entries place state size (list_number base list) → All (λ o. o < base) list → length list ≡ n
+        → ¬ IsCanonical (record { state = state; a = take size list; b = drop size list }) → HasComeTo t n entries place state size (list_number base list + 1)
     come_on place state size list h known long none = record {
       within = h.within;
-      before = λ i l. if_some _ (slice_get choices i) (λ d e. StandingLemmas.before_next base state size (number_of base list) d (of_some _ (slice_get choices i) d (h.before i l) e));
-      later = λ i l. if_some _ (slice_get choices i) (λ d e g. elim (StandingLemmas.before_next_cases base state size (number_of base list) d g) [
+      before = λ i l. if_some _ (slice_get choices i) (λ d e. StandingLemmas.before_next base state size (list_number base list) d (of_some _ (slice_get choices i) d (h.before i l) e));
+      later = λ i l. if_some _ (slice_get choices i) (λ d e g. elim (StandingLemmas.before_next_cases base state size (list_number base list) d g) [
         | inl before ↦ of_some _ (slice_get choices i) d (h.later i l) e before
         | inr here ↦
             (let same = StandingLemmas.same_position base n d list size (within_at i d e) (recursion_from_All (λ o. o < base) list known) long here.1 here.2 in
@@ -153,19 +153,19 @@ pub record IsSplit (t : TypeTable) (n state size number : ℕ) (list a b : List 
   pub half : size + size ≤ n
   pub long : length list ≡ n
   pub known : All (λ o. o < length t.operations) list
-  pub numbered : number_of (length t.operations) list ≡ number
+  pub numbered : list_number (length t.operations) list ≡ number
   pub front : a ≡ take size list
   pub back : b ≡ drop size list
 
 pub split_from : (t : TypeTable) (n state size number operations : ℕ) (list slice a b : List ℕ) → state < length t.states → 1 ≤ size → size + size ≤ n → operations ≡ length t.operations
-    → length list ≡ n → All (λ o. o < operations) list → number_of operations list ≡ number → slice ≡ list → a ≡ take size slice → b ≡ drop size slice → IsSplit t n state size number list a b
+    → length list ≡ n → All (λ o. o < operations) list → list_number operations list ≡ number → slice ≡ list → a ≡ take size slice → b ≡ drop size slice → IsSplit t n state size number list a b
 split_from t n state size number operations list slice a b known_state someone half count long known numbered same front back = record {
   known_state = known_state;
   someone = someone;
   half = half;
   long = long;
   known = subst (λ (k : ℕ). All (λ o. o < k) list) count known;
-  numbered = subst (λ (k : ℕ). number_of k list ≡ number) count numbered;
+  numbered = subst (λ (k : ℕ). list_number k list ≡ number) count numbered;
   front = front ∙ ap (take size) same;
   back = back ∙ ap (drop size) same;
 }
@@ -183,8 +183,8 @@ module _ (t : TypeTable) (n state size number : ℕ) (list a b : List ℕ) (spli
   all : length a + length b ≡ n
   all = sym (length-append a b) ∙ (ap length whole ∙ split.long)
 
-  numbered : number_of (length t.operations) (a ++ b) ≡ number
-  numbered = ap (number_of (length t.operations)) whole ∙ split.numbered
+  numbered : list_number (length t.operations) (a ++ b) ≡ number
+  numbered = ap (list_number (length t.operations)) whole ∙ split.numbered
 
   pub split_fits : IsRawChoice t n (raw_choice_of choice)
   split_fits =
@@ -199,7 +199,7 @@ module _ (t : TypeTable) (n state size number : ℕ) (list a b : List ℕ) (spli
       })
 
   module _ (entries : List Collision) (place : ℕ) (come : HasComeTo t n entries place state size number) where
-    come_here : HasComeTo t n entries place state (length a) (number_of (length t.operations) (a ++ b))
+    come_here : HasComeTo t n entries place state (length a) (list_number (length t.operations) (a ++ b))
     come_here = rw (short, numbered) come
 
     pub split_here : IsCanonical choice → slice_get (choices_for t n) place ≡ Some choice
@@ -207,12 +207,12 @@ module _ (t : TypeTable) (n state size number : ℕ) (list a b : List ℕ) (spli
 
     pub split_past : IsCanonical choice → AreRefuted t (choices_for t n) entries (place + 1) → HasComeTo t n entries (place + 1) state size (number + 1)
     split_past canonical refuted =
-        let past : HasComeTo t n entries (place + 1) state (length a) (number_of (length t.operations) (a ++ b) + 1) = come_past t n entries place choice (split_here canonical) come_here refuted in
+        let past : HasComeTo t n entries (place + 1) state (length a) (list_number (length t.operations) (a ++ b) + 1) = come_past t n entries place choice (split_here canonical) come_here refuted in
         rw (← short, ← numbered) past
 
     pub split_on : ¬ IsCanonical choice → HasComeTo t n entries place state size (number + 1)
     split_on none =
-        let on : HasComeTo t n entries place state size (number_of (length t.operations) list + 1) = come_on t n entries place state size list (rw split.numbered come) split.known split.long (rw (← split.front, ← split.back) none) in
+        let on : HasComeTo t n entries place state size (list_number (length t.operations) list + 1) = come_on t n entries place state size list (rw split.numbered come) split.known split.long (rw (← split.front, ← split.back) none) in
         rw (← split.numbered) on
 
 pub split_fits_table : (t : TypeTable) (n state : ℕ) (a b : List ℕ) → 2 ≤ n → n ≤ 8 → IsRawChoice t n (raw_choice_of (record { state = state; a = a; b = b })) → FitsTable t (record { state = state; a = a; b = b })

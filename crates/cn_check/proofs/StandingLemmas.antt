@@ -6,9 +6,9 @@ use Rattle.std.proofs.Math.Nat.{eq-or-lt_of_le}
 use Rattle.std.proofs.Math.Seq.{drop-append_seam, take-append_seam}
 use Rattle.cn_choice.specs.Canonical.{Choice, ChoiceComesBefore}
 use Rattle.cn_choice.proofs.Members.{IsIn-append_cases, each_at, each_from}
-use Rattle.cn_check.specs.Numbering.{number_of}
+use Rattle.cn_check.specs.Numbering.{list_number}
 use Rattle.cn_check.specs.Progress.{StandsBefore}
-use Rattle.cn_check.proofs.NumberingLemmas.{number_below, number_of-append, number_rises, number_tells}
+use Rattle.cn_check.proofs.NumberingLemmas.{number_below, list_number-append, number_rises, number_tells}
 
 -- a choice of n processes, each with an operation below the base
 pub record IsWithin (base n : ℕ) (c : Choice) : Type 0 where
@@ -16,8 +16,8 @@ pub record IsWithin (base n : ℕ) (c : Choice) : Type 0 where
   pub b_known : AllByRecursion (λ o. o < base) c.b
   pub all : length c.a + length c.b ≡ n
 
-abbrev pub number_of_choice : ℕ → Choice → ℕ
-number_of_choice base c = number_of base (c.a ++ c.b)
+abbrev pub choice_number : ℕ → Choice → ℕ
+choice_number base c = list_number base (c.a ++ c.b)
 
 pub both_known : (base n : ℕ) (c : Choice) → IsWithin base n c → AllByRecursion (λ o. o < base) (c.a ++ c.b)
 both_known base n c w = each_from (λ o. o < base) (c.a ++ c.b) (λ x i. elim (IsIn-append_cases x c.a c.b i) [
@@ -25,24 +25,24 @@ both_known base n c w = each_from (λ o. o < base) (c.a ++ c.b) (λ x i. elim (I
   | inr j ↦ each_at (λ o. o < base) c.b x w.b_known j
 ])
 
-a_rises : (base : ℕ) (c d : Choice) (n : ℕ) → IsWithin base n c → IsWithin base n d → length c.a ≡ length d.a → number_of base c.a < number_of base d.a → number_of_choice base c < number_of_choice base d
+a_rises : (base : ℕ) (c d : Choice) (n : ℕ) → IsWithin base n c → IsWithin base n d → length c.a ≡ length d.a → list_number base c.a < list_number base d.a → choice_number base c < choice_number base d
 a_rises base c d n v w long less =
     let unit : base ^ length c.b ≡ base ^ length d.b = ap (λ (k : ℕ). base ^ k) (omega (arith, v.all, w.all, long)) in
     omega (
       arith,
-      number_of-append base c.a c.b,
-      number_of-append base d.a d.b,
+      list_number-append base c.a c.b,
+      list_number-append base d.a d.b,
       number_below base c.b v.b_known,
-      mul-le (number_of base c.a + 1) (base ^ length c.b) (number_of base d.a) (base ^ length d.b) (omega (arith, less)) (omega (arith, unit)),
+      mul-le (list_number base c.a + 1) (base ^ length c.b) (list_number base d.a) (base ^ length d.b) (omega (arith, less)) (omega (arith, unit)),
     )
 
-b_rises : (base : ℕ) (c d : Choice) → c.a ≡ d.a → length c.b ≡ length d.b → number_of base c.b < number_of base d.b → number_of_choice base c < number_of_choice base d
+b_rises : (base : ℕ) (c d : Choice) → c.a ≡ d.a → length c.b ≡ length d.b → list_number base c.b < list_number base d.b → choice_number base c < choice_number base d
 b_rises base c d same long less =
-    let high : number_of base c.a * base ^ length c.b ≡ number_of base d.a * base ^ length d.b = ap (λ xs. number_of base xs * base ^ length c.b) same ∙ ap (λ (k : ℕ). number_of base d.a * base ^ k) long in
-    omega (arith, number_of-append base c.a c.b, number_of-append base d.a d.b, high, less)
+    let high : list_number base c.a * base ^ length c.b ≡ list_number base d.a * base ^ length d.b = ap (λ xs. list_number base xs * base ^ length c.b) same ∙ ap (λ (k : ℕ). list_number base d.a * base ^ k) long in
+    omega (arith, list_number-append base c.a c.b, list_number-append base d.a d.b, high, less)
 
 -- the order of the canonical choices is that of the states, the sizes and the numbers
-pub stands_before : (base n : ℕ) (c d : Choice) → IsWithin base n c → IsWithin base n d → ChoiceComesBefore c d → StandsBefore base d.state (length d.a) (number_of_choice base d) c
+pub stands_before : (base n : ℕ) (c d : Choice) → IsWithin base n c → IsWithin base n d → ChoiceComesBefore c d → StandsBefore base d.state (length d.a) (choice_number base d) c
 stands_before base n c d v w h = elim h [
   | inl state ↦ inl state
   | inr same ↦ inr (
@@ -67,7 +67,7 @@ stands_before base n c d v w h = elim h [
 
 -- ---- positions
 
-pub not_before_own : (base : ℕ) (c : Choice) → ¬ StandsBefore base c.state (length c.a) (number_of_choice base c) c
+pub not_before_own : (base : ℕ) (c : Choice) → ¬ StandsBefore base c.state (length c.a) (choice_number base c) c
 not_before_own base c h = elim h [ inl l ↦ absurd (omega arith) | inr s ↦ elim s.1 [ inl l ↦ absurd (omega arith) | inr e ↦ absurd (omega (arith, e.1)) ] ]
 
 pub before_next : (base state size number : ℕ) (c : Choice) → StandsBefore base state size number c → StandsBefore base state size (number + 1) c
@@ -76,7 +76,7 @@ before_next base state size number c h =
 
 -- what stands before the next position stands before this one or at it
 pub before_next_cases : (base state size number : ℕ) (c : Choice) → StandsBefore base state size (number + 1) c
-    → StandsBefore base state size number c ⊎ ((c.state ≡ state) × (length c.a ≡ size) × (number_of_choice base c ≡ number))
+    → StandsBefore base state size number c ⊎ ((c.state ≡ state) × (length c.a ≡ size) × (choice_number base c ≡ number))
 before_next_cases base state size number c h = elim h [
   | inl l ↦ inl (inl l)
   | inr s ↦ elim s.1 [
@@ -85,16 +85,16 @@ before_next_cases base state size number c h = elim h [
   ]
 ]
   where
-    at_most : number_of_choice base c < number + 1 → number_of_choice base c ≤ number
+    at_most : choice_number base c < number + 1 → choice_number base c ≤ number
     at_most l = omega arith
 
-    by_number : c.state ≡ state → length c.a ≡ size → (number_of_choice base c ≡ number) ⊎ (number_of_choice base c < number)
-        → StandsBefore base state size number c ⊎ ((c.state ≡ state) × (length c.a ≡ size) × (number_of_choice base c ≡ number))
+    by_number : c.state ≡ state → length c.a ≡ size → (choice_number base c ≡ number) ⊎ (choice_number base c < number)
+        → StandsBefore base state size number c ⊎ ((c.state ≡ state) × (length c.a ≡ size) × (choice_number base c ≡ number))
     by_number s l (inl e) = inr (s, l, e)
     by_number s l (inr g) = inl (inr (s, inr (l, g)))
 
 -- a choice at a position does not stand after one that stands before the next position
-pub not_both : (base : ℕ) (c d : Choice) → StandsBefore base d.state (length d.a) (number_of_choice base d) c → ¬ StandsBefore base c.state (length c.a) (number_of_choice base c + 1) d
+pub not_both : (base : ℕ) (c d : Choice) → StandsBefore base d.state (length d.a) (choice_number base d) c → ¬ StandsBefore base c.state (length c.a) (choice_number base c + 1) d
 not_both base c d h g = elim h [
   | inl l ↦ elim g [ inl m ↦ absurd (omega arith) | inr s ↦ absurd (omega (arith, s.0)) ]
   | inr s ↦ elim g [
@@ -107,7 +107,7 @@ not_both base c d h g = elim h [
 ]
 
 -- two choices at one position are the same
-pub same_position : (base n : ℕ) (c : Choice) (list : List ℕ) (size : ℕ) → IsWithin base n c → AllByRecursion (λ o. o < base) list → length list ≡ n → length c.a ≡ size → number_of_choice base c ≡ number_of base list
+pub same_position : (base n : ℕ) (c : Choice) (list : List ℕ) (size : ℕ) → IsWithin base n c → AllByRecursion (λ o. o < base) list → length list ≡ n → length c.a ≡ size → choice_number base c ≡ list_number base list
     → (c.a ≡ take size list) × (c.b ≡ drop size list)
 same_position base n c list size w known long short e =
     let same : c.a ++ c.b ≡ list = number_tells base (c.a ++ c.b) list (both_known base n c w) known (length-append c.a c.b ∙ (w.all ∙ sym long)) e in (
@@ -117,8 +117,8 @@ same_position base n c list size w known long short e =
 
 -- ---- the end of a size, and of a state
 
-pub number_within : (base n : ℕ) (c : Choice) → IsWithin base n c → number_of_choice base c < base ^ n
-number_within base n c w = subst (λ (k : ℕ). number_of_choice base c < base ^ k) (length-append c.a c.b ∙ w.all) (number_below base (c.a ++ c.b) (both_known base n c w))
+pub number_within : (base n : ℕ) (c : Choice) → IsWithin base n c → choice_number base c < base ^ n
+number_within base n c w = subst (λ (k : ℕ). choice_number base c < base ^ k) (length-append c.a c.b ∙ w.all) (number_below base (c.a ++ c.b) (both_known base n c w))
 
 pub before_next_size : (base state size number : ℕ) (c : Choice) → StandsBefore base state size number c → StandsBefore base state (size + 1) 0 c
 before_next_size base state size number c h = elim h [ inl l ↦ inl l | inr s ↦ inr (s.0, elim s.1 [ inl l ↦ inl (omega arith) | inr e ↦ inl (omega (arith, e.0)) ]) ]
@@ -138,7 +138,7 @@ before_size_end base n state size c w h = elim h [
     at_most : length c.a < size + 1 → length c.a ≤ size
     at_most l = omega arith
 
-    by_size : (length c.a ≡ size) ⊎ (length c.a < size) → (length c.a < size) ⊎ ((length c.a ≡ size) × (number_of_choice base c < base ^ n))
+    by_size : (length c.a ≡ size) ⊎ (length c.a < size) → (length c.a < size) ⊎ ((length c.a ≡ size) × (choice_number base c < base ^ n))
     by_size (inl e) = inr (e, number_within base n c w)
     by_size (inr l) = inl l
 

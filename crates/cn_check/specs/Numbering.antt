@@ -2,6 +2,6 @@
 use Rattle.std.specs.Prelude.{ℕ, ◌+◌, ◌*◌, ◌^◌, List, [], ◌∷◌, length}
 
 -- the list read as the digits of a number; each of its numbers is below the base
-unfoldable pub number_of : ℕ → List ℕ → ℕ
-number_of base [] = 0
-number_of base (x ∷ xs) = x * base ^ length xs + number_of base xs
+unfoldable pub list_number : ℕ → List ℕ → ℕ
+list_number base [] = 0
+list_number base (x ∷ xs) = x * base ^ length xs + list_number base xs

@@ -5,14 +5,14 @@ use Rattle.cn_choice.specs.Canonical.{Choice}
 use Rattle.cn_choice.specs.Collisions.{Collision}
 use Rattle.cn_search.specs.Evidence.{choices_for}
 use Rattle.cn_check.specs.Conditions.{HoldsCollision}
-use Rattle.cn_check.specs.Numbering.{number_of}
+use Rattle.cn_check.specs.Numbering.{list_number}
 use Rattle.cn_check.specs.declared.fault.CheckFault.{CheckFault}
 use Rattle.cn_check.specs.declared.fault.CheckFault.TheVariants.{OtherType, BadNumber, WitnessShape, WitnessMeets, Unexpected, NotNext, NotACollision, TooFew}
 
 -- the choice has a state before this one; or this state, and a smaller team A; or the state and the size, and its operations, A's first, come to a smaller number
 abbrev pub StandsBefore : ℕ → ℕ → ℕ → ℕ → Choice → Type 0
 StandsBefore base state size number c =
-    (c.state < state) ⊎ ((c.state ≡ state) × ((length c.a < size) ⊎ ((length c.a ≡ size) × (number_of base (c.a ++ c.b) < number))))
+    (c.state < state) ⊎ ((c.state ≡ state) × ((length c.a < size) ⊎ ((length c.a ≡ size) × (list_number base (c.a ++ c.b) < number))))
 
 -- entry i is of choice i
 abbrev pub IsOfChoice : List Choice → ℕ → Collision → Type 0

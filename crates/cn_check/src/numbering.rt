@@ -1,6 +1,6 @@
 //! Lists of numbers below a base, counted in lexicographic order.
 ghost use Rattle.std.specs.Prelude.{◌≡◌, ◌<◌, ◌≤◌, ◌^◌, length, All};
-ghost use Rattle.cn_check.specs.Numbering.{number_of};
+ghost use Rattle.cn_check.specs.Numbering.{list_number};
 
 use arrayvec::ArrayVec;
 
@@ -26,7 +26,7 @@ pub(crate) fn list_at(number: u32, base: u8, size: u8) -> ArrayVec<u8, 8>
     requires counted { number < base ^ size }
     ensures long { length result.items ≡ size }
     ensures known { All (λ x. x < base) result.items }
-    ensures number { number_of base result.items ≡ number }
+    ensures number { list_number base result.items ≡ number }
 {
     let mut list = ArrayVec::new();
     let mut rest = number;

@@ -242,6 +242,44 @@ fn tries_each_part_of_an_entry(rt: HostRuntime) -> Result<(), Fail> {
 }
 
 #[test]
+fn answers_the_first_of_two_faults(rt: HostRuntime) -> Result<(), Fail> {
+    let alloc = rt.alloc();
+    let both = "[0,[0],[0,0],1,[0,1],[2,1]],[1,[0],[0,0],0,[0],[1,0]]";
+    for (entries, expected) in [
+        // The lists of the first show nothing, and the second is of another choice.
+        (
+            "[0,[0],[0,0],1,[0,2],[2,1]],[0,[0],[0,0],1,[0,1],[2,1]]",
+            "7 NotACollision 0",
+        ),
+        // The first is of another choice, and the lists of the second show nothing.
+        (
+            "[1,[0],[0,0],0,[0],[1,0]],[1,[0],[0,0],0,[0],[1]]",
+            "6 NotNext 0",
+        ),
+        // The lists of the first show nothing, and there is no second, or there is a third.
+        ("[0,[0],[0,0],1,[0,2],[2,1]]", "7 NotACollision 0"),
+        (
+            "[0,[0],[0,0],1,[0,2],[2,1]],[1,[0],[0,0],0,[0],[1,0]],[1,[0],[0,0],0,[0],[1,0]]",
+            "7 NotACollision 0",
+        ),
+        // One entry is of another choice, and its lists show nothing.
+        (
+            "[1,[0],[0,0],0,[0],[1]],[1,[0],[0,0],0,[0],[1,0]]",
+            "6 NotNext 0",
+        ),
+        (
+            "[0,[0],[0,0],1,[0,1],[2,1]],[0,[0],[0,0],1,[0,2],[2,1]]",
+            "6 NotNext 1",
+        ),
+    ] {
+        let certificate = TEST_AND_SET_AT_3.replacen(alloc, both, entries, 1)?;
+        let answer = verdict(alloc, TEST_AND_SET, &certificate)?;
+        assert_eq!(rt; answer.as_str(), expected, "{entries}");
+    }
+    Ok(())
+}
+
+#[test]
 fn misses_no_choice_of_three_shot(rt: HostRuntime) -> Result<(), Fail> {
     let table = read_table(rt.alloc(), THREE_SHOT.as_bytes())?;
     let mut certificate = found(&rt, rt.alloc(), &table, 4)?;
