@@ -42,6 +42,6 @@ module _ (calls : List ℕ) (i operation : ℕ) (more : take (i + 1) calls ≡ t
 
   -- and ends them so
   pub ends_left : i < length calls → (replies : List Reply) → length replies ≡ i → (fault : CallFault) → CallFails operation fault s t → EndsAt calls t replies (end_by fault)
-  ends_left less replies count LogFull h = h.0.1
+  ends_left less replies count LogFull h = (h.0.1, omega (arith, less, count))
   ends_left less replies count Stopped h = ap length (one_more h.0) ∙ length-take-le (i + 1) calls (omega (arith, less)) ∙ ap (λ n. n + 1) (sym count)
   ends_left less replies count OutOfMemory h = tt

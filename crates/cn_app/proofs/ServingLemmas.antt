@@ -48,9 +48,10 @@ module _ (core : Log) (calls : List ℕ) (s t : SeatState) (replies : List Reply
   ends_in : BeginsWith (entries (setting core) core.schedule) (seen t) → (e : End) → e ≢ OutOfMemory → EndsAt calls t replies e → EndsIn core t.process calls replies e
   ends_in begins Whole ne h = (same_calls ∙ h.0, h.1)
   ends_in begins Full ne h =
-      let all = saw_all begins h in (
-        ap length all ∙ h ∙ sym (ap (λ (o : Opening). o.capacity) carried.0),
+      let all = saw_all begins h.0 in (
+        ap length all ∙ h.0 ∙ sym (ap (λ (o : Opening). o.capacity) carried.0),
         sym worked.replied ∙ (λ i. replies_from (setting_of (sym carried.0 i)) t.process [] (sym all i)),
+        h.1,
       )
   ends_in begins Stopped ne h = ap length same_calls ∙ h
   ends_in begins OutOfMemory ne h = absurd (ne refl)

@@ -17,10 +17,10 @@ invoked p events = operations_of (calls_by p events)
 abbrev pub replies_in : Log → ℕ → List Reply
 replies_in core p = replies_from (setting core) p [] (entries (setting core) core.schedule)
 
--- how the calls of process p have ended: each was made and has its reply; or every slot is fixed, and the replies are those of all entries of the process; or one call more was made, which has none
+-- how the calls of process p have ended: each was made and has its reply; or some call has none, where every slot is fixed and the replies are those of all entries of the process; or one call more was made than there are replies
 abbrev pub EndsIn : Log → ℕ → List ℕ → List Reply → End → Type 0
 EndsIn core p calls replies Whole = (invoked p core.schedule ≡ calls) × (length replies ≡ length calls)
-EndsIn core p calls replies Full = (length (entries (setting core) core.schedule) ≡ core.opening.capacity) × (replies ≡ replies_in core p)
+EndsIn core p calls replies Full = (length (entries (setting core) core.schedule) ≡ core.opening.capacity) × (replies ≡ replies_in core p) × (length replies < length calls)
 EndsIn core p calls replies Stopped = length (invoked p core.schedule) ≡ length replies + 1
 EndsIn core p calls replies OutOfMemory = ⊥
 

@@ -34,10 +34,10 @@ MayWork hall calls s = IsSeatOf hall s × (s.core.schedule ≡ []) × All (λ o.
 abbrev pub HasRoom : List ℕ → Worked → Type 0
 HasRoom calls w = (w.replies.items ≡ []) × (length calls ≤ vec_capacity w.replies)
 
--- how a seat is left by calls that have ended so: each was made and has its reply; or the seat has seen every slot; or one call more was made, which has no reply
+-- how a seat is left by calls that have ended so: each was made and has its reply; or some call has none, and the seat has seen every slot; or one call more was made than there are replies
 abbrev pub EndsAt : List ℕ → SeatState → List Reply → End → Type 0
 EndsAt calls t replies Whole = (invoked t.process t.core.schedule ≡ calls) × (length replies ≡ length calls)
-EndsAt calls t replies Full = length (seen t) ≡ t.core.opening.capacity
+EndsAt calls t replies Full = (length (seen t) ≡ t.core.opening.capacity) × (length replies < length calls)
 EndsAt calls t replies Stopped = length (invoked t.process t.core.schedule) ≡ length replies + 1
 EndsAt calls t replies OutOfMemory = Unit {0}
 
