@@ -1,7 +1,5 @@
 -- From seats at work to the log that they leave.
 use Rattle.std.proofs.Common.{◌≡◌, ◌≢◌, ℕ, zero, suc, ◌+◌, ◌≤◌, ◌<◌, List, [], ◌∷◌, ◌++◌, Option, Some, None, All, length, refl, sym, ap, ◌∙◌, append-nil, length-append, subst, arith}
-use Rattle.std.proofs.lemmas.Option.{slice_get_within}
-use Rattle.std.specs.List.{slice_get}
 use Rattle.cn_log.specs.Callers.{BeginsWith}
 use Rattle.cn_log.specs.Log.{Setting, entries, fixed_from, state_of, up_to_open}
 use Rattle.cn_log.specs.Opening.{Log, Opening, setting, setting_of}

@@ -48,29 +48,21 @@ impl Gate for StopsThird {
     }
 }
 
-/// A gate that raises a flag before the first step of a call, and stops the call where the other
-/// flag does not go up.
+/// A flag for each of two processes.
 #[derive(Drop)]
-struct WaitsFor<'a> {
-    raised: &'a AtomicBool,
-    awaited: &'a AtomicBool,
-    last: Go,
+struct Flags {
+    zero: AtomicBool,
+    one: AtomicBool,
 }
 
-impl Gate for WaitsFor<'_> {
-    ghost says = { λ g. g.last };
-
-    fn before(&mut self, _seat: &Seat, step: u32) -> Go {
-        self.last = if step != 1 || meet(self.raised, self.awaited) {
-            Go::On
+impl Flags {
+    /// A process raises its flag. Whether that of the other goes up.
+    fn meet(&self, process: u8) -> bool {
+        if process == 0 {
+            meet(&self.zero, &self.one)
         } else {
-            Go::Stop
-        };
-        self.last
-    }
-
-    fn said(&self) -> Go {
-        self.last
+            meet(&self.one, &self.zero)
+        }
     }
 }
 
@@ -84,6 +76,32 @@ fn meet(raised: &AtomicBool, awaited: &AtomicBool) -> bool {
         thread::yield_now();
     }
     false
+}
+
+/// A gate that waits for the other process before the first step of a call, and stops the call
+/// where it does not come.
+#[derive(Drop)]
+struct WaitsFor<'a> {
+    flags: &'a Flags,
+    process: u8,
+    last: Go,
+}
+
+impl Gate for WaitsFor<'_> {
+    ghost says = { λ g. g.last };
+
+    fn before(&mut self, _seat: &Seat, step: u32) -> Go {
+        self.last = if step != 1 || self.flags.meet(self.process) {
+            Go::On
+        } else {
+            Go::Stop
+        };
+        self.last
+    }
+
+    fn said(&self) -> Go {
+        self.last
+    }
 }
 
 /// How `serve` ends, with a certificate and the counter from a state, and what it writes.
@@ -218,23 +236,11 @@ fn tells_events_that_replay_to_the_same_log(rt: HostRuntime) -> Result<(), Fail>
     Ok(())
 }
 
-/// The gate of a process that waits for the other before its first step.
-fn waits_for<'a>(raised: &'a AtomicBool, awaited: &'a AtomicBool) -> WaitsFor<'a>
-    ensures { result.last ≡ On }
-{
-    WaitsFor {
-        raised,
-        awaited,
-        last: Go::On,
-    }
-}
-
 /// How two processes end that wait for one another before their first steps.
-fn meeting<'a, T: Threads + Wait + Sync>(
+fn meeting<T: Threads + Wait + Sync>(
     rt: &T,
     alloc: Global,
-    zero: &'a AtomicBool,
-    one: &'a AtomicBool,
+    flags: &Flags,
 ) -> Result<(Result<Outcome, AppFault>, String), Fail> {
     served(
         rt,
@@ -243,22 +249,21 @@ fn meeting<'a, T: Threads + Wait + Sync>(
         "0",
         "4",
         "0/0",
-        |process: u8| -> WaitsFor<'a>
-            ensures { result.last ≡ On }
-        {
-            if process == 0 {
-                waits_for(zero, one)
-            } else {
-                waits_for(one, zero)
-            }
+        |process| WaitsFor {
+            flags,
+            process,
+            last: Go::On,
         },
     )
 }
 
 #[test]
 fn calls_of_two_processes_overlap(rt: HostRuntime) -> Result<(), Fail> {
-    let (zero, one) = (AtomicBool::new(false), AtomicBool::new(false));
-    let (ended, text) = meeting(&rt, rt.alloc(), &zero, &one)?;
+    let flags = Flags {
+        zero: AtomicBool::new(false),
+        one: AtomicBool::new(false),
+    };
+    let (ended, text) = meeting(&rt, rt.alloc(), &flags)?;
     assert_eq!(rt; ended, Ok(Outcome::Whole), "{text}");
     Ok(())
 }

@@ -1,7 +1,6 @@
-use Rattle.std.proofs.Common.{◌≡◌, ◌<◌, ℕ, List, [], ◌∷◌, ◌++◌, Some, Vec, length, sym, ap, ◌∙◌, subst, length-append, arith, rules}
+use Rattle.std.proofs.Common.{◌≡◌, ◌<◌, ℕ, List, [], ◌∷◌, Some, Vec, length, sym, ap, ◌∙◌, subst, length-append, arith, rules}
 use Rattle.std.proofs.lemmas.List.Elements.{All-pop}
 use Rattle.std.specs.Global.{Global}
-use Rattle.std.specs.List.{slice_get}
 use Rattle.cn_hall.specs.Seats.{SeatState}
 use Rattle.cn_hall.specs.declared.call.Go.TheVariants.{On}
 use Rattle.cn_app.specs.Workers.{HasWorked, HaveAllWorked}
