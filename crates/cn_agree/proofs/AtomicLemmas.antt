@@ -12,7 +12,7 @@ use Rattle.cn_agree.specs.declared.local.Local.{Local}
 use Rattle.cn_agree.specs.declared.local.Local.TheVariants.{NotBegun, Active}
 use Rattle.cn_agree.specs.World.{World, node_at, local_at, register, with_register, untouched}
 use Rattle.cn_agree.specs.Steps.{node_after, local_after, first_after, recorded, taken, after_action, after_step, after_step_from}
-use Rattle.cn_agree.specs.AtomicStep.{Part, Object, Register, content, touched, ActsOnce, IsAtomic}
+use Rattle.cn_agree.specs.AtomicStep.{Part, Object, Register, State, Value, content, touched, ActsOnce, HasPlace, LooksAlike, IsAtomic}
 
 -- a write changes its register alone
 write_leaves : {V : Type 0} (node : Node V) (mine : Team) (x : V) (part : Part) → part ≢ Register mine → content (with_register node mine x) part ≡ content node part
@@ -48,6 +48,21 @@ reads_alike P places i here x (Read response) node other e =
 reads_alike P places i here x (Take response state) node other e =
     let same : register node (P.judge here.role response.0 state.0) ≡ register other (P.judge here.role response.0 state.0) = cc in
     ap (taken places i (Active i x (Take response state))) same
+
+-- what a register holds after a write
+written_is : {V : Type 0} (node : Node V) (mine : Team) (x : V) → register (with_register node mine x) mine ≡ Some x
+written_is node A x = refl
+written_is node B x = refl
+
+-- two nodes at which the part that is touched is the same leave the same there
+leaves_alike : {V : Type 0} (P : Protocol) (here : Place) (x : V) (stage : Stage) (node other : Node V) → content node (touched P here stage) ≡ content other (touched P here stage)
+    → content (node_after P here x stage node) (touched P here stage) ≡ content (node_after P here x stage other) (touched P here stage)
+leaves_alike P here x Write node other e = ap (λ r. Value r) (written_is node here.team x ∙ sym (written_is other here.team x))
+leaves_alike P here x Apply node other e =
+    let same : node.state.0 ≡ other.state.0 = cc in
+    ap (λ s. State (P.act here.role s).1) same
+leaves_alike P here x (Read response) node other e = e
+leaves_alike P here x (Take response state) node other e = e
 
 -- a part of the node that is written, or of one that isn't there
 written_part : {V : Type 0} (nodes : List (Node V)) (v : ℕ) (d node : Node V) (part : Part) → content node part ≡ content (slice_index_or nodes v d) part → content (slice_index_or (slice_set nodes v node) v d) part ≡ content (slice_index_or nodes v d) part
@@ -91,6 +106,19 @@ module _ {V : Type 0} (P : Protocol) (p : ℕ) where
   next_is w i x stage e =
       ap (λ (u : World V). local_at u p) (step_is w i x stage e) ∙ get_or-set_same w.locals p (local_after P (length (P.path p)) i (place_of P p i) x stage (node_at P w (place_of P p i).node)) NotBegun (active_within w.locals p i x stage e)
 
+  -- the node of its place after its step
+  node_is : (w : World V) (i : ℕ) (x : V) (stage : Stage) → local_at w p ≡ Active i x stage → (place_of P p i).node < length w.nodes → node_at P (after_step P p w) (place_of P p i).node ≡ node_after P (place_of P p i) x stage (node_at P w (place_of P p i).node)
+  node_is w i x stage e there =
+      ap (λ (u : World V). node_at P u (place_of P p i).node) (step_is w i x stage e) ∙ get_or-set_same w.nodes (place_of P p i).node (node_after P (place_of P p i) x stage (node_at P w (place_of P p i).node)) (untouched P.start) there
+
+  shared_alike : (w u : World V) (i : ℕ) (x : V) (stage : Stage) → HasPlace P p i w u → LooksAlike P p i x stage w u
+      → content (node_at P (after_step P p w) (place_of P p i).node) (touched P (place_of P p i) stage) ≡ content (node_at P (after_step P p u) (place_of P p i).node) (touched P (place_of P p i) stage)
+  shared_alike w u i x stage place alike =
+      let here : Place = place_of P p i in
+      ap (λ (n : Node V). content n (touched P here stage)) (node_is w i x stage alike.here place.here)
+      ∙ leaves_alike P here x stage (node_at P w here.node) (node_at P u here.node) alike.shared
+      ∙ sym (ap (λ (n : Node V). content n (touched P here stage)) (node_is u i x stage alike.there place.there))
+
   pub atomic : IsAtomic V P p
   atomic = record {
     one_action = λ w i x stage e. (let T : World V → Type 0 = ActsOnce P p i x stage w in subst T (sym (step_is w i x stage e)) (acts_once w i x stage));
@@ -98,4 +126,5 @@ module _ {V : Type 0} (P : Protocol) (p : ℕ) where
         next_is w i x stage alike.here
         ∙ reads_alike P (length (P.path p)) i (place_of P p i) x stage (node_at P w (place_of P p i).node) (node_at P u (place_of P p i).node) alike.shared
         ∙ sym (next_is u i x stage alike.there);
+    shared = λ w u i x stage place alike. shared_alike w u i x stage place alike;
   }

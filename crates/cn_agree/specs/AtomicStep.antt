@@ -1,5 +1,5 @@
 -- What makes a step atomic: it touches one object or one register, and what the process does next rests on nothing else that is shared.
-use Rattle.std.specs.Prelude.{ℕ, ◌≡◌, ◌≢◌, ◌⊎◌, Option, Some, None}
+use Rattle.std.specs.Prelude.{ℕ, ◌≡◌, ◌≢◌, ◌⊎◌, ◌<◌, length, Option, Some, None}
 use Rattle.cn_choice.specs.declared.team.Team.{Team}
 use Rattle.cn_proto.specs.Protocol.{Protocol, place_of}
 use Rattle.cn_proto.specs.declared.place.Place.{Place}
@@ -47,7 +47,14 @@ pub record LooksAlike {V : Type 0} (P : Protocol) (p i : ℕ) (x : V) (stage : S
   pub there : local_at u p ≡ Active i x stage
   pub shared : content (node_at P w (place_of P p i).node) (touched P (place_of P p i) stage) ≡ content (node_at P u (place_of P p i).node) (touched P (place_of P p i) stage)
 
--- a step of p is one action, and in two worlds that look alike to p it leads p to the same local state
+-- both worlds have the node of that place
+pub record HasPlace {V : Type 0} (P : Protocol) (p i : ℕ) (w u : World V) : Type 0 where
+  pub here : (place_of P p i).node < length w.nodes
+  pub there : (place_of P p i).node < length u.nodes
+
+-- a step of p is one action, and in two worlds that look alike to p it leads p to the same local state, and leaves the same in what it touches
 pub record IsAtomic (V : Type 0) (P : Protocol) (p : ℕ) : Type 0 where
   pub one_action : (w : World V) (i : ℕ) (x : V) (stage : Stage) → local_at w p ≡ Active i x stage → ActsOnce P p i x stage w (after_step P p w)
   pub local : (w u : World V) (i : ℕ) (x : V) (stage : Stage) → LooksAlike P p i x stage w u → local_at (after_step P p w) p ≡ local_at (after_step P p u) p
+  pub shared : (w u : World V) (i : ℕ) (x : V) (stage : Stage) → HasPlace P p i w u → LooksAlike P p i x stage w u
+      → content (node_at P (after_step P p w) (place_of P p i).node) (touched P (place_of P p i) stage) ≡ content (node_at P (after_step P p u) (place_of P p i).node) (touched P (place_of P p i) stage)

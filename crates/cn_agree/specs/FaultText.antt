@@ -1,10 +1,28 @@
 -- The text of a fault: its number and its name, and the place in the schedule.
-use Rattle.std.specs.Prelude.{ℕ, List, ◌++◌, codes}
+use Rattle.std.specs.Prelude.{ℕ, List, [], ◌++◌, codes, Option, Some, None}
 use Rattle.std.specs.Fmt.{decimal}
 use Rattle.cn_agree.specs.declared.fault.ScheduleFault.{ScheduleFault}
 use Rattle.cn_agree.specs.declared.fault.ScheduleFault.TheVariants.{InputCount, NoSuchProcess, OutOfMemory}
 
+abbrev pub number_of : ScheduleFault → ℕ
+number_of InputCount = 1
+number_of (NoSuchProcess place) = 2
+number_of OutOfMemory = 3
+
+abbrev pub name_of : ScheduleFault → List ℕ
+name_of InputCount = codes "InputCount"
+name_of (NoSuchProcess place) = codes "NoSuchProcess"
+name_of OutOfMemory = codes "OutOfMemory"
+
+abbrev pub place_of : ScheduleFault → Option ℕ
+place_of InputCount = None
+place_of (NoSuchProcess place) = Some place
+place_of OutOfMemory = None
+
+-- a place behind the name, where there is one
+abbrev pub place_text : Option ℕ → List ℕ
+place_text None = []
+place_text (Some place) = codes " " ++ decimal place
+
 abbrev pub schedule_fault_text : ScheduleFault → List ℕ
-schedule_fault_text InputCount = codes "1 InputCount"
-schedule_fault_text (NoSuchProcess place) = codes "2 NoSuchProcess " ++ decimal place
-schedule_fault_text OutOfMemory = codes "3 OutOfMemory"
+schedule_fault_text fault = decimal (number_of fault) ++ codes " " ++ name_of fault ++ place_text (place_of fault)

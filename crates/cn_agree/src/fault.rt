@@ -1,5 +1,6 @@
 //! Why nothing was run.
 ghost use Rattle.std.specs.Prelude.{◌≡◌};
+ghost use Rattle.cn_agree.specs.FaultText.{name_of, number_of, place_of};
 ghost use Rattle.cn_agree.specs.declared.fault.ScheduleFault.TheVariants.{OutOfMemory};
 
 use std::alloc::AllocError;
@@ -26,6 +27,41 @@ impl From<AllocError> for ScheduleFault {
     }
 }
 
+impl ScheduleFault {
+    /// Its number in their order, from 1.
+    pub fn number(&self) -> u8
+        ensures { result ≡ number_of self.now }
+    {
+        match self {
+            ScheduleFault::InputCount => 1,
+            ScheduleFault::NoSuchProcess(_) => 2,
+            ScheduleFault::OutOfMemory => 3,
+        }
+    }
+
+    /// Its name.
+    pub fn name(&self) -> &'static str
+        ensures { result.now ≡ name_of self.now }
+    {
+        match self {
+            ScheduleFault::InputCount => "InputCount",
+            ScheduleFault::NoSuchProcess(_) => "NoSuchProcess",
+            ScheduleFault::OutOfMemory => "OutOfMemory",
+        }
+    }
+
+    /// The place in the schedule that it carries.
+    pub fn place(&self) -> Option<u64>
+        ensures { result ≡ place_of self.now }
+    {
+        match self {
+            ScheduleFault::NoSuchProcess(place) => Some(*place),
+            ScheduleFault::InputCount | ScheduleFault::OutOfMemory => None,
+        }
+    }
+}
+
+/// Number and name, and the place where it carries one.
 impl fmt::Display for ScheduleFault {
     ghost use Rattle.std.specs.Prelude.{Some};
     ghost use Rattle.cn_agree.specs.FaultText.{schedule_fault_text};
@@ -33,10 +69,10 @@ impl fmt::Display for ScheduleFault {
     ghost output = { λ fault. Some (schedule_fault_text fault) };
 
     fn fmt<W: fmt::Write>(&self, f: &mut fmt::Formatter<W>) -> fmt::Result {
-        match self {
-            ScheduleFault::InputCount => f.write_str("1 InputCount"),
-            ScheduleFault::NoSuchProcess(place) => write!(f, "2 NoSuchProcess {place}"),
-            ScheduleFault::OutOfMemory => f.write_str("3 OutOfMemory"),
+        let (number, name) = (self.number(), self.name());
+        match self.place() {
+            None => write!(f, "{number} {name}"),
+            Some(place) => write!(f, "{number} {name} {place}"),
         }
     }
 }

@@ -17,8 +17,8 @@ use cn_proto::Plan;
 
 /// A step is atomic: one action touches one object or one register, and all else stays, but the
 /// local state of the process and the record of the first application at the root; and what the
-/// process does next depends on its local state and on what the action touched, and on nothing
-/// else.
+/// process does next, and what then stands where it acted, depend on its local state and on what
+/// the action touched, and on nothing else.
 pub fn atomic_steps<V>()
     ensures { (P : Protocol) (p : ℕ) → IsAtomic V P p }
 {}

@@ -1,4 +1,5 @@
 pub mod Keeps
+pub mod Putting
 pub mod LogLaws
 pub mod Callers
 pub mod Sitting

@@ -1,5 +1,6 @@
 //! What is asked before each step of a call, and what a call answers.
 ghost use Rattle.std.specs.Prelude.{◌≡◌};
+ghost use Rattle.cn_hall.specs.FaultText.{name_of, number_of};
 ghost use Rattle.cn_hall.specs.declared.call.CallFault.TheVariants.{OutOfMemory};
 ghost use Rattle.cn_hall.specs.declared.call.Go.{Go as GoOf};
 
@@ -44,12 +45,12 @@ pub struct Reply {
 #[derive(Clone, Copy, Debug, PartialEq, Eq)]
 pub enum CallFault {
     /// The call is in no slot, and the seat has seen every slot. It is in no call.
-    LogFull = 1,
+    LogFull,
     /// The gate stopped it. The seat is in its call, and `resume` goes on with it.
-    Stopped = 2,
+    Stopped,
     /// Memory ran out. Where the call was refused the seat is in no call; where a step was refused
     /// it is in its call, and `resume` goes on with it.
-    OutOfMemory = 3,
+    OutOfMemory,
 }
 
 impl From<AllocError> for CallFault {
@@ -60,6 +61,31 @@ impl From<AllocError> for CallFault {
     }
 }
 
+impl CallFault {
+    /// Its number in their order, from 1.
+    pub fn number(&self) -> u8
+        ensures { result ≡ number_of self.now }
+    {
+        match self {
+            CallFault::LogFull => 1,
+            CallFault::Stopped => 2,
+            CallFault::OutOfMemory => 3,
+        }
+    }
+
+    /// Its name.
+    pub fn name(&self) -> &'static str
+        ensures { result.now ≡ name_of self.now }
+    {
+        match self {
+            CallFault::LogFull => "LogFull",
+            CallFault::Stopped => "Stopped",
+            CallFault::OutOfMemory => "OutOfMemory",
+        }
+    }
+}
+
+/// Number and name.
 impl fmt::Display for CallFault {
     ghost use Rattle.std.specs.Prelude.{Some};
     ghost use Rattle.cn_hall.specs.FaultText.{call_fault_text};
@@ -67,11 +93,8 @@ impl fmt::Display for CallFault {
     ghost output = { λ fault. Some (call_fault_text fault) };
 
     fn fmt<W: fmt::Write>(&self, f: &mut fmt::Formatter<W>) -> fmt::Result {
-        f.write_str(match self {
-            CallFault::LogFull => "1 LogFull",
-            CallFault::Stopped => "2 Stopped",
-            CallFault::OutOfMemory => "3 OutOfMemory",
-        })
+        let (number, name) = (self.number(), self.name());
+        write!(f, "{number} {name}")
     }
 }
 

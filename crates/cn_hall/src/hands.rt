@@ -1,17 +1,13 @@
 //! One removal of the core from the queue, or its return.
-ghost use Rattle.std.specs.Prelude.{◌≡◌, ◌+◌, ◌∷◌, ◌<◌, [], Some, ℕ};
-ghost use Rattle.cn_hall.specs.Rule.{Agrees, bare, first_view, holding, item_of, later, later_core, opened, pair, seated};
-ghost use Rattle.cn_log.specs.Callers.{process_of};
-ghost use Rattle.cn_hall.specs.declared.rule.Item.{Item as ItemOf};
+ghost use Rattle.std.specs.Prelude.{◌≡◌, ◌<◌, Some};
+ghost use Rattle.cn_hall.specs.Rule.{Agrees, IsOneEventLater, IsOneSeatMore, bare, first_view, holding, later, opened, seated};
 ghost use Rattle.cn_hall.specs.declared.rule.Stage.TheVariants.{Live};
-ghost use Rattle.cn_log.specs.Opening.{Log};
 ghost use Rattle.cn_proto.specs.Plan.{processes_of};
 ghost use Rattle.cn_hall.specs.Seats.{IsLog, IsStanding};
-ghost use Rattle.cn_log.specs.declared.event.Event.{Event};
 ghost use Rattle.crossbeam_queue.specs.Passes.{view, IsPassOf, IsSamePass, ruled_capacity};
 
 use crate::laws;
-use crate::rule::{Item, Opens, Pass, Queue, Returns, Seats, Steps, Takes};
+use crate::rule::{Item, Pass, Puts, Queue, Takes};
 use cn_log::LogCore;
 use std::sync::Wait;
 use std::thread;
@@ -63,7 +59,7 @@ pub(crate) fn put_back<R: Wait>(rt: &R, queue: &Queue, pass: &mut Pass, item: It
     ensures same { IsSamePass pass.old pass.new }
     ensures now { view pass.new ≡ bare (view pass.old) }
 {
-    let Ok(()) = queue.push_as::<Returns, R>(rt, pass, item) else {
+    let Ok(()) = queue.push_as::<Puts, R>(rt, pass, item) else {
         unreachable!()
     };
 }
@@ -76,7 +72,7 @@ pub(crate) fn put_first<R: Wait>(rt: &R, queue: &Queue, pass: &mut Pass, item: I
     ensures same { IsSamePass pass.old pass.new }
     ensures now { view pass.new ≡ opened item }
 {
-    let Ok(()) = queue.push_as::<Opens, R>(rt, pass, item) else {
+    let Ok(()) = queue.push_as::<Puts, R>(rt, pass, item) else {
         unreachable!()
     };
 }
@@ -85,11 +81,11 @@ pub(crate) fn put_first<R: Wait>(rt: &R, queue: &Queue, pass: &mut Pass, item: I
 pub(crate) fn put_step<R: Wait>(rt: &R, queue: &Queue, pass: &mut Pass, item: Item)
     requires queue { IsPassOf queue.now pass.old × (ruled_capacity queue.now ≡ 1) }
     requires live { (view pass.old).stage ≡ Live }
-    requires event { (p : ℕ) × (log before : Log) × (e : Event) × ((view pass.old).pairs ≡ pair p log ∷ []) × ((view pass.old).held ≡ Some (item_of before item.seated)) × (item.core ≡ later_core before (e ∷ [])) × (process_of e ≡ p) }
+    requires event { IsOneEventLater (view pass.old) item }
     ensures same { IsSamePass pass.old pass.new }
     ensures now { view pass.new ≡ later (view pass.old) item }
 {
-    let Ok(()) = queue.push_as::<Steps, R>(rt, pass, item) else {
+    let Ok(()) = queue.push_as::<Puts, R>(rt, pass, item) else {
         unreachable!()
     };
 }
@@ -98,11 +94,11 @@ pub(crate) fn put_step<R: Wait>(rt: &R, queue: &Queue, pass: &mut Pass, item: It
 pub(crate) fn put_seat<R: Wait>(rt: &R, queue: &Queue, pass: &mut Pass, item: Item)
     requires queue { IsPassOf queue.now pass.old × (ruled_capacity queue.now ≡ 1) }
     requires live { (view pass.old).stage ≡ Live }
-    requires count { (before : ItemOf) × ((view pass.old).held ≡ Some before) × (item ≡ record before { seated = before.seated + 1 }) }
+    requires count { IsOneSeatMore (view pass.old) item }
     ensures same { IsSamePass pass.old pass.new }
     ensures now { view pass.new ≡ seated (view pass.old) item }
 {
-    let Ok(()) = queue.push_as::<Seats, R>(rt, pass, item) else {
+    let Ok(()) = queue.push_as::<Puts, R>(rt, pass, item) else {
         unreachable!()
     };
 }

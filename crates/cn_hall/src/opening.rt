@@ -4,6 +4,7 @@ ghost use Rattle.std.specs.List.{slice_get};
 ghost use Rattle.std.specs.Vec.{vec_capacity};
 ghost use Rattle.cn_proto.specs.Plan.{processes_of};
 ghost use Rattle.cn_hall.specs.Answers.{own};
+ghost use Rattle.cn_hall.specs.FaultText.{open_name_of, open_number_of};
 ghost use Rattle.cn_hall.specs.Rule.{first_view};
 ghost use Rattle.cn_hall.specs.Seats.{IsSeatOf, KnowsOnly, note_in, pending, seat_state};
 ghost use Rattle.cn_hall.specs.declared.opening.OpenFault.TheVariants.{OutOfMemory};
@@ -26,6 +27,27 @@ pub enum OpenFault {
     OutOfMemory(LogCore),
 }
 
+impl OpenFault {
+    /// Its number.
+    pub fn number(&self) -> u8
+        ensures { result ≡ open_number_of self.now }
+    {
+        match self {
+            OpenFault::OutOfMemory(_) => 1,
+        }
+    }
+
+    /// Its name.
+    pub fn name(&self) -> &'static str
+        ensures { result.now ≡ open_name_of self.now }
+    {
+        match self {
+            OpenFault::OutOfMemory(_) => "OutOfMemory",
+        }
+    }
+}
+
+/// Number and name.
 impl fmt::Display for OpenFault {
     ghost use Rattle.std.specs.Prelude.{Some};
     ghost use Rattle.cn_hall.specs.FaultText.{open_fault_text};
@@ -33,9 +55,8 @@ impl fmt::Display for OpenFault {
     ghost output = { λ fault. Some (open_fault_text fault) };
 
     fn fmt<W: fmt::Write>(&self, f: &mut fmt::Formatter<W>) -> fmt::Result {
-        match self {
-            OpenFault::OutOfMemory(_) => f.write_str("1 OutOfMemory"),
-        }
+        let (number, name) = (self.number(), self.name());
+        write!(f, "{number} {name}")
     }
 }
 

@@ -14,3 +14,4 @@ pub mod RoundLemmas
 pub mod FaultLemmas
 pub mod Knowing
 pub mod OwnCalls
+pub mod AtomicEvents

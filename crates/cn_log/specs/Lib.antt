@@ -1,4 +1,5 @@
 pub mod Agreement
+pub mod AtomicEvent
 pub mod Bypass
 pub mod Callers
 pub mod Consensus

@@ -1,5 +1,6 @@
 //! Why a list of events cannot be replayed.
 ghost use Rattle.std.specs.Prelude.{◌≡◌};
+ghost use Rattle.cn_log.specs.FaultText.{name_of, number_of, place_of};
 ghost use Rattle.cn_log.specs.declared.fault.ReplayFault.TheVariants.{OutOfMemory};
 
 use std::alloc::{AllocError, AllocFailed};
@@ -41,6 +42,51 @@ impl From<AllocError> for ReplayFault {
     }
 }
 
+impl ReplayFault {
+    /// Its number in their order, from 1.
+    pub fn number(&self) -> u8
+        ensures { result ≡ number_of self.now }
+    {
+        match self {
+            ReplayFault::NoSuchProcess(_) => 1,
+            ReplayFault::NoSuchOperation(_) => 2,
+            ReplayFault::NotIdle(_) => 3,
+            ReplayFault::Idle(_) => 4,
+            ReplayFault::AtEnd(_) => 5,
+            ReplayFault::OutOfMemory => 6,
+        }
+    }
+
+    /// Its name.
+    pub fn name(&self) -> &'static str
+        ensures { result.now ≡ name_of self.now }
+    {
+        match self {
+            ReplayFault::NoSuchProcess(_) => "NoSuchProcess",
+            ReplayFault::NoSuchOperation(_) => "NoSuchOperation",
+            ReplayFault::NotIdle(_) => "NotIdle",
+            ReplayFault::Idle(_) => "Idle",
+            ReplayFault::AtEnd(_) => "AtEnd",
+            ReplayFault::OutOfMemory => "OutOfMemory",
+        }
+    }
+
+    /// The place in the list that it carries.
+    pub fn place(&self) -> Option<u64>
+        ensures { result ≡ place_of self.now }
+    {
+        match self {
+            ReplayFault::NoSuchProcess(place)
+            | ReplayFault::NoSuchOperation(place)
+            | ReplayFault::NotIdle(place)
+            | ReplayFault::Idle(place)
+            | ReplayFault::AtEnd(place) => Some(*place),
+            ReplayFault::OutOfMemory => None,
+        }
+    }
+}
+
+/// Number and name, and the place where it carries one.
 impl fmt::Display for ReplayFault {
     ghost use Rattle.std.specs.Prelude.{Some};
     ghost use Rattle.cn_log.specs.FaultText.{replay_fault_text};
@@ -48,13 +94,10 @@ impl fmt::Display for ReplayFault {
     ghost output = { λ fault. Some (replay_fault_text fault) };
 
     fn fmt<W: fmt::Write>(&self, f: &mut fmt::Formatter<W>) -> fmt::Result {
-        match self {
-            ReplayFault::NoSuchProcess(place) => write!(f, "1 NoSuchProcess {place}"),
-            ReplayFault::NoSuchOperation(place) => write!(f, "2 NoSuchOperation {place}"),
-            ReplayFault::NotIdle(place) => write!(f, "3 NotIdle {place}"),
-            ReplayFault::Idle(place) => write!(f, "4 Idle {place}"),
-            ReplayFault::AtEnd(place) => write!(f, "5 AtEnd {place}"),
-            ReplayFault::OutOfMemory => f.write_str("6 OutOfMemory"),
+        let (number, name) = (self.number(), self.name());
+        match self.place() {
+            None => write!(f, "{number} {name}"),
+            Some(place) => write!(f, "{number} {name} {place}"),
         }
     }
 }

@@ -1,5 +1,6 @@
 //! Laws of the log. A law is a function that does nothing: its contract is the law.
 ghost use Rattle.std.specs.Prelude.{◌≡◌, ◌↔◌, ◌+◌, ◌++◌, ◌∷◌, [], ℕ, List, None, Some};
+ghost use Rattle.cn_log.specs.AtomicEvent.{IsAtomicEvent};
 ghost use Rattle.cn_log.specs.Bypass.{IsBypassBounded};
 ghost use Rattle.cn_log.specs.Callers.{BeginsWith, HasReplayedBy, HasReplayedItsOwn, IsPendingCall, IsStepped, Without, call_of, caller_of, calls_by, entries_by, pending_in};
 ghost use Rattle.cn_log.specs.Linearized.{BeginsInTurn, Grows, IsLinearized};
@@ -62,4 +63,16 @@ pub fn every_call()
     ensures seen_made { (o : OpeningOf) (events : List EventOf) (p q : ℕ) → IsOpening o → IsEventList (setting_of o) events → BeginsWith (calls_by p events) (entries_by p (caller_of (setting_of o) events q).seen) }
 {
     cn_agree::laws::every_round::<Entry>();
+}
+
+/// Every event of a log is atomic. A call writes the announcement of its process, and nothing else
+/// that is shared changes. A look reads one announcement and changes nothing that is shared: its
+/// process begins in the round of its slot. Any other step is one action of that round. What the
+/// process knows afterwards, what the event answers and what then stands where it acted depend on
+/// the local state of the process and on what the event touched, and on nothing else.
+pub fn atomic_events()
+    ensures { (o : OpeningOf) (events : List EventOf) (event : EventOf) → IsOpening o → IsEventList (setting_of o) (events ++ event ∷ []) → IsAtomicEvent o events event }
+{
+    cn_agree::laws::every_round::<Entry>();
+    cn_agree::laws::atomic_steps::<Entry>();
 }

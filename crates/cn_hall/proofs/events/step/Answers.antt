@@ -20,16 +20,17 @@ step-requires g c = let v = view c.args.pass.now in let x = c.take-item.result i
     }
 
 pub put_step-requires-clause-event : goal.put_step-requires-clause-event
-put_step-requires-clause-event g c = let v = view c.args.pass.now in let h = c.take-item.ensures.held in (
-  c.args.process,
-  core_of v,
-  c.take-item.result.core,
-  Step c.args.process,
-  ap (λ (u : View). u.pairs) h ∙ sits_pairs v _ _ c.requires.sits,
-  ap (λ (u : View). u.held) h,
-  c.in-Ok.ensures.ok,
-  refl,
-)
+put_step-requires-clause-event g c = let v = view c.args.pass.now in let h = c.take-item.ensures.held in
+    record {
+      process = c.args.process;
+      log = core_of v;
+      before = c.take-item.result.core;
+      event = Step c.args.process;
+      knows = ap (λ (u : View). u.pairs) h ∙ sits_pairs v _ _ c.requires.sits;
+      held = ap (λ (u : View). u.held) h;
+      core = c.in-Ok.ensures.ok;
+      own = refl;
+    }
 
 pub returns-in-Ok-clause-step : goal.returns-in-Ok-clause-step
 returns-in-Ok-clause-step g c = let v = view c.args.pass.now in
