@@ -9,3 +9,4 @@ pub mod ResultSetLemmas
 pub mod StandingLemmas
 pub mod TurnLemmas
 pub mod VerdictLemmas
+pub mod WalkLemmas

@@ -1,18 +1,16 @@
 -- How far the canonical choices have been gone through.
-use Rattle.std.proofs.Common.{◌≡◌, ℕ, suc, ◌+◌, ◌/◌, ◌^◌, ◌<◌, ◌≤◌, ◌⊎◌, inl, inr, List, [], ◌∷◌, ◌++◌, length, length-append, length-take-le, take, drop, get_or, refl, sym, ap, ◌∙◌, subst, arith, All, AllPairs, Contains, Option, Some, None, IfSome}
+use Rattle.std.proofs.Common.{◌≡◌, ℕ, suc, ◌+◌, ◌/◌, ◌^◌, ◌<◌, ◌≤◌, ◌⊎◌, inl, inr, List, [], ◌∷◌, ◌++◌, length, length-append, length-take-le, take, drop, get_or, refl, sym, ap, ◌∙◌, subst, arith, All, ◌↔◌, AllPairs, Contains, Option, Some, None, IfSome}
 use Rattle.std.specs.Prelude.{slice_get}
 use Rattle.std.specs.List.{AllZip}
 use Rattle.std.proofs.lemmas.Bool.{cases_order}
-use Rattle.std.proofs.lemmas.List.Elements.{All-from_recursion, recursion_from_All}
+use Rattle.std.proofs.lemmas.List.Elements.{recursion_from_All}
 use Rattle.std.proofs.lemmas.List.{take-append-drop}
 use Rattle.std.proofs.lemmas.Option.{get_or_from_slice_get, same_Some, slice_get-get_or, slice_get_within}
+use Rattle.cn_table.proofs.Lists.{All-parts}
 use Rattle.cn_table.specs.TypeTable.{TypeTable}
 use Rattle.cn_choice.specs.RawChoices.{IsRawChoice}
-use Rattle.cn_choice.specs.Canonical.{Choice, ChoiceComesBefore, FitsTable, IsCanonical, raw_choice_of}
+use Rattle.cn_choice.specs.Canonical.{Choice, ChoiceComesBefore, FitsTable, IsCanonical, IsChoiceFor, canonical_choices, raw_choice_of}
 use Rattle.cn_choice.specs.Collisions.{Collision}
-use Rattle.cn_choice.proofs.Ascending.{canonical_ascend}
-use Rattle.cn_choice.proofs.CanonicalForms.{IsChoiceFor, IsRawChoice-choice, canonical_listed, choice-IsRawChoice}
-use Rattle.cn_choice.proofs.Members.{AllPairs-from_Pairs, IsIn-append_left, IsIn-append_right, each_at, each_from}
 use Rattle.cn_search.specs.Evidence.{choices_for}
 use Rattle.cn_check.specs.Conditions.{Refutes}
 use Rattle.cn_check.specs.Numbering.{list_number}
@@ -26,7 +24,21 @@ if_some P (Some x) h = h x refl
 of_some : {X : Type 0} (P : X → Type 0) (o : Option X) (x : X) → IfSome o P → o ≡ Some x → P x
 of_some P o x h e = subst (λ u. IfSome u P) e h
 
-module _ (t : TypeTable) (n : ℕ) where
+-- what the law of the canonical list says
+abbrev pub AreListed : Type 0
+AreListed = (t : TypeTable) (n : ℕ) (c : Choice) → Contains (canonical_choices (length t.states) (length t.operations) n) c ↔ (IsCanonical c × IsRawChoice t n (raw_choice_of c))
+
+abbrev pub AreAscending : Type 0
+AreAscending = (states operations n : ℕ) → AllPairs ChoiceComesBefore (canonical_choices states operations n)
+
+-- what the law of choices team by team says
+abbrev pub AreByTeams : Type 0
+AreByTeams = (t : TypeTable) (n : ℕ) (c : Choice) → IsRawChoice t n (raw_choice_of c) ↔ IsChoiceFor t n c
+
+all_of : (t : TypeTable) (n : ℕ) (c : Choice) → IsRawChoice t n (raw_choice_of c) → length c.a + length c.b ≡ n
+all_of t n c is = sym (length-append c.a c.b) ∙ is.one_operation_each
+
+module _ (listed : AreListed) (ascending : AreAscending) (t : TypeTable) (n : ℕ) where
   abbrev base : ℕ
   base = length t.operations
 
@@ -34,21 +46,17 @@ module _ (t : TypeTable) (n : ℕ) where
   choices = choices_for t n
 
   listed_at : (i : ℕ) (c : Choice) → slice_get choices i ≡ Some c → IsCanonical c × IsRawChoice t n (raw_choice_of c)
-  listed_at i c e = (canonical_listed t n c).0 (i, slice_get_within choices i c e, get_or_from_slice_get choices i c c e)
-
-  parts_at : (i : ℕ) (c : Choice) → slice_get choices i ≡ Some c → IsChoiceFor t n c
-  parts_at i c e = choice-IsRawChoice t n c (listed_at i c e).1
-
-  within_from : (c : Choice) → IsChoiceFor t n c → StandingLemmas.IsWithin base n c
-  within_from c p = record { a_known = recursion_from_All (λ o. o < base) c.a p.a_known; b_known = recursion_from_All (λ o. o < base) c.b p.b_known; all = p.all }
+  listed_at i c e = (listed t n c).0 (i, slice_get_within choices i c e, get_or_from_slice_get choices i c c e)
 
   within_at : (i : ℕ) (c : Choice) → slice_get choices i ≡ Some c → StandingLemmas.IsWithin base n c
-  within_at i c e = within_from c (parts_at i c e)
+  within_at i c e =
+      let is = (listed_at i c e).1 in
+      let known = All-parts (λ o. o < base) c.a c.b is.operations_known in
+      record { a_known = recursion_from_All (λ o. o < base) c.a known.0; b_known = recursion_from_All (λ o. o < base) c.b known.1; all = all_of t n c is }
 
   rises_at : (i k : ℕ) (c d : Choice) → i < k → slice_get choices i ≡ Some c → slice_get choices k ≡ Some d → ChoiceComesBefore c d
   rises_at i k c d l e f =
-      let all : AllPairs ChoiceComesBefore choices = AllPairs-from_Pairs ChoiceComesBefore choices (canonical_ascend (length t.states) base n) in
-      let here : ChoiceComesBefore (get_or choices i c) (get_or choices k c) = all i k c l (slice_get_within choices k d f) in
+      let here : ChoiceComesBefore (get_or choices i c) (get_or choices k c) = ascending (length t.states) base n i k c l (slice_get_within choices k d f) in
       subst (λ x. ChoiceComesBefore x d) (get_or_from_slice_get choices i c c e) (subst (ChoiceComesBefore (get_or choices i c)) (get_or_from_slice_get choices k d c f) here)
 
   stands_at : (i k : ℕ) (c d : Choice) → i < k → slice_get choices i ≡ Some c → slice_get choices k ≡ Some d → StandsBefore base d.state (length d.a) (StandingLemmas.choice_number base d) c
@@ -56,7 +64,7 @@ module _ (t : TypeTable) (n : ℕ) where
 
   place_of : (c : Choice) → IsCanonical c → IsRawChoice t n (raw_choice_of c) → (i : ℕ) × (slice_get choices i ≡ Some c)
   place_of c canonical fits =
-      let h : Contains choices c = (canonical_listed t n c).1 (canonical, fits) in (h.0, slice_get-get_or choices h.0 c h.1 ∙ ap Some h.2)
+      let h : Contains choices c = (listed t n c).1 (canonical, fits) in (h.0, slice_get-get_or choices h.0 c h.1 ∙ ap Some h.2)
 
   module _ (entries : List Collision) where
     -- the canonical choice at the position that was come to stands at the place
@@ -121,7 +129,7 @@ module _ (t : TypeTable) (n : ℕ) where
       before = λ i l. if_some _ (slice_get choices i) (λ d e. StandingLemmas.before_next_state base state (n / 2 + 1) 0 d (of_some _ (slice_get choices i) d (h.before i l) e));
       later = λ i l. if_some _ (slice_get choices i) (λ d e g.
           let canonical = (listed_at i d e).0 in
-          let all = (parts_at i d e).all in
+          let all = all_of t n d (listed_at i d e).1 in
           let half : length d.a < n / 2 + 1 = omega (arith, canonical.a_not_longer, all) in
           of_some _ (slice_get choices i) d (h.later i l) e (StandingLemmas.before_state_end base state (n / 2 + 1) d canonical.someone_in_a half g));
       refuted = h.refuted;
@@ -143,7 +151,7 @@ module _ (t : TypeTable) (n : ℕ) where
         by_order (inr (inl l)) =
             let d : Choice = get_or choices place (record { state = 0; a = []; b = [] }) in
             let at : slice_get choices place ≡ Some d = slice_get-get_or choices place _ l in
-            absurd (of_some _ (slice_get choices place) d (h.later place (omega arith)) at (inl (parts_at place d at).known_state))
+            absurd (of_some _ (slice_get choices place) d (h.later place (omega arith)) at (inl (listed_at place d at).1.state_known))
         by_order (inr (inr l)) = absurd (omega (arith, h.within))
 
 -- the list has this number among those of n operations, and was split after so many
@@ -186,38 +194,38 @@ module _ (t : TypeTable) (n state size number : ℕ) (list a b : List ℕ) (spli
   numbered : list_number (length t.operations) (a ++ b) ≡ number
   numbered = ap (list_number (length t.operations)) whole ∙ split.numbered
 
-  pub split_fits : IsRawChoice t n (raw_choice_of choice)
-  split_fits =
-      let known = recursion_from_All (λ o. o < length t.operations) (a ++ b) (subst (All (λ o. o < length t.operations)) (sym whole) split.known) in
-      IsRawChoice-choice t n choice (record {
+  pub split_fits : AreByTeams → IsRawChoice t n (raw_choice_of choice)
+  split_fits by_teams =
+      let known = All-parts (λ o. o < length t.operations) a b (subst (All (λ o. o < length t.operations)) (sym whole) split.known) in
+      (by_teams t n choice).1 (record {
         known_state = split.known_state;
-        a_known = All-from_recursion (λ o. o < length t.operations) a (each_from (λ o. o < length t.operations) a (λ x i. each_at (λ o. o < length t.operations) (a ++ b) x known (IsIn-append_left x a b i)));
-        b_known = All-from_recursion (λ o. o < length t.operations) b (each_from (λ o. o < length t.operations) b (λ x i. each_at (λ o. o < length t.operations) (a ++ b) x known (IsIn-append_right x a b i)));
+        a_known = known.0;
+        b_known = known.1;
         someone_in_a = omega (arith, short, split.someone);
         someone_in_b = omega (arith, short, all, split.half, split.someone);
         all = all;
       })
 
-  module _ (entries : List Collision) (place : ℕ) (come : HasComeTo t n entries place state size number) where
+  module _ (listed : AreListed) (ascending : AreAscending) (by_teams : AreByTeams) (entries : List Collision) (place : ℕ) (come : HasComeTo t n entries place state size number) where
     come_here : HasComeTo t n entries place state (length a) (list_number (length t.operations) (a ++ b))
     come_here = rw (short, numbered) come
 
     pub split_here : IsCanonical choice → slice_get (choices_for t n) place ≡ Some choice
-    split_here canonical = choice_here t n entries place choice canonical split_fits come_here
+    split_here canonical = choice_here listed ascending t n entries place choice canonical (split_fits by_teams) come_here
 
     pub split_past : IsCanonical choice → AreRefuted t (choices_for t n) entries (place + 1) → HasComeTo t n entries (place + 1) state size (number + 1)
     split_past canonical refuted =
-        let past : HasComeTo t n entries (place + 1) state (length a) (list_number (length t.operations) (a ++ b) + 1) = come_past t n entries place choice (split_here canonical) come_here refuted in
+        let past : HasComeTo t n entries (place + 1) state (length a) (list_number (length t.operations) (a ++ b) + 1) = come_past listed ascending t n entries place choice (split_here canonical) come_here refuted in
         rw (← short, ← numbered) past
 
     pub split_on : ¬ IsCanonical choice → HasComeTo t n entries place state size (number + 1)
     split_on none =
-        let on : HasComeTo t n entries place state size (list_number (length t.operations) list + 1) = come_on t n entries place state size list (rw split.numbered come) split.known split.long (rw (← split.front, ← split.back) none) in
+        let on : HasComeTo t n entries place state size (list_number (length t.operations) list + 1) = come_on listed ascending t n entries place state size list (rw split.numbered come) split.known split.long (rw (← split.front, ← split.back) none) in
         rw (← split.numbered) on
 
 pub split_fits_table : (t : TypeTable) (n state : ℕ) (a b : List ℕ) → 2 ≤ n → n ≤ 8 → IsRawChoice t n (raw_choice_of (record { state = state; a = a; b = b })) → FitsTable t (record { state = state; a = a; b = b })
 split_fits_table t n state a b some few is =
-    let all = (choice-IsRawChoice t n (record { state = state; a = a; b = b }) is).all in
+    let all = all_of t n (record { state = state; a = a; b = b }) is in
     record { fits = subst (λ (k : ℕ). IsRawChoice t k (raw_choice_of (record { state = state; a = a; b = b }))) (sym all) is; some = omega (arith, all); few = omega (arith, all) }
 
 -- what is refuted place by place is refuted

@@ -1,11 +1,11 @@
 -- Which choices stand before which.
 use Rattle.std.proofs.Common.{◌≡◌, ℕ, ◌+◌, ◌*◌, ◌^◌, ◌<◌, ◌≤◌, ◌⊎◌, inl, inr, List, ◌++◌, length, length-append, take, drop, sym, ap, ◌∙◌, subst, arith}
 use Rattle.std.specs.List.{AllByRecursion}
+use Rattle.std.proofs.lemmas.List.Elements.{All-append, All-from_recursion, recursion_from_All}
 use Rattle.std.proofs.lemmas.Nat.{mul-le}
 use Rattle.std.proofs.Math.Nat.{eq-or-lt_of_le}
 use Rattle.std.proofs.Math.Seq.{drop-append_seam, take-append_seam}
 use Rattle.cn_choice.specs.Canonical.{Choice, ChoiceComesBefore}
-use Rattle.cn_choice.proofs.Members.{IsIn-append_cases, each_at, each_from}
 use Rattle.cn_check.specs.Numbering.{list_number}
 use Rattle.cn_check.specs.Progress.{StandsBefore}
 use Rattle.cn_check.proofs.NumberingLemmas.{number_below, list_number-append, number_rises, number_tells}
@@ -20,10 +20,9 @@ abbrev pub choice_number : ℕ → Choice → ℕ
 choice_number base c = list_number base (c.a ++ c.b)
 
 pub both_known : (base n : ℕ) (c : Choice) → IsWithin base n c → AllByRecursion (λ o. o < base) (c.a ++ c.b)
-both_known base n c w = each_from (λ o. o < base) (c.a ++ c.b) (λ x i. elim (IsIn-append_cases x c.a c.b i) [
-  | inl j ↦ each_at (λ o. o < base) c.a x w.a_known j
-  | inr j ↦ each_at (λ o. o < base) c.b x w.b_known j
-])
+both_known base n c w =
+    recursion_from_All (λ o. o < base) (c.a ++ c.b)
+    (All-append (λ o. o < base) c.a c.b (All-from_recursion (λ o. o < base) c.a w.a_known) (All-from_recursion (λ o. o < base) c.b w.b_known))
 
 a_rises : (base : ℕ) (c d : Choice) (n : ℕ) → IsWithin base n c → IsWithin base n d → length c.a ≡ length d.a → list_number base c.a < list_number base d.a → choice_number base c < choice_number base d
 a_rises base c d n v w long less =

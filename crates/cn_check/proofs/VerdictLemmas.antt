@@ -1,20 +1,18 @@
 -- What an accepted certificate shows, and that the certificate of a finding is accepted.
-use Rattle.std.proofs.Common.{◌≡◌, ◌∙◌, ◌≢◌, ℕ, zero, suc, ◌+◌, ◌≤◌, inl, List, [], ◌∷◌, ◌++◌, length, refl, sym, ap, subst, arith, Bool, true, false, cond, ltb, leb, ◌&&◌, Option, Some, None, IfSome, Contains}
+use Rattle.std.proofs.Common.{◌≡◌, ◌∙◌, ◌≢◌, ℕ, zero, suc, ◌+◌, ◌≤◌, ◌<◌, ◌↔◌, List, [], ◌∷◌, length, refl, sym, ap, subst, arith, Bool, true, false, cond, ltb, leb, ◌&&◌, Option, Some, None, IfSome, All}
 use Rattle.std.specs.Prelude.{IfErr, IsErrAnd, IsOk, IsSomeAnd, MatchOption, OnOk, Result, Ok, Err, slice_get}
 use Rattle.std.specs.List.{AllByRecursion, AllZip}
 use Rattle.std.proofs.lemmas.Bool.{leb-true, lt-ltb, ltb-true, and_parts}
 use Rattle.std.proofs.lemmas.List.Elements.{All-from_recursion}
 use Rattle.std.proofs.lemmas.Slice.Zip.{AllZip-long}
 use Rattle.std.proofs.lemmas.Option.{none-some, same_Some}
+use Rattle.cn_table.proofs.Lists.{Contains-between}
 use Rattle.cn_table.specs.TypeTable.{TypeTable}
-use Rattle.cn_choice.specs.RawChoices.{IsRawChoice}
+use Rattle.cn_choice.specs.RawChoices.{IsRawChoice, RawChoice}
 use Rattle.cn_choice.specs.Canonical.{Choice, canonical_choices, raw_choice_of}
+use Rattle.cn_choice.specs.FirstCollision.{HasCollision}
 use Rattle.cn_choice.specs.Collisions.{Collision, IsCollision}
 use Rattle.cn_choice.specs.Discerning.{IsDiscerning, IsNumberUpTo, IsWitness, ResultSetsMeet}
-use Rattle.cn_choice.proofs.CanonicalForms.{canonical_listed, not_discerning}
-use Rattle.cn_choice.proofs.Deciding.{no_witness}
-use Rattle.cn_choice.proofs.Members.{Contains-from_IsIn, IsIn-append_right}
-use Rattle.cn_choice.proofs.Numbers.{no_number, number_at}
 use Rattle.cn_search.specs.Evidence.{IsFindingFor, IsFirstWitness, IsRecordedFor, choices_for, choices_to_refute}
 use Rattle.cn_search.specs.Faults.{count_fault, find_fault}
 use Rattle.cn_search.specs.declared.fault.FindFault.TheVariants.{BadLimit}
@@ -25,33 +23,44 @@ use Rattle.cn_check.specs.Faults.{HasFault, IsFirstFault}
 use Rattle.cn_check.specs.PartFaults.{IsEvidenceFault, IsWitnessFault}
 use Rattle.cn_check.specs.Verdict.{IsAccepted}
 use Rattle.cn_check.proofs.FaultLemmas.{first_of_evidence, first_of_witness}
+use Rattle.cn_check.proofs.ProgressLemmas.{AreListed}
 use Rattle.cn_check.specs.declared.fault.CheckFault.{CheckFault}
 use Rattle.cn_check.specs.declared.fault.CheckFault.TheVariants.{OtherType, BadNumber, WitnessShape, WitnessMeets, Unexpected, NotNext, NotACollision, TooFew}
 
+-- ---- what the laws of choices and of numbers say
+
+-- a choice with a collision is no witness; where no canonical choice for n processes is a witness, the type is not n-discerning; and the number is the one before the first n for which it is not
+pub record AreDecided : Type 0 where
+  pub collision : (t : TypeTable) (c : RawChoice) → HasCollision t c ↔ ¬ IsWitness t c
+  pub refuted : (t : TypeTable) (n : ℕ) → All (λ c. ¬ IsWitness t (raw_choice_of c)) (choices_for t n) → ¬ IsDiscerning t n
+  pub found : (t : TypeTable) (limit n : ℕ) → 2 ≤ n → n ≤ limit → IsDiscerning t n → (n < limit → ¬ IsDiscerning t (n + 1)) → IsNumberUpTo t limit (Some n)
+  pub none : (t : TypeTable) (limit : ℕ) → ¬ IsDiscerning t 2 → IsNumberUpTo t limit None
+
 -- ---- the number
 
-refuted_each : (t : TypeTable) (choices : List Choice) (entries : List Collision) → AllZip (Refutes t) choices entries → AllByRecursion (λ c. ¬ IsWitness t (raw_choice_of c)) choices
-refuted_each t [] entries h = tt
-refuted_each t (c ∷ choices) [] h = absurd h
-refuted_each t (c ∷ choices) (e ∷ entries) h = (
-  subst (λ x. ¬ IsWitness t (raw_choice_of x)) h.0.0 (no_witness t (raw_choice_of e.choice) e.process e.alpha e.beta h.0.1),
-  refuted_each t choices entries h.1,
-)
+module _ (decided : AreDecided) (t : TypeTable) where
+  refuted_each : (choices : List Choice) (entries : List Collision) → AllZip (Refutes t) choices entries → AllByRecursion (λ c. ¬ IsWitness t (raw_choice_of c)) choices
+  refuted_each [] entries h = tt
+  refuted_each (c ∷ choices) [] h = absurd h
+  refuted_each (c ∷ choices) (e ∷ entries) h = (
+    subst (λ x. ¬ IsWitness t (raw_choice_of x)) h.0.0 ((decided.collision t (raw_choice_of e.choice)).0 (e.process, e.alpha, e.beta, h.0.1)),
+    refuted_each choices entries h.1,
+  )
 
-none_discerning : (t : TypeTable) (n : ℕ) (entries : List Collision) → AllZip (Refutes t) (choices_for t n) entries → ¬ IsDiscerning t n
-none_discerning t n entries h = not_discerning t n (All-from_recursion (λ c. ¬ IsWitness t (raw_choice_of c)) (choices_for t n) (refuted_each t (choices_for t n) entries h))
+  none_discerning : (n : ℕ) (entries : List Collision) → AllZip (Refutes t) (choices_for t n) entries → ¬ IsDiscerning t n
+  none_discerning n entries h = decided.refuted t n (All-from_recursion (λ c. ¬ IsWitness t (raw_choice_of c)) (choices_for t n) (refuted_each (choices_for t n) entries h))
 
-number_by_parts : (t : TypeTable) (limit : ℕ) (number : Option ℕ) (witness : Option Choice) (entries : List Collision) → IsInRange limit number → HasWitnessFor t number witness
-    → IfSome witness (λ w. IsWitness t (raw_choice_of w)) → AllZip (Refutes t) (choices_to_refute t limit number) entries → IsNumberUpTo t limit number
-number_by_parts t limit None None entries r f w h = no_number t limit (none_discerning t 2 entries h)
-number_by_parts t limit None (Some x) entries r f w h = absurd f
-number_by_parts t limit (Some n) None entries r f w h = absurd f
-number_by_parts t limit (Some n) (Some x) entries r f w h =
-    number_at t limit n r.number_in_limit.0 r.number_in_limit.1 (raw_choice_of x, f, w)
-    (λ l. none_discerning t (n + 1) entries (subst (λ b. AllZip (Refutes t) (cond b (choices_for t (n + 1)) []) entries) (lt-ltb n limit l) h))
+  number_by_parts : (limit : ℕ) (number : Option ℕ) (witness : Option Choice) (entries : List Collision) → IsInRange limit number → HasWitnessFor t number witness
+      → IfSome witness (λ w. IsWitness t (raw_choice_of w)) → AllZip (Refutes t) (choices_to_refute t limit number) entries → IsNumberUpTo t limit number
+  number_by_parts limit None None entries r f w h = decided.none t limit (none_discerning 2 entries h)
+  number_by_parts limit None (Some x) entries r f w h = absurd f
+  number_by_parts limit (Some n) None entries r f w h = absurd f
+  number_by_parts limit (Some n) (Some x) entries r f w h =
+      decided.found t limit n r.number_in_limit.0 r.number_in_limit.1 (raw_choice_of x, f, w)
+      (λ l. none_discerning (n + 1) entries (subst (λ b. AllZip (Refutes t) (cond b (choices_for t (n + 1)) []) entries) (lt-ltb n limit l) h))
 
-pub number_accepted : (t : TypeTable) (c : Certificate) → IsAccepted t c → IsNumberUpTo t c.limit c.number
-number_accepted t c a = number_by_parts t c.limit c.number c.witness c.collisions a.in_range a.witness_fits a.witness a.refuted
+  pub number_accepted : (c : Certificate) → IsAccepted t c → IsNumberUpTo t c.limit c.number
+  number_accepted c a = number_by_parts c.limit c.number c.witness c.collisions a.in_range a.witness_fits a.witness a.refuted
 
 -- ---- an accepted certificate has no fault
 
@@ -104,17 +113,15 @@ recorded_refute t (c ∷ choices) (e ∷ entries) h = (
   recorded_refute t choices entries h.1,
 )
 
-first_fits : (t : TypeTable) (n : ℕ) (w : Choice) → IsFirstWitness t (choices_for t n) w → IsRawChoice t n (raw_choice_of w)
-first_fits t n w f =
-    let listed : Contains (choices_for t n) w = subst (λ (cs : List Choice). Contains cs w) (sym f.listed) (Contains-from_IsIn w (f.before ++ w ∷ f.after) (IsIn-append_right w f.before (w ∷ f.after) (inl refl))) in
-    ((canonical_listed t n w).0 listed).1
+first_fits : AreListed → (t : TypeTable) (n : ℕ) (w : Choice) → IsFirstWitness t (choices_for t n) w → IsRawChoice t n (raw_choice_of w)
+first_fits listed t n w f = ((listed t n w).0 (Contains-between (choices_for t n) f.before f.after w (sym f.listed))).1
 
-fits_by_parts : (t : TypeTable) (number : Option ℕ) (witness : Option Choice) → MatchOption number (witness ≡ None) (λ n. IsSomeAnd witness (IsFirstWitness t (choices_for t n)))
+fits_by_parts : AreListed → (t : TypeTable) (number : Option ℕ) (witness : Option Choice) → MatchOption number (witness ≡ None) (λ n. IsSomeAnd witness (IsFirstWitness t (choices_for t n)))
     → HasWitnessFor t number witness × IfSome witness (λ w. IsWitness t (raw_choice_of w))
-fits_by_parts t None None h = (tt, tt)
-fits_by_parts t None (Some w) h = absurd (none-some w (sym h))
-fits_by_parts t (Some n) None h = absurd h
-fits_by_parts t (Some n) (Some w) h = (first_fits t n w h, h.witness)
+fits_by_parts listed t None None h = (tt, tt)
+fits_by_parts listed t None (Some w) h = absurd (none-some w (sym h))
+fits_by_parts listed t (Some n) None h = absurd h
+fits_by_parts listed t (Some n) (Some w) h = (first_fits listed t n w h, h.witness)
 
 in_range_by_parts : (t : TypeTable) (limit : ℕ) (number : Option ℕ) → 2 ≤ limit → limit ≤ 6 → IsNumberUpTo t limit number → IsInRange limit number
 in_range_by_parts t limit None some few h = record { some = some; few = few; number_in_limit = tt }
@@ -127,10 +134,10 @@ limit_searched states operations limit e = by_test (leb 2 limit && leb limit 6) 
     by_test true f g = (let p = and_parts (leb 2 limit) (leb limit 6) f in (leb-true 2 limit p.0, leb-true limit 6 p.1))
     by_test false f g = absurd (cc g)
 
-pub finding_accepted : (t : TypeTable) (c : Certificate) (f : Finding) → IsFindingFor t f.limit f → find_fault (length t.states) (length t.operations) f.limit ≡ None → c ≡ certificate_of t.name f → IsAccepted t c
-finding_accepted t c f is searched same =
+pub finding_accepted : AreListed → (t : TypeTable) (c : Certificate) (f : Finding) → IsFindingFor t f.limit f → find_fault (length t.states) (length t.operations) f.limit ≡ None → c ≡ certificate_of t.name f → IsAccepted t c
+finding_accepted listed t c f is searched same =
     let range = limit_searched (length t.states) (length t.operations) f.limit searched in
-    let parts = fits_by_parts t f.number f.witness is.witness in
+    let parts = fits_by_parts listed t f.number f.witness is.witness in
     subst (IsAccepted t) (sym same) (record {
       type_name = refl;
       in_range = in_range_by_parts t f.limit f.number range.0 range.1 is.number;
@@ -170,15 +177,15 @@ module _ (t : TypeTable) (seen c : Certificate) (r : Result (Unit {0}) CheckFaul
         by_result (Err e) h = tt
 
 -- what is accepted has the number of the type
-pub number_if_accepted : (t : TypeTable) (c : Certificate) (r : Result (Unit {0}) CheckFault) → OnOk r (IsAccepted t c) → OnOk r (IsNumberUpTo t c.limit c.number)
-number_if_accepted t c (Ok x) h = number_accepted t c h
-number_if_accepted t c (Err e) h = tt
+pub number_if_accepted : AreDecided → (t : TypeTable) (c : Certificate) (r : Result (Unit {0}) CheckFault) → OnOk r (IsAccepted t c) → OnOk r (IsNumberUpTo t c.limit c.number)
+number_if_accepted decided t c (Ok x) h = number_accepted decided t c h
+number_if_accepted decided t c (Err e) h = tt
 
 -- where each fault would be the first one, what is accepted passes, and so does the certificate of a finding
 pub accepted_passes : (t : TypeTable) (c : Certificate) (r : Result (Unit {0}) CheckFault) → IfErr r (IsFirstFault t c) → IsAccepted t c → IsOk r
 accepted_passes t c (Ok x) h a = refl
 accepted_passes t c (Err e) h a = absurd (no_fault t c a e h.holds)
 
-pub found_passes : (t : TypeTable) (c : Certificate) (r : Result (Unit {0}) CheckFault) → IfErr r (IsFirstFault t c) → (f : Finding) → IsFindingFor t f.limit f
+pub found_passes : AreListed → (t : TypeTable) (c : Certificate) (r : Result (Unit {0}) CheckFault) → IfErr r (IsFirstFault t c) → (f : Finding) → IsFindingFor t f.limit f
     → find_fault (length t.states) (length t.operations) f.limit ≡ None → c ≡ certificate_of t.name f → IsOk r
-found_passes t c r h f is searched same = accepted_passes t c r h (finding_accepted t c f is searched same)
+found_passes listed t c r h f is searched same = accepted_passes t c r h (finding_accepted listed t c f is searched same)

@@ -10,6 +10,7 @@ use crate::CheckFault;
 use crate::choice::are_canonical;
 use crate::numbering::{count_lists, list_at};
 use crate::seeing::pair_shown;
+use cn_choice::laws::{canonical_list, choice_by_teams};
 use cn_choice::{Choice, Collision, Team};
 use cn_table::{State, Table};
 
@@ -90,6 +91,9 @@ fn check_size(
     ensures reached { IfOk result (λ place. HasComeTo table.now n entries.now place state.0 (size + 1) 0) }
     ensures fault { IfErr result (IsFirstEntryFault table.now (choices_for table.now n) entries.now) }
 {
+    // The choices to be refuted are the canonical ones, in their order.
+    canonical_list();
+    choice_by_teams();
     let operations = table.operations();
     let mut place = start;
     for number in 0..count_lists(operations, n) {
@@ -118,6 +122,8 @@ fn check_state(
     ensures reached { IfOk result (λ place. HasComeTo table.now n entries.now place (state.0 + 1) 1 0) }
     ensures fault { IfErr result (IsFirstEntryFault table.now (choices_for table.now n) entries.now) }
 {
+    // The choices to be refuted are the canonical ones, in their order.
+    canonical_list();
     let mut place = start;
     for size in 1..n / 2 + 1 {
         place = check_size(table, entries, n, state, size, place)?;
@@ -133,6 +139,8 @@ pub(crate) fn check_entries(table: &Table, entries: &[Collision], n: u8) -> Resu
     ensures refuted { OnOk result (AllZip (Refutes table.now) (choices_for table.now n) entries.now) }
     ensures fault { IfErr result (IsFirstEntryFault table.now (choices_for table.now n) entries.now) }
 {
+    // The choices to be refuted are the canonical ones, in their order.
+    canonical_list();
     let mut place = 0;
     for state in 0..table.states() {
         place = check_state(table, entries, n, State(state), place)?;

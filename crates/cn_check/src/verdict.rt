@@ -17,6 +17,9 @@ use crate::choice::is_choice_for;
 use crate::refutation::check_entries;
 use crate::witness::first_meeting;
 use cn_cert::Certificate;
+use cn_choice::laws::{
+    canonical_choices_decide, canonical_list, collision_or_witness, number_before_failure,
+};
 use cn_choice::{Choice, Collision};
 use cn_table::Table;
 
@@ -101,6 +104,12 @@ pub fn check(table: &Table, certificate: &Certificate) -> Result<(), CheckFault>
     ensures number { OnOk result (IsNumberUpTo table.now certificate.now.limit certificate.now.number) }
     ensures found { (f : Finding) → IsFindingFor table.now f.limit f → find_fault (length table.now.states) (length table.now.operations) f.limit ≡ None → certificate.now ≡ certificate_of table.now.name f → IsOk result }
 {
+    // That the canonical choices are refuted shows the number.
+    collision_or_witness();
+    canonical_choices_decide();
+    number_before_failure();
+    // A first witness is one of the canonical choices.
+    canonical_list();
     if !is_of_type(certificate, table) {
         return Err(CheckFault::OtherType);
     }

@@ -2,14 +2,18 @@
 //! number of processes.
 //!
 //! A law is a function that does nothing: its contract is the law.
-ghost use Rattle.std.specs.Prelude.{◌≡◌, ◌<◌, ◌≤◌, ◌+◌, ◌-◌, ◌*◌, ◌⊎◌, ◌↔◌, ℕ, Option, Some, None, List, length, All, AllPairs, Contains};
+ghost use Rattle.std.specs.Prelude.{◌≡◌, ◌<◌, ◌≤◌, ◌+◌, ◌-◌, ◌*◌, ◌⊎◌, ◌↔◌, ℕ, Option, Some, None, List, length, option_map, All, AllPairs, Contains};
+ghost use Rattle.cn_table.specs.Run.{responses_along, state_after};
 ghost use Rattle.cn_table.specs.TypeTable.{TypeTable};
 ghost use Rattle.cn_choice.specs.RawChoices.{RawChoice, IsRawChoice};
 ghost use Rattle.cn_choice.specs.Discerning.{IsDiscerning, IsWitness, IsNumberUpTo};
 ghost use Rattle.cn_choice.specs.Collisions.{IsRecordedCollision};
 ghost use Rattle.cn_choice.specs.FirstCollision.{HasCollision, HasRecorded};
 ghost use Rattle.cn_choice.specs.Counting.{choices_per_state};
-ghost use Rattle.cn_choice.specs.Canonical.{Choice, raw_choice_of, IsCanonical, IsCanonicalForm, ChoiceComesBefore, canonical_choices};
+ghost use Rattle.cn_choice.specs.Canonical.{Choice, raw_choice_of, IsCanonical, IsCanonicalForm, IsChoiceFor, ChoiceComesBefore, canonical_choices};
+ghost use Rattle.cn_choice.specs.Orders.{IsOrder};
+ghost use Rattle.cn_choice.specs.ResultSets.{InResultSet, operations_of, pair_of, response_of};
+ghost use Rattle.cn_choice.specs.declared.team.Team.{Team};
 
 mod orders;
 mod raw_choice;
@@ -68,4 +72,26 @@ pub fn canonical_choices_decide()
 /// together, and of two of one length the one that is not above the other comes first.
 pub fn choices_by_formula()
     ensures { (states operations n : ℕ) → 1 ≤ operations → 2 ≤ n → length (canonical_choices states operations n) ≡ states * choices_per_state operations n }
+{}
+
+/// A choice is one of the type for n processes exactly where its state and its operations are the
+/// type's, both teams have someone, and together they are n.
+pub fn choice_by_teams()
+    ensures { (t : TypeTable) (n : ℕ) (c : Choice) → IsRawChoice t n (raw_choice_of c) ↔ IsChoiceFor t n c }
+{}
+
+/// An order of some of n processes has at most n of them.
+pub fn short_orders()
+    ensures { (n : ℕ) (order : List ℕ) → IsOrder n order → length order ≤ n }
+{}
+
+/// A process with a pair in a result set is one of the processes.
+pub fn process_of_pair()
+    ensures { (t : TypeTable) (c : RawChoice) (team : Team) (j : ℕ) (pair : ℕ × ℕ) → InResultSet t c team j pair → j < length c.operations }
+{}
+
+/// What a process sees, by going along the order once: the response in its place, and the last
+/// state.
+pub fn pair_along_order()
+    ensures { (t : TypeTable) (c : RawChoice) (order : List ℕ) (j : ℕ) → pair_of t c order j ≡ option_map (λ response. (response, state_after t c.state (operations_of c order))) (response_of j order (responses_along t c.state (operations_of c order))) }
 {}

@@ -12,7 +12,7 @@ check_entry-requires-clause-here c =
     let split : IsSplit t c.args.n c.args.state.0 c.args.size c.loop-number.number list.result.items teams.result.0.now teams.result.1.now =
     split_from t c.args.n c.args.state.0 c.args.size c.loop-number.number c.operations-operations.result list.result.items c.as_slice.result.now teams.result.0.now teams.result.1.now
     c.requires.state c.requires.someone c.requires.half c.operations-operations.ensures.number list.ensures.long list.ensures.known list.ensures.number c.as_slice.ensures.value teams.ensures.front teams.ensures.back in
-    split_here t c.args.n c.args.state.0 c.args.size c.loop-number.number list.result.items teams.result.0.now teams.result.1.now split c.args.entries.now c.loop-number.place c.loop-number.invariant
+    split_here t c.args.n c.args.state.0 c.args.size c.loop-number.number list.result.items teams.result.0.now teams.result.1.now split c.canonical_list.ensures.listed c.canonical_list.ensures.ascending c.choice_by_teams.ensures c.args.entries.now c.loop-number.place c.loop-number.invariant
     ((c.are_canonical.ensures c.args.state.0).0 c.if-are_canonical.true)
 
 pub check_entry-requires-clause-fits : goal.check_entry-requires-clause-fits
@@ -24,7 +24,7 @@ check_entry-requires-clause-fits c =
     split_from t c.args.n c.args.state.0 c.args.size c.loop-number.number c.operations-operations.result list.result.items c.as_slice.result.now teams.result.0.now teams.result.1.now
     c.requires.state c.requires.someone c.requires.half c.operations-operations.ensures.number list.ensures.long list.ensures.known list.ensures.number c.as_slice.ensures.value teams.ensures.front teams.ensures.back in
     split_fits_table t c.args.n c.args.state.0 teams.result.0.now teams.result.1.now c.requires.some c.requires.few
-    (split_fits t c.args.n c.args.state.0 c.args.size c.loop-number.number list.result.items teams.result.0.now teams.result.1.now split)
+    (split_fits t c.args.n c.args.state.0 c.args.size c.loop-number.number list.result.items teams.result.0.now teams.result.1.now split c.choice_by_teams.ensures)
 
 pub loop-number-preserved : goal.loop-number-preserved
 loop-number-preserved c =
@@ -37,11 +37,11 @@ loop-number-preserved c =
     elim c.if-are_canonical.branch [
       | then-are_canonical+in_ok-place w ↦
           rw (w.place-is, w.in_ok-place.ensures.next)
-          (split_past t c.args.n c.args.state.0 c.args.size c.loop-number.number list.result.items teams.result.0.now teams.result.1.now split c.args.entries.now c.loop-number.place c.loop-number.invariant
+          (split_past t c.args.n c.args.state.0 c.args.size c.loop-number.number list.result.items teams.result.0.now teams.result.1.now split c.canonical_list.ensures.listed c.canonical_list.ensures.ascending c.choice_by_teams.ensures c.args.entries.now c.loop-number.place c.loop-number.invariant
           ((c.are_canonical.ensures c.args.state.0).0 w.if-are_canonical.true) w.in_ok-place.ensures.refuted)
       | else-are_canonical w ↦
           rw w.place-is
-          (split_on t c.args.n c.args.state.0 c.args.size c.loop-number.number list.result.items teams.result.0.now teams.result.1.now split c.args.entries.now c.loop-number.place c.loop-number.invariant
+          (split_on t c.args.n c.args.state.0 c.args.size c.loop-number.number list.result.items teams.result.0.now teams.result.1.now split c.canonical_list.ensures.listed c.canonical_list.ensures.ascending c.choice_by_teams.ensures c.args.entries.now c.loop-number.place c.loop-number.invariant
           (λ canonical. true≢false (rw w.if-are_canonical.false at (sym ((c.are_canonical.ensures c.args.state.0).1 canonical)))))
     ]
 
@@ -49,5 +49,5 @@ pub returns-clause-reached : goal.returns-clause-reached
 returns-clause-reached c =
     let last : c.loop-number.number ≡ c.count_lists-number-end.result = omega arith in
     let end = last ∙ (c.count_lists-number-end.ensures ∙ ap (λ (k : ℕ). k ^ c.args.n) c.operations-operations.ensures.number) in
-    come_to_next_size c.args.table.now c.args.n c.args.entries.now c.loop-number.place c.args.state.0 c.args.size
+    come_to_next_size c.canonical_list.ensures.listed c.canonical_list.ensures.ascending c.args.table.now c.args.n c.args.entries.now c.loop-number.place c.args.state.0 c.args.size
     (subst (HasComeTo c.args.table.now c.args.n c.args.entries.now c.loop-number.place c.args.state.0 c.args.size) end c.loop-number.invariant)
