@@ -69,7 +69,7 @@ pub(crate) fn pieces_of(alloc: Global, text: &str, separator: char) -> Result<Ve
 }
 
 /// The items that the pieces spell.
-#[tactic(auto, using(cn_table::proofs::AllSome::front_next, cn_table::proofs::AllSome::front_stops))]
+#[tactic(auto, using(cn_table::proofs::Lists::front_next, cn_table::proofs::Lists::front_stops))]
 fn read_items<T: Item + Drop>(
     alloc: Global,
     pieces: &[&str],
