@@ -6,6 +6,7 @@ pub mod Counting
 pub mod Discerning
 pub mod Examination
 pub mod FirstCollision
+pub mod Live
 pub mod Meeting
 pub mod Orders
 pub mod OutcomeOrders
