@@ -9,6 +9,7 @@ pub mod EarlyPairs
 pub mod Examination
 pub mod FirstCollision
 pub mod Live
+pub mod LiveLeft
 pub mod Meeting
 pub mod Orders
 pub mod OrdersLeft

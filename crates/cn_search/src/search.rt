@@ -21,9 +21,10 @@ use std::alloc::{AllocError, Global};
 use std::thread::Threads;
 
 /// The greatest limit.
-const GREATEST_LIMIT: u8 = 6;
+const GREATEST_LIMIT: u8 = 8;
 
-/// So many canonical choices for as many processes as the limit are searched, and no more.
+/// So many canonical choices, live or not, for as many processes as the limit are searched, and no
+/// more.
 const MOST_CHOICES: u64 = 100_000;
 
 /// The fault of the limit, if it has one for this table.
@@ -51,7 +52,7 @@ fn splits(table: &Table, choice: &Choice, n: u8) -> bool
     is_witness(table, choice)
 }
 
-/// The blocks of the canonical choices for n processes, in order.
+/// The blocks of the live canonical choices for n processes, in order.
 fn blocks_for(alloc: Global, table: &Table, n: u8) -> Result<Vec<Block>, AllocError>
     requires some { 2 ≤ n }
     requires few { n ≤ 8 }
@@ -223,9 +224,9 @@ fn search<T: Threads + Sync>(
     requires few { limit ≤ 8 }
     ensures { IfOk result (IsFindingFor table.now limit) }
 {
-    // Where no canonical choice is a witness no choice is, for n processes or for more.
+    // Where no live canonical choice is a witness no choice is, for n processes or for more.
     laws::block_list();
-    laws::canonical_choices_decide();
+    laws::live_choices_decide();
     laws::number_before_failure();
     let mut number = None;
     let mut witness = None;
@@ -251,15 +252,15 @@ fn search<T: Threads + Sync>(
     })
 }
 
-/// The number of a type up to a limit, from 2 to 6, with the evidence for it.
+/// The number of a type up to a limit, from 2 to 8, with the evidence for it.
 ///
 /// The blocks of choices are searched in several threads.
 ///
 /// # Errors
 ///
-/// `BadLimit` where the limit is below 2 or above 6; else `TooManyChoices`, with their count, where
-/// there are more than 100,000 canonical choices for as many processes as the limit. `OutOfMemory`
-/// can stand in place of any answer.
+/// `BadLimit` where the limit is below 2 or above 8; else `TooManyChoices`, with their count, where
+/// there are more than 100,000 canonical choices, live or not, for as many processes as the limit.
+/// `OutOfMemory` can stand in place of a finding alone.
 pub fn find<T: Threads + Sync>(
     rt: &T,
     alloc: Global,
