@@ -7,8 +7,8 @@ use std::alloc::AllocError;
 use std::error::Error;
 use std::fmt;
 
-/// Why no schedule was run. Of two faults that hold, the one that stands first here is answered;
-/// want of memory can stand in place of any answer.
+/// Why no schedule was run. Of two faults that hold, the one that stands first here is answered,
+/// and want of memory only where no other holds.
 #[derive(Clone, Copy, Debug, PartialEq, Eq)]
 pub enum ScheduleFault {
     /// There are not as many inputs as processes.

@@ -1,11 +1,12 @@
 //! Whole schedules: lists of the processes that take the steps.
-ghost use Rattle.std.specs.Prelude.{◌≡◌, ◌<◌, ◌≤◌, ◌⊎◌, ℕ, length, IfErr, IfOk, OnOk, None, Some, nat_le, position};
+ghost use Rattle.std.specs.Prelude.{◌≡◌, ◌<◌, ◌≤◌, ◌⊎◌, ℕ, length, Err, IfErr, IfOk, OnOk, None, Some, nat_le, position};
 ghost use Rattle.cn_proto.specs.Plan.{protocol_of, processes_of, nodes_of};
 ghost use Rattle.cn_agree.specs.Beginning.{AllHaveBegun, HaveBegun};
 ghost use Rattle.cn_agree.specs.Consensus.{IsConsensus, IsSchedule};
 ghost use Rattle.cn_agree.specs.Rounds.{RunsBy};
 ghost use Rattle.cn_agree.specs.Schedules.{all_begun, decisions_of, decisions_after, schedule_fault};
 ghost use Rattle.cn_agree.specs.Steps.{after_schedule};
+ghost use Rattle.cn_agree.specs.declared.fault.ScheduleFault.{ScheduleFault as FaultOf};
 ghost use Rattle.cn_agree.specs.declared.fault.ScheduleFault.TheVariants.{OutOfMemory};
 
 use crate::{Round, ScheduleFault, laws};
@@ -124,8 +125,8 @@ pub(crate) fn round_after<V: Copy>(
 /// # Errors
 ///
 /// `InputCount` where there are not as many inputs as processes; else `NoSuchProcess` with the
-/// first place of the schedule that names no process. `OutOfMemory` can stand in place of any
-/// answer.
+/// first place of the schedule that names no process. These are told before any memory is taken;
+/// `OutOfMemory` can stand in place of the decisions alone.
 pub fn run_schedule(
     alloc: Global,
     plan: &Plan,
@@ -135,6 +136,7 @@ pub fn run_schedule(
     ensures decisions { IfOk result (λ d. d.decisions ≡ decisions_after plan.now inputs.now schedule.now) }
     ensures consensus { IfOk result (λ d. IsConsensus (protocol_of plan.now) (processes_of plan.now) inputs.now schedule.now d.decisions) }
     ensures run { OnOk result (schedule_fault (processes_of plan.now) inputs.now schedule.now ≡ None) }
+    ensures told { (e : FaultOf) → schedule_fault (processes_of plan.now) inputs.now schedule.now ≡ Some e → result ≡ Err e }
     ensures refused { IfErr result (λ e. (e ≡ OutOfMemory) ⊎ (schedule_fault (processes_of plan.now) inputs.now schedule.now ≡ Some e)) }
 {
     if let Some(fault) = fault_of(plan, inputs, schedule) {

@@ -110,8 +110,72 @@ fn refuses_inputs_and_schedules(rt: HostRuntime) -> Result<(), Fail> {
         };
         assert_eq!(rt; found.as_deref(), expected, "{inputs:?} {schedule:?}");
     }
-    let text = format!(in rt.alloc(); "{}", ScheduleFault::from(AllocError))?;
-    assert_eq!(rt; text.as_str(), "3 OutOfMemory");
+    Ok(())
+}
+
+#[test]
+fn prints_every_fault(rt: HostRuntime) -> Result<(), Fail> {
+    let rows = [
+        (ScheduleFault::InputCount, "1 InputCount"),
+        (ScheduleFault::NoSuchProcess(1), "2 NoSuchProcess 1"),
+        (ScheduleFault::from(AllocError), "3 OutOfMemory"),
+    ];
+    for (fault, expected) in rows {
+        let text = format!(in rt.alloc(); "{fault}")?;
+        assert_eq!(rt; text.as_str(), expected);
+    }
+    Ok(())
+}
+
+/// The plan of the witness `[0,[0],[1,1,1,1,1,1,1]]` of sticky_bit, for eight processes.
+fn plan_for_eight(rt: &impl Abort, alloc: Global) -> Result<Plan, Fail> {
+    let table = read_table(alloc, STICKY_BIT.as_bytes())?;
+    for choice in Choices::new(&table, 8) {
+        if choice.b.first() == Some(&1) {
+            assert!(rt; choice.a.len() + choice.b.len() == 8);
+            assert!(rt; choice.is_for(&table, 8));
+            return Ok(Plan::from_witness(alloc, &table, &choice)?);
+        }
+    }
+    Err("no witness")?
+}
+
+/// Process 7 of eight, with seven places on its path, runs alone, so many steps; and then the
+/// others take more steps than they need.
+fn seven_first(alloc: Global, alone: u8, more: u8) -> Result<Vec<u8>, AllocError> {
+    let mut schedule = Vec::new(alloc);
+    for _step in 0..alone {
+        schedule.push(7)?;
+    }
+    for _step in 0..more {
+        for p in 0..7 {
+            schedule.push(p)?;
+        }
+    }
+    Ok(schedule)
+}
+
+#[test]
+fn decides_for_eight(rt: HostRuntime) -> Result<(), Fail> {
+    let alloc = rt.alloc();
+    let plan = plan_for_eight(&rt, alloc)?;
+    let inputs = [10, 20, 30, 40, 50, 60, 70, 80];
+    let rows = [
+        (27, 0, [None; 8]),
+        (
+            28,
+            0,
+            [None, None, None, None, None, None, None, Some(80)],
+        ),
+        (28, 28, [Some(80); 8]),
+    ];
+    for (alone, more, expected) in rows {
+        let schedule = seven_first(alloc, alone, more)?;
+        let decided = run_schedule(alloc, &plan, &inputs, &schedule)?;
+        assert_eq!(rt; decided.decisions.as_slice(), expected.as_slice());
+        let round = replay(&rt, alloc, &plan, &inputs, &schedule)?;
+        assert_eq!(rt; round.fixed(), Some(80));
+    }
     Ok(())
 }
 

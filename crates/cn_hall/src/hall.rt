@@ -1,5 +1,5 @@
 //! The hall: threads hand one core on.
-ghost use Rattle.std.specs.Prelude.{◌≡◌, ◌≢◌, ◌<◌, ◌⊎◌, [], Some, None, All, IfErr, IfOk, OnErr, length};
+ghost use Rattle.std.specs.Prelude.{◌≡◌, ◌≢◌, ◌<◌, ◌⊎◌, [], Some, None, All, Err, IfErr, IfOk, OnErr, length};
 ghost use Rattle.cn_log.specs.declared.entry.Entry.{Entry};
 ghost use Rattle.cn_hall.specs.Answers.{Adds, own, replies_from};
 ghost use Rattle.cn_hall.specs.Calls.{CallFails, Called, EndsBy, GoesOn, HasOnlyMade, HasPlaced, HaveMet, IsReply, IsSameSeat, next_call, said_after};
@@ -9,6 +9,7 @@ ghost use Rattle.cn_hall.specs.Seats.{IsInvoke, IsSeatOf, IsStep, caller, caller
 ghost use Rattle.cn_log.specs.Log.{entries};
 ghost use Rattle.cn_log.specs.Opening.{setting};
 ghost use Rattle.std.specs.Ordering.{nat_cmp};
+ghost use Rattle.cn_hall.specs.declared.call.CallFault.TheVariants.{LogFull};
 ghost use Rattle.cn_hall.specs.declared.call.Go.TheVariants.{On};
 
 use crate::call::{CallFault, Gate, Go, Reply};
@@ -131,8 +132,9 @@ impl Hall {
     ///
     /// # Errors
     ///
-    /// `LogFull` at once where the seat has seen every slot, and else as `resume`; `OutOfMemory`
-    /// also where the call itself found no memory, and then the seat is as it was.
+    /// `LogFull` at once where the seat has seen every slot, with no event, the gate not asked and no
+    /// memory taken, and else as `resume`; `OutOfMemory` also where the call itself found no memory,
+    /// and then the seat is as it was.
     pub fn call<R: Wait, G: Gate>(
         &self,
         rt: &R,
@@ -148,6 +150,7 @@ impl Hall {
         ensures seen { BeginsWith (seen seat.new) (seen seat.old) }
         ensures reply { IfOk result (λ r. Called seat.old.process operation.0 seat.old.core seat.new.core × IsReply (next_call seat.old operation.0) seat.new r) }
         ensures fault { IfErr result (λ e. CallFails operation.0 e seat.old seat.new) }
+        ensures told { length (seen seat.old) ≡ seat.old.core.opening.capacity → (result ≡ Err LogFull) × (seat.new ≡ seat.old) × (gate.new ≡ gate.old) }
         ensures own { Adds (own seat.old) (own seat.new) result }
         ensures calls { HasPlaced seat.new result }
         ensures range { IfOk result (λ r. r.response.0 < length seat.old.core.opening.object.responses) }

@@ -331,3 +331,71 @@ fn opens_or_hands_the_core_back(rt: HostRuntime) -> Result<(), Fail> {
     assert!(rt; core.schedule() == events.as_slice());
     Ok(())
 }
+
+#[test]
+fn prints_every_fault(rt: HostRuntime) -> Result<(), Fail> {
+    let alloc = rt.alloc();
+    let rows = [
+        (CallFault::LogFull, "1 LogFull"),
+        (CallFault::Stopped, "2 Stopped"),
+        (CallFault::from(AllocError), "3 OutOfMemory"),
+    ];
+    for (fault, expected) in rows {
+        let text = format!(in alloc; "{fault}")?;
+        assert_eq!(rt; text.as_str(), expected);
+    }
+    let fault = OpenFault::OutOfMemory(core_after(&rt, alloc, 4, &[])?);
+    let text = format!(in alloc; "{fault}")?;
+    assert_eq!(rt; text.as_str(), "1 OutOfMemory");
+    Ok(())
+}
+
+/// A new core of 1,024 slots for eight processes, by the witness `[0,[0],[1,1,1,1,1,1,1]]` of
+/// sticky_bit, in which the counter starts at 0.
+fn core_for_eight(rt: &impl Abort, alloc: Global) -> Result<LogCore, Fail>
+    ensures events { IfOk result (λ core. core.schedule ≡ []) }
+    ensures eight { IfOk result (λ core. processes_of core.opening.plan ≡ 8) }
+    ensures operation { IfOk result (λ core. 0 < length core.opening.object.operations) }
+{
+    let table = read_table(alloc, STICKY_BIT.as_bytes())?;
+    let object = read_table(alloc, COUNTER_3.as_bytes())?;
+    assert!(rt; object.states() >= 1);
+    for choice in Choices::new(&table, 8) {
+        if choice.b.first() == Some(&1) {
+            assert!(rt; choice.a.len() + choice.b.len() == 8);
+            assert!(rt; choice.is_for(&table, 8));
+            let plan = Plan::from_witness(alloc, &table, &choice)?;
+            let core = LogCore::new(alloc, &plan, &object, State(0), 1024)?;
+            assert!(rt; core.processes() == 8 && core.operations() == 1);
+            return Ok(core);
+        }
+    }
+    Err("no witness")?
+}
+
+#[test]
+fn serves_eight_seats(rt: HostRuntime) -> Result<(), Fail> {
+    let alloc = rt.alloc();
+    let core = core_for_eight(&rt, alloc)?;
+    let Ok((hall, mut seats)) = open(&rt, alloc, core) else {
+        panic!(&rt; "no memory")
+    };
+    assert!(rt; seats.len() == 8);
+    let Some(mut seven) = seats.pop() else {
+        unreachable!()
+    };
+    let Some(mut six) = seats.pop() else {
+        unreachable!()
+    };
+    assert!(rt; six.process() == 6 && seven.process() == 7);
+    let reply = hall.call(&rt, &mut seven, Operation(0), &mut AlwaysOn)?;
+    assert!(rt; reply.slot == 0 && reply.response == Response(0));
+    let reply = hall.call(&rt, &mut six, Operation(0), &mut AlwaysOn)?;
+    assert!(rt; reply.slot == 1 && reply.response == Response(1));
+    assert!(rt; matches!(hall.meet(&rt, &mut seven, &mut six), Order::Less));
+    seats.push(six)?;
+    seats.push(seven)?;
+    let core = hall.close(&rt, seats);
+    assert!(rt; core.entries().len() == 2 && core.replayed(7) == 1 && core.at_end(0) == false);
+    Ok(())
+}

@@ -296,9 +296,75 @@ fn names_the_first_fault(rt: HostRuntime) -> Result<(), Fail> {
     let plan = plan_for(&rt, alloc, TEST_AND_SET, 2)?;
     let object = read_table(alloc, COUNTER_3.as_bytes())?;
     refuses_first_events(&rt, alloc, &plan, &object)?;
-    refuses_later_events(&rt, alloc, &plan, &object)?;
-    let text = format!(in alloc; "{}", ReplayFault::OutOfMemory)?;
-    assert_eq!(rt; text.as_str(), "6 OutOfMemory");
+    refuses_later_events(&rt, alloc, &plan, &object)
+}
+
+#[test]
+fn prints_every_fault(rt: HostRuntime) -> Result<(), Fail> {
+    let rows = [
+        (ReplayFault::NoSuchProcess(0), "1 NoSuchProcess 0"),
+        (ReplayFault::NoSuchOperation(10), "2 NoSuchOperation 10"),
+        (ReplayFault::NotIdle(1), "3 NotIdle 1"),
+        (ReplayFault::Idle(2), "4 Idle 2"),
+        (ReplayFault::AtEnd(7), "5 AtEnd 7"),
+        (ReplayFault::from(AllocError), "6 OutOfMemory"),
+    ];
+    for (fault, expected) in rows {
+        let text = format!(in rt.alloc(); "{fault}")?;
+        assert_eq!(rt; text.as_str(), expected);
+    }
+    Ok(())
+}
+
+/// The plan of the witness `[0,[0],[1,1,1,1,1,1,1]]` of sticky_bit, for eight processes.
+fn plan_for_eight(rt: &impl Abort, alloc: Global) -> Result<Plan, Fail> {
+    let table = read_table(alloc, STICKY_BIT.as_bytes())?;
+    for choice in Choices::new(&table, 8) {
+        if choice.b.first() == Some(&1) {
+            assert!(rt; choice.a.len() + choice.b.len() == 8);
+            assert!(rt; choice.is_for(&table, 8));
+            return Ok(Plan::from_witness(alloc, &table, &choice)?);
+        }
+    }
+    Err("no witness")?
+}
+
+/// Process 0 of eight, with one place on its path, makes 1,023 calls, each of five steps; then
+/// process 7, with seven places, makes one, and goes through all 1,024 slots.
+fn filling(alloc: Global) -> Result<Vec<Event>, AllocError> {
+    let mut events = Vec::new(alloc);
+    for _call in 0..1023 {
+        events.push(Event::Invoke(0, 0))?;
+        for _step in 0..5 {
+            events.push(Event::Step(0))?;
+        }
+    }
+    events.push(Event::Invoke(7, 0))?;
+    for _step in 0..1024 * 29 {
+        events.push(Event::Step(7))?;
+    }
+    Ok(events)
+}
+
+#[test]
+fn fills_the_greatest_log(rt: HostRuntime) -> Result<(), Fail> {
+    let alloc = rt.alloc();
+    let plan = plan_for_eight(&rt, alloc)?;
+    let object = read_table(alloc, COUNTER_3.as_bytes())?;
+    assert!(rt; object.states() >= 1);
+    let mut events = filling(alloc)?;
+    let core = replay(alloc, &plan, &object, State(0), 1024, &events)?;
+    assert!(rt; core.processes() == 8 && core.entries().len() == 1024);
+    let last = Entry {
+        process: 7,
+        operation: Operation(0),
+        call: 0,
+    };
+    assert!(rt; core.entries().last() == Some(&last));
+    assert!(rt; core.replayed(0) == 1023 && core.replayed(7) == 1024 && core.at_end(7));
+    events.push(Event::Invoke(7, 0))?;
+    let text = replay_text(&rt, alloc, &plan, &object, 1024, &events)?;
+    assert_eq!(rt; text.as_str(), "5 AtEnd 35835");
     Ok(())
 }
 

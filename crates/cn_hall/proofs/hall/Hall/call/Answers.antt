@@ -41,3 +41,15 @@ returns-then-seat-clause-fault g c = let s : SeatState = c.args.seat.now in
     let one : c.seat.inside.seen ≡ length (seen s) = c.seat.invariant.4 ∙ ap (λ (t : SeatState). length (seen t)) c.seat.view_is in
     let two : c.seat.inside.capacity ≡ s.core.opening.capacity = c.seat.invariant.3 ∙ ap (λ (t : SeatState). t.core.opening.capacity) c.seat.view_is in
     ((c.requires.idle, sym one ∙ c.if-seat.true ∙ two), next_unseen c.every_call.ensures.own c.every_call.ensures.called s c.args.operation.0 c.has_its_calls.ensures.log, inl refl)
+
+pub returns-in-Ok-clause-told : goal.returns-in-Ok-clause-told
+returns-in-Ok-clause-told g c full =
+    let one : c.seat.inside.seen ≡ length (seen c.args.seat.now) = c.seat.invariant.4 ∙ ap (λ (t : SeatState). length (seen t)) c.seat.view_is in
+    let two : c.seat.inside.capacity ≡ c.args.seat.now.core.opening.capacity = c.seat.invariant.3 ∙ ap (λ (t : SeatState). t.core.opening.capacity) c.seat.view_is in
+    absurd (c.if-seat.false (one ∙ full ∙ sym two))
+
+pub returns-in-Err-clause-told : goal.returns-in-Err-clause-told
+returns-in-Err-clause-told g c full =
+    let one : c.seat.inside.seen ≡ length (seen c.args.seat.now) = c.seat.invariant.4 ∙ ap (λ (t : SeatState). length (seen t)) c.seat.view_is in
+    let two : c.seat.inside.capacity ≡ c.args.seat.now.core.opening.capacity = c.seat.invariant.3 ∙ ap (λ (t : SeatState). t.core.opening.capacity) c.seat.view_is in
+    absurd (c.if-seat.false (one ∙ full ∙ sym two))
