@@ -2,6 +2,7 @@
 use Rattle.std.specs.Prelude.{ℕ, ◌≢◌, ◌==◌, Bool, not, ◌&&◌, List, length, All}
 use Rattle.std.specs.List.{filter, list_all}
 use Rattle.cn_table.specs.TypeTable.{TypeTable, transition}
+use Rattle.cn_choice.specs.Blocks.{Block, canonical_blocks, choices_of_block}
 use Rattle.cn_choice.specs.RawChoices.{RawChoice}
 use Rattle.cn_choice.specs.Canonical.{Choice, canonical_choices}
 
@@ -20,3 +21,11 @@ is_live t c = all_move t c.state c.a && all_move t c.state c.b
 -- the canonical choices of a table for n processes that are live, in their order
 unfoldable pub live_choices : TypeTable → ℕ → List Choice
 live_choices t n = filter (is_live t) (canonical_choices (length t.states) (length t.operations) n)
+
+-- the choices of a block that are live, in their order
+abbrev pub live_in : TypeTable → Block → List Choice
+live_in t k = filter (is_live t) (choices_of_block (length t.operations) k)
+
+-- the blocks of a table for n processes in which each operation of team A leads away from the start state, in their order
+unfoldable pub live_blocks : TypeTable → ℕ → List Block
+live_blocks t n = filter (λ k. all_move t k.state k.a) (canonical_blocks (length t.states) (length t.operations) n)

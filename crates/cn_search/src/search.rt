@@ -1,23 +1,30 @@
 //! The search, one number of processes after the other.
-ghost use Rattle.std.specs.Prelude.{◌≡◌, ◌≤◌, ◌⊎◌, ◌↔◌, length, IfErr, IfNone, IfOk, IfSome, IsTrue, None, OnOk, Some};
+ghost use Rattle.std.specs.Prelude.{◌≡◌, ◌≤◌, ◌⊎◌, ◌↔◌, length, All, Err, IfErr, IfOk, IsTrue, None, OnOk, Some};
 ghost use Rattle.std.specs.List.{AllZip};
+ghost use Rattle.std.specs.declared.vec.Vec.{Vec as VecOf};
+ghost use Rattle.cn_choice.specs.Collisions.{Collision as CollisionOf};
 ghost use Rattle.cn_choice.specs.Canonical.{raw_choice_of};
 ghost use Rattle.cn_choice.specs.Discerning.{IsWitness};
 ghost use Rattle.cn_choice.specs.RawChoices.{IsRawChoice};
-ghost use Rattle.cn_search.specs.Evidence.{choices_for, IsFindingFor, IsFirstWitness, IsRecordedFor, NoneIsWitness};
+ghost use Rattle.cn_search.specs.Evidence.{AreRecordedFor, IsFindingFor, IsFirstAmong, IsListedBlock, IsRecordedFor, IsRefutedBlock, blocks_for, choices_in, choices_of_all};
 ghost use Rattle.cn_search.specs.Faults.{find_fault};
+ghost use Rattle.cn_search.specs.declared.fault.FindFault.{FindFault};
 ghost use Rattle.cn_search.specs.declared.fault.FindFault.TheVariants.{OutOfMemory};
 
 use crate::{FindFault, Finding};
-use cn_choice::{Choice, Choices, Collision, Examined, Team, count, examine, laws, outcomes};
+use cn_choice::{
+    Block, Blocks, Choice, Choices, Collision, Examined, Room, count, examine_in, is_witness, laws,
+};
 use cn_table::Table;
+use rayon::prelude::*;
 use std::alloc::{AllocError, Global};
 use std::thread::Threads;
 
 /// The greatest limit.
-const GREATEST_LIMIT: u8 = 6;
+const GREATEST_LIMIT: u8 = 8;
 
-/// So many canonical choices for as many processes as the limit are searched, and no more.
+/// So many canonical choices, live or not, for as many processes as the limit are searched, and no
+/// more.
 const MOST_CHOICES: u64 = 100_000;
 
 /// The fault of the limit, if it has one for this table.
@@ -35,92 +42,198 @@ fn fault_of(table: &Table, limit: u8) -> Option<FindFault>
     }
 }
 
-/// Whether the choice, which is one for n processes, is a witness: no process has a pair in the
-/// result sets of both teams.
-fn is_witness(alloc: Global, table: &Table, choice: &Choice, n: u8) -> Result<bool, AllocError>
+/// Whether the choice, which is one for n processes, is a witness.
+fn splits(table: &Table, choice: &Choice, n: u8) -> bool
     requires some { 2 ≤ n }
     requires few { n ≤ 8 }
     requires fits { IsRawChoice table.now n (raw_choice_of choice.now) }
-    ensures { IfOk result (λ witness. IsTrue witness ↔ IsWitness table.now (raw_choice_of choice.now)) }
+    ensures { IsTrue result ↔ IsWitness table.now (raw_choice_of choice.now) }
 {
-    for process in 0..n {
-        let after_a = outcomes(alloc, table, choice, Team::A, process)?;
-        let after_b = outcomes(alloc, table, choice, Team::B, process)?;
-        if after_a.meets(&after_b) {
-            return Ok(false);
-        }
-    }
-    Ok(true)
+    is_witness(table, choice)
 }
 
-/// The first canonical witness for n processes, if there is one.
-fn first_witness(alloc: Global, table: &Table, n: u8) -> Result<Option<Choice>, AllocError>
+/// The blocks of the live canonical choices for n processes, in order.
+fn blocks_for(alloc: Global, table: &Table, n: u8) -> Result<Vec<Block>, AllocError>
     requires some { 2 ≤ n }
     requires few { n ≤ 8 }
-    ensures first { IfOk result (λ found. IfSome found (IsFirstWitness table.now (choices_for table.now n))) }
-    ensures none { IfOk result (λ found. IfNone found (NoneIsWitness table.now (choices_for table.now n))) }
+    ensures { IfOk result (λ blocks. blocks.items ≡ blocks_for table.now n) }
 {
-    // Each choice in the list is one of the table for n processes.
-    laws::canonical_list();
-    for choice in Choices::new(table, n) {
-        if is_witness(alloc, table, &choice, n)? {
-            return Ok(Some(choice));
+    let mut blocks = Vec::new(alloc);
+    for block in Blocks::new(table, n) {
+        blocks.push(block)?;
+    }
+    Ok(blocks)
+}
+
+/// The first witness of a block, if it has one.
+fn witness_in(table: &Table, block: &Block) -> Option<Choice>
+    requires { IsListedBlock table.now block.now }
+    ensures { IsFirstAmong table.now (choices_in table.now block.now) result }
+{
+    laws::block_list();
+    for choice in Choices::of_block(table, block) {
+        if splits(table, &choice, block.n) {
+            return Some(choice);
+        }
+    }
+    None
+}
+
+/// The first witness of each block, if it has one, from several threads.
+fn witnesses<T: Threads + Sync>(
+    rt: &T,
+    alloc: Global,
+    table: &Table,
+    blocks: &[Block],
+) -> Result<Vec<Option<Choice>>, AllocError>
+    requires { All (IsListedBlock table.now) blocks.now }
+    ensures { IfOk result (λ found. AllZip (λ block first. IsFirstAmong table.now (choices_in table.now block) first) blocks.now found.items) }
+{
+    blocks
+        .par_iter()
+        .with_min_len(1)
+        .map(
+            |block: &Block| -> Option<Choice>
+                requires { IsListedBlock table.now block.now }
+                ensures { IsFirstAmong table.entry.now (choices_in table.entry.now block.now) result }
+            { witness_in(table, block) },
+        )
+        .collect::<Vec<Option<Choice>>>(rt, alloc)
+}
+
+/// The first witness of some blocks, if they have one.
+fn witness_of_batch<T: Threads + Sync>(
+    rt: &T,
+    alloc: Global,
+    table: &Table,
+    blocks: &[Block],
+) -> Result<Option<Choice>, AllocError>
+    requires { All (IsListedBlock table.now) blocks.now }
+    ensures { IfOk result (IsFirstAmong table.now (choices_of_all table.now blocks.now)) }
+{
+    for found in witnesses(rt, alloc, table, blocks)? {
+        if found.is_some() {
+            return Ok(found);
         }
     }
     Ok(None)
 }
 
-/// The recorded collision of a choice for n processes that is no witness.
-fn recorded_collision(
+/// The first witness of the blocks, if they have one. They are searched batch by batch, each as long
+/// as all before it: so little is searched behind a witness that comes early.
+fn first_witness<T: Threads + Sync>(
+    rt: &T,
     alloc: Global,
     table: &Table,
-    choice: &Choice,
-    n: u8,
-) -> Result<Collision, AllocError>
+    blocks: &[Block],
+) -> Result<Option<Choice>, AllocError>
+    requires { All (IsListedBlock table.now) blocks.now }
+    ensures { IfOk result (IsFirstAmong table.now (choices_of_all table.now blocks.now)) }
+{
+    let mut left = blocks;
+    while !left.is_empty() {
+        let searched = blocks.len() - left.len();
+        let (batch, rest) = left.split_at(left.len().min(searched + 1));
+        let found = witness_of_batch(rt, alloc, table, batch)?;
+        if found.is_some() {
+            return Ok(found);
+        }
+        left = rest;
+    }
+    Ok(None)
+}
+
+/// The recorded collision of a choice for n processes that is no witness.
+fn recorded_collision(table: &Table, choice: &Choice, n: u8, room: &mut Room) -> Collision
     requires some { 2 ≤ n }
     requires few { n ≤ 8 }
     requires fits { IsRawChoice table.now n (raw_choice_of choice.now) }
     requires no_witness { ¬ IsWitness table.now (raw_choice_of choice.now) }
-    ensures { IfOk result (IsRecordedFor table.now choice.now) }
+    ensures { IsRecordedFor table.now choice.now result }
 {
-    match examine(alloc, table, choice)? {
-        Examined::Meets(collision) => Ok(collision),
+    match examine_in(table, choice, room) {
+        Examined::Meets(collision) => collision,
         Examined::Splits => unreachable!(),
     }
 }
 
-/// The recorded collision of each canonical choice for n processes, none of which is a witness, in
-/// the order of the choices.
-fn recorded_collisions(alloc: Global, table: &Table, n: u8) -> Result<Vec<Collision>, AllocError>
-    requires some { 2 ≤ n }
-    requires few { n ≤ 8 }
-    requires no_witness { NoneIsWitness table.now (choices_for table.now n) }
-    ensures { IfOk result (λ collisions. AllZip (IsRecordedFor table.now) (choices_for table.now n) collisions.items) }
+/// The recorded collision of each choice of a block, none of which is a witness, in the order of the
+/// choices.
+fn collisions_in(alloc: Global, table: &Table, block: &Block) -> Result<Vec<Collision>, AllocError>
+    requires { IsRefutedBlock table.now block.now }
+    ensures { IfOk result (λ collisions. AreRecordedFor table.now (choices_in table.now block.now) collisions.items) }
 {
-    // Each choice in the list is one of the table for n processes.
-    laws::canonical_list();
+    laws::block_list();
     let mut collisions = Vec::new(alloc);
-    for choice in Choices::new(table, n) {
-        collisions.push(recorded_collision(alloc, table, &choice, n)?)?;
+    let mut room = Room::new();
+    for choice in Choices::of_block(table, block) {
+        collisions.push(recorded_collision(table, &choice, block.n, &mut room))?;
+    }
+    Ok(collisions)
+}
+
+/// The recorded collisions of each block, from several threads.
+fn collisions_by_block<T: Threads + Sync>(
+    rt: &T,
+    alloc: Global,
+    table: &Table,
+    blocks: &[Block],
+) -> Result<Vec<Vec<Collision>>, AllocError>
+    requires { All (IsRefutedBlock table.now) blocks.now }
+    ensures { IfOk result (λ parts. AllZip (λ block (part : VecOf CollisionOf Global). AreRecordedFor table.now (choices_in table.now block) part.items) blocks.now parts.items) }
+{
+    blocks
+        .par_iter()
+        .with_min_len(1)
+        .map(
+            |block: &Block| -> Result<Vec<Collision>, AllocError>
+                requires { IsRefutedBlock table.now block.now }
+                ensures { IfOk result (λ part. AreRecordedFor table.entry.now (choices_in table.entry.now block.now) part.items) }
+            { collisions_in(alloc, table, block) },
+        )
+        .collect::<Result<Vec<Vec<Collision>>, AllocError>>(rt, alloc)?
+}
+
+/// The recorded collision of each choice of the blocks, none of which is a witness, in the order of
+/// the choices.
+fn recorded_collisions<T: Threads + Sync>(
+    rt: &T,
+    alloc: Global,
+    table: &Table,
+    blocks: &[Block],
+) -> Result<Vec<Collision>, AllocError>
+    requires { All (IsRefutedBlock table.now) blocks.now }
+    ensures { IfOk result (λ collisions. AreRecordedFor table.now (choices_of_all table.now blocks.now) collisions.items) }
+{
+    let mut collisions = Vec::new(alloc);
+    for mut part in collisions_by_block(rt, alloc, table, blocks)? {
+        collisions.append(&mut part)?;
     }
     Ok(collisions)
 }
 
 /// The number up to the limit, with its evidence. What is refuted for one process more than the
 /// number is refuted for every greater number of processes, so that the search ends there.
-fn search(alloc: Global, table: &Table, limit: u8) -> Result<Finding, AllocError>
+fn search<T: Threads + Sync>(
+    rt: &T,
+    alloc: Global,
+    table: &Table,
+    limit: u8,
+) -> Result<Finding, AllocError>
     requires some { 2 ≤ limit }
     requires few { limit ≤ 8 }
     ensures { IfOk result (IsFindingFor table.now limit) }
 {
-    // Where no canonical choice is a witness no choice is, for n processes or for more.
-    laws::canonical_choices_decide();
+    // Where no live canonical choice is a witness no choice is, for n processes or for more.
+    laws::block_list();
+    laws::live_choices_decide();
     laws::number_before_failure();
     let mut number = None;
     let mut witness = None;
     for n in 2..limit + 1 {
-        let Some(choice) = first_witness(alloc, table, n)? else {
-            let collisions = recorded_collisions(alloc, table, n)?;
+        let blocks = blocks_for(alloc, table, n)?;
+        let Some(choice) = first_witness(rt, alloc, table, blocks.as_slice())? else {
+            let collisions = recorded_collisions(rt, alloc, table, blocks.as_slice())?;
             return Ok(Finding {
                 limit,
                 number,
@@ -139,27 +252,28 @@ fn search(alloc: Global, table: &Table, limit: u8) -> Result<Finding, AllocError
     })
 }
 
-/// The number of a type up to a limit, from 2 to 6, with the evidence for it.
+/// The number of a type up to a limit, from 2 to 8, with the evidence for it.
 ///
-/// `rt` is there for the threads of a parallel search; this search starts none.
+/// The blocks of choices are searched in several threads.
 ///
 /// # Errors
 ///
-/// `BadLimit` where the limit is below 2 or above 6; else `TooManyChoices`, with their count, where
-/// there are more than 100,000 canonical choices for as many processes as the limit. `OutOfMemory`
-/// can stand in place of any answer.
+/// `BadLimit` where the limit is below 2 or above 8; else `TooManyChoices`, with their count, where
+/// there are more than 100,000 canonical choices, live or not, for as many processes as the limit.
+/// `OutOfMemory` can stand in place of a finding alone.
 pub fn find<T: Threads + Sync>(
-    _rt: &T,
+    rt: &T,
     alloc: Global,
     table: &Table,
     limit: u8,
 ) -> Result<Finding, FindFault>
     ensures finding { IfOk result (IsFindingFor table.now limit) }
     ensures searched { OnOk result (find_fault (length table.now.states) (length table.now.operations) limit ≡ None) }
+    ensures told { (e : FindFault) → find_fault (length table.now.states) (length table.now.operations) limit ≡ Some e → result ≡ Err e }
     ensures refused { IfErr result (λ e. (e ≡ OutOfMemory) ⊎ (find_fault (length table.now.states) (length table.now.operations) limit ≡ Some e)) }
 {
     if let Some(fault) = fault_of(table, limit) {
         return Err(fault);
     }
-    Ok(search(alloc, table, limit)?)
+    Ok(search(rt, alloc, table, limit)?)
 }

@@ -1,7 +1,0 @@
-use Rattle.std.proofs.Common.{◌<◌, ℕ, List}
-use Rattle.cn_choice.specs.Collisions.{IsCollision}
-use Rattle.cn_choice.proofs.collision.examine.Given as goal
-
--- no process so far has a collision
-abbrev pub invariant-loop-process : goal.invariant-loop-process
-invariant-loop-process l = (j : ℕ) → j < l.process → (alpha beta : List ℕ) → ¬ IsCollision l.table l.raw j alpha beta

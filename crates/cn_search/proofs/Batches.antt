@@ -1,0 +1,162 @@
+-- The answers of blocks, one after the other.
+use Rattle.std.proofs.Common.{ℕ, ◌≡◌, ◌<◌, ◌≤◌, arith, length, List, [], ◌∷◌, ◌++◌, map, slice_index_or, true, false, Option, Some, None, is_some, Result, Ok, Err, IfOk, MatchResult, All, Contains, refl, sym, ap, ◌∙◌, subst, append_assoc, append-nil, true≢false}
+use Rattle.std.specs.List.{AllByRecursion, AllZip, flat_map}
+use Rattle.std.proofs.lemmas.Grind.{flat_map-append}
+use Rattle.std.proofs.lemmas.List.Elements.{All-append, All-from_recursion, recursion_from_All}
+use Rattle.std.proofs.lemmas.List.{get_or_default}
+use Rattle.rayon.proofs.ListFacts.{AllZip-append}
+use Rattle.cn_table.specs.TypeTable.{TypeTable}
+use Rattle.cn_choice.specs.Blocks.{Block, IsBlockOf}
+use Rattle.cn_choice.specs.Canonical.{Choice, raw_choice_of}
+use Rattle.cn_choice.specs.Collisions.{Collision}
+use Rattle.cn_choice.specs.Discerning.{IsWitness}
+use Rattle.cn_search.specs.Evidence.{blocks_for, IsListedBlock, IsRefutedBlock, AreRecordedFor, IsFirstAmong, IsFirstWitness, IsRecordedFor, NoneIsWitness, choices_in, choices_of_all}
+
+-- what is collected of results that are all there
+AllZip-of_oks : {X Y : Type 0} (E : Type 0) (R : X → Y → Type 0) (xs : List X) (ys : List Y) → AllZip (λ x (r : Result Y E). IfOk r (R x)) xs (map Ok ys) → AllZip R xs ys
+AllZip-of_oks E R [] [] h = tt
+AllZip-of_oks E R [] (y ∷ ys) h = absurd h
+AllZip-of_oks E R (x ∷ xs) [] h = absurd h
+AllZip-of_oks E R (x ∷ xs) (y ∷ ys) h = (h.0, AllZip-of_oks E R xs ys h.1)
+
+pub collected : {X Y V : Type 0} (E : Type 0) (R : X → Y → Type 0) (items : V → List Y) (xs : List X) (rs : List (Result Y E)) (r : Result V E) → AllZip (λ x (r : Result Y E). IfOk r (R x)) xs rs
+    → MatchResult r (λ v. (ys : List Y) × (rs ≡ map Ok ys) × (items v ≡ ys)) (λ e. Contains rs (Err e)) → IfOk r (λ v. AllZip R xs (items v))
+collected {Y = Y} E R items xs rs (Ok v) h m = subst (λ ys. AllZip R xs ys) (sym m.2) (AllZip-of_oks E R xs m.0 (subst (λ rs. AllZip (λ x (r : Result Y E). IfOk r (R x)) xs rs) m.1 h))
+collected E R items xs rs (Err e) h m = tt
+
+module _ (t : TypeTable) where
+  abbrev Fails : Choice → Type 0
+  Fails c = ¬ IsWitness t (raw_choice_of c)
+
+  -- behind choices none of which is a witness, and before others
+  behind : (xs ys : List Choice) (found : Option Choice) → NoneIsWitness t xs → IsFirstAmong t ys found → IsFirstAmong t (xs ++ ys) found
+  behind xs ys None none h = All-append Fails xs ys none h
+  behind xs ys (Some w) none h = record { before = xs ++ h.before; after = h.after; listed = ap (λ l. xs ++ l) h.listed ∙ sym (append_assoc xs h.before (w ∷ h.after)); witness = h.witness; earlier = All-append Fails xs h.before none h.earlier }
+
+  ahead : (xs ys : List Choice) (w : Choice) → IsFirstWitness t xs w → IsFirstWitness t (xs ++ ys) w
+  ahead xs ys w h = record { before = h.before; after = h.after ++ ys; listed = ap (λ l. l ++ ys) h.listed ∙ append_assoc h.before (w ∷ h.after) ys; witness = h.witness; earlier = h.earlier }
+
+  -- some blocks have no witness, and this is the first witness of those behind them, if they have one
+  pub record IsSearched (blocks : List Block) (left : List Block) : Type 0 where
+    pub before : List Block
+    pub all : blocks ≡ before ++ left
+    pub none : NoneIsWitness t (choices_of_all t before)
+
+  pub search_start : (blocks : List Block) → IsSearched blocks blocks
+  search_start blocks = record { before = []; all = refl; none = λ k d less. absurd (let l : k < 0 = less in omega (arith, l)) }
+
+  pub search_on : (blocks left batch rest : List Block) → IsSearched blocks left → left ≡ batch ++ rest → NoneIsWitness t (choices_of_all t batch) → IsSearched blocks rest
+  search_on blocks left batch rest s parts none = record {
+    before = s.before ++ batch;
+    all = s.all ∙ ap (λ l. s.before ++ l) parts ∙ sym (append_assoc s.before batch rest);
+    none = subst (NoneIsWitness t) (sym (flat_map-append (choices_in t) s.before batch)) (All-append Fails (choices_of_all t s.before) (choices_of_all t batch) s.none none);
+  }
+
+  pub search_found : (blocks left batch rest : List Block) (w : Choice) → IsSearched blocks left → left ≡ batch ++ rest → IsFirstWitness t (choices_of_all t batch) w → IsFirstWitness t (choices_of_all t blocks) w
+  search_found blocks left batch rest w s parts first =
+      let whole : choices_of_all t blocks ≡ choices_of_all t s.before ++ (choices_of_all t batch ++ choices_of_all t rest) =
+      ap (flat_map (choices_in t)) (s.all ∙ ap (λ l. s.before ++ l) parts) ∙ flat_map-append (choices_in t) s.before (batch ++ rest) ∙ ap (λ l. choices_of_all t s.before ++ l) (flat_map-append (choices_in t) batch rest) in
+      subst (λ l. IsFirstWitness t l w) (sym whole) (behind (choices_of_all t s.before) (choices_of_all t batch ++ choices_of_all t rest) (Some w) s.none (ahead (choices_of_all t batch) (choices_of_all t rest) w first))
+
+  pub search_done : (blocks : List Block) → IsSearched blocks [] → NoneIsWitness t (choices_of_all t blocks)
+  search_done blocks s = subst (λ l. NoneIsWitness t (choices_of_all t l)) (sym (s.all ∙ append-nil s.before)) s.none
+
+  -- the answers of the blocks that are left
+  pub record IsJoining (blocks : List Block) (left : List (Option Choice)) : Type 0 where
+    pub after : List Block
+    pub searched : IsSearched blocks after
+    pub answers : AllZip (λ k o. IsFirstAmong t (choices_in t k) o) after left
+
+  pub join_start : (blocks : List Block) (found : List (Option Choice)) → AllZip (λ k o. IsFirstAmong t (choices_in t k) o) blocks found → IsJoining blocks found
+  join_start blocks found h = record { after = blocks; searched = search_start blocks; answers = h }
+
+  one_block : (k : Block) → choices_of_all t (k ∷ []) ≡ choices_in t k
+  one_block k = append-nil (choices_in t k)
+
+  pub join_on : (blocks : List Block) (left rest : List (Option Choice)) (o : Option Choice) → IsJoining blocks left → left ≡ o ∷ rest → is_some o ≡ false → IsJoining blocks rest
+  join_on blocks left rest o j e none = go j.after j.searched (subst (λ l. AllZip (λ k o. IsFirstAmong t (choices_in t k) o) j.after l) e j.answers)
+    where
+      no : (p : Option Choice) (k : Block) → is_some p ≡ false → IsFirstAmong t (choices_in t k) p → NoneIsWitness t (choices_in t k)
+      no None k n h = h
+      no (Some w) k n h = absurd (true≢false n)
+
+      go : (after : List Block) → IsSearched blocks after → AllZip (λ k o. IsFirstAmong t (choices_in t k) o) after (o ∷ rest) → IsJoining blocks rest
+      go [] s h = absurd h
+      go (k ∷ after) s h = record { after = after; searched = search_on blocks (k ∷ after) (k ∷ []) after s refl (subst (NoneIsWitness t) (sym (one_block k)) (no o k none h.0)); answers = h.1 }
+
+  pub join_found : (blocks : List Block) (left rest : List (Option Choice)) (o : Option Choice) → IsJoining blocks left → left ≡ o ∷ rest → is_some o ≡ true → IsFirstAmong t (choices_of_all t blocks) o
+  join_found blocks left rest o j e some = go j.after j.searched (subst (λ l. AllZip (λ k o. IsFirstAmong t (choices_in t k) o) j.after l) e j.answers)
+    where
+      by : (o : Option Choice) (k : Block) (after : List Block) → is_some o ≡ true → IsSearched blocks (k ∷ after) → IsFirstAmong t (choices_in t k) o → IsFirstAmong t (choices_of_all t blocks) o
+      by None k after n s h = absurd (true≢false (sym n))
+      by (Some w) k after n s h = search_found blocks (k ∷ after) (k ∷ []) after w s refl (subst (λ l. IsFirstWitness t l w) (sym (one_block k)) h)
+
+      go : (after : List Block) → IsSearched blocks after → AllZip (λ k o. IsFirstAmong t (choices_in t k) o) after (o ∷ rest) → IsFirstAmong t (choices_of_all t blocks) o
+      go [] s h = absurd h
+      go (k ∷ after) s h = by o k after some s h.0
+
+  pub join_done : (blocks : List Block) (left : List (Option Choice)) → IsJoining blocks left → left ≡ [] → NoneIsWitness t (choices_of_all t blocks)
+  join_done blocks left j e = go j.after j.searched (subst (λ l. AllZip (λ k o. IsFirstAmong t (choices_in t k) o) j.after l) e j.answers)
+    where
+      go : (after : List Block) → IsSearched blocks after → AllZip (λ k o. IsFirstAmong t (choices_in t k) o) after [] → NoneIsWitness t (choices_of_all t blocks)
+      go [] s h = search_done blocks s
+      go (k ∷ after) s h = absurd h
+
+  -- the collisions so far are those of some blocks, and these are the collisions of those behind them
+  pub record IsGathering {P : Type 0} (items : P → List Collision) (blocks : List Block) (collisions : List Collision) (left : List P) : Type 0 where
+    pub before : List Block
+    pub after : List Block
+    pub all : blocks ≡ before ++ after
+    pub done : AreRecordedFor t (choices_of_all t before) collisions
+    pub parts : AllZip (λ k part. AreRecordedFor t (choices_in t k) (items part)) after left
+
+  pub gather_start : {P : Type 0} (items : P → List Collision) (blocks : List Block) (left : List P) → AllZip (λ k part. AreRecordedFor t (choices_in t k) (items part)) blocks left → IsGathering items blocks [] left
+  gather_start items blocks left h = record { before = []; after = blocks; all = refl; done = tt; parts = h }
+
+  pub gather_on : {P : Type 0} (items : P → List Collision) (blocks : List Block) (collisions : List Collision) (left rest : List P) (part : P) → IsGathering items blocks collisions left → left ≡ part ∷ rest → IsGathering items blocks (collisions ++ items part) rest
+  gather_on items blocks collisions left rest part g e = go g.after g.all (subst (λ l. AllZip (λ k p. AreRecordedFor t (choices_in t k) (items p)) g.after l) e g.parts)
+    where
+      go : (after : List Block) → blocks ≡ g.before ++ after → AllZip (λ k p. AreRecordedFor t (choices_in t k) (items p)) after (part ∷ rest) → IsGathering items blocks (collisions ++ items part) rest
+      go [] all h = absurd h
+      go (k ∷ after) all h = record {
+        before = g.before ++ k ∷ [];
+        after = after;
+        all = all ∙ sym (append_assoc g.before (k ∷ []) after);
+        done = subst (λ l. AreRecordedFor t l (collisions ++ items part)) (sym (flat_map-append (choices_in t) g.before (k ∷ []) ∙ ap (λ l. choices_of_all t g.before ++ l) (one_block k)))
+            (AllZip-append (IsRecordedFor t) (choices_of_all t g.before) (choices_in t k) collisions (items part) g.done h.0);
+        parts = h.1;
+      }
+
+  pub gather_done : {P : Type 0} (items : P → List Collision) (blocks : List Block) (collisions : List Collision) (left : List P) → IsGathering items blocks collisions left → left ≡ [] → AreRecordedFor t (choices_of_all t blocks) collisions
+  gather_done items blocks collisions left g e = go g.after g.all (subst (λ l. AllZip (λ k p. AreRecordedFor t (choices_in t k) (items p)) g.after l) e g.parts)
+    where
+      go : (after : List Block) → blocks ≡ g.before ++ after → AllZip (λ k p. AreRecordedFor t (choices_in t k) (items p)) after [] → AreRecordedFor t (choices_of_all t blocks) collisions
+      go [] all h = subst (λ l. AreRecordedFor t (choices_of_all t l) collisions) (sym (all ∙ append-nil g.before)) g.done
+      go (k ∷ after) all h = absurd h
+
+-- an empty list
+pub nil_from_length : {X : Type 0} (xs : List X) → length xs ≡ 0 → xs ≡ []
+nil_from_length [] e = refl
+nil_from_length (x ∷ xs) e = absurd (omega arith)
+
+parts_of : {X : Type 0} (P : X → Type 0) (xs ys : List X) → AllByRecursion P (xs ++ ys) → AllByRecursion P xs × AllByRecursion P ys
+parts_of P [] ys h = (tt, h)
+parts_of P (x ∷ xs) ys h = let r = parts_of P xs ys h.1 in ((h.0, r.0), r.1)
+
+-- each block is listed, and where no choice is a witness each is refuted
+pub all_listed : (t : TypeTable) (n : ℕ) → 2 ≤ n → n ≤ 8 → ((k : Block) → n ≤ 8 → Contains (blocks_for t n) k → IsBlockOf t k × (k.n ≡ n)) → (blocks : List Block) → blocks ≡ blocks_for t n → All (IsListedBlock t) blocks
+all_listed t n some few law blocks e = λ i d less.
+    (let k : Block = slice_index_or blocks i d in
+    let there : Contains blocks k = (i, less, get_or_default blocks i k d less) in
+    let listed : Contains (blocks_for t n) k = subst (λ (l : List Block). Contains l k) e there in
+    let same : k.n ≡ n = (law k few listed).1 in
+    record { some = omega (arith, same); few = omega (arith, same); listed = subst (λ m. Contains (blocks_for t m) k) (sym same) listed })
+
+pub all_refuted : (t : TypeTable) (blocks : List Block) → All (IsListedBlock t) blocks → NoneIsWitness t (choices_of_all t blocks) → All (IsRefutedBlock t) blocks
+all_refuted t blocks listed none = All-from_recursion (IsRefutedBlock t) blocks (go blocks (recursion_from_All (IsListedBlock t) blocks listed) (recursion_from_All (Fails t) (choices_of_all t blocks) none))
+  where
+    go : (blocks : List Block) → AllByRecursion (IsListedBlock t) blocks → AllByRecursion (Fails t) (choices_of_all t blocks) → AllByRecursion (IsRefutedBlock t) blocks
+    go [] l n = tt
+    go (k ∷ blocks) l n =
+        let p = parts_of (Fails t) (choices_in t k) (choices_of_all t blocks) n in
+        (record { block = l.0; none = All-from_recursion (Fails t) (choices_in t k) p.0 }, go blocks l.1 p.1)
