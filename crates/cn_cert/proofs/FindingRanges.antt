@@ -5,18 +5,18 @@ use Rattle.std.proofs.lemmas.List.Elements.{All-contains_itself, All-weaker, rec
 use Rattle.std.specs.List.{AllByRecursion, AllZip, list_all}
 use Rattle.std.specs.Prelude.{MatchOption}
 use Rattle.cn_table.specs.TypeTable.{TypeTable, IsTypeTable}
-use Rattle.cn_choice.specs.Canonical.{Choice, IsCanonical, canonical_choices, raw_choice_of}
+use Rattle.cn_choice.specs.Canonical.{Choice, IsCanonical, raw_choice_of}
 use Rattle.cn_choice.specs.Collisions.{Collision, IsCollision}
 use Rattle.cn_choice.specs.Discerning.{IsNumberUpTo}
+use Rattle.cn_choice.specs.Live.{IsLive, live_choices}
 use Rattle.cn_choice.specs.Orders.{IsOrder}
 use Rattle.cn_choice.specs.RawChoices.{RawChoice, IsRawChoice}
 use Rattle.cn_choice.specs.ResultSets.{pair_of}
-use Rattle.cn_choice.specs.declared.team.Team.TheVariants.{A}
 use Rattle.cn_choice.proofs.Listing.{differ_from, fits_below}
+use Rattle.cn_choice.proofs.Walks.{pair_takes_part}
 use Rattle.cn_search.specs.Evidence.{IsFindingFor, IsFirstWitness, IsRecordedFor, choices_for, choices_to_refute}
 use Rattle.cn_search.specs.Finding.{Finding}
 use Rattle.cn_search.proofs.ListLemmas.{Contains-between}
-use Rattle.cn_search.proofs.ResultSetLemmas.{takes_part}
 use Rattle.cn_cert.specs.Certificate.{certificate_of}
 use Rattle.cn_cert.specs.Ranges.{is_choice_in_range, is_collision_in_range, is_in_range, is_number_in_range, is_short, is_witness_in_range}
 
@@ -54,7 +54,7 @@ module _ (t : TypeTable) (table : IsTypeTable t) (n : ℕ) (few : n ≤ 8) where
     where
       from : (seen : Option (ℕ × ℕ)) → pair_of t c alpha j ≡ seen → j < length c.operations
       from None e = absurd (is.takes_part e)
-      from (Some pair) e = takes_part t c A j pair (alpha, is.alpha_order, is.alpha_in_a, e)
+      from (Some pair) e = pair_takes_part t c (length c.operations) alpha j pair is.alpha_order.known e
 
   collision_in_range : (c : Choice) (x : Collision) → IsRawChoice t n (raw_choice_of c) → IsRecordedFor t c x → is_collision_in_range x ≡ true
   collision_in_range c x is recorded =
@@ -71,8 +71,8 @@ module _ (t : TypeTable) (table : IsTypeTable t) (n : ℕ) (few : n ≤ 8) where
 
 -- ---- a finding
 
--- what the law of the canonical list says
-module _ (listed : (t : TypeTable) (n : ℕ) (c : Choice) → Contains (canonical_choices (length t.states) (length t.operations) n) c ↔ (IsCanonical c × IsRawChoice t n (raw_choice_of c))) where
+-- what the law of the live choices says
+module _ (listed : (t : TypeTable) (n : ℕ) (c : Choice) → Contains (live_choices t n) c ↔ (IsCanonical c × IsRawChoice t n (raw_choice_of c) × IsLive t (raw_choice_of c))) where
   all_raw : (t : TypeTable) (n : ℕ) → AllByRecursion (λ c. IsRawChoice t n (raw_choice_of c)) (choices_for t n)
   all_raw t n = recursion_from_All _ (choices_for t n) (All-weaker (Contains (choices_for t n)) _ (λ c in_list. ((listed t n c).0 in_list).1) (choices_for t n) (All-contains_itself (choices_for t n)))
 

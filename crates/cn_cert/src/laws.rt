@@ -22,5 +22,5 @@ pub fn finding_is_in_range()
     ensures { (t : TypeTable) (limit : ℕ) (f : Finding) → IsTypeTable t → limit ≤ 8 → IsFindingFor t limit f → is_in_range (certificate_of t.name f) ≡ true }
 {
     // The choices that were searched are choices of the table.
-    laws::canonical_list();
+    laws::live_list();
 }
