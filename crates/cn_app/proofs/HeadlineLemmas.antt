@@ -1,14 +1,14 @@
 -- The parts of the headline.
 use Rattle.std.proofs.Common.{◌≡◌, ℕ, ◌+◌, ◌↔◌, List, ◌∷◌, ◌++◌, length, Contains, Option, Some, None, IsSomeAnd, MatchOption, ap, arith, refl, sym, ◌∙◌, subst, length-append}
-use Rattle.std.proofs.lemmas.List.Elements.{Contains-append_right}
+use Rattle.cn_table.proofs.Lists.{Contains-between}
 use Rattle.cn_table.specs.TypeTable.{TypeTable}
 use Rattle.cn_choice.specs.Canonical.{Choice, IsCanonical, canonical_choices, raw_choice_of}
 use Rattle.cn_choice.specs.RawChoices.{IsRawChoice}
 use Rattle.cn_search.specs.Evidence.{IsFindingFor, IsFirstWitness, choices_for}
 use Rattle.cn_search.specs.Finding.{Finding}
 use Rattle.cn_proto.specs.Plan.{Plan, IsPlan, nodes_of, processes_of, protocol_of}
+use Rattle.cn_proto.specs.Sound.{IsSound}
 use Rattle.cn_proto.specs.Tournament.{team_of}
-use Rattle.cn_proto.proofs.PlanLemmas.{plan_short, plan_sound}
 use Rattle.cn_agree.proofs.Agreeing.{every_schedule}
 use Rattle.cn_log.specs.Linearized.{IsLinearized}
 use Rattle.cn_log.specs.Log.{IsEventList}
@@ -24,19 +24,24 @@ AreListed = (t : TypeTable) (n : ℕ) (c : Choice) → Contains (canonical_choic
 abbrev pub AreLinearized : Type 0
 AreLinearized = (o : Opening) (events : List Event) → IsOpening o → IsEventList (setting_of o) events → IsLinearized (setting_of o) events
 
-pub reaches_consensus : (V : Type 0) (plan : Plan) → IsPlan plan → ReachesConsensus V plan
-reaches_consensus V plan is inputs schedule many all =
-    every_schedule (protocol_of plan) (processes_of plan) (nodes_of plan) (team_of (length plan.choice.a)) (plan_sound plan is) inputs schedule many all (plan_short plan is) refl
+-- every plan is sound, and no path has more places than there are nodes
+abbrev pub AreSound : Type 0
+AreSound = (p : Plan) → IsPlan p → IsSound (protocol_of p) (processes_of p) (nodes_of p) (team_of (length p.choice.a))
 
-pub serves_objects : AreLinearized → (plan : Plan) → IsPlan plan → ServesObjects plan
-serves_objects linearized plan is object start capacity events known some few may =
-    linearized (opening_of plan object start capacity) events (record { plan = is; sound = plan_sound plan is; start = known; some = some; few = few }) may
+abbrev pub AreShort : Type 0
+AreShort = (p : Plan) → IsPlan p → (process : ℕ) → process < processes_of p → length ((protocol_of p).path process) ≤ nodes_of p
+
+pub reaches_consensus : AreSound → AreShort → (V : Type 0) (plan : Plan) → IsPlan plan → ReachesConsensus V plan
+reaches_consensus sound short V plan is inputs schedule many all =
+    every_schedule (protocol_of plan) (processes_of plan) (nodes_of plan) (team_of (length plan.choice.a)) (sound plan is) inputs schedule many all (short plan is) refl
+
+pub serves_objects : AreSound → AreLinearized → (plan : Plan) → IsPlan plan → ServesObjects plan
+serves_objects sound linearized plan is object start capacity events known some few may =
+    linearized (opening_of plan object start capacity) events (record { plan = is; sound = sound plan is; start = known; some = some; few = few }) may
 
 size_of : AreListed → (t : TypeTable) (n : ℕ) (w : Choice) → IsFirstWitness t (choices_for t n) w → n ≡ length w.a + length w.b
 size_of listed t n w first =
-    let there : Contains (first.before ++ w ∷ first.after) w = Contains-append_right first.before (w ∷ first.after) w (0, omega arith, refl) in
-    let here : Contains (choices_for t n) w = subst (λ (cs : List Choice). Contains cs w) (sym first.listed) there in
-    let fits = ((listed t n w).0 here).1 in
+    let fits = ((listed t n w).0 (Contains-between (choices_for t n) first.before first.after w (sym first.listed))).1 in
     sym fits.one_operation_each ∙ length-append w.a w.b
 
 -- a witness that was found is for as many processes as the number says

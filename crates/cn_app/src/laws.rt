@@ -14,7 +14,7 @@ ghost use Rattle.cn_app.specs.Plans.{IsPlanOf};
 
 use cn_choice::laws::canonical_list;
 use cn_log::laws::every_log;
-use cn_proto::laws::one_plan;
+use cn_proto::laws::{every_plan, one_plan};
 use cn_search::laws::one_finding;
 
 /// `find` writes one text for a table and a limit.
@@ -46,5 +46,6 @@ pub fn headline<V>()
     ensures { (t : TypeTable) (limit : ℕ) (f : Finding) → IsFindingFor t limit f → Headline V t limit f }
 {
     canonical_list();
+    every_plan();
     every_log();
 }

@@ -1,9 +1,10 @@
 -- What a search finds is within the ranges of a certificate.
-use Rattle.std.proofs.Common.{◌≡◌, ◌↔◌, ℕ, ◌+◌, ◌≤◌, ◌<◌, Contains, List, [], ◌∷◌, ◌++◌, length, Bool, true, false, Option, Some, None, IsSomeAnd, nat_le, nat_lt, arith, refl, sym, le-leb, ltb-true, length-append}
+use Rattle.std.proofs.Common.{◌≡◌, ◌↔◌, ℕ, ◌+◌, ◌≤◌, ◌<◌, Contains, List, [], ◌∷◌, length, Bool, true, false, Option, Some, None, IsSomeAnd, nat_le, nat_lt, arith, refl, sym, le-leb, ltb-true, length-append}
 use Rattle.std.proofs.lemmas.List.{length-map}
 use Rattle.std.proofs.lemmas.List.Elements.{All-contains_itself, All-weaker, recursion_from_All}
 use Rattle.std.specs.List.{AllByRecursion, AllZip, list_all}
 use Rattle.std.specs.Prelude.{MatchOption}
+use Rattle.cn_table.proofs.Lists.{All-parts, Contains-between}
 use Rattle.cn_table.specs.TypeTable.{TypeTable, IsTypeTable}
 use Rattle.cn_choice.specs.Canonical.{Choice, IsCanonical, raw_choice_of}
 use Rattle.cn_choice.specs.Collisions.{Collision, IsCollision}
@@ -11,12 +12,11 @@ use Rattle.cn_choice.specs.Discerning.{IsNumberUpTo}
 use Rattle.cn_choice.specs.Live.{IsLive, live_choices}
 use Rattle.cn_choice.specs.Orders.{IsOrder}
 use Rattle.cn_choice.specs.RawChoices.{RawChoice, IsRawChoice}
-use Rattle.cn_choice.specs.ResultSets.{pair_of}
-use Rattle.cn_choice.proofs.Listing.{differ_from, fits_below}
-use Rattle.cn_choice.proofs.Walks.{pair_takes_part}
+use Rattle.cn_choice.specs.ResultSets.{InResultSet, pair_of}
+use Rattle.cn_choice.specs.declared.team.Team.{Team}
+use Rattle.cn_choice.specs.declared.team.Team.TheVariants.{A}
 use Rattle.cn_search.specs.Evidence.{IsFindingFor, IsFirstWitness, IsRecordedFor, choices_for, choices_to_refute}
 use Rattle.cn_search.specs.Finding.{Finding}
-use Rattle.cn_search.proofs.ListLemmas.{Contains-between}
 use Rattle.cn_cert.specs.Certificate.{certificate_of}
 use Rattle.cn_cert.specs.Ranges.{is_choice_in_range, is_collision_in_range, is_in_range, is_number_in_range, is_short, is_witness_in_range}
 
@@ -29,32 +29,41 @@ all_small bound (n ∷ ns) low below = rw (le-leb n 7 (omega (arith, below.0)), 
 short : (bound : ℕ) (ns : List ℕ) → bound ≤ 8 → length ns ≤ 8 → AllByRecursion (λ n. n < bound) ns → is_short ns ≡ true
 short bound ns low few below = rw (le-leb (length ns) 8 few, all_small bound ns low below)
 
-parts : {X : Type 0} (P : X → Type 0) (xs ys : List X) → AllByRecursion P (xs ++ ys) → AllByRecursion P xs × AllByRecursion P ys
-parts P [] ys h = (tt, h)
-parts P (x ∷ xs) ys h = let rest = parts P xs ys h.1 in ((h.0, rest.0), rest.1)
+-- ---- what the laws of orders, of result sets and of the live choices say
+
+abbrev pub AreShort : Type 0
+AreShort = (n : ℕ) (order : List ℕ) → IsOrder n order → length order ≤ n
+
+abbrev pub AreOfProcesses : Type 0
+AreOfProcesses = (t : TypeTable) (c : RawChoice) (team : Team) (j : ℕ) (pair : ℕ × ℕ) → InResultSet t c team j pair → j < length c.operations
+
+abbrev pub AreListed : Type 0
+AreListed = (t : TypeTable) (n : ℕ) (c : Choice) → Contains (live_choices t n) c ↔ (IsCanonical c × IsRawChoice t n (raw_choice_of c) × IsLive t (raw_choice_of c))
 
 -- ---- a table, and numbers of processes up to 8
 
-module _ (t : TypeTable) (table : IsTypeTable t) (n : ℕ) (few : n ≤ 8) where
+module _ (few_moves : AreShort) (of_processes : AreOfProcesses) (t : TypeTable) (table : IsTypeTable t) (n : ℕ) (few : n ≤ 8) where
   choice_in_range : (c : Choice) → IsRawChoice t n (raw_choice_of c) → is_choice_in_range c ≡ true
   choice_in_range c is =
-      let known = parts (λ o. o < length t.operations) c.a c.b (recursion_from_All (λ o. o < length t.operations) (c.a ++ c.b) is.operations_known) in
+      let parts = All-parts (λ o. o < length t.operations) c.a c.b is.operations_known in
+      let a_known = recursion_from_All (λ o. o < length t.operations) c.a parts.0 in
+      let b_known = recursion_from_All (λ o. o < length t.operations) c.b parts.1 in
       let operations : length t.operations ≤ 8 = omega (arith, table.operations.few, length-map t.operations (λ row. row.name)) in
-      let a_short = short (length t.operations) c.a operations (omega (arith, is.one_operation_each, length-append c.a c.b)) known.0 in
-      let b_short = short (length t.operations) c.b operations (omega (arith, is.one_operation_each, length-append c.a c.b)) known.1 in
+      let a_short = short (length t.operations) c.a operations (omega (arith, is.one_operation_each, length-append c.a c.b)) a_known in
+      let b_short = short (length t.operations) c.b operations (omega (arith, is.one_operation_each, length-append c.a c.b)) b_known in
       rw (le-leb c.state 15 (omega (arith, is.state_known, table.states.few)), a_short, b_short)
 
   order_short : (m : ℕ) (order : List ℕ) → m ≡ n → IsOrder m order → is_short order ≡ true
   order_short m order e is =
       let known = recursion_from_All (λ p. p < m) order is.known in
-      short m order (omega (arith, e, few)) (omega (arith, e, few, fits_below m order known (differ_from order is.distinct))) known
+      short m order (omega (arith, e, few)) (omega (arith, e, few, few_moves m order is)) known
 
   process_small : (c : RawChoice) (j : ℕ) (alpha beta : List ℕ) → IsCollision t c j alpha beta → j < length c.operations
   process_small c j alpha beta is = from (pair_of t c alpha j) refl
     where
       from : (seen : Option (ℕ × ℕ)) → pair_of t c alpha j ≡ seen → j < length c.operations
       from None e = absurd (is.takes_part e)
-      from (Some pair) e = pair_takes_part t c (length c.operations) alpha j pair is.alpha_order.known e
+      from (Some pair) e = of_processes t c A j pair (alpha, is.alpha_order, is.alpha_in_a, e)
 
   collision_in_range : (c : Choice) (x : Collision) → IsRawChoice t n (raw_choice_of c) → IsRecordedFor t c x → is_collision_in_range x ≡ true
   collision_in_range c x is recorded =
@@ -71,19 +80,18 @@ module _ (t : TypeTable) (table : IsTypeTable t) (n : ℕ) (few : n ≤ 8) where
 
 -- ---- a finding
 
--- what the law of the live choices says
-module _ (listed : (t : TypeTable) (n : ℕ) (c : Choice) → Contains (live_choices t n) c ↔ (IsCanonical c × IsRawChoice t n (raw_choice_of c) × IsLive t (raw_choice_of c))) where
+module _ (few_moves : AreShort) (of_processes : AreOfProcesses) (listed : AreListed) where
   all_raw : (t : TypeTable) (n : ℕ) → AllByRecursion (λ c. IsRawChoice t n (raw_choice_of c)) (choices_for t n)
   all_raw t n = recursion_from_All _ (choices_for t n) (All-weaker (Contains (choices_for t n)) _ (λ c in_list. ((listed t n c).0 in_list).1) (choices_for t n) (All-contains_itself (choices_for t n)))
 
   witness_in_range : (t : TypeTable) → IsTypeTable t → (n : ℕ) → n ≤ 8 → (w : Option Choice) → IsSomeAnd w (IsFirstWitness t (choices_for t n)) → is_witness_in_range w ≡ true
   witness_in_range t table n few None is = absurd is
-  witness_in_range t table n few (Some c) is = choice_in_range t table n few c ((listed t n c).0 (Contains-between _ is.before is.after c (sym is.listed))).1
+  witness_in_range t table n few (Some c) is = choice_in_range few_moves of_processes t table n few c ((listed t n c).0 (Contains-between _ is.before is.after c (sym is.listed))).1
 
   evidence_in_range : (t : TypeTable) → IsTypeTable t → (limit : ℕ) → limit ≤ 8 → (number : Option ℕ) (w : Option Choice) (xs : List Collision) → IsNumberUpTo t limit number
       → MatchOption number (w ≡ None) (λ n. IsSomeAnd w (IsFirstWitness t (choices_for t n))) → AllZip (IsRecordedFor t) (choices_to_refute t limit number) xs
       → (is_number_in_range number ≡ true) × (is_witness_in_range w ≡ true) × (list_all is_collision_in_range xs ≡ true)
-  evidence_in_range t table limit few None w xs number nothing each = (refl, rw nothing refl, collisions_in_range t table 2 (omega arith) (choices_for t 2) xs (all_raw t 2) each)
+  evidence_in_range t table limit few None w xs number nothing each = (refl, rw nothing refl, collisions_in_range few_moves of_processes t table 2 (omega arith) (choices_for t 2) xs (all_raw t 2) each)
   evidence_in_range t table limit few (Some n) w xs number first each = (
     le-leb n 255 (omega (arith, number.1, few)),
     witness_in_range t table n (omega (arith, number.1, few)) w first,
@@ -91,8 +99,8 @@ module _ (listed : (t : TypeTable) (n : ℕ) (c : Choice) → Contains (live_cho
   )
     where
       refuted : (more : Bool) → nat_lt n limit ≡ more → list_all is_collision_in_range xs ≡ true
-      refuted true less = let below : n < limit = ltb-true n limit less in collisions_in_range t table (n + 1) (omega (arith, below, few)) (choices_for t (n + 1)) xs (all_raw t (n + 1)) (rw less at each)
-      refuted false whole = collisions_in_range t table n (omega (arith, number.1, few)) [] xs tt (rw whole at each)
+      refuted true less = let below : n < limit = ltb-true n limit less in collisions_in_range few_moves of_processes t table (n + 1) (omega (arith, below, few)) (choices_for t (n + 1)) xs (all_raw t (n + 1)) (rw less at each)
+      refuted false whole = collisions_in_range few_moves of_processes t table n (omega (arith, number.1, few)) [] xs tt (rw whole at each)
 
   pub finding_in_range : (t : TypeTable) (limit : ℕ) (f : Finding) → IsTypeTable t → limit ≤ 8 → IsFindingFor t limit f → is_in_range (certificate_of t.name f) ≡ true
   finding_in_range t limit f table few is =

@@ -21,6 +21,8 @@ pub fn written_is_read_back()
 pub fn finding_is_in_range()
     ensures { (t : TypeTable) (limit : ℕ) (f : Finding) → IsTypeTable t → limit ≤ 8 → IsFindingFor t limit f → is_in_range (certificate_of t.name f) ≡ true }
 {
-    // The choices that were searched are choices of the table.
+    // The choices that were searched are choices of the table, and its processes are few.
     laws::live_list();
+    laws::short_orders();
+    laws::process_of_pair();
 }

@@ -1,16 +1,20 @@
 -- Collisions, by what two orders show.
-use Rattle.std.proofs.Common.{◌≡◌, ℕ, ◌∙◌, sym, ◌↔◌, List, Option, Some}
+use Rattle.std.proofs.Common.{◌≡◌, ◌≢◌, ℕ, ◌∙◌, sym, refl, ◌↔◌, List, Option, Some, None}
 use Rattle.std.proofs.lemmas.Option.{none-some}
 use Rattle.cn_table.specs.TypeTable.{TypeTable}
 use Rattle.cn_choice.specs.declared.team.Team.TheVariants.{A, B}
 use Rattle.cn_choice.specs.RawChoices.{RawChoice}
 use Rattle.cn_choice.specs.Collisions.{IsCollision}
-use Rattle.cn_choice.proofs.FirstCollisions.{the_pair}
 use Rattle.cn_check.specs.Seeing.{Shows}
 
 -- both orders show one pair
 abbrev pub ShowOnePair : Option (ℕ × ℕ) → Option (ℕ × ℕ) → Type 0
 ShowOnePair o u = (pair : ℕ × ℕ) × (o ≡ Some pair) × (u ≡ Some pair)
+
+-- a process that takes part gets a pair
+the_pair : (o : Option (ℕ × ℕ)) → o ≢ None → (pair : ℕ × ℕ) × (o ≡ Some pair)
+the_pair None some = absurd (some refl)
+the_pair (Some pair) some = (pair, refl)
 
 pub collision_shown : (t : TypeTable) (c : RawChoice) (j : ℕ) (alpha beta : List ℕ) (o u : Option (ℕ × ℕ))
     → ((pair : ℕ × ℕ) → (o ≡ Some pair) ↔ Shows t c A j pair alpha)

@@ -8,3 +8,4 @@ pub mod ResultSetLemmas
 pub mod StepLemmas
 pub mod TurnLemmas
 pub mod VerdictLemmas
+pub mod WalkLemmas

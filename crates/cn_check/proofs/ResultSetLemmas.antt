@@ -1,18 +1,26 @@
 -- What lists show, each with those that begin with it.
-use Rattle.std.proofs.Common.{◌≡◌, ℕ, ◌+◌, ◌<◌, ◌≤◌, ◌⊎◌, inl, inr, List, [], ◌∷◌, ◌++◌, ◌≢◌, Bool, length, length-append, append-nil, append_assoc, refl, sym, ap, ◌∙◌, subst, arith, ◌↔◌, Contains}
+use Rattle.std.proofs.Common.{◌≡◌, ℕ, zero, suc, ◌+◌, ◌<◌, ◌≤◌, ◌⊎◌, inl, inr, List, [], ◌∷◌, ◌++◌, Bool, false, true≢false, nat_eq, length, length-append, append-nil, append_assoc, refl, sym, ap, ◌∙◌, subst, arith, ◌↔◌, Contains}
 use Rattle.std.proofs.Math.Nat.{eq-or-lt_of_le}
-use Rattle.std.proofs.lemmas.List.Elements.{recursion_from_All}
+use Rattle.std.proofs.lemmas.Bool.{eq-eqb}
+use Rattle.std.proofs.lemmas.List.Elements.{All-contains, All-from_recursion}
+use Rattle.std.specs.List.{IsDistinct}
+use Rattle.cn_table.proofs.Lists.{Contains-between}
 use Rattle.cn_table.specs.TypeTable.{TypeTable}
 use Rattle.cn_choice.specs.declared.team.Team.{Team}
 use Rattle.cn_choice.specs.RawChoices.{RawChoice}
 use Rattle.cn_choice.specs.declared.team.Team.TheVariants.{A, B}
 use Rattle.cn_choice.specs.Discerning.{IsWitness, ResultSetsMeet}
+use Rattle.cn_choice.specs.Orders.{IsOrder}
 use Rattle.cn_choice.specs.ResultSets.{InResultSet}
-use Rattle.cn_choice.proofs.ArrangementLemmas.{Differ}
-use Rattle.cn_choice.proofs.Listing.{differ_from, fits_below}
-use Rattle.cn_choice.proofs.Members.{IsIn, IsIn-append_right, IsIn-from_Contains, each_at}
-use Rattle.cn_choice.proofs.Walks.{pair_takes_part}
 use Rattle.cn_check.specs.Seeing.{HaveCommonMark, IsMarked, IsShownFrom, Shows}
+
+-- ---- what the laws of orders and of result sets say
+
+abbrev pub AreShort : Type 0
+AreShort = (n : ℕ) (order : List ℕ) → IsOrder n order → length order ≤ n
+
+abbrev pub AreOfProcesses : Type 0
+AreOfProcesses = (t : TypeTable) (c : RawChoice) (team : Team) (j : ℕ) (pair : ℕ × ℕ) → InResultSet t c team j pair → j < length c.operations
 
 -- ---- what is marked after each step
 
@@ -35,9 +43,12 @@ both_cases M N O S P L m n l = (
 abbrev pub IsShownBelow : TypeTable → RawChoice → Team → ℕ → ℕ × ℕ → List ℕ → ℕ → Type 0
 IsShownBelow t c team j pair list next = (p : ℕ) × (p < next) × IsShownFrom t c team j pair (list ++ p ∷ [])
 
-not_twice : (x : ℕ) (xs ys : List ℕ) → IsIn x xs → IsIn x ys → ¬ Differ (xs ++ ys)
-not_twice x [] ys i j d = i
-not_twice x (z ∷ xs) ys i j d = elim i [ inl e ↦ each_at (λ y. z ≢ y) (xs ++ ys) x d.0 (IsIn-append_right x xs ys j) e | inr k ↦ not_twice x xs ys k j d.1 ]
+not_twice : (x : ℕ) (xs ys : List ℕ) → Contains xs x → ¬ IsDistinct nat_eq (xs ++ x ∷ ys)
+unfolding IsDistinct
+not_twice x [] ys h d = absurd (omega (arith, h.1))
+not_twice x (z ∷ xs) ys (zero, l, e) d =
+    true≢false (sym (eq-eqb z x e) ∙ All-contains (λ y. nat_eq z y ≡ false) (xs ++ x ∷ ys) x (All-from_recursion (λ y. nat_eq z y ≡ false) (xs ++ x ∷ ys) d.0) (Contains-between (xs ++ x ∷ ys) xs ys x refl))
+not_twice x (z ∷ xs) ys (suc k, l, e) d = not_twice x xs ys (k, omega arith, e) d.1
 
 empty : (xs : List ℕ) → length xs ≡ 0 → xs ≡ []
 empty [] e = refl
@@ -45,12 +56,12 @@ empty (x ∷ xs) e = absurd (omega arith)
 
 module _ (t : TypeTable) (c : RawChoice) (team : Team) (j : ℕ) (pair : ℕ × ℕ) (list : List ℕ) where
   -- a list of all processes is not followed by another
-  pub shown_at_end : length list ≡ length c.operations → IsShownFrom t c team j pair list ↔ Shows t c team j pair list
-  shown_at_end all = (λ h. shows h.0 h.1, λ s. ([], subst (Shows t c team j pair) (sym (append-nil list)) s))
+  pub shown_at_end : AreShort → length list ≡ length c.operations → IsShownFrom t c team j pair list ↔ Shows t c team j pair list
+  shown_at_end few all = (λ h. shows h.0 h.1, λ s. ([], subst (Shows t c team j pair) (sym (append-nil list)) s))
     where
       shows : (more : List ℕ) → Shows t c team j pair (list ++ more) → Shows t c team j pair list
       shows more s =
-          let long = fits_below (length c.operations) (list ++ more) (recursion_from_All (λ p. p < length c.operations) (list ++ more) s.0.known) (differ_from (list ++ more) s.0.distinct) in
+          let long = few (length c.operations) (list ++ more) s.0 in
           let none : more ≡ [] = empty more (omega (arith, length-append list more, long, all)) in
           subst (Shows t c team j pair) (ap (λ (xs : List ℕ). list ++ xs) none ∙ append-nil list) s
 
@@ -67,7 +78,7 @@ module _ (t : TypeTable) (c : RawChoice) (team : Team) (j : ℕ) (pair : ℕ × 
       by_more : (more : List ℕ) → Shows t c team j pair (list ++ more) → Shows t c team j pair list ⊎ IsShownBelow t c team j pair list next
       by_more [] s = inl (subst (Shows t c team j pair) (append-nil list) s)
       by_more (p ∷ more) s =
-          let known = each_at (λ x. x < length c.operations) (list ++ p ∷ more) p (recursion_from_All (λ x. x < length c.operations) (list ++ p ∷ more) s.0.known) (IsIn-append_right p list (p ∷ more) (inl refl)) in
+          let known = All-contains (λ x. x < length c.operations) (list ++ p ∷ more) p s.0.known (Contains-between (list ++ p ∷ more) list more p refl) in
           inr (p, omega (arith, known, all), (more, subst (Shows t c team j pair) (sym (append_assoc list (p ∷ []) more)) s))
 
   pub shown_below_more : (next : ℕ) → IsShownBelow t c team j pair list (next + 1) ↔ (IsShownBelow t c team j pair list next ⊎ IsShownFrom t c team j pair (list ++ next ∷ []))
@@ -82,7 +93,7 @@ module _ (t : TypeTable) (c : RawChoice) (team : Team) (j : ℕ) (pair : ℕ × 
   pub not_shown_twice : (next : ℕ) → Contains list next → ¬ IsShownFrom t c team j pair (list ++ next ∷ [])
   not_shown_twice next there h =
       let whole : Shows t c team j pair (list ++ next ∷ h.0) = subst (Shows t c team j pair) (append_assoc list (next ∷ []) h.0) h.1 in
-      not_twice next list (next ∷ h.0) (IsIn-from_Contains next list there) (inl refl) (differ_from (list ++ next ∷ h.0) whole.0.distinct)
+      not_twice next list h.0 there whole.0.distinct
 
 -- ---- whether the sets of both teams meet
 
@@ -95,5 +106,5 @@ sets_meet t c j after_a after_b a b = (
   λ h. (h.0.0, h.0.1, (a h.0.0 h.0.1).1 h.1, (b h.0.0 h.0.1).1 h.2),
 )
 
-pub witness_from : (t : TypeTable) (c : RawChoice) → ((j : ℕ) → j < length c.operations → ¬ ResultSetsMeet t c j) → IsWitness t c
-witness_from t c none j pair a b = none j (pair_takes_part t c (length c.operations) a.0 j pair a.1.known a.3) (pair, a, b)
+pub witness_from : AreOfProcesses → (t : TypeTable) (c : RawChoice) → ((j : ℕ) → j < length c.operations → ¬ ResultSetsMeet t c j) → IsWitness t c
+witness_from of_processes t c none j pair a b = none j (of_processes t c A j pair a) (pair, a, b)

@@ -1,12 +1,12 @@
 -- What an accepted certificate shows, and that the certificate of a finding is accepted.
-use Rattle.std.proofs.Common.{◌≡◌, ◌∙◌, ◌≢◌, ◌==◌, ◌↔◌, ℕ, zero, suc, ◌+◌, ◌<◌, ◌≤◌, List, [], ◌∷◌, ◌++◌, length, length-append, refl, sym, ap, subst, arith, Bool, true, false, cond, ltb, leb, ◌&&◌, Option, Some, None, IfSome, All, Contains}
+use Rattle.std.proofs.Common.{◌≡◌, ◌∙◌, ◌≢◌, ◌==◌, ◌↔◌, ℕ, zero, suc, ◌+◌, ◌<◌, ◌≤◌, List, [], ◌∷◌, length, refl, sym, ap, subst, arith, Bool, true, false, cond, ltb, leb, ◌&&◌, Option, Some, None, IfSome, All, Contains}
 use Rattle.std.specs.Prelude.{IfErr, IsErrAnd, IsOk, IsSomeAnd, MatchOption, OnOk, Result, Ok, Err, slice_get}
 use Rattle.std.specs.List.{AllByRecursion, AllZip}
 use Rattle.std.proofs.lemmas.Bool.{leb-true, lt-ltb, ltb-true, and_parts}
-use Rattle.std.proofs.Math.Seq.{get_or-append_seam}
 use Rattle.std.proofs.lemmas.List.Elements.{All-from_recursion}
 use Rattle.std.proofs.lemmas.Slice.Zip.{AllZip-long}
 use Rattle.std.proofs.lemmas.Option.{none-some, same_Some}
+use Rattle.cn_table.proofs.Lists.{Contains-between}
 use Rattle.cn_table.specs.TypeTable.{TypeTable}
 use Rattle.cn_choice.specs.RawChoices.{IsRawChoice, RawChoice}
 use Rattle.cn_choice.specs.Canonical.{Choice, IsCanonical, canonical_choices, raw_choice_of}
@@ -118,10 +118,7 @@ recorded_refute t (c ∷ choices) (e ∷ entries) h = (
 )
 
 first_fits : Laws → (t : TypeTable) (n : ℕ) (w : Choice) → IsFirstWitness t (live_choices t n) w → IsRawChoice t n (raw_choice_of w)
-first_fits laws t n w f =
-    let inside : length f.before < length (f.before ++ w ∷ f.after) = omega (arith, length-append f.before (w ∷ f.after)) in
-    let listed : Contains (live_choices t n) w = subst (λ (cs : List Choice). Contains cs w) (sym f.listed) (length f.before, inside, get_or-append_seam f.before w f.after w) in
-    ((laws.listed t n w).0 listed).1
+first_fits laws t n w f = ((laws.listed t n w).0 (Contains-between (live_choices t n) f.before f.after w (sym f.listed))).1
 
 fits_by_parts : Laws → (t : TypeTable) (number : Option ℕ) (witness : Option Choice) → MatchOption number (witness ≡ None) (λ n. IsSomeAnd witness (IsFirstWitness t (live_choices t n)))
     → HasWitnessFor t number witness × IfSome witness (λ w. IsWitness t (raw_choice_of w))

@@ -3,6 +3,7 @@ ghost use Rattle.std.specs.Prelude.{◌≡◌, ◌<◌, ◌≤◌, ◌+◌, ◌�
 ghost use Rattle.cn_choice.specs.Canonical.{FitsTable, raw_choice_of};
 ghost use Rattle.cn_choice.specs.RawChoices.{IsRawChoice};
 
+use cn_choice::laws::choice_by_teams;
 use cn_choice::{Choice, Team};
 use cn_table::{Operation, Table};
 
@@ -34,6 +35,7 @@ fn has_processes(choice: &Choice, n: u8) -> bool
 pub(crate) fn is_choice_for(choice: &Choice, table: &Table, n: u8) -> bool
     ensures { IsTrue result ↔ IsRawChoice table.now n (raw_choice_of choice.now) }
 {
+    choice_by_teams();
     has_processes(choice, n) && is_of_table(choice, table)
 }
 

@@ -7,6 +7,7 @@ ghost use Rattle.cn_choice.specs.ResultSets.{BeginsIn, pair_of};
 ghost use Rattle.cn_check.specs.Seeing.{Shows};
 
 use crate::choice::{are_below, operation_of, processes, team_of};
+use cn_choice::laws::pair_along_order;
 use cn_choice::{Choice, Team};
 use cn_table::Table;
 
@@ -45,6 +46,8 @@ fn pair_seen(table: &Table, choice: &Choice, order: &[u8], process: u8) -> Optio
     ensures pair { result ≡ pair_of table.now (raw_choice_of choice.now) order.now process }
     ensures range { IfSome result (λ pair. (pair.0 < length table.now.responses) × (pair.1 < length table.now.states)) }
 {
+    // What a process sees is found by going along the order once.
+    pair_along_order();
     let mut state = choice.state;
     let mut seen = None;
     for p in order {

@@ -9,6 +9,7 @@ use crate::choice::processes;
 use crate::marks::Marks;
 use crate::seeing::pair_shown;
 use arrayvec::ArrayVec;
+use cn_choice::laws::{process_of_pair, short_orders};
 use cn_choice::{Choice, Team};
 use cn_table::Table;
 
@@ -58,6 +59,8 @@ fn mark_from(
     requires short { length list.now ≤ length choice.now.a + length choice.now.b }
     ensures { (r q : ℕ) → IsMarked marks.new r q ↔ (IsMarked marks.old r q ⊎ IsShownFrom table.now (raw_choice_of choice.now) team process (r, q) list.now) }
 {
+    // A list of all processes is the beginning of no longer order.
+    short_orders();
     mark_shown(marks, table, choice, team, list, process);
     let n = processes(table, choice);
     if list.len() == n as usize {
@@ -88,6 +91,8 @@ pub(crate) fn first_meeting(table: &Table, choice: &Choice) -> Option<u8>
     ensures meets { IfSome result (ResultSetsMeet table.now (raw_choice_of choice.now)) }
     ensures least { IfSome result (λ j. (i : ℕ) → i < j → ¬ ResultSetsMeet table.now (raw_choice_of choice.now) i) }
 {
+    // Who is no process of the choice has no pair in a result set.
+    process_of_pair();
     for process in 0..processes(table, choice) {
         let after_a = result_set(table, choice, Team::A, process);
         let after_b = result_set(table, choice, Team::B, process);

@@ -1,5 +1,5 @@
 pub mod ListLemmas
-pub mod AllSome
+pub mod Lists
 pub mod KeyLemmas
 pub mod KindLemmas
 pub mod NameLists

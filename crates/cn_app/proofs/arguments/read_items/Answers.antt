@@ -1,4 +1,4 @@
-use Rattle.cn_table.proofs.AllSome.{front_first}
+use Rattle.cn_table.proofs.Lists.{front_first}
 use Rattle.cn_app.proofs.arguments.read_items.Goals as goal
 
 pub loop-piece-init : goal.loop-piece-init

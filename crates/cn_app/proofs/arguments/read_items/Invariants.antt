@@ -1,6 +1,6 @@
 use Rattle.std.proofs.Common.{◌≡◌, map, drop}
 use Rattle.cn_table.specs.Draft.{all_some}
-use Rattle.cn_table.proofs.AllSome.{with_front}
+use Rattle.cn_table.proofs.Lists.{with_front}
 use Rattle.cn_app.proofs.arguments.read_items.Given as goal
 
 abbrev pub invariant-loop-piece : goal.invariant-loop-piece

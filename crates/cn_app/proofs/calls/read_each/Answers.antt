@@ -1,4 +1,4 @@
-use Rattle.cn_table.proofs.AllSome.{front_first}
+use Rattle.cn_table.proofs.Lists.{front_first}
 use Rattle.cn_app.specs.Calls.{process_calls}
 use Rattle.cn_app.proofs.calls.read_each.Goals as goal
 

@@ -1,6 +1,6 @@
 use Rattle.std.proofs.Common.{◌≡◌, map, drop}
 use Rattle.cn_table.specs.Draft.{all_some}
-use Rattle.cn_table.proofs.AllSome.{with_front}
+use Rattle.cn_table.proofs.Lists.{with_front}
 use Rattle.cn_app.specs.Calls.{process_calls}
 use Rattle.cn_app.proofs.calls.read_each.Given as goal
 

@@ -8,7 +8,7 @@ returns g c = λ t limit f found. record {
   number = found.number;
   plan = λ w plan witness is table choice. record {
     processes = number_of_witness c.canonical_list.ensures.listed t limit f w found witness ∙ ap (λ (x : Choice). Some (length x.a + length x.b)) (sym choice);
-    consensus = reaches_consensus _ plan is;
-    log = serves_objects c.every_log.ensures.linearized plan is;
+    consensus = reaches_consensus c.every_plan.ensures.sound c.every_plan.ensures.short _ plan is;
+    log = serves_objects c.every_plan.ensures.sound c.every_log.ensures.linearized plan is;
   };
 }

@@ -1,7 +1,7 @@
 use Rattle.std.proofs.Common.{◌≡◌, map, drop}
 use Rattle.serde_json.specs.View.{view}
 use Rattle.cn_table.specs.Draft.{all_some}
-use Rattle.cn_table.proofs.AllSome.{with_front}
+use Rattle.cn_table.proofs.Lists.{with_front}
 use Rattle.cn_cert.specs.Draft.{collision_of, collisions_from}
 use Rattle.cn_cert.proofs.draft.collisions_from.Given as goal
 

@@ -1,6 +1,6 @@
 use Rattle.std.proofs.Common.{◌≡◌, map, drop}
 use Rattle.cn_table.specs.Draft.{all_some}
-use Rattle.cn_table.proofs.AllSome.{with_front}
+use Rattle.cn_table.proofs.Lists.{with_front}
 use Rattle.cn_cert.specs.Ranges.{collision_within, collisions_within}
 use Rattle.cn_cert.proofs.ranges.collisions.Given as goal
 

@@ -1,5 +1,5 @@
 use Rattle.serde_json.specs.View.{view}
-use Rattle.cn_table.proofs.AllSome.{front_first}
+use Rattle.cn_table.proofs.Lists.{front_first}
 use Rattle.cn_cert.specs.Values.{natural_of}
 use Rattle.cn_cert.proofs.values.naturals_from.Goals as goal
 

@@ -1,7 +1,7 @@
 use Rattle.std.proofs.Common.{◌≡◌, map, drop}
 use Rattle.serde_json.specs.View.{view}
 use Rattle.cn_table.specs.Draft.{all_some}
-use Rattle.cn_table.proofs.AllSome.{with_front}
+use Rattle.cn_table.proofs.Lists.{with_front}
 use Rattle.cn_cert.specs.Values.{natural_of, naturals_from}
 use Rattle.cn_cert.proofs.values.naturals_from.Given as goal
 

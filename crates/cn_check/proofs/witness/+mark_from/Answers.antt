@@ -11,7 +11,7 @@ pub returns-then-list-n : goal.returns-then-list-n
 returns-then-list-n t c r q =
     let choice : RawChoice = raw_choice_of c.args.choice.now in
     let all : length c.args.list.now ≡ length choice.operations = c.if-list-n.true ∙ (c.processes-n.ensures ∙ sym (length-append c.args.choice.now.a c.args.choice.now.b)) in
-    let end = shown_at_end c.args.table.now choice c.args.team c.args.process (r, q) c.args.list.now all in
+    let end = shown_at_end c.args.table.now choice c.args.team c.args.process (r, q) c.args.list.now c.short_orders.ensures all in
     same_case _ _ _ _ (c.mark_shown.ensures r q) (end.1, end.0)
 
 pub loop-next-init : goal.loop-next-init

@@ -15,4 +15,4 @@ loop-process-preserved c =
 pub returns-clause-none : goal.returns-clause-none
 returns-clause-none c =
     let n = length-append c.args.choice.now.a c.args.choice.now.b in
-    witness_from c.args.table.now (raw_choice_of c.args.choice.now) (λ j l. c.loop-process.invariant j (omega (arith, l, n, c.processes-process-end.ensures)))
+    witness_from c.process_of_pair.ensures c.args.table.now (raw_choice_of c.args.choice.now) (λ j l. c.loop-process.invariant j (omega (arith, l, n, c.processes-process-end.ensures)))

@@ -1,6 +1,6 @@
 use Rattle.toml.specs.View.{view}
 use Rattle.toml.specs.Data.{as_str}
-use Rattle.cn_table.proofs.AllSome.{front_first}
+use Rattle.cn_table.proofs.Lists.{front_first}
 use Rattle.cn_table.proofs.draft.texts.Goals as goal
 
 pub loop-value-init : goal.loop-value-init

@@ -1,7 +1,7 @@
 use Rattle.std.proofs.Common.{map, string_bytes}
 use Rattle.cn_table.specs.Numbering.{row_from}
 use Rattle.cn_table.specs.DraftView.{row_view}
-use Rattle.cn_table.proofs.AllSome.{front_first}
+use Rattle.cn_table.proofs.Lists.{front_first}
 use Rattle.cn_table.proofs.resolve.all_transitions.Goals as goal
 
 pub loop-row-init : goal.loop-row-init

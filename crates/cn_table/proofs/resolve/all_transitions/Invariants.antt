@@ -3,7 +3,7 @@ use Rattle.cn_table.specs.Draft.{all_some}
 use Rattle.cn_table.specs.DraftView.{row_view}
 use Rattle.cn_table.specs.TableView.{transitions_views}
 use Rattle.cn_table.specs.Numbering.{row_from, rows_from}
-use Rattle.cn_table.proofs.AllSome.{with_front}
+use Rattle.cn_table.proofs.Lists.{with_front}
 use Rattle.cn_table.proofs.resolve.all_transitions.Given as goal
 
 abbrev pub invariant-loop-row : goal.invariant-loop-row

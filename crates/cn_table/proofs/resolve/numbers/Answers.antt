@@ -1,6 +1,6 @@
 use Rattle.std.proofs.Common.{map, string_bytes}
 use Rattle.cn_table.specs.Names.{number_of}
-use Rattle.cn_table.proofs.AllSome.{front_first}
+use Rattle.cn_table.proofs.Lists.{front_first}
 use Rattle.cn_table.proofs.resolve.numbers.Goals as goal
 
 pub loop-text-init : goal.loop-text-init

@@ -2,7 +2,7 @@ use Rattle.std.proofs.Common.{◌≡◌, map, drop, string_bytes}
 use Rattle.cn_table.specs.Draft.{all_some}
 use Rattle.cn_table.specs.Names.{number_of}
 use Rattle.cn_table.specs.Numbering.{numbers_of}
-use Rattle.cn_table.proofs.AllSome.{with_front}
+use Rattle.cn_table.proofs.Lists.{with_front}
 use Rattle.cn_table.proofs.resolve.numbers.Given as goal
 
 abbrev pub invariant-loop-text : goal.invariant-loop-text

@@ -1,8 +1,22 @@
--- Reading the items of a list one after another, all or none.
-use Rattle.std.proofs.Common.{◌≡◌, ℕ, ◌<◌, ◌+◌, List, [], ◌∷◌, ◌++◌, length, drop, get_or, map, Option, Some, None, option_map, refl, ap, sym, ◌∙◌, append_assoc}
+-- Lists: what more than one crate needs of them.
+use Rattle.std.proofs.Common.{◌≡◌, ℕ, ◌<◌, ◌+◌, List, [], ◌∷◌, ◌++◌, length, drop, get_or, map, Option, Some, None, option_map, All, Contains, arith, refl, ap, subst, sym, ◌∙◌, append_assoc}
 use Rattle.std.proofs.lemmas.List.{drop_more}
+use Rattle.std.proofs.lemmas.List.Elements.{All-contains, All-contains_itself, All-weaker, Contains-append_left, Contains-append_right}
 use Rattle.cn_table.specs.Draft.{all_some, ◌>>=◌}
 use Rattle.cn_table.proofs.ListLemmas.{map_twice}
+
+-- what stands between two parts of a list is in it
+pub Contains-between : {X : Type 0} (xs before after : List X) (x : X) → before ++ x ∷ after ≡ xs → Contains xs x
+Contains-between xs before after x e = subst (λ (ys : List _). Contains ys x) e (Contains-append_right before (x ∷ after) x (0, omega arith, refl))
+
+-- what holds of each element of a list holds of each element of its parts
+pub All-parts : {X : Type 0} (P : X → Type 0) (xs ys : List X) → All P (xs ++ ys) → All P xs × All P ys
+All-parts P xs ys all = (
+  All-weaker (Contains xs) P (λ x here. All-contains P (xs ++ ys) x all (Contains-append_left xs ys x here)) xs (All-contains_itself xs),
+  All-weaker (Contains ys) P (λ y here. All-contains P (xs ++ ys) y all (Contains-append_right xs ys y here)) ys (All-contains_itself ys),
+)
+
+-- ---- reading the items of a list one after another, all or none
 
 -- what was read so far, and the rest
 abbrev pub with_front : {X : Type 0} → List X → Option (List X) → Option (List X)
