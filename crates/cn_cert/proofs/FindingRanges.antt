@@ -1,14 +1,15 @@
 -- What a search finds is within the ranges of a certificate.
-use Rattle.std.proofs.Common.{◌≡◌, ◌↔◌, ℕ, ◌+◌, ◌≤◌, ◌<◌, Contains, List, [], ◌∷◌, ◌++◌, length, Bool, true, false, Option, Some, None, IsSomeAnd, nat_le, nat_lt, arith, refl, sym, le-leb, ltb-true, length-append}
+use Rattle.std.proofs.Common.{◌≡◌, ◌↔◌, ℕ, ◌+◌, ◌≤◌, ◌<◌, Contains, List, [], ◌∷◌, length, Bool, true, false, Option, Some, None, IsSomeAnd, nat_le, nat_lt, arith, refl, sym, le-leb, ltb-true, length-append}
 use Rattle.std.proofs.lemmas.List.{length-map}
 use Rattle.std.proofs.lemmas.List.Elements.{All-contains_itself, All-weaker, recursion_from_All}
 use Rattle.std.specs.List.{AllByRecursion, AllZip, list_all}
 use Rattle.std.specs.Prelude.{MatchOption}
 use Rattle.cn_table.proofs.Lists.{All-parts, Contains-between}
 use Rattle.cn_table.specs.TypeTable.{TypeTable, IsTypeTable}
-use Rattle.cn_choice.specs.Canonical.{Choice, IsCanonical, canonical_choices, raw_choice_of}
+use Rattle.cn_choice.specs.Canonical.{Choice, IsCanonical, raw_choice_of}
 use Rattle.cn_choice.specs.Collisions.{Collision, IsCollision}
 use Rattle.cn_choice.specs.Discerning.{IsNumberUpTo}
+use Rattle.cn_choice.specs.Live.{IsLive, live_choices}
 use Rattle.cn_choice.specs.Orders.{IsOrder}
 use Rattle.cn_choice.specs.RawChoices.{RawChoice, IsRawChoice}
 use Rattle.cn_choice.specs.ResultSets.{InResultSet, pair_of}
@@ -28,7 +29,7 @@ all_small bound (n ∷ ns) low below = rw (le-leb n 7 (omega (arith, below.0)), 
 short : (bound : ℕ) (ns : List ℕ) → bound ≤ 8 → length ns ≤ 8 → AllByRecursion (λ n. n < bound) ns → is_short ns ≡ true
 short bound ns low few below = rw (le-leb (length ns) 8 few, all_small bound ns low below)
 
--- ---- what the laws of orders, of result sets and of the canonical list say
+-- ---- what the laws of orders, of result sets and of the live choices say
 
 abbrev pub AreShort : Type 0
 AreShort = (n : ℕ) (order : List ℕ) → IsOrder n order → length order ≤ n
@@ -37,7 +38,7 @@ abbrev pub AreOfProcesses : Type 0
 AreOfProcesses = (t : TypeTable) (c : RawChoice) (team : Team) (j : ℕ) (pair : ℕ × ℕ) → InResultSet t c team j pair → j < length c.operations
 
 abbrev pub AreListed : Type 0
-AreListed = (t : TypeTable) (n : ℕ) (c : Choice) → Contains (canonical_choices (length t.states) (length t.operations) n) c ↔ (IsCanonical c × IsRawChoice t n (raw_choice_of c))
+AreListed = (t : TypeTable) (n : ℕ) (c : Choice) → Contains (live_choices t n) c ↔ (IsCanonical c × IsRawChoice t n (raw_choice_of c) × IsLive t (raw_choice_of c))
 
 -- ---- a table, and numbers of processes up to 8
 

@@ -1,7 +1,7 @@
 -- A certificate within the ranges is read back from its text.
-use Rattle.std.proofs.Common.{◌≡◌, ℕ, suc, ◌≤◌, List, [], ◌∷◌, true, false, Option, Some, None, Ok, codes, IsUtf8, nat_le, nat_lt, refl, arith, leb-true}
+use Rattle.std.proofs.Common.{◌≡◌, ◌==◌, ◌||◌, ℕ, suc, ◌^◌, ◌<◌, ◌≤◌, List, [], ◌∷◌, Bool, true, false, Option, Some, None, Ok, codes, IsUtf8, nat_le, nat_lt, refl, arith, leb-true}
 use Rattle.std.specs.List.{list_all}
-use Rattle.std.proofs.lemmas.Bool.{and_parts}
+use Rattle.std.proofs.lemmas.Bool.{and_parts, eqb-true}
 use Rattle.std.proofs.lemmas.Bool.Decides.{nat_tests}
 use Rattle.std.proofs.lemmas.Str.{IsUtf8-append, is_utf8-from_IsUtf8}
 use Rattle.json.proofs.Printed.Utf8.{are_ascii, IsUtf8-are_ascii}
@@ -9,7 +9,7 @@ use Rattle.serde_json.specs.Read.{read}
 use Rattle.cn_table.specs.Names.{is_name_byte, is_name}
 use Rattle.cn_choice.specs.Canonical.{Choice}
 use Rattle.cn_choice.specs.Collisions.{Collision}
-use Rattle.cn_cert.specs.Certificate.{Certificate}
+use Rattle.cn_cert.specs.Certificate.{Certificate, is_version}
 use Rattle.cn_cert.specs.CertificateText.{number_data, numbers_data, number_or_null, choice_data, witness_data, collision_data, collisions_data, certificate_data, certificate_text}
 use Rattle.cn_cert.specs.Faults.{fault_of}
 use Rattle.cn_cert.specs.Ranges.{is_byte, is_number_in_range, is_short, is_choice_in_range, is_witness_in_range, is_collision_in_range, is_in_range}
@@ -25,8 +25,13 @@ number_below most bound n low pass = let below : n ≤ bound = leb-true n bound 
 byte : (most n : ℕ) → is_byte n ≡ true → IsReadBack most (number_data n)
 byte most n pass = number_below most 255 n (omega arith) pass
 
-version_one : (most n : ℕ) → n ≡ 1 → IsReadBack most (number_data n)
-version_one most n is = number_back most n (omega arith)
+version_back : (most n : ℕ) → is_version n ≡ true → IsReadBack most (number_data n)
+version_back most n is = number_back most n (small (n == 1) (n == 2) refl refl is)
+  where
+    small : (one two : Bool) → (n == 1) ≡ one → (n == 2) ≡ two → (one || two) ≡ true → n < 2 ^ 64
+    small true two e f g = omega (arith, eqb-true n 1 e)
+    small false true e f g = omega (arith, eqb-true n 2 f)
+    small false false e f g = absurd (cc g)
 
 numbers : (most : ℕ) (ns : List ℕ) → is_short ns ≡ true → IsReadBack (suc most) (numbers_data ns)
 numbers most ns pass = array_back most _ (list_back most (λ n. nat_le n 7) number_data (λ n. number_below most 7 n (omega arith)) ns (and_parts _ _ pass).1)
@@ -89,20 +94,20 @@ members c collisions limit number type_name version witness =
       utf8 = IsUtf8-append (123 ∷ []) _ (IsUtf8-are_ascii (123 ∷ []) refl) (held.utf8 false);
     }
 
-certificate : (c : Certificate) → c.version ≡ 1 → is_in_range c ≡ true → IsReadBack 4 (certificate_data c)
+certificate : (c : Certificate) → is_version c.version ≡ true → is_in_range c ≡ true → IsReadBack 4 (certificate_data c)
 certificate c version pass =
     let p = and_parts _ _ pass in
     let q = and_parts _ _ p.1 in
     let r = and_parts _ _ q.1 in
     let s = and_parts _ _ r.1 in
-    members c (collisions c.collisions s.0) (byte 3 c.limit p.0) (number 3 c.number q.0) (name c.type_name s.1) (version_one 3 c.version version) (witness 1 c.witness r.0)
+    members c (collisions c.collisions s.0) (byte 3 c.limit p.0) (number 3 c.number q.0) (name c.type_name s.1) (version_back 3 c.version version) (witness 1 c.witness r.0)
 
 -- a text that spells the value of a certificate spells the certificate
-spells : (text : List ℕ) (c : Certificate) → IsUtf8 text → read text ≡ Some (certificate_data c) → c.version ≡ 1 → is_in_range c ≡ true → reading text ≡ Ok c
+spells : (text : List ℕ) (c : Certificate) → IsUtf8 text → read text ≡ Some (certificate_data c) → is_version c.version ≡ true → is_in_range c ≡ true → reading text ≡ Ok c
 unfolding fault_of
 spells text c utf8 is version fits = rw (is_utf8-from_IsUtf8 text utf8, is, spelled.draft c, version, fits)
 
-pub written_is_read_back : (c : Certificate) → c.version ≡ 1 → is_in_range c ≡ true → reading (certificate_text c) ≡ Ok c
+pub written_is_read_back : (c : Certificate) → is_version c.version ≡ true → is_in_range c ≡ true → reading (certificate_text c) ≡ Ok c
 written_is_read_back c version fits =
     let back = certificate c version fits in
     spells (certificate_text c) c back.utf8 (read_back 4 (certificate_data c) back (omega arith)) version fits

@@ -1,5 +1,5 @@
 -- What a certificate says.
-use Rattle.std.specs.Prelude.{ℕ, List, Option}
+use Rattle.std.specs.Prelude.{ℕ, List, Option, Bool, ◌==◌, ◌||◌}
 use Rattle.cn_choice.specs.Canonical.{Choice}
 use Rattle.cn_choice.specs.Collisions.{Collision}
 use Rattle.cn_search.specs.Finding.{Finding}
@@ -13,6 +13,10 @@ pub record Certificate : Type 0 where
   pub witness : Option Choice
   pub collisions : List Collision
 
+-- the versions of the format: a certificate of version 1 refutes all canonical choices for one process more than its number, one of version 2 the live ones
+abbrev pub is_version : ℕ → Bool
+is_version version = version == 1 || version == 2
+
 -- the certificate of a finding, for the type of this name
 abbrev pub certificate_of : List ℕ → Finding → Certificate
-certificate_of name f = record { version = 1; type_name = name; limit = f.limit; number = f.number; witness = f.witness; collisions = f.collisions }
+certificate_of name f = record { version = 2; type_name = name; limit = f.limit; number = f.number; witness = f.witness; collisions = f.collisions }

@@ -1,8 +1,8 @@
 -- The four faults that bytes can have as a certificate.
-use Rattle.std.specs.Prelude.{ℕ, List, [], ◌∷◌, ◌==◌, Bool, false, not, Option, is_none, find}
+use Rattle.std.specs.Prelude.{ℕ, List, [], ◌∷◌, Bool, false, not, Option, is_none, find}
 use Rattle.std.specs.Option.{option_map_or}
 use Rattle.serde_json.specs.Data.{Data}
-use Rattle.cn_cert.specs.Certificate.{Certificate}
+use Rattle.cn_cert.specs.Certificate.{Certificate, is_version}
 use Rattle.cn_cert.specs.Document.{document_of}
 use Rattle.cn_cert.specs.Draft.{draft_of}
 use Rattle.cn_cert.specs.Ranges.{is_in_range}
@@ -20,7 +20,7 @@ in_draft test bytes = in_document (λ d. option_map_or test (draft_of d) false) 
 abbrev pub holds : List ℕ → CertFault → Bool
 holds bytes NotJson = is_none (document_of bytes)
 holds bytes WrongShape = in_document (λ d. is_none (draft_of d)) bytes
-holds bytes Version = in_draft (λ c. not (c.version == 1)) bytes
+holds bytes Version = in_draft (λ c. not (is_version c.version)) bytes
 holds bytes Range = in_draft (λ c. not (is_in_range c)) bytes
 holds bytes OutOfMemory = false
 

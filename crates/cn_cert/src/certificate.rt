@@ -8,12 +8,15 @@ use cn_table::Table;
 use std::alloc::Global;
 use std::marker::Model;
 
+/// The version of the certificates that are made.
+const NEWEST_VERSION: u8 = 2;
+
 /// What a certificate says of a type: its number up to a limit, and what shows that number.
 ///
 /// Nothing here is checked: a certificate that was read from a text can say anything.
 #[derive(Drop)]
 pub struct Certificate {
-    /// The version of the format, which is 1.
+    /// The version of the format, which is 1 or 2.
     pub version: u8,
     /// The name of the type.
     pub type_name: String,
@@ -23,9 +26,9 @@ pub struct Certificate {
     pub number: Option<u8>,
     /// A witness for that number.
     pub witness: Option<Choice>,
-    /// A collision of each canonical choice for one process more than the number, in the order of
-    /// the choices; for two processes where there is no number; nothing where the number is the
-    /// limit.
+    /// A collision of each canonical choice for one process more than the number, of the live ones
+    /// alone in version 2, in the order of the choices; for two processes where there is no number;
+    /// nothing where the number is the limit.
     pub collisions: Vec<Collision>,
 }
 
@@ -39,7 +42,7 @@ impl Model for Certificate {
 }
 
 impl Certificate {
-    /// The certificate of a finding for this table.
+    /// The certificate of a finding for this table, in version 2.
     ///
     /// # Errors
     ///
@@ -63,7 +66,7 @@ impl Certificate {
             collisions,
         } = finding;
         Ok(Certificate {
-            version: 1,
+            version: NEWEST_VERSION,
             type_name,
             limit,
             number,

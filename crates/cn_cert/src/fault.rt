@@ -17,7 +17,7 @@ pub enum CertFault {
     /// The JSON value is not an object with the six keys of a certificate and no other, each with
     /// a value of its kind.
     WrongShape = 2,
-    /// The version is not 1.
+    /// The version is neither 1 nor 2.
     Version = 3,
     /// The limit or the number is above 255, a state above 15, an operation or a process above 7,
     /// a list longer than 8, or the type is called by a text that is not a name, which is 1 to 32

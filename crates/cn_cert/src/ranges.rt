@@ -1,5 +1,6 @@
 //! From a draft to a certificate: numbers within their ranges, and a name.
-ghost use Rattle.std.specs.Prelude.{◌≡◌};
+ghost use Rattle.std.specs.Prelude.{◌≡◌, true};
+ghost use Rattle.cn_cert.specs.Certificate.{is_version};
 ghost use Rattle.cn_cert.specs.Ranges.{within, is_byte, is_short, is_choice_in_range, collision_within, collisions_within, is_witness_in_range, is_number_in_range, certificate_within};
 ghost use Rattle.cn_cert.specs.Reads.{Reads};
 
@@ -109,7 +110,7 @@ fn collisions(alloc: Global, drafts: &[DraftCollision]) -> Result<Vec<Collision>
 /// The certificate of a draft, where everything is within its range.
 #[tactic(auto, using(crate::proofs::RangeLemmas::each_within))]
 pub(crate) fn certificate(alloc: Global, draft: Draft) -> Result<Certificate, CertFault>
-    requires { draft.version ≡ 1 }
+    requires { is_version draft.version ≡ true }
     ensures { Reads CertFault.Range (λ c. c) result (certificate_within draft) }
 {
     let limit = byte(draft.limit)?;
@@ -120,7 +121,7 @@ pub(crate) fn certificate(alloc: Global, draft: Draft) -> Result<Certificate, Ce
         return Err(CertFault::Range);
     }
     let Draft {
-        version: _,
+        version,
         type_name,
         limit: _,
         number: _,
@@ -128,7 +129,7 @@ pub(crate) fn certificate(alloc: Global, draft: Draft) -> Result<Certificate, Ce
         collisions: _,
     } = draft;
     Ok(Certificate {
-        version: 1,
+        version: version as u8,
         type_name,
         limit,
         number,

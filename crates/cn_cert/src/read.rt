@@ -1,5 +1,6 @@
 //! From bytes to a certificate, or to the first fault that the bytes have.
 ghost use Rattle.std.specs.Prelude.{◌≡◌, ◌⊎◌, Ok, Err, IfOk, IfErr};
+ghost use Rattle.cn_cert.specs.Certificate.{is_version};
 ghost use Rattle.cn_cert.specs.Reading.{reading};
 ghost use Rattle.cn_cert.specs.declared.fault.CertFault.TheVariants.{OutOfMemory};
 
@@ -9,6 +10,13 @@ use crate::draft::draft_from;
 use crate::fault::CertFault;
 use crate::ranges;
 use std::alloc::Global;
+
+/// Whether there is such a version of the format.
+fn is_version(version: u64) -> bool
+    ensures { result ≡ is_version version }
+{
+    version == 1 || version == 2
+}
 
 /// Reads a certificate from the bytes of a JSON text.
 ///
@@ -28,7 +36,7 @@ pub fn read_certificate(alloc: Global, bytes: &[u8]) -> Result<Certificate, Cert
 {
     let value = read_document(alloc, bytes)?;
     let draft = draft_from(alloc, &value)?;
-    if draft.version != 1 {
+    if !is_version(draft.version) {
         return Err(CertFault::Version);
     }
     ranges::certificate(alloc, draft)

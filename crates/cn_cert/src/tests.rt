@@ -20,12 +20,12 @@ fn written_again(alloc: Global, text: &str) -> Result<String, CertFault> {
 fn writes_findings_and_reads_them_back(rt: HostRuntime) -> Result<(), Fail> {
     let alloc = rt.alloc();
     for (table, limit, expected) in [
-        (TEST_AND_SET, 3, TEST_AND_SET_AT_3),
-        (IDLE, 2, IDLE_AT_2),
-        (BINARY_REGISTER, 2, BINARY_REGISTER_AT_2),
-        (FETCH_AND_ADD_2, 3, FETCH_AND_ADD_2_AT_3),
-        (STICKY_BIT, 4, STICKY_BIT_AT_4),
-        (THREE_SHOT, 3, THREE_SHOT_AT_3),
+        (TEST_AND_SET, 3, FOUND_TEST_AND_SET_AT_3),
+        (IDLE, 2, FOUND_IDLE_AT_2),
+        (BINARY_REGISTER, 2, FOUND_BINARY_REGISTER_AT_2),
+        (FETCH_AND_ADD_2, 3, FOUND_FETCH_AND_ADD_2_AT_3),
+        (STICKY_BIT, 4, FOUND_STICKY_BIT_AT_4),
+        (THREE_SHOT, 3, FOUND_THREE_SHOT_AT_3),
     ] {
         let table = read_table(alloc, table.as_bytes())?;
         let finding = find(&rt, alloc, &table, limit)?;
@@ -36,6 +36,22 @@ fn writes_findings_and_reads_them_back(rt: HostRuntime) -> Result<(), Fail> {
         assert_eq!(rt; text.as_str(), expected);
         let again = written_again(alloc, expected)?;
         assert_eq!(rt; again.as_str(), expected);
+    }
+    Ok(())
+}
+
+#[test]
+fn writes_version_1_as_it_was_read(rt: HostRuntime) -> Result<(), Fail> {
+    for text in [
+        TEST_AND_SET_AT_3,
+        IDLE_AT_2,
+        BINARY_REGISTER_AT_2,
+        FETCH_AND_ADD_2_AT_3,
+        STICKY_BIT_AT_4,
+        THREE_SHOT_AT_3,
+    ] {
+        let again = written_again(rt.alloc(), text)?;
+        assert_eq!(rt; again.as_str(), text);
     }
     Ok(())
 }
@@ -104,7 +120,6 @@ fn answers_the_least_fault(rt: HostRuntime) -> Result<(), Fail> {
         ("[2,1]", "[2,null]", CertFault::WrongShape),
         ("[[", "[0,[", CertFault::WrongShape),
         ("\"version\":1", "\"version\":0", CertFault::Version),
-        ("\"version\":1", "\"version\":2", CertFault::Version),
         ("\"version\":1", "\"version\":3", CertFault::Version),
         ("\"version\":1", "\"version\":257", CertFault::Version),
         ("\"limit\":3", "\"limit\":256", CertFault::Range),
@@ -133,12 +148,12 @@ fn answers_the_least_fault(rt: HostRuntime) -> Result<(), Fail> {
         ("[2,1]", "[0,1,2,3,4,5,6,7,0]", CertFault::Range),
         (
             "3,\"number\":2,\"type\":\"test_and_set\",\"version\":1",
-            "300,\"number\":2,\"type\":\"test_and_set\",\"version\":2",
+            "300,\"number\":2,\"type\":\"test_and_set\",\"version\":3",
             CertFault::Version,
         ),
         (
             "3,\"number\":2,\"type\":\"test_and_set\",\"version\":1",
-            "-1,\"number\":2,\"type\":\"test_and_set\",\"version\":2",
+            "-1,\"number\":2,\"type\":\"test_and_set\",\"version\":3",
             CertFault::WrongShape,
         ),
     ] {
@@ -167,6 +182,7 @@ fn answers_the_least_fault(rt: HostRuntime) -> Result<(), Fail> {
 fn reads_numbers_up_to_the_ends_of_their_ranges(rt: HostRuntime) -> Result<(), Fail> {
     let alloc = rt.alloc();
     for (from, to) in [
+        ("\"version\":1", "\"version\":2"),
         ("\"limit\":3", "\"limit\":255"),
         ("\"number\":2", "\"number\":0"),
         ("\"number\":2", "\"number\":255"),

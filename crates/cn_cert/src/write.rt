@@ -1,6 +1,7 @@
 //! From a certificate to its text.
 ghost use Rattle.std.specs.Prelude.{◌≡◌, true, string_bytes, IfOk, IsOkUnless, Ok};
 ghost use Rattle.serde_json.specs.View.{view};
+ghost use Rattle.cn_cert.specs.Certificate.{is_version};
 ghost use Rattle.cn_cert.specs.CertificateText.{numbers_data, number_or_null, witness_data, collision_data, collisions_data, certificate_data, certificate_text};
 ghost use Rattle.cn_cert.specs.Ranges.{is_in_range};
 ghost use Rattle.cn_cert.specs.Reading.{reading};
@@ -89,8 +90,8 @@ fn value(alloc: Global, certificate: &Certificate) -> Result<Value, AllocError>
 #[tactic(auto, using(crate::proofs::NoFloats::certificate))]
 pub fn write_certificate(alloc: Global, certificate: &Certificate) -> Result<String, CertFault>
     ensures text { IfOk result (λ s. string_bytes s ≡ certificate_text certificate.now) }
-    // A certificate of version 1 whose parts are in their ranges is read back from its text.
-    ensures read_back { IfOk result (λ s. certificate.now.version ≡ 1 → is_in_range certificate.now ≡ true → reading (string_bytes s) ≡ Ok certificate.now) }
+    // A certificate of version 1 or 2 whose parts are in their ranges is read back from its text.
+    ensures read_back { IfOk result (λ s. is_version certificate.now.version ≡ true → is_in_range certificate.now ≡ true → reading (string_bytes s) ≡ Ok certificate.now) }
     ensures memory { IsOkUnless result CertFault.OutOfMemory }
 {
     laws::written_is_read_back();

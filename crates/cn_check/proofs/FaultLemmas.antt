@@ -7,12 +7,12 @@ use Rattle.cn_table.specs.TypeTable.{TypeTable}
 use Rattle.cn_choice.specs.Canonical.{Choice, raw_choice_of}
 use Rattle.cn_choice.specs.Collisions.{Collision}
 use Rattle.cn_choice.specs.Discerning.{IsWitness, ResultSetsMeet}
-use Rattle.cn_search.specs.Evidence.{choices_to_refute}
 use Rattle.cn_cert.specs.Certificate.{Certificate}
 use Rattle.cn_check.specs.Conditions.{HasWitnessFor, HoldsCollision, IsInRange}
 use Rattle.cn_check.specs.Faults.{ComesSooner, HasFault, IsFirstFault}
 use Rattle.cn_check.specs.PartFaults.{IsEvidenceFault, IsWitnessFault}
 use Rattle.cn_check.specs.Progress.{AreRefuted, IsOfChoice}
+use Rattle.cn_check.specs.Versions.{choices_to_refute_in}
 use Rattle.cn_check.specs.declared.fault.CheckFault.{CheckFault}
 use Rattle.cn_check.specs.declared.fault.CheckFault.TheVariants.{OtherType, BadNumber, WitnessShape, WitnessMeets, Unexpected, NotNext, NotACollision, TooFew}
 
@@ -33,7 +33,7 @@ inside P xs i h = by_cases (slice_get xs i) refl h
     by_cases None e h = absurd h
     by_cases (Some x) e h = slice_get_within xs i x e
 
-module _ (t : TypeTable) (c : Certificate) (named : c.type_name ≡ t.name) (in_range : IsInRange c.limit c.number) where
+module _ (t : TypeTable) (c : Certificate) (named : c.type_name ≡ t.name) (in_range : IsInRange c.version c.limit c.number) where
   pub first_of_witness : (e : CheckFault) → IsWitnessFault t c.number c.witness e → IsFirstFault t c e
   first_of_witness OtherType h = absurd h
   first_of_witness BadNumber h = absurd h
@@ -76,15 +76,15 @@ module _ (t : TypeTable) (c : Certificate) (named : c.type_name ≡ t.name) (in_
     no_meeting : (j : ℕ) → ¬ HasFault t c (WitnessMeets j)
     no_meeting j g = not_some_if (λ w. IsWitness t (raw_choice_of w)) (λ w. ResultSetsMeet t (raw_choice_of w) j) c.witness (λ w is meet. is j meet.0 meet.1 meet.2) witness g
 
-    refuted_fits : (place : ℕ) → AreRefuted t (choices_to_refute t c.limit c.number) c.collisions place → (k : ℕ) → k < place → ¬ HasFault t c (NotNext k)
+    refuted_fits : (place : ℕ) → AreRefuted t (choices_to_refute_in c.version t c.limit c.number) c.collisions place → (k : ℕ) → k < place → ¬ HasFault t c (NotNext k)
     refuted_fits place h k l g =
-        not_some (λ e. IsOfChoice (choices_to_refute t c.limit c.number) k e × HoldsCollision t e) (λ e. ¬ IsOfChoice (choices_to_refute t c.limit c.number) k e) (slice_get c.collisions k) (λ e p q. q p.0) (h k l) g
+        not_some (λ e. IsOfChoice (choices_to_refute_in c.version t c.limit c.number) k e × HoldsCollision t e) (λ e. ¬ IsOfChoice (choices_to_refute_in c.version t c.limit c.number) k e) (slice_get c.collisions k) (λ e p q. q p.0) (h k l) g
 
-    refuted_holds : (place : ℕ) → AreRefuted t (choices_to_refute t c.limit c.number) c.collisions place → (k : ℕ) → k < place → ¬ HasFault t c (NotACollision k)
+    refuted_holds : (place : ℕ) → AreRefuted t (choices_to_refute_in c.version t c.limit c.number) c.collisions place → (k : ℕ) → k < place → ¬ HasFault t c (NotACollision k)
     refuted_holds place h k l g =
-        not_some (λ e. IsOfChoice (choices_to_refute t c.limit c.number) k e × HoldsCollision t e) (λ e. ¬ HoldsCollision t e) (slice_get c.collisions k) (λ e p q. q p.1) (h k l) g
+        not_some (λ e. IsOfChoice (choices_to_refute_in c.version t c.limit c.number) k e × HoldsCollision t e) (λ e. ¬ HoldsCollision t e) (slice_get c.collisions k) (λ e p q. q p.1) (h k l) g
 
-    pub first_of_evidence : (e : CheckFault) → IsEvidenceFault t c.limit c.number c.collisions e → IsFirstFault t c e
+    pub first_of_evidence : (e : CheckFault) → IsEvidenceFault t c.version c.limit c.number c.collisions e → IsFirstFault t c e
     first_of_evidence OtherType h = absurd h
     first_of_evidence BadNumber h = absurd h
     first_of_evidence WitnessShape h = absurd h
@@ -113,13 +113,13 @@ module _ (t : TypeTable) (c : Certificate) (named : c.type_name ≡ t.name) (in_
         first TooFew s g = elim s [ inl l ↦ absurd (omega arith) | inr e ↦ absurd (omega (arith, e.0)) ]
     first_of_evidence (NotACollision i) h = record { holds = holds (slice_get c.collisions i) h.1.1; first = first }
       where
-        holds : (o : Option Collision) → IsSomeAnd o (λ e. IsOfChoice (choices_to_refute t c.limit c.number) i e × ¬ HoldsCollision t e) → IsSomeAnd o (λ e. ¬ HoldsCollision t e)
+        holds : (o : Option Collision) → IsSomeAnd o (λ e. IsOfChoice (choices_to_refute_in c.version t c.limit c.number) i e × ¬ HoldsCollision t e) → IsSomeAnd o (λ e. ¬ HoldsCollision t e)
         holds None g = g
         holds (Some e) g = g.1
 
         here : (k : ℕ) → ((k ≡ i) ⊎ ((k < i) ⊎ (i < k))) → k < i + 1 → ¬ HasFault t c (NotNext k)
         here k (inl same) l g =
-            not_some (λ e. IsOfChoice (choices_to_refute t c.limit c.number) i e × ¬ HoldsCollision t e) (λ e. ¬ IsOfChoice (choices_to_refute t c.limit c.number) i e) (slice_get c.collisions i) (λ e p q. q p.0) h.1.1
+            not_some (λ e. IsOfChoice (choices_to_refute_in c.version t c.limit c.number) i e × ¬ HoldsCollision t e) (λ e. ¬ IsOfChoice (choices_to_refute_in c.version t c.limit c.number) i e) (slice_get c.collisions i) (λ e p q. q p.0) h.1.1
             (subst (λ (j : ℕ). HasFault t c (NotNext j)) same g)
         here k (inr (inl sooner)) l g = refuted_fits i h.1.0 k sooner g
         here k (inr (inr later)) l g = absurd (omega arith)

@@ -3,10 +3,9 @@ pub mod DistinctLemmas
 pub mod EntryLemmas
 pub mod FaultLemmas
 pub mod MarkLemmas
-pub mod NumberingLemmas
 pub mod ProgressLemmas
 pub mod ResultSetLemmas
-pub mod StandingLemmas
+pub mod StepLemmas
 pub mod TurnLemmas
 pub mod VerdictLemmas
 pub mod WalkLemmas

@@ -1,238 +1,165 @@
--- How far the canonical choices have been gone through.
-use Rattle.std.proofs.Common.{◌≡◌, ℕ, suc, ◌+◌, ◌/◌, ◌^◌, ◌<◌, ◌≤◌, ◌⊎◌, inl, inr, List, [], ◌∷◌, ◌++◌, length, length-append, length-take-le, take, drop, get_or, refl, sym, ap, ◌∙◌, subst, arith, All, ◌↔◌, AllPairs, Contains, Option, Some, None, IfSome}
-use Rattle.std.specs.Prelude.{slice_get}
-use Rattle.std.specs.List.{AllZip}
-use Rattle.std.proofs.lemmas.Bool.{cases_order}
-use Rattle.std.proofs.lemmas.List.Elements.{recursion_from_All}
-use Rattle.std.proofs.lemmas.List.{take-append-drop}
-use Rattle.std.proofs.lemmas.Option.{get_or_from_slice_get, same_Some, slice_get-get_or, slice_get_within}
-use Rattle.cn_table.proofs.Lists.{All-parts}
+-- How far the choices have been gone through.
+use Rattle.std.proofs.Common.{◌≡◌, ℕ, zero, suc, ◌+◌, ◌≤◌, inl, inr, List, [], ◌∷◌, ◌++◌, length, length-append, map, drop, append-nil, append_assoc, refl, sym, ap, ◌∙◌, subst, arith, Bool, true, false, cond, ◌&&◌, ◌||◌, ◌==◌, ◌↔◌, Option, Some, None, Contains}
+use Rattle.std.specs.Prelude.{slice_get, IsSomeAnd}
+use Rattle.std.specs.List.{AllZip, filter, flat_map, range_with_len}
+use Rattle.std.proofs.lemmas.Bool.{and_right, cases_order}
+use Rattle.std.proofs.lemmas.List.Elements.{filter-append}
+use Rattle.std.proofs.lemmas.Option.{get_or_from_slice_get, none-some, same_Some, slice_get_past, slice_get_within}
 use Rattle.cn_table.specs.TypeTable.{TypeTable}
-use Rattle.cn_choice.specs.RawChoices.{IsRawChoice}
-use Rattle.cn_choice.specs.Canonical.{Choice, ChoiceComesBefore, FitsTable, IsCanonical, IsChoiceFor, canonical_choices, raw_choice_of}
+use Rattle.cn_choice.specs.Canonical.{Choice, FitsTable, IsCanonical, canonical_choices, raw_choice_of, with_state}
 use Rattle.cn_choice.specs.Collisions.{Collision}
-use Rattle.cn_search.specs.Evidence.{choices_for}
-use Rattle.cn_check.specs.Conditions.{Refutes}
-use Rattle.cn_check.specs.Numbering.{list_number}
-use Rattle.cn_check.specs.Progress.{AreRefuted, HasComeTo, StandsBefore}
-use Rattle.cn_check.proofs.StandingLemmas
+use Rattle.cn_choice.specs.Live.{IsLive, all_move, live_choices}
+use Rattle.cn_choice.specs.RawChoices.{IsRawChoice}
+use Rattle.cn_check.specs.Conditions.{HoldsCollision, Refutes}
+use Rattle.cn_check.specs.Progress.{AreRefuted, ComeNext, HasComeTo, IsOfChoice, all_count, counting}
+use Rattle.cn_check.specs.Versions.{choices_in_version}
 
-if_some : {X : Type 0} (P : X → Type 0) (o : Option X) → ((x : X) → o ≡ Some x → P x) → IfSome o P
-if_some P None h = tt
-if_some P (Some x) h = h x refl
+-- ---- what comes next in a list
 
-of_some : {X : Type 0} (P : X → Type 0) (o : Option X) (x : X) → IfSome o P → o ≡ Some x → P x
-of_some P o x h e = subst (λ u. IfSome u P) e h
+pub first_at : {X : Type 0} (xs : List X) (place : ℕ) (x : X) (rest : List X) → drop place xs ≡ x ∷ rest → slice_get xs place ≡ Some x
+first_at [] zero x rest e = absurd (cc e)
+first_at [] (suc place) x rest e = absurd (cc e)
+first_at (y ∷ xs) zero x rest e = cc
+first_at (y ∷ xs) (suc place) x rest e = first_at xs place x rest e
 
--- what the law of the canonical list says
-abbrev pub AreListed : Type 0
-AreListed = (t : TypeTable) (n : ℕ) (c : Choice) → Contains (canonical_choices (length t.states) (length t.operations) n) c ↔ (IsCanonical c × IsRawChoice t n (raw_choice_of c))
+rest_after : {X : Type 0} (xs : List X) (place : ℕ) (x : X) (rest : List X) → drop place xs ≡ x ∷ rest → drop (suc place) xs ≡ rest
+rest_after [] zero x rest e = absurd (cc e)
+rest_after [] (suc place) x rest e = absurd (cc e)
+rest_after (y ∷ xs) zero x rest e = cc
+rest_after (y ∷ xs) (suc place) x rest e = rest_after xs place x rest e
 
-abbrev pub AreAscending : Type 0
-AreAscending = (states operations n : ℕ) → AllPairs ChoiceComesBefore (canonical_choices states operations n)
+pub rest_at : {X : Type 0} (xs : List X) (place : ℕ) (x : X) (rest : List X) → drop place xs ≡ x ∷ rest → drop (place + 1) xs ≡ rest
+rest_at xs place x rest e = let next : suc place ≡ place + 1 = omega arith in subst (λ (k : ℕ). drop k xs ≡ rest) next (rest_after xs place x rest e)
 
--- what the law of choices team by team says
-abbrev pub AreByTeams : Type 0
-AreByTeams = (t : TypeTable) (n : ℕ) (c : Choice) → IsRawChoice t n (raw_choice_of c) ↔ IsChoiceFor t n c
+none_at : {X : Type 0} (xs : List X) (place : ℕ) → drop place xs ≡ [] → length xs ≤ place
+none_at [] place e = omega arith
+none_at (x ∷ xs) zero e = absurd (cc e)
+none_at (x ∷ xs) (suc place) e = omega (arith, none_at xs place e)
 
-all_of : (t : TypeTable) (n : ℕ) (c : Choice) → IsRawChoice t n (raw_choice_of c) → length c.a + length c.b ≡ n
-all_of t n c is = sym (length-append c.a c.b) ∙ is.one_operation_each
+module _ (choices : List Choice) (start : ℕ) (all : List Choice) where
+  pub come_first : (left : List Choice) → all ≡ left → HasComeTo choices start all start left
+  come_first left same later e = e ∙ ap (λ (cs : List Choice). cs ++ later) same
 
-module _ (listed : AreListed) (ascending : AreAscending) (t : TypeTable) (n : ℕ) where
-  abbrev base : ℕ
-  base = length t.operations
+  pub come_as : (place : ℕ) (left other : List Choice) → left ≡ other → HasComeTo choices start all place left → HasComeTo choices start all place other
+  come_as place left other same come later e = come later e ∙ ap (λ (cs : List Choice). cs ++ later) same
 
-  abbrev choices : List Choice
-  choices = choices_for t n
+  -- those of the next part come next, and when they are past the others are left
+  module _ (place : ℕ) (now left : List Choice) (come : HasComeTo choices start all place (now ++ left)) where
+    pub come_next : ComeNext choices start all → ComeNext choices place now
+    come_next h = (left ++ h.0, come h.0 h.1 ∙ append_assoc now left h.0)
 
-  listed_at : (i : ℕ) (c : Choice) → slice_get choices i ≡ Some c → IsCanonical c × IsRawChoice t n (raw_choice_of c)
-  listed_at i c e = (listed t n c).0 (i, slice_get_within choices i c e, get_or_from_slice_get choices i c c e)
+    pub come_past : (end : ℕ) → HasComeTo choices place now end [] → HasComeTo choices start all end left
+    come_past end past later e = past (left ++ later) (come later e ∙ append_assoc now left later)
 
-  within_at : (i : ℕ) (c : Choice) → slice_get choices i ≡ Some c → StandingLemmas.IsWithin base n c
-  within_at i c e =
-      let is = (listed_at i c e).1 in
-      let known = All-parts (λ o. o < base) c.a c.b is.operations_known in
-      record { a_known = recursion_from_All (λ o. o < base) c.a known.0; b_known = recursion_from_All (λ o. o < base) c.b known.1; all = all_of t n c is }
+  module _ (place : ℕ) (now : Choice) (left : List Choice) (come : HasComeTo choices start all place (now ∷ left)) where
+    pub choice_next : ComeNext choices start all → slice_get choices place ≡ Some now
+    choice_next h = first_at choices place now (left ++ h.0) (come h.0 h.1)
 
-  rises_at : (i k : ℕ) (c d : Choice) → i < k → slice_get choices i ≡ Some c → slice_get choices k ≡ Some d → ChoiceComesBefore c d
-  rises_at i k c d l e f =
-      let here : ChoiceComesBefore (get_or choices i c) (get_or choices k c) = ascending (length t.states) base n i k c l (slice_get_within choices k d f) in
-      subst (λ x. ChoiceComesBefore x d) (get_or_from_slice_get choices i c c e) (subst (ChoiceComesBefore (get_or choices i c)) (get_or_from_slice_get choices k d c f) here)
+    pub choice_past : HasComeTo choices start all (place + 1) left
+    choice_past later e = rest_at choices place now (left ++ later) (come later e)
 
-  stands_at : (i k : ℕ) (c d : Choice) → i < k → slice_get choices i ≡ Some c → slice_get choices k ≡ Some d → StandsBefore base d.state (length d.a) (StandingLemmas.choice_number base d) c
-  stands_at i k c d l e f = StandingLemmas.stands_before base n c d (within_at i c e) (within_at k d f) (rises_at i k c d l e f)
+-- ---- the choices that count
 
-  place_of : (c : Choice) → IsCanonical c → IsRawChoice t n (raw_choice_of c) → (i : ℕ) × (slice_get choices i ≡ Some c)
-  place_of c canonical fits =
-      let h : Contains choices c = (listed t n c).1 (canonical, fits) in (h.0, slice_get-get_or choices h.0 c h.1 ∙ ap Some h.2)
+-- in each version the choices that count are those of the canonical ones that do
+pub counting_is : (version : ℕ) (t : TypeTable) (n : ℕ) → choices_in_version version t n ≡ counting version t (canonical_choices (length t.states) (length t.operations) n)
+unfolding live_choices
+counting_is version t n = by_version (version == 1) refl
+  where
+    all : (choices : List Choice) → choices ≡ filter (λ c. (true || all_move t c.state c.a) && (true || all_move t c.state c.b)) choices
+    all [] = refl
+    all (c ∷ choices) = ap (λ (cs : List Choice). c ∷ cs) (all choices)
 
-  module _ (entries : List Collision) where
-    -- the canonical choice at the position that was come to stands at the place
-    pub choice_here : (place : ℕ) (c : Choice) → IsCanonical c → IsRawChoice t n (raw_choice_of c) → HasComeTo t n entries place c.state (length c.a) (StandingLemmas.choice_number base c)
-        → slice_get choices place ≡ Some c
-    choice_here place c canonical fits h =
-        let p = place_of c canonical fits in
-        elim (cases_order p.0 place) [
-          | inl same ↦ subst (λ (k : ℕ). slice_get choices k ≡ Some c) same p.1
-          | inr apart ↦ elim apart [
-            | inl sooner ↦ absurd (StandingLemmas.not_before_own base c (of_some _ (slice_get choices p.0) c (h.before p.0 sooner) p.1))
-            | inr later ↦
-                (let inside = slice_get_within choices p.0 c p.1 in
-                let d : Choice = get_or choices place c in
-                let at : slice_get choices place ≡ Some d = slice_get-get_or choices place c (omega (arith, inside, later)) in
-                absurd (of_some _ (slice_get choices place) d (h.later place (omega arith)) at (stands_at place p.0 d c later at p.1)))
-          ]
-        ]
+    by_version : (one : Bool) → (version == 1) ≡ one → choices_in_version version t n ≡ counting version t (canonical_choices (length t.states) (length t.operations) n)
+    by_version true e = rw e (all (canonical_choices (length t.states) (length t.operations) n))
+    by_version false e = rw e refl
 
-    pub come_past : (place : ℕ) (c : Choice) → slice_get choices place ≡ Some c → HasComeTo t n entries place c.state (length c.a) (StandingLemmas.choice_number base c) → AreRefuted t choices entries (place + 1)
-        → HasComeTo t n entries (place + 1) c.state (length c.a) (StandingLemmas.choice_number base c + 1)
-    come_past place c at h refuted = record {
-      within = omega (arith, slice_get_within choices place c at);
-      before = λ i l. if_some _ (slice_get choices i) (λ d e. before i d e (cases_order i place) l);
-      later = λ i l. if_some _ (slice_get choices i) (λ d e. StandingLemmas.not_both base c d (stands_at place i c d (omega arith) at e));
-      refuted = refuted;
-    }
-      where
-        before : (i : ℕ) (d : Choice) → slice_get choices i ≡ Some d → ((i ≡ place) ⊎ ((i < place) ⊎ (place < i))) → i < place + 1 → StandsBefore base c.state (length c.a) (StandingLemmas.choice_number base c + 1) d
-        before i d e (inl same) l =
-            let is : c ≡ d = same_Some c d (sym at ∙ (ap (slice_get choices) (sym same) ∙ e)) in
-            subst (StandsBefore base c.state (length c.a) (StandingLemmas.choice_number base c + 1)) is (inr (refl, inr (refl, omega arith)))
-        before i d e (inr (inl sooner)) l = StandingLemmas.before_next base c.state (length c.a) (StandingLemmas.choice_number base c) d (of_some _ (slice_get choices i) d (h.before i sooner) e)
-        before i d e (inr (inr later)) l = absurd (omega arith)
+module _ (version : ℕ) (t : TypeTable) (state : ℕ) (a : List ℕ) where
+  abbrev pub beside : List (List ℕ) → List Choice
+  beside bs = map (λ b. record { state = state; a = a; b = b }) bs
 
-    -- where the lists at the position are no canonical choice, nothing stands there
-    pub come_on : (place state size : ℕ) (list : List ℕ) → HasComeTo t n entries place state size (list_number base list) → All (λ o. o < base) list → length list ≡ n
-        → ¬ IsCanonical (record { state = state; a = take size list; b = drop size list }) → HasComeTo t n entries place state size (list_number base list + 1)
-    come_on place state size list h known long none = record {
-      within = h.within;
-      before = λ i l. if_some _ (slice_get choices i) (λ d e. StandingLemmas.before_next base state size (list_number base list) d (of_some _ (slice_get choices i) d (h.before i l) e));
-      later = λ i l. if_some _ (slice_get choices i) (λ d e g. elim (StandingLemmas.before_next_cases base state size (list_number base list) d g) [
-        | inl before ↦ of_some _ (slice_get choices i) d (h.later i l) e before
-        | inr here ↦
-            (let same = StandingLemmas.same_position base n d list size (within_at i d e) (recursion_from_All (λ o. o < base) list known) long here.1 here.2 in
-            none (rw (← here.0, ← same.0, ← same.1) (listed_at i d e).0))
-      ]);
-      refuted = h.refuted;
-    }
+  pub one_counts : (b : List ℕ) (bs : List (List ℕ)) → all_count version t state a ≡ true → all_count version t state b ≡ true → counting version t (beside (b ∷ bs)) ≡ record { state = state; a = a; b = b } ∷ counting version t (beside bs)
+  one_counts b bs e f = rw (e, f) refl
 
-    pub come_to_next_size : (place state size : ℕ) → HasComeTo t n entries place state size (base ^ n) → HasComeTo t n entries place state (size + 1) 0
-    come_to_next_size place state size h = record {
-      within = h.within;
-      before = λ i l. if_some _ (slice_get choices i) (λ d e. StandingLemmas.before_next_size base state size (base ^ n) d (of_some _ (slice_get choices i) d (h.before i l) e));
-      later = λ i l. if_some _ (slice_get choices i) (λ d e g. of_some _ (slice_get choices i) d (h.later i l) e (StandingLemmas.before_size_end base n state size d (within_at i d e) g));
-      refuted = h.refuted;
-    }
+  pub one_does_not : (b : List ℕ) (bs : List (List ℕ)) → all_count version t state b ≡ false → counting version t (beside (b ∷ bs)) ≡ counting version t (beside bs)
+  one_does_not b bs f = rw (f, and_right (all_count version t state a) false refl) refl
 
-    pub come_to_next_state : (place state : ℕ) → HasComeTo t n entries place state (n / 2 + 1) 0 → HasComeTo t n entries place (state + 1) 1 0
-    come_to_next_state place state h = record {
-      within = h.within;
-      before = λ i l. if_some _ (slice_get choices i) (λ d e. StandingLemmas.before_next_state base state (n / 2 + 1) 0 d (of_some _ (slice_get choices i) d (h.before i l) e));
-      later = λ i l. if_some _ (slice_get choices i) (λ d e g.
-          let canonical = (listed_at i d e).0 in
-          let all = all_of t n d (listed_at i d e).1 in
-          let half : length d.a < n / 2 + 1 = omega (arith, canonical.a_not_longer, all) in
-          of_some _ (slice_get choices i) d (h.later i l) e (StandingLemmas.before_state_end base state (n / 2 + 1) d canonical.someone_in_a half g));
-      refuted = h.refuted;
-    }
+  pub none_counts : (bs : List (List ℕ)) → all_count version t state a ≡ false → counting version t (beside bs) ≡ []
+  none_counts [] e = refl
+  none_counts (b ∷ bs) e = rw e (none_counts bs e)
 
-    pub come_to_first : HasComeTo t n entries 0 0 1 0
-    come_to_first = record {
-      within = omega arith;
-      before = λ i l. absurd (omega arith);
-      later = λ i l. if_some _ (slice_get choices i) (λ d e. StandingLemmas.none_before_first base d (listed_at i d e).0.someone_in_a);
-      refuted = λ i l. absurd (omega arith);
-    }
+-- ---- one part of the choices after the other
 
-    pub come_to_end : (place : ℕ) → HasComeTo t n entries place (length t.states) 1 0 → place ≡ length choices
-    come_to_end place h = by_order (cases_order place (length choices))
-      where
-        by_order : ((place ≡ length choices) ⊎ ((place < length choices) ⊎ (length choices < place))) → place ≡ length choices
-        by_order (inl same) = same
-        by_order (inr (inl l)) =
-            let d : Choice = get_or choices place (record { state = 0; a = []; b = [] }) in
-            let at : slice_get choices place ≡ Some d = slice_get-get_or choices place _ l in
-            absurd (of_some _ (slice_get choices place) d (h.later place (omega arith)) at (inl (listed_at place d at).1.state_known))
-        by_order (inr (inr l)) = absurd (omega (arith, h.within))
+module _ {X : Type 0} (choices : List Choice) (start : ℕ) (all : List Choice) (version : ℕ) (t : TypeTable) (f : X → List Choice) (place : ℕ) (x : X) (xs : List X)
+    (come : HasComeTo choices start all place (counting version t (flat_map f (x ∷ xs)))) where
+  in_parts : HasComeTo choices start all place (counting version t (f x) ++ counting version t (flat_map f xs))
+  in_parts = come_as choices start all place _ _ (filter-append (λ c. all_count version t c.state c.a && all_count version t c.state c.b) (f x) (flat_map f xs)) come
 
--- the list has this number among those of n operations, and was split after so many
-pub record IsSplit (t : TypeTable) (n state size number : ℕ) (list a b : List ℕ) : Type 0 where
-  pub known_state : state < length t.states
-  pub someone : 1 ≤ size
-  pub half : size + size ≤ n
-  pub long : length list ≡ n
-  pub known : All (λ o. o < length t.operations) list
-  pub numbered : list_number (length t.operations) list ≡ number
-  pub front : a ≡ take size list
-  pub back : b ≡ drop size list
+  pub part_next : ComeNext choices start all → ComeNext choices place (counting version t (f x))
+  part_next next = come_next choices start all place _ _ in_parts next
 
-pub split_from : (t : TypeTable) (n state size number operations : ℕ) (list slice a b : List ℕ) → state < length t.states → 1 ≤ size → size + size ≤ n → operations ≡ length t.operations
-    → length list ≡ n → All (λ o. o < operations) list → list_number operations list ≡ number → slice ≡ list → a ≡ take size slice → b ≡ drop size slice → IsSplit t n state size number list a b
-split_from t n state size number operations list slice a b known_state someone half count long known numbered same front back = record {
-  known_state = known_state;
-  someone = someone;
-  half = half;
-  long = long;
-  known = subst (λ (k : ℕ). All (λ o. o < k) list) count known;
-  numbered = subst (λ (k : ℕ). list_number k list ≡ number) count numbered;
-  front = front ∙ ap (take size) same;
-  back = back ∙ ap (drop size) same;
-}
+  pub part_past : (end : ℕ) → HasComeTo choices place (counting version t (f x)) end [] → HasComeTo choices start all end (counting version t (flat_map f xs))
+  part_past end past = come_past choices start all place _ _ in_parts end past
 
-module _ (t : TypeTable) (n state size number : ℕ) (list a b : List ℕ) (split : IsSplit t n state size number list a b) where
-  abbrev choice : Choice
-  choice = record { state = state; a = a; b = b }
+  pub part_over : counting version t (f x) ≡ [] → HasComeTo choices start all place (counting version t (flat_map f xs))
+  part_over none = come_as choices start all place _ _ (ap (λ (cs : List Choice). cs ++ counting version t (flat_map f xs)) none) in_parts
 
-  whole : a ++ b ≡ list
-  whole = rw (split.front, split.back) (take-append-drop size list)
+-- ---- a choice that is listed
 
-  short : length a ≡ size
-  short = ap length split.front ∙ length-take-le size list (omega (arith, split.half, split.long))
+pub listed_fits : ((t : TypeTable) (n : ℕ) (c : Choice) → Contains (canonical_choices (length t.states) (length t.operations) n) c ↔ (IsCanonical c × IsRawChoice t n (raw_choice_of c)))
+    → ((t : TypeTable) (n : ℕ) (c : Choice) → Contains (live_choices t n) c ↔ (IsCanonical c × IsRawChoice t n (raw_choice_of c) × IsLive t (raw_choice_of c)))
+    → (version : ℕ) (t : TypeTable) (n place : ℕ) (c : Choice) → 2 ≤ n → n ≤ 8 → slice_get (choices_in_version version t n) place ≡ Some c → FitsTable t c
+listed_fits canonical live version t n place c some few e =
+    let is = fits (version == 1) (place, slice_get_within (choices_in_version version t n) place c e, get_or_from_slice_get (choices_in_version version t n) place c c e) in
+    let all : length c.a + length c.b ≡ n = sym (length-append c.a c.b) ∙ is.one_operation_each in
+    record { fits = subst (λ (k : ℕ). IsRawChoice t k (raw_choice_of c)) (sym all) is; some = omega (arith, all); few = omega (arith, all) }
+  where
+    fits : (one : Bool) → Contains (cond one (canonical_choices (length t.states) (length t.operations) n) (live_choices t n)) c → IsRawChoice t n (raw_choice_of c)
+    fits true h = ((canonical t n c).0 h).1
+    fits false h = ((live t n c).0 h).1
 
-  all : length a + length b ≡ n
-  all = sym (length-append a b) ∙ (ap length whole ∙ split.long)
+-- ---- one list of team B after the other
 
-  numbered : list_number (length t.operations) (a ++ b) ≡ number
-  numbered = ap (list_number (length t.operations)) whole ∙ split.numbered
+module _ (choices : List Choice) (start : ℕ) (all : List Choice) (version : ℕ) (t : TypeTable) (state : ℕ) (a : List ℕ) (place : ℕ) (b : List ℕ) (bs : List (List ℕ))
+    (come : HasComeTo choices start all place (counting version t (beside version t state a (b ∷ bs)))) where
+  here : all_count version t state a ≡ true → all_count version t state b ≡ true → HasComeTo choices start all place (record { state = state; a = a; b = b } ∷ counting version t (beside version t state a bs))
+  here e f = come_as choices start all place _ _ (one_counts version t state a b bs e f) come
 
-  pub split_fits : AreByTeams → IsRawChoice t n (raw_choice_of choice)
-  split_fits by_teams =
-      let known = All-parts (λ o. o < length t.operations) a b (subst (All (λ o. o < length t.operations)) (sym whole) split.known) in
-      (by_teams t n choice).1 (record {
-        known_state = split.known_state;
-        a_known = known.0;
-        b_known = known.1;
-        someone_in_a = omega (arith, short, split.someone);
-        someone_in_b = omega (arith, short, all, split.half, split.someone);
-        all = all;
-      })
+  pub team_next : ComeNext choices start all → all_count version t state a ≡ true → all_count version t state b ≡ true → slice_get choices place ≡ Some (record { state = state; a = a; b = b })
+  team_next next e f = choice_next choices start all place _ _ (here e f) next
 
-  module _ (listed : AreListed) (ascending : AreAscending) (by_teams : AreByTeams) (entries : List Collision) (place : ℕ) (come : HasComeTo t n entries place state size number) where
-    come_here : HasComeTo t n entries place state (length a) (list_number (length t.operations) (a ++ b))
-    come_here = rw (short, numbered) come
+  pub team_past : all_count version t state a ≡ true → all_count version t state b ≡ true → HasComeTo choices start all (place + 1) (counting version t (beside version t state a bs))
+  team_past e f = choice_past choices start all place _ _ (here e f)
 
-    pub split_here : IsCanonical choice → slice_get (choices_for t n) place ≡ Some choice
-    split_here canonical = choice_here listed ascending t n entries place choice canonical (split_fits by_teams) come_here
+  pub team_over : all_count version t state b ≡ false → HasComeTo choices start all place (counting version t (beside version t state a bs))
+  team_over f = come_as choices start all place _ _ (one_does_not version t state a b bs f) come
 
-    pub split_past : IsCanonical choice → AreRefuted t (choices_for t n) entries (place + 1) → HasComeTo t n entries (place + 1) state size (number + 1)
-    split_past canonical refuted =
-        let past : HasComeTo t n entries (place + 1) state (length a) (list_number (length t.operations) (a ++ b) + 1) = come_past listed ascending t n entries place choice (split_here canonical) come_here refuted in
-        rw (← short, ← numbered) past
+-- ---- the first choice, and the last
 
-    pub split_on : ¬ IsCanonical choice → HasComeTo t n entries place state size (number + 1)
-    split_on none =
-        let on : HasComeTo t n entries place state size (list_number (length t.operations) list + 1) = come_on listed ascending t n entries place state size list (rw split.numbered come) split.known split.long (rw (← split.front, ← split.back) none) in
-        rw (← split.numbered) on
+pub all_counting : (version : ℕ) (t : TypeTable) (n : ℕ) → choices_in_version version t n ≡ counting version t (flat_map (with_state (length t.operations) n) (range_with_len 0 (length t.states)))
+unfolding canonical_choices
+all_counting version t n = counting_is version t n
 
-pub split_fits_table : (t : TypeTable) (n state : ℕ) (a b : List ℕ) → 2 ≤ n → n ≤ 8 → IsRawChoice t n (raw_choice_of (record { state = state; a = a; b = b })) → FitsTable t (record { state = state; a = a; b = b })
-split_fits_table t n state a b some few is =
-    let all = all_of t n (record { state = state; a = a; b = b }) is in
-    record { fits = subst (λ (k : ℕ). IsRawChoice t k (raw_choice_of (record { state = state; a = a; b = b }))) (sym all) is; some = omega (arith, all); few = omega (arith, all) }
+not_past : (t : TypeTable) (choices : List Choice) (entries : List Collision) → ¬ IsSomeAnd (slice_get entries (length choices)) (λ entry. IsOfChoice choices (length choices) entry × HoldsCollision t entry)
+not_past t choices entries h = by_entry (slice_get entries (length choices)) h
+  where
+    by_entry : (o : Option Collision) → ¬ IsSomeAnd o (λ entry. IsOfChoice choices (length choices) entry × HoldsCollision t entry)
+    by_entry None h = h
+    by_entry (Some e) h = none-some e.choice (sym (slice_get_past choices (length choices) (omega arith)) ∙ h.0)
 
--- what is refuted place by place is refuted
+-- where all have been gone through, as many are refuted as there are
+pub come_to_end : (t : TypeTable) (choices : List Choice) (entries : List Collision) (place : ℕ) → HasComeTo choices 0 choices place [] → AreRefuted t choices entries place → place ≡ length choices
+come_to_end t choices entries place come refuted =
+    let gone : length choices ≤ place = none_at choices place (come [] (sym (append-nil choices))) in
+    elim (cases_order place (length choices)) [
+      | inl same ↦ same
+      | inr apart ↦ elim apart [ inl less ↦ absurd (omega (arith, gone)) | inr more ↦ absurd (not_past t choices entries (refuted (length choices) more)) ]
+    ]
+
+-- where each choice is refuted in its place, and there is no further entry, they refute the choices one by one
 pub all_refuted : (t : TypeTable) (choices : List Choice) (entries : List Collision) → AreRefuted t choices entries (length choices) → length entries ≤ length choices → AllZip (Refutes t) choices entries
 all_refuted t [] [] h l = tt
-all_refuted t [] (e ∷ entries) h l = absurd (omega arith)
+all_refuted t [] (e ∷ entries) h l = absurd (omega (arith, l))
 all_refuted t (c ∷ choices) [] h l = absurd (h 0 (omega arith))
 all_refuted t (c ∷ choices) (e ∷ entries) h l =
-    let first = h 0 (omega arith) in
-    ((sym (same_Some c e.choice first.0), first.1), all_refuted t choices entries (λ i k. h (suc i) (omega arith)) (omega arith))
+    let here = h 0 (omega arith) in
+    ((sym (same_Some c e.choice here.0), here.1), all_refuted t choices entries (λ i m. h (suc i) (omega arith)) (omega (arith, l)))

@@ -4,11 +4,12 @@ use Rattle.cn_table.specs.TypeTable.{TypeTable}
 use Rattle.cn_choice.specs.RawChoices.{IsRawChoice}
 use Rattle.cn_choice.specs.Canonical.{Choice, raw_choice_of}
 use Rattle.cn_choice.specs.Collisions.{Collision, IsCollision}
+use Rattle.cn_check.specs.Versions.{greatest_limit}
 
--- the limit is from 2 to 6, and the number, if there is one, from 2 to the limit
-pub record IsInRange (limit : ℕ) (number : Option ℕ) : Type 0 where
+-- the limit is from 2 to the greatest one of the version, and the number, if there is one, from 2 to the limit
+pub record IsInRange (version limit : ℕ) (number : Option ℕ) : Type 0 where
   pub some : 2 ≤ limit
-  pub few : limit ≤ 6
+  pub few : limit ≤ greatest_limit version
   pub number_in_limit : IfSome number (λ n. (2 ≤ n) × (n ≤ limit))
 
 -- a choice of the table for as many processes as the number; where there is no number, no choice

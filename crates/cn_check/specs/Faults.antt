@@ -3,15 +3,15 @@ use Rattle.std.specs.Prelude.{◌≡◌, ◌≢◌, ℕ, ◌+◌, ◌*◌, ◌<�
 use Rattle.cn_table.specs.TypeTable.{TypeTable}
 use Rattle.cn_choice.specs.Discerning.{ResultSetsMeet}
 use Rattle.cn_choice.specs.Canonical.{raw_choice_of}
-use Rattle.cn_search.specs.Evidence.{choices_to_refute}
 use Rattle.cn_cert.specs.Certificate.{Certificate}
 use Rattle.cn_check.specs.Conditions.{IsInRange, HasWitnessFor, HoldsCollision}
+use Rattle.cn_check.specs.Versions.{choices_to_refute_in}
 use Rattle.cn_check.specs.declared.fault.CheckFault.{CheckFault}
 use Rattle.cn_check.specs.declared.fault.CheckFault.TheVariants.{OtherType, BadNumber, WitnessShape, WitnessMeets, Unexpected, NotNext, NotACollision, TooFew}
 
 -- entry i of the certificate is of another choice than the one that has to be refuted in its place, or there is none
 abbrev pub IsNotNext : TypeTable → Certificate → ℕ → Type 0
-IsNotNext t c i = IsSomeAnd (slice_get c.collisions i) (λ entry. slice_get (choices_to_refute t c.limit c.number) i ≢ Some entry.choice)
+IsNotNext t c i = IsSomeAnd (slice_get c.collisions i) (λ entry. slice_get (choices_to_refute_in c.version t c.limit c.number) i ≢ Some entry.choice)
 
 -- entry i of the certificate holds no collision of its choice
 abbrev pub IsNoCollision : TypeTable → Certificate → ℕ → Type 0
@@ -20,13 +20,13 @@ IsNoCollision t c i = IsSomeAnd (slice_get c.collisions i) (λ entry. ¬ HoldsCo
 -- the certificate has the fault, as one of the table
 abbrev pub HasFault : TypeTable → Certificate → CheckFault → Type 0
 HasFault t c OtherType = c.type_name ≢ t.name
-HasFault t c BadNumber = ¬ IsInRange c.limit c.number
+HasFault t c BadNumber = ¬ IsInRange c.version c.limit c.number
 HasFault t c WitnessShape = ¬ HasWitnessFor t c.number c.witness
 HasFault t c (WitnessMeets j) = IsSomeAnd c.witness (λ w. ResultSetsMeet t (raw_choice_of w) j)
 HasFault t c Unexpected = (c.number ≡ Some c.limit) × (c.collisions ≢ [])
 HasFault t c (NotNext i) = IsNotNext t c i
 HasFault t c (NotACollision i) = IsNoCollision t c i
-HasFault t c TooFew = length c.collisions < length (choices_to_refute t c.limit c.number)
+HasFault t c TooFew = length c.collisions < length (choices_to_refute_in c.version t c.limit c.number)
 
 -- when a fault is looked for: the round, and the turn within the round; the entries are gone through in one round, and each is tried for its choice, then for its collision
 abbrev pub turn : CheckFault → ℕ × ℕ

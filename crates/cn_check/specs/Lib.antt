@@ -1,8 +1,8 @@
 pub mod Conditions
 pub mod Faults
 pub mod FaultText
-pub mod Numbering
 pub mod PartFaults
 pub mod Progress
 pub mod Seeing
 pub mod Verdict
+pub mod Versions

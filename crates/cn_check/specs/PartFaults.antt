@@ -4,9 +4,9 @@ use Rattle.cn_table.specs.TypeTable.{TypeTable}
 use Rattle.cn_choice.specs.Discerning.{ResultSetsMeet}
 use Rattle.cn_choice.specs.Canonical.{Choice, raw_choice_of}
 use Rattle.cn_choice.specs.Collisions.{Collision}
-use Rattle.cn_search.specs.Evidence.{choices_to_refute}
 use Rattle.cn_check.specs.Conditions.{HasWitnessFor}
 use Rattle.cn_check.specs.Progress.{IsFirstEntryFault}
+use Rattle.cn_check.specs.Versions.{choices_to_refute_in}
 use Rattle.cn_check.specs.declared.fault.CheckFault.{CheckFault}
 use Rattle.cn_check.specs.declared.fault.CheckFault.TheVariants.{OtherType, BadNumber, WitnessShape, WitnessMeets, Unexpected, NotNext, NotACollision, TooFew}
 
@@ -25,13 +25,13 @@ IsWitnessFault t number witness (NotNext i) = ⊥
 IsWitnessFault t number witness (NotACollision i) = ⊥
 IsWitnessFault t number witness TooFew = ⊥
 
--- the first fault of the entries, for this limit and this number
-abbrev pub IsEvidenceFault : TypeTable → ℕ → Option ℕ → List Collision → CheckFault → Type 0
-IsEvidenceFault t limit number entries Unexpected = (number ≡ Some limit) × (entries ≢ [])
-IsEvidenceFault t limit number entries (NotNext i) = (number ≢ Some limit) × IsFirstEntryFault t (choices_to_refute t limit number) entries (NotNext i)
-IsEvidenceFault t limit number entries (NotACollision i) = (number ≢ Some limit) × IsFirstEntryFault t (choices_to_refute t limit number) entries (NotACollision i)
-IsEvidenceFault t limit number entries TooFew = (number ≢ Some limit) × IsFirstEntryFault t (choices_to_refute t limit number) entries TooFew
-IsEvidenceFault t limit number entries OtherType = ⊥
-IsEvidenceFault t limit number entries BadNumber = ⊥
-IsEvidenceFault t limit number entries WitnessShape = ⊥
-IsEvidenceFault t limit number entries (WitnessMeets j) = ⊥
+-- the first fault of the entries, for this version, this limit and this number
+abbrev pub IsEvidenceFault : TypeTable → ℕ → ℕ → Option ℕ → List Collision → CheckFault → Type 0
+IsEvidenceFault t version limit number entries Unexpected = (number ≡ Some limit) × (entries ≢ [])
+IsEvidenceFault t version limit number entries (NotNext i) = (number ≢ Some limit) × IsFirstEntryFault t (choices_to_refute_in version t limit number) entries (NotNext i)
+IsEvidenceFault t version limit number entries (NotACollision i) = (number ≢ Some limit) × IsFirstEntryFault t (choices_to_refute_in version t limit number) entries (NotACollision i)
+IsEvidenceFault t version limit number entries TooFew = (number ≢ Some limit) × IsFirstEntryFault t (choices_to_refute_in version t limit number) entries TooFew
+IsEvidenceFault t version limit number entries OtherType = ⊥
+IsEvidenceFault t version limit number entries BadNumber = ⊥
+IsEvidenceFault t version limit number entries WitnessShape = ⊥
+IsEvidenceFault t version limit number entries (WitnessMeets j) = ⊥

@@ -1,18 +1,29 @@
--- How far the canonical choices have been gone through.
-use Rattle.std.specs.Prelude.{◌≡◌, ℕ, ◌<◌, ◌≤◌, ◌⊎◌, List, ◌++◌, length, Some, IfSome, IsSomeAnd, slice_get}
+-- How far the choices have been gone through.
+use Rattle.std.specs.Prelude.{◌≡◌, ℕ, ◌<◌, ◌==◌, ◌||◌, ◌&&◌, Bool, List, ◌++◌, length, drop, Some, IsSomeAnd, slice_get}
+use Rattle.std.specs.List.{filter}
 use Rattle.cn_table.specs.TypeTable.{TypeTable}
 use Rattle.cn_choice.specs.Canonical.{Choice}
 use Rattle.cn_choice.specs.Collisions.{Collision}
-use Rattle.cn_search.specs.Evidence.{choices_for}
+use Rattle.cn_choice.specs.Live.{all_move}
 use Rattle.cn_check.specs.Conditions.{HoldsCollision}
-use Rattle.cn_check.specs.Numbering.{list_number}
 use Rattle.cn_check.specs.declared.fault.CheckFault.{CheckFault}
 use Rattle.cn_check.specs.declared.fault.CheckFault.TheVariants.{OtherType, BadNumber, WitnessShape, WitnessMeets, Unexpected, NotNext, NotACollision, TooFew}
 
--- the choice has a state before this one; or this state, and a smaller team A; or the state and the size, and its operations, A's first, come to a smaller number
-abbrev pub StandsBefore : ℕ → ℕ → ℕ → ℕ → Choice → Type 0
-StandsBefore base state size number c =
-    (c.state < state) ⊎ ((c.state ≡ state) × ((length c.a < size) ⊎ ((length c.a ≡ size) × (list_number base (c.a ++ c.b) < number))))
+-- whether the operations count in the version: in version 1 all do, in version 2 those that all lead away from the state
+abbrev pub all_count : ℕ → TypeTable → ℕ → List ℕ → Bool
+all_count version t state operations = version == 1 || all_move t state operations
+
+-- those of the choices whose operations count
+abbrev pub counting : ℕ → TypeTable → List Choice → List Choice
+counting version t choices = filter (λ c. all_count version t c.state c.a && all_count version t c.state c.b) choices
+
+-- the choices begin with these at the place
+abbrev pub ComeNext : List Choice → ℕ → List Choice → Type 0
+ComeNext choices place next = (later : List Choice) × (drop place choices ≡ next ++ later)
+
+-- where the choices begin with all of these at the start, they begin at the place with those that are left, and then go on alike
+abbrev pub HasComeTo : List Choice → ℕ → List Choice → ℕ → List Choice → Type 0
+HasComeTo choices start all place left = (later : List Choice) → drop start choices ≡ all ++ later → drop place choices ≡ left ++ later
 
 -- entry i is of choice i
 abbrev pub IsOfChoice : List Choice → ℕ → Collision → Type 0
@@ -21,13 +32,6 @@ IsOfChoice choices i entry = slice_get choices i ≡ Some entry.choice
 -- the first `place` choices are refuted by the entries in their places
 abbrev pub AreRefuted : TypeTable → List Choice → List Collision → ℕ → Type 0
 AreRefuted t choices entries place = (i : ℕ) → i < place → IsSomeAnd (slice_get entries i) (λ entry. IsOfChoice choices i entry × HoldsCollision t entry)
-
--- the choices before the state, the size and the number are the first `place` ones of the list, and the entries in their places refute them
-pub record HasComeTo (t : TypeTable) (n : ℕ) (entries : List Collision) (place state size number : ℕ) : Type 0 where
-  pub within : place ≤ length (choices_for t n)
-  pub before : (i : ℕ) → i < place → IfSome (slice_get (choices_for t n) i) (StandsBefore (length t.operations) state size number)
-  pub later : (i : ℕ) → place ≤ i → IfSome (slice_get (choices_for t n) i) (λ c. ¬ StandsBefore (length t.operations) state size number c)
-  pub refuted : AreRefuted t (choices_for t n) entries place
 
 -- the first fault of the entries as a refutation of the choices
 abbrev pub IsFirstEntryFault : TypeTable → List Choice → List Collision → CheckFault → Type 0

@@ -4,14 +4,14 @@ use Rattle.std.specs.List.{AllZip}
 use Rattle.cn_table.specs.TypeTable.{TypeTable}
 use Rattle.cn_choice.specs.Canonical.{raw_choice_of}
 use Rattle.cn_choice.specs.Discerning.{IsWitness}
-use Rattle.cn_search.specs.Evidence.{choices_to_refute}
 use Rattle.cn_cert.specs.Certificate.{Certificate}
 use Rattle.cn_check.specs.Conditions.{IsInRange, HasWitnessFor, Refutes}
+use Rattle.cn_check.specs.Versions.{choices_to_refute_in}
 
--- the certificate is of this type; its number is in range; it has a witness for the number, if there is one; and it refutes each choice that has to be refuted, in their order, and nothing else
+-- the certificate is of this type; its version, its limit and its number are right; it has a witness for the number, if there is one; and it refutes each choice that has to be refuted in its version, in their order, and nothing else
 pub record IsAccepted (t : TypeTable) (c : Certificate) : Type 0 where
   pub type_name : c.type_name ≡ t.name
-  pub in_range : IsInRange c.limit c.number
+  pub in_range : IsInRange c.version c.limit c.number
   pub witness_fits : HasWitnessFor t c.number c.witness
   pub witness : IfSome c.witness (λ w. IsWitness t (raw_choice_of w))
-  pub refuted : AllZip (Refutes t) (choices_to_refute t c.limit c.number) c.collisions
+  pub refuted : AllZip (Refutes t) (choices_to_refute_in c.version t c.limit c.number) c.collisions

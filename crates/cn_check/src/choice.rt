@@ -1,10 +1,6 @@
 //! What a choice is: its processes, and whether it is one of a table.
-ghost use Rattle.std.specs.Prelude.{◌≡◌, ◌≢◌, ◌<◌, ◌≤◌, ◌+◌, ◌↔◌, ℕ, length, slice_get, slice_index, All, IsTrue, Some};
-ghost use Rattle.std.specs.List.Sorted.{IsNonDecreasing};
-ghost use Rattle.std.specs.Ordering.{nat_cmp};
-ghost use Rattle.std.specs.declared.cmp.Ordering.TheVariants.{Greater};
-ghost use Rattle.std.specs.Cmp.Lexicographic.{slice_cmp};
-ghost use Rattle.cn_choice.specs.Canonical.{Choice, FitsTable, IsCanonical, raw_choice_of};
+ghost use Rattle.std.specs.Prelude.{◌≡◌, ◌<◌, ◌≤◌, ◌+◌, ◌↔◌, length, slice_get, slice_index, All, IsTrue, Some};
+ghost use Rattle.cn_choice.specs.Canonical.{FitsTable, raw_choice_of};
 ghost use Rattle.cn_choice.specs.RawChoices.{IsRawChoice};
 
 use cn_choice::laws::choice_by_teams;
@@ -75,31 +71,4 @@ pub(crate) fn team_of(choice: &Choice, process: u8) -> Team
     } else {
         Team::B
     }
-}
-
-/// Whether the list is the shorter one, or of two of one length not above the other in
-/// lexicographic order.
-fn comes_first(list: &[u8], other: &[u8]) -> bool
-    ensures { IsTrue result ↔ ((length list.now ≤ length other.now) × (length list.now ≡ length other.now → slice_cmp nat_cmp list.now other.now ≢ Greater)) }
-{
-    if list.len() == other.len() {
-        list <= other
-    } else {
-        list.len() < other.len()
-    }
-}
-
-/// Whether no number of the list is above a later one.
-fn never_falls(list: &[u8]) -> bool
-    ensures { IsTrue result ↔ IsNonDecreasing list.now }
-{
-    list.is_sorted()
-}
-
-/// Whether choices of these teams are canonical: neither list falls, both have someone, `a` is not
-/// the longer, and of two of one length it is not above `b`.
-pub(crate) fn are_canonical(a: &[u8], b: &[u8]) -> bool
-    ensures { (state : ℕ) → IsTrue result ↔ IsCanonical (record { state = state; a = a.now; b = b.now }) }
-{
-    !a.is_empty() && never_falls(a) && never_falls(b) && comes_first(a, b)
 }

@@ -9,7 +9,9 @@ use std::fmt;
 pub enum CheckFault {
     /// The certificate is of a type of another name.
     OtherType,
-    /// The limit is below 2 or above 6, or the number is below 2 or above the limit.
+    /// The limit is below 2 or above the greatest one of the certificate's version, which is 6 in
+    /// version 1 and 8 in version 2; or the number is below 2 or above the limit; or there is no such
+    /// version.
     BadNumber,
     /// There is a number without a witness, or a witness without a number, or the witness is no
     /// choice of the table for as many processes as the number.
@@ -18,12 +20,13 @@ pub enum CheckFault {
     WitnessMeets(u8),
     /// The number is the limit, and there are entries.
     Unexpected,
-    /// The entry at this place, counted from 0, is of another choice than the canonical one in its
-    /// place, or there is none.
+    /// The entry at this place, counted from 0, is of another choice than the one that has to be
+    /// refuted there, or there is none.
     NotNext(u64),
     /// What the entry at this place holds is no collision of its choice.
     NotACollision(u64),
-    /// The entries end before the canonical choices do.
+    /// The entries end before the choices do that have to be refuted: the canonical ones in version
+    /// 1, those of them that are live in version 2.
     TooFew,
 }
 

@@ -1,15 +1,36 @@
-//! That there is one verdict on a certificate.
+//! That there is one verdict on a certificate, and that it is right.
 //!
 //! A law is a function that does nothing: its contract is the law.
-ghost use Rattle.std.specs.Prelude.{◌≡◌};
+ghost use Rattle.std.specs.Prelude.{◌≡◌, None, length};
 ghost use Rattle.cn_table.specs.TypeTable.{TypeTable};
-ghost use Rattle.cn_cert.specs.Certificate.{Certificate};
+ghost use Rattle.cn_choice.specs.Discerning.{IsNumberUpTo};
+ghost use Rattle.cn_search.specs.Evidence.{IsFindingFor};
+ghost use Rattle.cn_search.specs.Faults.{find_fault};
+ghost use Rattle.cn_search.specs.Finding.{Finding};
+ghost use Rattle.cn_cert.specs.Certificate.{Certificate, certificate_of};
 ghost use Rattle.cn_check.specs.Faults.{HasFault, IsFirstFault};
 ghost use Rattle.cn_check.specs.Verdict.{IsAccepted};
 ghost use Rattle.cn_check.specs.declared.fault.CheckFault.{CheckFault};
+
+use cn_choice::laws;
 
 /// A certificate that is accepted has no fault, and of any other no two faults are the first.
 pub fn one_verdict()
     ensures accepted { (t : TypeTable) (c : Certificate) (e : CheckFault) → IsAccepted t c → ¬ HasFault t c e }
     ensures first { (t : TypeTable) (c : Certificate) (e f : CheckFault) → IsFirstFault t c e → IsFirstFault t c f → e ≡ f }
 {}
+
+/// A certificate that is accepted has the number of the type up to its limit, and the certificate of
+/// each finding is accepted.
+pub fn accepted_is_right()
+    ensures number { (t : TypeTable) (c : Certificate) → IsAccepted t c → IsNumberUpTo t c.limit c.number }
+    ensures found { (t : TypeTable) (f : Finding) → IsFindingFor t f.limit f → find_fault (length t.states) (length t.operations) f.limit ≡ None → IsAccepted t (certificate_of t.name f) }
+{
+    // What refutes a choice shows that it is no witness; where none of the choices is, of either
+    // version, no choice is, for as many processes or for more.
+    laws::collision_or_witness();
+    laws::canonical_choices_decide();
+    laws::live_choices_decide();
+    laws::number_before_failure();
+    laws::live_list();
+}

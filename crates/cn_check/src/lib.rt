@@ -9,9 +9,9 @@ mod choice;
 mod fault;
 pub mod laws;
 mod marks;
-mod numbering;
 mod refutation;
 mod seeing;
+mod steps;
 mod verdict;
 mod witness;
 

@@ -1,18 +1,20 @@
-//! Whether the entries of a certificate refute the canonical choices, one after the other.
-ghost use Rattle.std.specs.Prelude.{◌≡◌, ◌<◌, ◌≤◌, ◌+◌, ◌↔◌, ℕ, length, slice_get, IfErr, IfOk, IsTrue, OnOk, Some};
+//! Whether the entries of a certificate refute the choices that count in its version, one after the
+//! other.
+ghost use Rattle.std.specs.Prelude.{◌≡◌, ◌<◌, ◌≤◌, ◌+◌, ◌↔◌, [], ℕ, length, slice_get, All, IfErr, IfOk, IsTrue, OnOk, Some, true};
 ghost use Rattle.std.specs.List.{AllZip};
+ghost use Rattle.cn_choice.specs.Canonical.{with_first, with_size, with_state};
 ghost use Rattle.cn_choice.specs.Canonical.{FitsTable};
-ghost use Rattle.cn_search.specs.Evidence.{choices_for};
+ghost use Rattle.cn_choice.specs.Live.{all_move};
 ghost use Rattle.cn_check.specs.Conditions.{HoldsCollision, Refutes};
-ghost use Rattle.cn_check.specs.Progress.{AreRefuted, HasComeTo, IsFirstEntryFault};
+ghost use Rattle.cn_check.specs.Progress.{AreRefuted, ComeNext, HasComeTo, IsFirstEntryFault, all_count, counting};
+ghost use Rattle.cn_check.specs.Versions.{choices_in_version};
 
 use crate::CheckFault;
-use crate::choice::are_canonical;
-use crate::numbering::{count_lists, list_at};
 use crate::seeing::pair_shown;
-use cn_choice::laws::{canonical_list, choice_by_teams};
+use crate::steps::{first_beside, step, zeros};
+use cn_choice::laws::{canonical_list, live_list};
 use cn_choice::{Choice, Collision, Team};
-use cn_table::{State, Table};
+use cn_table::{Operation, State, Table};
 
 /// Whether both are there and are one pair.
 fn are_one_pair(alpha: Option<(u8, u8)>, beta: Option<(u8, u8)>) -> bool
@@ -46,19 +48,24 @@ fn is_choice(choice: &Choice, state: State, a: &[u8], b: &[u8]) -> bool
 /// next place.
 fn check_entry(
     table: &Table,
+    version: u8,
     entries: &[Collision],
     n: u8,
     place: usize,
     state: State,
     teams: (&[u8], &[u8]),
 ) -> Result<usize, CheckFault>
-    requires here { slice_get (choices_for table.now n) place ≡ Some (record { state = state.0; a = teams.0.now; b = teams.1.now }) }
-    requires fits { FitsTable table.now (record { state = state.0; a = teams.0.now; b = teams.1.now }) }
-    requires refuted { AreRefuted table.now (choices_for table.now n) entries.now place }
+    requires some { 2 ≤ n }
+    requires few { n ≤ 8 }
+    requires here { slice_get (choices_in_version version table.now n) place ≡ Some (record { state = state.0; a = teams.0.now; b = teams.1.now }) }
+    requires refuted { AreRefuted table.now (choices_in_version version table.now n) entries.now place }
     ensures next { IfOk result (λ next. next ≡ place + 1) }
-    ensures refuted { OnOk result (AreRefuted table.now (choices_for table.now n) entries.now (place + 1)) }
-    ensures fault { IfErr result (IsFirstEntryFault table.now (choices_for table.now n) entries.now) }
+    ensures refuted { OnOk result (AreRefuted table.now (choices_in_version version table.now n) entries.now (place + 1)) }
+    ensures fault { IfErr result (IsFirstEntryFault table.now (choices_in_version version table.now n) entries.now) }
 {
+    // Each choice that is listed is one of the table for n processes.
+    canonical_list();
+    live_list();
     let Some(entry) = entries.get(place) else {
         return Err(CheckFault::TooFew);
     };
@@ -71,11 +78,66 @@ fn check_entry(
     Ok(place + 1)
 }
 
-/// Checks the entries from the place on against the canonical choices of this state whose team A
-/// has this size, and answers the place after them. Goes through all lists of n operations, and
-/// takes those whose first `size` operations and others are the teams of a canonical choice.
+/// Whether each of the operations, applied in the state, leads to another.
+fn all_move(table: &Table, state: State, operations: &[u8]) -> bool
+    requires state { state.0 < length table.now.states }
+    requires known { All (λ operation. operation < length table.now.operations) operations.now }
+    ensures { result ≡ all_move table.now state.0 operations.now }
+{
+    operations.iter().all(|operation| table.apply(Operation(*operation), state).1 != state)
+}
+
+/// Whether the operations count in the version: in version 1 all do, in version 2 those that all
+/// lead away from the state.
+fn all_count(table: &Table, version: u8, state: State, operations: &[u8]) -> bool
+    requires state { state.0 < length table.now.states }
+    requires known { All (λ operation. operation < length table.now.operations) operations.now }
+    ensures { result ≡ all_count version table.now state.0 operations.now }
+{
+    version == 1 || all_move(table, state, operations)
+}
+
+/// Checks the entries from the place on against the choices of this state and this team A, whose
+/// operations count, and answers the place after them.
+fn check_team(
+    table: &Table,
+    version: u8,
+    entries: &[Collision],
+    n: u8,
+    state: State,
+    a: &[u8],
+    start: usize,
+) -> Result<usize, CheckFault>
+    requires some { 2 ≤ n }
+    requires few { n ≤ 8 }
+    requires state { state.0 < length table.now.states }
+    requires half { length a.now + length a.now ≤ n }
+    requires known { All (λ operation. operation < length table.now.operations) a.now }
+    requires counts { all_count version table.now state.0 a.now ≡ true }
+    requires next { ComeNext (choices_in_version version table.now n) start (counting version table.now (with_first (length table.now.operations) n state.0 a.now)) }
+    requires refuted { AreRefuted table.now (choices_in_version version table.now n) entries.now start }
+    ensures passed { IfOk result (λ place. HasComeTo (choices_in_version version table.now n) start (counting version table.now (with_first (length table.now.operations) n state.0 a.now)) place []) }
+    ensures refuted { IfOk result (AreRefuted table.now (choices_in_version version table.now n) entries.now) }
+    ensures fault { IfErr result (IsFirstEntryFault table.now (choices_in_version version table.now n) entries.now) }
+{
+    let operations = table.operations();
+    let mut b = first_beside(a, n);
+    let mut place = start;
+    loop {
+        if all_count(table, version, state, b.as_slice()) {
+            place = check_entry(table, version, entries, n, place, state, (a, b.as_slice()))?;
+        }
+        if !step(b.as_mut_slice(), operations) {
+            return Ok(place);
+        }
+    }
+}
+
+/// Checks the entries from the place on against the choices of this state whose team A has this
+/// size, and answers the place after them.
 fn check_size(
     table: &Table,
+    version: u8,
     entries: &[Collision],
     n: u8,
     state: State,
@@ -85,31 +147,31 @@ fn check_size(
     requires some { 2 ≤ n }
     requires few { n ≤ 8 }
     requires state { state.0 < length table.now.states }
-    requires someone { 1 ≤ size }
     requires half { size + size ≤ n }
-    requires reached { HasComeTo table.now n entries.now start state.0 size 0 }
-    ensures reached { IfOk result (λ place. HasComeTo table.now n entries.now place state.0 (size + 1) 0) }
-    ensures fault { IfErr result (IsFirstEntryFault table.now (choices_for table.now n) entries.now) }
+    requires next { ComeNext (choices_in_version version table.now n) start (counting version table.now (with_size (length table.now.operations) n state.0 size)) }
+    requires refuted { AreRefuted table.now (choices_in_version version table.now n) entries.now start }
+    ensures passed { IfOk result (λ place. HasComeTo (choices_in_version version table.now n) start (counting version table.now (with_size (length table.now.operations) n state.0 size)) place []) }
+    ensures refuted { IfOk result (AreRefuted table.now (choices_in_version version table.now n) entries.now) }
+    ensures fault { IfErr result (IsFirstEntryFault table.now (choices_in_version version table.now n) entries.now) }
 {
-    // The choices to be refuted are the canonical ones, in their order.
-    canonical_list();
-    choice_by_teams();
     let operations = table.operations();
+    let mut a = zeros(size as usize);
     let mut place = start;
-    for number in 0..count_lists(operations, n) {
-        let list = list_at(number, operations, n);
-        let teams = list.as_slice().split_at(size as usize);
-        if are_canonical(teams.0, teams.1) {
-            place = check_entry(table, entries, n, place, state, teams)?;
+    loop {
+        if all_count(table, version, state, a.as_slice()) {
+            place = check_team(table, version, entries, n, state, a.as_slice(), place)?;
+        }
+        if !step(a.as_mut_slice(), operations) {
+            return Ok(place);
         }
     }
-    Ok(place)
 }
 
-/// Checks the entries from the place on against the canonical choices of this state, and answers
-/// the place after them.
+/// Checks the entries from the place on against the choices of this state, and answers the place
+/// after them.
 fn check_state(
     table: &Table,
+    version: u8,
     entries: &[Collision],
     n: u8,
     state: State,
@@ -118,32 +180,35 @@ fn check_state(
     requires some { 2 ≤ n }
     requires few { n ≤ 8 }
     requires state { state.0 < length table.now.states }
-    requires reached { HasComeTo table.now n entries.now start state.0 1 0 }
-    ensures reached { IfOk result (λ place. HasComeTo table.now n entries.now place (state.0 + 1) 1 0) }
-    ensures fault { IfErr result (IsFirstEntryFault table.now (choices_for table.now n) entries.now) }
+    requires next { ComeNext (choices_in_version version table.now n) start (counting version table.now (with_state (length table.now.operations) n state.0)) }
+    requires refuted { AreRefuted table.now (choices_in_version version table.now n) entries.now start }
+    ensures passed { IfOk result (λ place. HasComeTo (choices_in_version version table.now n) start (counting version table.now (with_state (length table.now.operations) n state.0)) place []) }
+    ensures refuted { IfOk result (AreRefuted table.now (choices_in_version version table.now n) entries.now) }
+    ensures fault { IfErr result (IsFirstEntryFault table.now (choices_in_version version table.now n) entries.now) }
 {
-    // The choices to be refuted are the canonical ones, in their order.
-    canonical_list();
     let mut place = start;
     for size in 1..n / 2 + 1 {
-        place = check_size(table, entries, n, state, size, place)?;
+        place = check_size(table, version, entries, n, state, size, place)?;
     }
     Ok(place)
 }
 
-/// Checks that the entries refute the canonical choices for n processes, in their order, and that
-/// there are no others.
-pub(crate) fn check_entries(table: &Table, entries: &[Collision], n: u8) -> Result<(), CheckFault>
+/// Checks that the entries refute the choices for n processes that count in the version, in their
+/// order, and that there are no others.
+pub(crate) fn check_entries(
+    table: &Table,
+    version: u8,
+    entries: &[Collision],
+    n: u8,
+) -> Result<(), CheckFault>
     requires some { 2 ≤ n }
     requires few { n ≤ 8 }
-    ensures refuted { OnOk result (AllZip (Refutes table.now) (choices_for table.now n) entries.now) }
-    ensures fault { IfErr result (IsFirstEntryFault table.now (choices_for table.now n) entries.now) }
+    ensures refuted { OnOk result (AllZip (Refutes table.now) (choices_in_version version table.now n) entries.now) }
+    ensures fault { IfErr result (IsFirstEntryFault table.now (choices_in_version version table.now n) entries.now) }
 {
-    // The choices to be refuted are the canonical ones, in their order.
-    canonical_list();
     let mut place = 0;
     for state in 0..table.states() {
-        place = check_state(table, entries, n, State(state), place)?;
+        place = check_state(table, version, entries, n, State(state), place)?;
     }
     if place < entries.len() {
         return Err(CheckFault::NotNext(place as u64));

@@ -3,7 +3,7 @@ ghost use Rattle.std.specs.Prelude.{◌≡◌, ◌≤◌, ◌↔◌, ℕ, length
 ghost use Rattle.std.specs.List.{AllZip};
 ghost use Rattle.cn_choice.specs.Canonical.{raw_choice_of};
 ghost use Rattle.cn_choice.specs.Discerning.{IsNumberUpTo, IsWitness};
-ghost use Rattle.cn_search.specs.Evidence.{IsFindingFor, choices_to_refute};
+ghost use Rattle.cn_search.specs.Evidence.{IsFindingFor};
 ghost use Rattle.cn_search.specs.Faults.{find_fault};
 ghost use Rattle.cn_search.specs.Finding.{Finding};
 ghost use Rattle.cn_cert.specs.Certificate.{certificate_of};
@@ -11,20 +11,16 @@ ghost use Rattle.cn_check.specs.Conditions.{HasWitnessFor, IsInRange, Refutes};
 ghost use Rattle.cn_check.specs.Faults.{IsFirstFault};
 ghost use Rattle.cn_check.specs.PartFaults.{IsEvidenceFault, IsWitnessFault};
 ghost use Rattle.cn_check.specs.Verdict.{IsAccepted};
+ghost use Rattle.cn_check.specs.Versions.{choices_to_refute_in, greatest_limit};
 
 use crate::CheckFault;
 use crate::choice::is_choice_for;
+use crate::laws::accepted_is_right;
 use crate::refutation::check_entries;
 use crate::witness::first_meeting;
 use cn_cert::Certificate;
-use cn_choice::laws::{
-    canonical_choices_decide, canonical_list, collision_or_witness, number_before_failure,
-};
 use cn_choice::{Choice, Collision};
 use cn_table::Table;
-
-/// The greatest limit.
-const GREATEST_LIMIT: u8 = 6;
 
 /// Whether the certificate is of a type of the table's name.
 fn is_of_type(certificate: &Certificate, table: &Table) -> bool
@@ -33,11 +29,23 @@ fn is_of_type(certificate: &Certificate, table: &Table) -> bool
     certificate.type_name.as_str() == table.name()
 }
 
-/// Whether the limit is from 2 to 6, and the number, if there is one, from 2 to the limit.
-fn is_in_range(limit: u8, number: Option<u8>) -> bool
-    ensures { IsTrue result ↔ IsInRange limit number }
+/// The greatest limit of a certificate of the version; 0 where there is no such version.
+fn greatest_limit(version: u8) -> u8
+    ensures { result ≡ greatest_limit version }
 {
-    let limit_is = 2 <= limit && limit <= GREATEST_LIMIT;
+    match version {
+        1 => 6,
+        2 => 8,
+        _ => 0,
+    }
+}
+
+/// Whether the limit is from 2 to the greatest one of the version, and the number, if there is one,
+/// from 2 to the limit.
+fn is_in_range(version: u8, limit: u8, number: Option<u8>) -> bool
+    ensures { IsTrue result ↔ IsInRange version limit number }
+{
+    let limit_is = 2 <= limit && limit <= greatest_limit(version);
     match number {
         Some(n) => limit_is && 2 <= n && n <= limit,
         None => limit_is,
@@ -69,21 +77,23 @@ fn check_witness(
     }
 }
 
-/// Checks that the entries refute what has to be refuted: the canonical choices for one process
-/// more than the number, for two where there is no number, and none where the number is the limit.
+/// Checks that the entries refute what has to be refuted: the choices that count in the version, for
+/// one process more than the number, for two where there is no number, and none where the number is
+/// the limit.
 fn check_evidence(
     table: &Table,
+    version: u8,
     limit: u8,
     number: Option<u8>,
     entries: &[Collision],
 ) -> Result<(), CheckFault>
-    requires { IsInRange limit number }
-    ensures refuted { OnOk result (AllZip (Refutes table.now) (choices_to_refute table.now limit number) entries.now) }
-    ensures fault { IfErr result (IsEvidenceFault table.now limit number entries.now) }
+    requires { IsInRange version limit number }
+    ensures refuted { OnOk result (AllZip (Refutes table.now) (choices_to_refute_in version table.now limit number) entries.now) }
+    ensures fault { IfErr result (IsEvidenceFault table.now version limit number entries.now) }
 {
     match number {
-        None => check_entries(table, entries, 2),
-        Some(n) if n < limit => check_entries(table, entries, n + 1),
+        None => check_entries(table, version, entries, 2),
+        Some(n) if n < limit => check_entries(table, version, entries, n + 1),
         Some(_) if entries.is_empty() => Ok(()),
         Some(_) => Err(CheckFault::Unexpected),
     }
@@ -104,19 +114,20 @@ pub fn check(table: &Table, certificate: &Certificate) -> Result<(), CheckFault>
     ensures number { OnOk result (IsNumberUpTo table.now certificate.now.limit certificate.now.number) }
     ensures found { (f : Finding) → IsFindingFor table.now f.limit f → find_fault (length table.now.states) (length table.now.operations) f.limit ≡ None → certificate.now ≡ certificate_of table.now.name f → IsOk result }
 {
-    // That the canonical choices are refuted shows the number.
-    collision_or_witness();
-    canonical_choices_decide();
-    number_before_failure();
-    // A first witness is one of the canonical choices.
-    canonical_list();
+    accepted_is_right();
     if !is_of_type(certificate, table) {
         return Err(CheckFault::OtherType);
     }
-    let (limit, number) = (certificate.limit, certificate.number);
-    if !is_in_range(limit, number) {
+    let (version, limit, number) = (certificate.version, certificate.limit, certificate.number);
+    if !is_in_range(version, limit, number) {
         return Err(CheckFault::BadNumber);
     }
     check_witness(table, number, &certificate.witness)?;
-    check_evidence(table, limit, number, certificate.collisions.as_slice())
+    check_evidence(
+        table,
+        version,
+        limit,
+        number,
+        certificate.collisions.as_slice(),
+    )
 }

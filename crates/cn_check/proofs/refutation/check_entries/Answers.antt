@@ -1,25 +1,64 @@
-use Rattle.std.proofs.Common.{◌≡◌, arith, length, subst, ℕ}
-use Rattle.cn_search.specs.Evidence.{choices_for}
-use Rattle.cn_check.specs.Progress.{AreRefuted, HasComeTo}
+use Rattle.std.proofs.Common.{◌≡◌, ◌∙◌, ◌-◌, [], ℕ, List, ap, append-nil, arith, length, subst, sym}
+use Rattle.std.specs.List.{flat_map, range_with_len}
+use Rattle.cn_choice.specs.Canonical.{Choice, with_state}
+use Rattle.cn_check.specs.Progress.{AreRefuted, counting}
+use Rattle.cn_check.specs.Versions.{choices_in_version}
 use Rattle.cn_check.proofs.EntryLemmas.{past_end}
-use Rattle.cn_check.proofs.ProgressLemmas.{all_refuted, come_to_end, come_to_first}
+use Rattle.cn_check.proofs.ProgressLemmas.{all_counting, all_refuted, come_as, come_first, come_to_end, part_next, part_past}
+use Rattle.cn_check.proofs.StepLemmas.{range_first}
 use Rattle.cn_check.proofs.refutation.check_entries.Goals as goal
 
 pub loop-state-init : goal.loop-state-init
-loop-state-init c = come_to_first c.canonical_list.ensures.listed c.canonical_list.ensures.ascending c.args.table.now c.args.n c.args.entries.now
+loop-state-init c =
+    let t = c.args.table.now in
+    let v : ℕ = c.args.version in
+    let choices : List Choice = choices_in_version v t c.args.n in
+    let f : ℕ → List Choice = with_state (length t.operations) c.args.n in
+    let none : length t.states ≡ length t.states - 0 = omega arith in
+    record {
+      come = come_first choices 0 choices _ (all_counting v t c.args.n ∙ ap (λ (k : ℕ). counting v t (flat_map f (range_with_len 0 k))) none);
+      refuted = λ i l. absurd (omega arith);
+    }
+
+pub check_state-requires-clause-next : goal.check_state-requires-clause-next
+check_state-requires-clause-next c =
+    let t = c.args.table.now in
+    let v : ℕ = c.args.version in
+    let choices : List Choice = choices_in_version v t c.args.n in
+    let f : ℕ → List Choice = with_state (length t.operations) c.args.n in
+    let first = ap (λ (states : List ℕ). counting v t (flat_map f states)) (range_first c.loop-state.state (length t.states) (omega (arith, c.loop-state-test.true, c.states-state-end.ensures.number))) in
+    part_next choices 0 choices v t f c.loop-state.place c.loop-state.state _ (come_as choices 0 choices c.loop-state.place _ _ first c.loop-state.invariant.come) ([], sym (append-nil choices))
+
+pub loop-state-preserved : goal.loop-state-preserved
+loop-state-preserved c =
+    let t = c.args.table.now in
+    let v : ℕ = c.args.version in
+    let choices : List Choice = choices_in_version v t c.args.n in
+    let f : ℕ → List Choice = with_state (length t.operations) c.args.n in
+    let first = ap (λ (states : List ℕ). counting v t (flat_map f states)) (range_first c.loop-state.state (length t.states) (omega (arith, c.loop-state-test.true, c.states-state-end.ensures.number))) in
+    record {
+      come = part_past choices 0 choices v t f c.loop-state.place c.loop-state.state _ (come_as choices 0 choices c.loop-state.place _ _ first c.loop-state.invariant.come) c.in_ok-place.place c.in_ok-place.ensures.passed;
+      refuted = c.in_ok-place.ensures.refuted;
+    }
 
 pub returns-then-place-entries-clause-fault : goal.returns-then-place-entries-clause-fault
 returns-then-place-entries-clause-fault c =
     let t = c.args.table.now in
-    let last : c.loop-state.state ≡ length t.states = omega (arith, c.states-state-end.ensures.number) in
-    let come = subst (λ (state : ℕ). HasComeTo t c.args.n c.args.entries.now c.loop-state.place state 1 0) last c.loop-state.invariant in
-    let end = come_to_end c.canonical_list.ensures.listed c.canonical_list.ensures.ascending t c.args.n c.args.entries.now c.loop-state.place come in
-    (come.refuted, past_end (choices_for t c.args.n) c.args.entries.now c.loop-state.place end c.if-place-entries.true)
+    let v : ℕ = c.args.version in
+    let choices : List Choice = choices_in_version v t c.args.n in
+    let f : ℕ → List Choice = with_state (length t.operations) c.args.n in
+    let last : length t.states - c.loop-state.state ≡ 0 = omega (arith, c.loop-state-test.false, c.states-state-end.ensures.number) in
+    let none = ap (λ (k : ℕ). counting v t (flat_map f (range_with_len c.loop-state.state k))) last in
+    let end = come_to_end t choices c.args.entries.now c.loop-state.place (come_as choices 0 choices c.loop-state.place _ _ none c.loop-state.invariant.come) c.loop-state.invariant.refuted in
+    (c.loop-state.invariant.refuted, past_end choices c.args.entries.now c.loop-state.place end c.if-place-entries.true)
 
 pub returns-clause-refuted : goal.returns-clause-refuted
 returns-clause-refuted c =
     let t = c.args.table.now in
-    let last : c.loop-state.state ≡ length t.states = omega (arith, c.states-state-end.ensures.number) in
-    let come = subst (λ (state : ℕ). HasComeTo t c.args.n c.args.entries.now c.loop-state.place state 1 0) last c.loop-state.invariant in
-    let end = come_to_end c.canonical_list.ensures.listed c.canonical_list.ensures.ascending t c.args.n c.args.entries.now c.loop-state.place come in
-    all_refuted t (choices_for t c.args.n) c.args.entries.now (subst (AreRefuted t (choices_for t c.args.n) c.args.entries.now) end come.refuted) (omega (arith, end, c.if-place-entries.false))
+    let v : ℕ = c.args.version in
+    let choices : List Choice = choices_in_version v t c.args.n in
+    let f : ℕ → List Choice = with_state (length t.operations) c.args.n in
+    let last : length t.states - c.loop-state.state ≡ 0 = omega (arith, c.loop-state-test.false, c.states-state-end.ensures.number) in
+    let none = ap (λ (k : ℕ). counting v t (flat_map f (range_with_len c.loop-state.state k))) last in
+    let end = come_to_end t choices c.args.entries.now c.loop-state.place (come_as choices 0 choices c.loop-state.place _ _ none c.loop-state.invariant.come) c.loop-state.invariant.refuted in
+    all_refuted t choices c.args.entries.now (subst (AreRefuted t choices c.args.entries.now) end c.loop-state.invariant.refuted) (omega (arith, end, c.if-place-entries.false))

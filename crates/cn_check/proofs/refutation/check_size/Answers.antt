@@ -1,53 +1,77 @@
-use Rattle.std.proofs.Common.{◌≡◌, ℕ, ◌^◌, arith, sym, ◌∙◌, ap, true≢false, subst}
-use Rattle.cn_check.specs.Progress.{HasComeTo}
-use Rattle.cn_check.proofs.ProgressLemmas.{IsSplit, come_to_next_size, split_fits, split_fits_table, split_from, split_here, split_on, split_past}
+use Rattle.std.proofs.Common.{◌≡◌, ◌∷◌, ◌∙◌, ℕ, List, length, ap, sym}
+use Rattle.std.specs.List.{flat_map, refill}
+use Rattle.std.proofs.lemmas.List.{length-replicate}
+use Rattle.cn_choice.specs.Canonical.{Choice, with_first, with_size}
+use Rattle.cn_choice.specs.Rising.{rising_after}
+use Rattle.cn_check.specs.Progress.{AreRefuted, HasComeTo, counting}
+use Rattle.cn_check.specs.Versions.{choices_in_version}
+use Rattle.cn_check.proofs.ProgressLemmas.{come_as, come_first, none_counts, part_over, part_past}
+use Rattle.cn_check.proofs.StepLemmas.{first_list, written_over, zeros_known}
 use Rattle.cn_check.proofs.refutation.check_size.Goals as goal
-use Rattle.cn_check.proofs.refutation.check_size.Goals.{then-are_canonical+in_ok-place, else-are_canonical}
+use Rattle.cn_check.proofs.refutation.check_size.Goals.{then-all_count+in_ok-place, else-all_count}
 
-pub check_entry-requires-clause-here : goal.check_entry-requires-clause-here
-check_entry-requires-clause-here c =
+pub loop-a-init : goal.loop-a-init
+loop-a-init c =
     let t = c.args.table.now in
-    let list = c.list_at-list in
-    let teams = c.split_at-teams in
-    let split : IsSplit t c.args.n c.args.state.0 c.args.size c.loop-number.number list.result.items teams.result.0.now teams.result.1.now =
-    split_from t c.args.n c.args.state.0 c.args.size c.loop-number.number c.operations-operations.result list.result.items c.as_slice.result.now teams.result.0.now teams.result.1.now
-    c.requires.state c.requires.someone c.requires.half c.operations-operations.ensures.number list.ensures.long list.ensures.known list.ensures.number c.as_slice.ensures.value teams.ensures.front teams.ensures.back in
-    split_here t c.args.n c.args.state.0 c.args.size c.loop-number.number list.result.items teams.result.0.now teams.result.1.now split c.canonical_list.ensures.listed c.canonical_list.ensures.ascending c.choice_by_teams.ensures c.args.entries.now c.loop-number.place c.loop-number.invariant
-    ((c.are_canonical.ensures c.args.state.0).0 c.if-are_canonical.true)
+    let v : ℕ = c.args.version in
+    let m : ℕ = length t.operations in
+    let some = rw c.operations-operations.ensures.number at c.operations-operations.ensures.range.0 in
+    let first = first_list c.args.size 0 m some ∙ ap (λ (xs : List ℕ). xs ∷ rising_after m xs) (sym c.zeros-a.ensures) in
+    record {
+      known = rw c.zeros-a.ensures (zeros_known c.args.size m some);
+      long = ap (λ (xs : List ℕ). length xs) c.zeros-a.ensures ∙ length-replicate c.args.size 0;
+      come = come_first (choices_in_version v t c.args.n) c.args.start _ _ (ap (λ (lists : List (List ℕ)). counting v t (flat_map (with_first m c.args.n c.args.state.0) lists)) first);
+      refuted = c.requires.refuted;
+    }
 
-pub check_entry-requires-clause-fits : goal.check_entry-requires-clause-fits
-check_entry-requires-clause-fits c =
+pub returns-then-not-step-clause-passed : goal.returns-then-not-step-clause-passed
+returns-then-not-step-clause-passed c =
     let t = c.args.table.now in
-    let list = c.list_at-list in
-    let teams = c.split_at-teams in
-    let split : IsSplit t c.args.n c.args.state.0 c.args.size c.loop-number.number list.result.items teams.result.0.now teams.result.1.now =
-    split_from t c.args.n c.args.state.0 c.args.size c.loop-number.number c.operations-operations.result list.result.items c.as_slice.result.now teams.result.0.now teams.result.1.now
-    c.requires.state c.requires.someone c.requires.half c.operations-operations.ensures.number list.ensures.long list.ensures.known list.ensures.number c.as_slice.ensures.value teams.ensures.front teams.ensures.back in
-    split_fits_table t c.args.n c.args.state.0 teams.result.0.now teams.result.1.now c.requires.some c.requires.few
-    (split_fits t c.args.n c.args.state.0 c.args.size c.loop-number.number list.result.items teams.result.0.now teams.result.1.now split c.choice_by_teams.ensures)
-
-pub loop-number-preserved : goal.loop-number-preserved
-loop-number-preserved c =
-    let t = c.args.table.now in
-    let list = c.list_at-list in
-    let teams = c.split_at-teams in
-    let split : IsSplit t c.args.n c.args.state.0 c.args.size c.loop-number.number list.result.items teams.result.0.now teams.result.1.now =
-    split_from t c.args.n c.args.state.0 c.args.size c.loop-number.number c.operations-operations.result list.result.items c.as_slice.result.now teams.result.0.now teams.result.1.now
-    c.requires.state c.requires.someone c.requires.half c.operations-operations.ensures.number list.ensures.long list.ensures.known list.ensures.number c.as_slice.ensures.value teams.ensures.front teams.ensures.back in
-    elim c.if-are_canonical.branch [
-      | then-are_canonical+in_ok-place w ↦
-          rw (w.place-is, w.in_ok-place.ensures.next)
-          (split_past t c.args.n c.args.state.0 c.args.size c.loop-number.number list.result.items teams.result.0.now teams.result.1.now split c.canonical_list.ensures.listed c.canonical_list.ensures.ascending c.choice_by_teams.ensures c.args.entries.now c.loop-number.place c.loop-number.invariant
-          ((c.are_canonical.ensures c.args.state.0).0 w.if-are_canonical.true) w.in_ok-place.ensures.refuted)
-      | else-are_canonical w ↦
+    let v : ℕ = c.args.version in
+    let m : ℕ = length t.operations in
+    let s : ℕ = c.args.state.0 in
+    let a : List ℕ = c.loop-a.a.items in
+    let choices : List Choice = choices_in_version v t c.args.n in
+    let all : List Choice = counting v t (with_size m c.args.n s c.args.size) in
+    let past : HasComeTo choices c.args.start all c.if-all_count.place (counting v t (flat_map (with_first m c.args.n s) (rising_after m a))) = elim c.if-all_count.branch [
+      | then-all_count+in_ok-place w ↦
           rw w.place-is
-          (split_on t c.args.n c.args.state.0 c.args.size c.loop-number.number list.result.items teams.result.0.now teams.result.1.now split c.canonical_list.ensures.listed c.canonical_list.ensures.ascending c.choice_by_teams.ensures c.args.entries.now c.loop-number.place c.loop-number.invariant
-          (λ canonical. true≢false (rw w.if-are_canonical.false at (sym ((c.are_canonical.ensures c.args.state.0).1 canonical)))))
-    ]
+          (part_past choices c.args.start all v t (with_first m c.args.n s) c.loop-a.place a (rising_after m a) c.loop-a.invariant.come w.in_ok-place.place (rw w.as_slice-then-all_count.ensures.value at w.in_ok-place.ensures.passed))
+      | else-all_count w ↦
+          (let counts = rw c.as_slice.ensures.value at (sym c.all_count.ensures ∙ w.if-all_count.false) in
+          rw w.place-is (part_over choices c.args.start all v t (with_first m c.args.n s) c.loop-a.place a (rising_after m a) c.loop-a.invariant.come (none_counts v t s a _ counts)))
+    ] in
+    let none = rw (c.operations-operations.ensures.number, c.as_mut_slice.ensures.value) at (c.step.ensures.last c.if-not-step.true) in
+    come_as choices c.args.start all c.if-all_count.place _ _ (ap (λ (lists : List (List ℕ)). counting v t (flat_map (with_first m c.args.n s) lists)) none) past
 
-pub returns-clause-reached : goal.returns-clause-reached
-returns-clause-reached c =
-    let last : c.loop-number.number ≡ c.count_lists-number-end.result = omega arith in
-    let end = last ∙ (c.count_lists-number-end.ensures ∙ ap (λ (k : ℕ). k ^ c.args.n) c.operations-operations.ensures.number) in
-    come_to_next_size c.canonical_list.ensures.listed c.canonical_list.ensures.ascending c.args.table.now c.args.n c.args.entries.now c.loop-number.place c.args.state.0 c.args.size
-    (subst (HasComeTo c.args.table.now c.args.n c.args.entries.now c.loop-number.place c.args.state.0 c.args.size) end c.loop-number.invariant)
+pub loop-a-preserved : goal.loop-a-preserved
+loop-a-preserved c =
+    let t = c.args.table.now in
+    let v : ℕ = c.args.version in
+    let m : ℕ = length t.operations in
+    let s : ℕ = c.args.state.0 in
+    let a : List ℕ = c.loop-a.a.items in
+    let choices : List Choice = choices_in_version v t c.args.n in
+    let all : List Choice = counting v t (with_size m c.args.n s c.args.size) in
+    let past : HasComeTo choices c.args.start all c.if-all_count.place (counting v t (flat_map (with_first m c.args.n s) (rising_after m a))) = elim c.if-all_count.branch [
+      | then-all_count+in_ok-place w ↦
+          rw w.place-is
+          (part_past choices c.args.start all v t (with_first m c.args.n s) c.loop-a.place a (rising_after m a) c.loop-a.invariant.come w.in_ok-place.place (rw w.as_slice-then-all_count.ensures.value at w.in_ok-place.ensures.passed))
+      | else-all_count w ↦
+          (let counts = rw c.as_slice.ensures.value at (sym c.all_count.ensures ∙ w.if-all_count.false) in
+          rw w.place-is (part_over choices c.args.start all v t (with_first m c.args.n s) c.loop-a.place a (rising_after m a) c.loop-a.invariant.come (none_counts v t s a _ counts)))
+    ] in
+    let refuted : AreRefuted t choices c.args.entries.now c.if-all_count.place = elim c.if-all_count.branch [
+      | then-all_count+in_ok-place w ↦ rw w.place-is w.in_ok-place.ensures.refuted
+      | else-all_count w ↦ rw w.place-is c.loop-a.invariant.refuted
+    ] in
+    let more = rw (c.operations-operations.ensures.number, c.as_mut_slice.ensures.value) at (c.step.ensures.more c.if-not-step.false) in
+    let long = c.step.ensures.long ∙ ap (λ (xs : List ℕ). length xs) c.as_mut_slice.ensures.value in
+    let same : refill (length a) a c.step.new.list ≡ c.step.new.list = written_over a c.step.new.list long in
+    let known = rw (c.operations-operations.ensures.number, c.as_mut_slice.ensures.value) at c.step.ensures.known in
+    rw same (record {
+      known = known c.loop-a.invariant.known;
+      long = long ∙ c.loop-a.invariant.long;
+      come = come_as choices c.args.start all c.if-all_count.place _ _ (ap (λ (lists : List (List ℕ)). counting v t (flat_map (with_first m c.args.n s) lists)) more) past;
+      refuted = refuted;
+    })

@@ -1,10 +1,31 @@
-use Rattle.std.proofs.Common.{◌≡◌, ◌+◌, ◌/◌, arith, subst, ℕ}
-use Rattle.cn_check.specs.Progress.{HasComeTo}
-use Rattle.cn_check.proofs.ProgressLemmas.{come_to_next_state}
+use Rattle.std.proofs.Common.{◌+◌, ◌/◌, ℕ, List, length, ap}
+use Rattle.std.specs.List.{flat_map}
+use Rattle.cn_choice.specs.Canonical.{Choice, with_size, with_state}
+use Rattle.cn_check.specs.Progress.{counting}
+use Rattle.cn_check.specs.Versions.{choices_in_version}
+use Rattle.cn_check.proofs.ProgressLemmas.{come_as, part_next, part_past}
+use Rattle.cn_check.proofs.StepLemmas.{range_first}
 use Rattle.cn_check.proofs.refutation.check_state.Goals as goal
 
-pub returns-clause-reached : goal.returns-clause-reached
-returns-clause-reached c =
-    let last : c.loop-size.size ≡ c.args.n / 2 + 1 = omega arith in
-    come_to_next_state c.canonical_list.ensures.listed c.canonical_list.ensures.ascending c.args.table.now c.args.n c.args.entries.now c.loop-size.place c.args.state.0
-    (subst (λ (size : ℕ). HasComeTo c.args.table.now c.args.n c.args.entries.now c.loop-size.place c.args.state.0 size 0) last c.loop-size.invariant)
+pub check_size-requires-clause-next : goal.check_size-requires-clause-next
+check_size-requires-clause-next c =
+    let t = c.args.table.now in
+    let v : ℕ = c.args.version in
+    let f : ℕ → List Choice = with_size (length t.operations) c.args.n c.args.state.0 in
+    let all : List Choice = counting v t (with_state (length t.operations) c.args.n c.args.state.0) in
+    let choices : List Choice = choices_in_version v t c.args.n in
+    let first = ap (λ (sizes : List ℕ). counting v t (flat_map f sizes)) (range_first c.loop-size.size (c.args.n / 2 + 1) c.loop-size-test.true) in
+    part_next choices c.args.start all v t f c.loop-size.place c.loop-size.size _ (come_as choices c.args.start all c.loop-size.place _ _ first c.loop-size.invariant.come) c.requires.next
+
+pub loop-size-preserved : goal.loop-size-preserved
+loop-size-preserved c =
+    let t = c.args.table.now in
+    let v : ℕ = c.args.version in
+    let f : ℕ → List Choice = with_size (length t.operations) c.args.n c.args.state.0 in
+    let all : List Choice = counting v t (with_state (length t.operations) c.args.n c.args.state.0) in
+    let choices : List Choice = choices_in_version v t c.args.n in
+    let first = ap (λ (sizes : List ℕ). counting v t (flat_map f sizes)) (range_first c.loop-size.size (c.args.n / 2 + 1) c.loop-size-test.true) in
+    record {
+      come = part_past choices c.args.start all v t f c.loop-size.place c.loop-size.size _ (come_as choices c.args.start all c.loop-size.place _ _ first c.loop-size.invariant.come) c.in_ok-place.place c.in_ok-place.ensures.passed;
+      refuted = c.in_ok-place.ensures.refuted;
+    }

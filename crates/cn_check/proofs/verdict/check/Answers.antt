@@ -14,7 +14,7 @@ returns-in_err-check_witness-clause-refused c =
 
 pub returns-in_err-check_witness-clause-found : goal.returns-in_err-check_witness-clause-found
 returns-in_err-check_witness-clause-found c =
-    found_passes c.canonical_list.ensures.listed c.args.table.now c.args.certificate.now c.from_residual.result
+    found_passes c.accepted_is_right.ensures.found c.args.table.now c.args.certificate.now c.from_residual.result
     (witness_refused c.args.table.now _ c.args.certificate.now c.from_residual.result c.certificate.view_is (c.is_of_type.ensures.0 c.if-not-is_of_type.false) (c.is_in_range.ensures.0 c.if-not-is_in_range.false)
     c.in_err-check_witness.field-0.0 c.from_residual.ensures.1 c.in_err-check_witness.ensures.fault)
 
@@ -31,12 +31,12 @@ returns-clause-refused c =
 
 pub returns-clause-number : goal.returns-clause-number
 returns-clause-number c =
-    number_if_accepted (record { collision = c.collision_or_witness.ensures.exactly; refuted = c.canonical_choices_decide.ensures.refuted; found = c.number_before_failure.ensures.found; none = c.number_before_failure.ensures.none }) c.args.table.now c.args.certificate.now c.check_evidence.result
+    number_if_accepted c.accepted_is_right.ensures.number c.args.table.now c.args.certificate.now c.check_evidence.result
     (evidence_accepted c.args.table.now _ c.args.certificate.now c.check_evidence.result c.certificate.view_is (c.is_of_type.ensures.0 c.if-not-is_of_type.false) (c.is_in_range.ensures.0 c.if-not-is_in_range.false)
     c.in_ok-check_witness.ensures.fits c.in_ok-check_witness.ensures.witness (rw c.as_slice.ensures.value at c.check_evidence.ensures.refuted))
 
 pub returns-clause-found : goal.returns-clause-found
 returns-clause-found c =
-    found_passes c.canonical_list.ensures.listed c.args.table.now c.args.certificate.now c.check_evidence.result
+    found_passes c.accepted_is_right.ensures.found c.args.table.now c.args.certificate.now c.check_evidence.result
     (evidence_refused c.args.table.now _ c.args.certificate.now c.check_evidence.result c.certificate.view_is (c.is_of_type.ensures.0 c.if-not-is_of_type.false) (c.is_in_range.ensures.0 c.if-not-is_in_range.false)
     c.in_ok-check_witness.ensures.fits c.in_ok-check_witness.ensures.witness (rw c.as_slice.ensures.value at c.check_evidence.ensures.fault))

@@ -1,0 +1,74 @@
+//! Lists of operations that never fall, one after another in lexicographic order.
+ghost use Rattle.std.specs.Prelude.{◌≡◌, ◌<◌, ◌≤◌, ◌+◌, ◌-◌, ◌∷◌, ◌++◌, [], ℕ, false, length, replicate, take, get_or, All, IsTrue};
+ghost use Rattle.cn_choice.specs.Canonical.{second_lists};
+ghost use Rattle.cn_choice.specs.Rising.{rising_after};
+
+use arrayvec::ArrayVec;
+
+/// So many zeros: the first list of this length.
+pub(crate) fn zeros(count: usize) -> ArrayVec<u8, 8>
+    requires { count ≤ 8 }
+    ensures { result.items ≡ replicate count 0 }
+{
+    let mut list = ArrayVec::new();
+    for _k in 0..count {
+        list.push(0);
+    }
+    list
+}
+
+/// The list of these numbers.
+fn list_of(numbers: &[u8]) -> ArrayVec<u8, 8>
+    requires { length numbers.now ≤ 8 }
+    ensures { result.items ≡ numbers.now }
+{
+    let mut list = ArrayVec::new();
+    for number in numbers {
+        list.push(*number);
+    }
+    list
+}
+
+/// The first list of team B that goes with this one of team A, where they are n together.
+pub(crate) fn first_beside(a: &[u8], n: u8) -> ArrayVec<u8, 8>
+    requires half { length a.now + length a.now ≤ n }
+    requires few { n ≤ 8 }
+    ensures first { (limit : ℕ) → 1 ≤ limit → second_lists limit n a.now ≡ result.items ∷ rising_after limit result.items }
+    ensures known { (limit : ℕ) → 1 ≤ limit → All (λ x. x < limit) a.now → All (λ x. x < limit) result.items }
+{
+    if a.len() + a.len() < n as usize {
+        zeros(n as usize - a.len())
+    } else {
+        list_of(a)
+    }
+}
+
+/// Each number from the place on becomes one more than that at the place.
+fn raise_from(list: &mut [u8], place: usize)
+    requires place { place < length list.old }
+    requires small { get_or list.old place 0 < 255 }
+    ensures { list.new ≡ take place list.old ++ replicate (length list.old - place) (get_or list.old place 0 + 1) }
+{
+    let value = list[place] + 1;
+    for later in place..list.len() {
+        list[later] = value;
+    }
+}
+
+/// Turns the list into the next one of its length that never falls, with numbers below the limit,
+/// and answers whether there is one; the last one stays as it is.
+pub(crate) fn step(list: &mut [u8], limit: u8) -> bool
+    requires { 1 ≤ limit }
+    ensures more { IsTrue result → rising_after limit list.old ≡ list.new ∷ rising_after limit list.new }
+    ensures last { result ≡ false → rising_after limit list.old ≡ [] }
+    ensures known { All (λ x. x < limit) list.old → All (λ x. x < limit) list.new }
+    ensures long { length list.new ≡ length list.old }
+{
+    for place in (0..list.len()).rev() {
+        if list[place] < limit - 1 {
+            raise_from(list, place);
+            return true;
+        }
+    }
+    false
+}
