@@ -1,40 +1,18 @@
 //! Worked schedules, rounds by hand, and every world of two plans.
-ghost use Rattle.std.specs.Prelude.{◌≡◌, ◌<◌, ◌≤◌, length, IfOk};
+ghost use Rattle.std.specs.Prelude.{◌≡◌, ◌<◌, length, IfOk};
 ghost use Rattle.cn_proto.specs.Plan.{processes_of};
 ghost use Rattle.cn_agree.specs.Beginning.{AllHaveBegun};
 ghost use Rattle.cn_agree.specs.Rounds.{RunsBy, decision_at};
 
-mod types;
-
-use super::*;
-use crate::schedule::{decisions, round_after, stranger_at};
-use cn_choice::Choices;
+use crate::fixtures::plan_for;
+use crate::types::*;
+use cn_agree::{Round, ScheduleFault, laws, run_schedule};
 use cn_proto::Plan;
-use cn_table::read_table;
 use std::alloc::{AllocError, Global};
 use std::collections::BTreeSet;
 use std::fmt::Debug;
 use std::process::Abort;
 use std::test::Fail;
-use types::*;
-
-/// The plan of the first canonical witness for n processes: `[0,[0],[0]]` of test_and_set for two,
-/// `[0,[0],[1,1]]` of sticky_bit for three.
-fn plan_for(rt: &impl Abort, alloc: Global, text: &str, n: u8) -> Result<Plan, Fail>
-    requires some { 2 ≤ n }
-    requires few { n ≤ 8 }
-{
-    let table = read_table(alloc, text.as_bytes())?;
-    for choice in Choices::new(&table, n) {
-        let processes = choice.a.len() + choice.b.len();
-        assert!(rt; processes >= 2 && processes <= 8);
-        assert!(rt; choice.is_for(&table, processes as u8));
-        if let Ok(plan) = Plan::from_witness(alloc, &table, &choice) {
-            return Ok(plan);
-        }
-    }
-    Err("no witness")?
-}
 
 #[test]
 fn decides_worked_schedules(rt: HostRuntime) -> Result<(), Fail> {
@@ -115,6 +93,20 @@ fn refuses_inputs_and_schedules(rt: HostRuntime) -> Result<(), Fail> {
     Ok(())
 }
 
+/// A round in which each process has begun with its input.
+fn begin_all<V: Copy>(alloc: Global, plan: &Plan, inputs: &[V]) -> Result<Round<V>, AllocError>
+    requires { length inputs.now ≡ processes_of plan.now }
+    ensures of_plan { IfOk result (RunsBy plan.now) }
+    ensures begun { IfOk result (AllHaveBegun (processes_of plan.now)) }
+{
+    laws::every_round::<V>();
+    let mut round = Round::new(alloc, plan)?;
+    for p in 0..plan.processes() {
+        round.begin(p, inputs[usize::from(p)]);
+    }
+    Ok(round)
+}
+
 /// One step of a process that has not decided.
 fn take_step<V: Copy>(rt: &impl Abort, plan: &Plan, round: &mut Round<V>, p: u8) -> Option<V>
     requires of_plan { RunsBy plan.now round.old }
@@ -135,6 +127,7 @@ fn decision_of<V: Copy>(plan: &Plan, round: &Round<V>, p: u8) -> Option<V>
     requires process { p < processes_of plan.now }
     ensures { result ≡ decision_at round.now p }
 {
+    laws::every_round::<V>();
     round.decision(p)
 }
 
@@ -147,7 +140,7 @@ fn second_comes_first<V: Copy + PartialEq + Debug>(
     let plan = plan_for(rt, alloc, TEST_AND_SET, 2)?;
     assert_eq!(rt; plan.processes(), 2);
     assert_eq!(rt; inputs.len(), 2);
-    let mut round = round_after(alloc, &plan, inputs, &[])?;
+    let mut round = begin_all(alloc, &plan, inputs)?;
     assert_eq!(rt; take_step(rt, &plan, &mut round, 1), None);
     assert_eq!(rt; round.fixed(), None, "it has written only");
     assert_eq!(rt; take_step(rt, &plan, &mut round, 1), None);
@@ -202,7 +195,7 @@ fn judge(
     }
 }
 
-/// The round after a schedule of processes of the plan.
+/// The round after a schedule, in which no process is named after it has decided.
 fn replay(
     rt: &impl Abort,
     alloc: Global,
@@ -210,11 +203,30 @@ fn replay(
     inputs: &[u64],
     schedule: &[u8],
 ) -> Result<Round<u64>, Fail>
-    ensures { IfOk result (λ round. length round.locals ≡ processes_of plan.now) }
+    ensures { IfOk result (RunsBy plan.now) }
 {
     assert_eq!(rt; inputs.len(), usize::from(plan.processes()));
-    assert!(rt; stranger_at(plan.processes(), schedule).is_none());
-    Ok(round_after(alloc, plan, inputs, schedule)?)
+    let mut round = begin_all(alloc, plan, inputs)?;
+    for p in schedule {
+        assert!(rt; *p < plan.processes());
+        take_step(rt, plan, &mut round, *p);
+    }
+    Ok(round)
+}
+
+/// What each process has decided.
+fn decisions(
+    alloc: Global,
+    plan: &Plan,
+    round: &Round<u64>,
+) -> Result<Vec<Option<u64>>, AllocError>
+    requires { RunsBy plan.now round.now }
+{
+    let mut decisions = Vec::new(alloc);
+    for p in 0..plan.processes() {
+        decisions.push(decision_of(plan, round, p))?;
+    }
+    Ok(decisions)
 }
 
 /// How many worlds there are, each judged. They are found step by step, and each is kept as a
@@ -233,7 +245,7 @@ fn judge_worlds(
         for schedule in &schedules {
             let round = replay(rt, alloc, plan, inputs, schedule)?;
             if worlds.insert(format!(in alloc; "{round:?}")?)? {
-                let decisions = decisions(alloc, &round, plan.processes())?;
+                let decisions = decisions(alloc, plan, &round)?;
                 judge(rt, &decisions, inputs, schedule, places);
                 push_next(alloc, &decisions, schedule, &mut next)?;
             }

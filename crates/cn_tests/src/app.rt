@@ -3,7 +3,6 @@
 mod agree;
 mod arguments;
 mod calls;
-mod certificates;
 mod check;
 mod faults;
 mod find;
@@ -11,9 +10,11 @@ mod replay;
 mod serve;
 mod show;
 mod streams;
-mod types;
 
-use super::*;
+use cn_app::{
+    AppFault, Outcome, Part, Source, read_calls, read_events, read_inputs, read_schedule, run_agree,
+    run_check, run_find, run_replay, run_serve, run_show,
+};
 use std::alloc::Global;
 use std::test::Fail;
 

@@ -1,14 +1,11 @@
 //! Certificates of worked types, written and read, and what is wrong with other texts.
-mod texts;
-mod types;
-
-use super::*;
+use crate::certificates::*;
+use crate::types::*;
+use cn_cert::{CertFault, Certificate, read_certificate, write_certificate};
 use cn_search::find;
 use cn_table::read_table;
 use std::alloc::{AllocError, Global};
 use std::test::Fail;
-use texts::*;
-use types::*;
 
 /// The text of the certificate that a text spells.
 fn written_again(alloc: Global, text: &str) -> Result<String, CertFault> {

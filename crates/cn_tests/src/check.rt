@@ -1,16 +1,13 @@
 //! Verdicts on the certificates of worked types, and on certificates with something wrong.
-mod certificates;
-mod types;
-
-use super::*;
-use certificates::*;
+use crate::certificates::*;
+use crate::types::*;
 use cn_cert::{Certificate, read_certificate};
+use cn_check::{CheckFault, check};
 use cn_search::find;
 use cn_table::{Table, read_table};
 use std::alloc::{AllocError, Global};
 use std::test::Fail;
 use std::thread::Threads;
-use types::*;
 
 /// The verdict as text.
 fn text_of(alloc: Global, verdict: Result<(), CheckFault>) -> Result<String, AllocError> {

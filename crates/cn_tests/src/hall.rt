@@ -6,12 +6,11 @@ ghost use Rattle.std.specs.Vec.{vec_capacity};
 ghost use Rattle.cn_hall.specs.Seats.{IsSeatOf, pending};
 ghost use Rattle.cn_hall.specs.declared.call.Go.TheVariants.{On};
 
-mod types;
-
-use super::*;
-use cn_choice::Choices;
+use crate::fixtures::plan_for;
+use crate::gates::{AlwaysOn, StopsAt, is_raised, meet_flag};
+use crate::types::*;
+use cn_hall::{CallFault, Gate, Go, Hall, OpenFault, Reply, Seat, open};
 use cn_log::{Event, LogCore, replay};
-use cn_proto::Plan;
 use cn_table::{Operation, Response, State, read_table};
 use std::alloc::{AllocError, Global};
 use std::cmp::Ordering as Order;
@@ -19,9 +18,7 @@ use std::process::Abort;
 use std::sync::Wait;
 use std::sync::atomic::{AtomicBool, Ordering};
 use std::test::Fail;
-use std::thread;
 use std::thread::{Threads, join};
-use types::*;
 
 /// The schedule of the calls that overlap: each event so many times.
 const PARTS: [(Event, u8); 5] = [
@@ -31,44 +28,6 @@ const PARTS: [(Event, u8); 5] = [
     (Event::Step(0), 5),
     (Event::Step(1), 8),
 ];
-
-/// A gate that always says On.
-#[derive(Drop)]
-struct AlwaysOn;
-
-impl Gate for AlwaysOn {
-    ghost use Rattle.cn_hall.specs.declared.call.Go.TheVariants.{On};
-
-    ghost says = { λ _. On };
-
-    fn before(&mut self, _seat: &Seat, _step: u32) -> Go {
-        Go::On
-    }
-
-    fn said(&self) -> Go {
-        Go::On
-    }
-}
-
-/// A gate that stops before the step of one number.
-#[derive(Drop)]
-struct StopsAt {
-    stop: u32,
-    last: Go,
-}
-
-impl Gate for StopsAt {
-    ghost says = { λ g. g.last };
-
-    fn before(&mut self, _seat: &Seat, step: u32) -> Go {
-        self.last = if step == self.stop { Go::Stop } else { Go::On };
-        self.last
-    }
-
-    fn said(&self) -> Go {
-        self.last
-    }
-}
 
 /// A gate that raises a flag before step 3 and holds until another is up.
 #[derive(Drop)]
@@ -95,23 +54,6 @@ impl Gate for HoldsFor<'_> {
     }
 }
 
-/// Raises one flag, and waits for the other.
-fn meet_flag(raised: &AtomicBool, awaited: &AtomicBool) -> bool {
-    raised.store(true, Ordering::SeqCst);
-    is_raised(awaited)
-}
-
-/// Whether the flag goes up within 1,000,000 looks.
-fn is_raised(awaited: &AtomicBool) -> bool {
-    for _look in 0..1_000_000u32 {
-        if awaited.load(Ordering::SeqCst) {
-            return true;
-        }
-        thread::yield_now();
-    }
-    false
-}
-
 /// A core for two processes, in which the counter starts at 0, after these events.
 fn core_after(
     rt: &impl Abort,
@@ -125,15 +67,8 @@ fn core_after(
     ensures two { IfOk result (λ core. processes_of core.opening.plan ≡ 2) }
     ensures operation { IfOk result (λ core. 0 < length core.opening.object.operations) }
 {
-    let table = read_table(alloc, TEST_AND_SET.as_bytes())?;
+    let plan = plan_for(rt, alloc, TEST_AND_SET, 2)?;
     let object = read_table(alloc, COUNTER_3.as_bytes())?;
-    let Some(choice) = Choices::new(&table, 2).next() else {
-        panic!(rt; "no choice")
-    };
-    assert!(rt; choice.is_for(&table, 2));
-    let Ok(plan) = Plan::from_witness(alloc, &table, &choice) else {
-        panic!(rt; "no witness")
-    };
     assert!(rt; object.states() >= 1);
     let core = replay(alloc, &plan, &object, State(0), capacity, events)?;
     assert!(rt; core.processes() == 2 && core.operations() == 1);

@@ -18,6 +18,10 @@ mod check;
 #[cfg(test)]
 mod choice;
 #[cfg(test)]
+mod fixtures;
+#[cfg(test)]
+mod gates;
+#[cfg(test)]
 mod hall;
 #[cfg(test)]
 mod log;

@@ -2,39 +2,18 @@
 //! replayed.
 ghost use Rattle.std.specs.Prelude.{◌≤◌};
 
-mod types;
-
-use super::*;
-use crate::event_list::fault_of;
-use cn_choice::Choices;
+use crate::fixtures::plan_for;
+use crate::types::*;
+use cn_log::{Event, LogCore, ReplayFault, StepAnswer, laws, replay};
 use cn_proto::Plan;
 use cn_table::{Operation, State, Table, read_table};
 use std::alloc::{AllocError, Global};
 use std::process::Abort;
 use std::test::Fail;
-use types::*;
 
 const CALL_0: (Event, u8) = (Event::Invoke(0, 0), 1);
 
 const CALL_1: (Event, u8) = (Event::Invoke(1, 0), 1);
-
-/// The plan of the first canonical witness for n processes: `[0,[0],[0]]` of test_and_set for two,
-/// `[0,[0],[1,1]]` of sticky_bit for three.
-fn plan_for(rt: &impl Abort, alloc: Global, text: &str, n: u8) -> Result<Plan, Fail>
-    requires some { 2 ≤ n }
-    requires few { n ≤ 8 }
-{
-    let table = read_table(alloc, text.as_bytes())?;
-    for choice in Choices::new(&table, n) {
-        let processes = choice.a.len() + choice.b.len();
-        assert!(rt; processes >= 2 && processes <= 8);
-        assert!(rt; choice.is_for(&table, processes as u8));
-        if let Ok(plan) = Plan::from_witness(alloc, &table, &choice) {
-            return Ok(plan);
-        }
-    }
-    Err("no witness")?
-}
 
 /// A list of events: each so many times.
 fn events_of(alloc: Global, parts: &[(Event, u8)]) -> Result<Vec<Event>, AllocError> {
@@ -50,19 +29,24 @@ fn events_of(alloc: Global, parts: &[(Event, u8)]) -> Result<Vec<Event>, AllocEr
 /// The event comes. What it answers, as text: the process, its slot and its response; or that the
 /// process found no slot.
 fn come(rt: &impl Abort, alloc: Global, core: &mut LogCore, event: Event) -> Result<String, Fail> {
-    assert!(rt; fault_of(core, 0, event).is_none());
+    let (Event::Invoke(p, _) | Event::Step(p)) = event;
+    assert!(rt; p < core.processes());
     match event {
         Event::Invoke(p, operation) => {
+            assert!(rt; operation < core.operations() && core.is_idle(p) && !core.at_end(p));
             core.invoke(p, Operation(operation))?;
             Ok(String::new(alloc))
         }
-        Event::Step(p) => match core.step(p)? {
-            StepAnswer::Working => Ok(String::new(alloc)),
-            StepAnswer::Answered { slot, response } => {
-                Ok(format!(in alloc; "{p} {slot} {};", response.0)?)
+        Event::Step(p) => {
+            assert!(rt; !core.is_idle(p));
+            match core.step(p)? {
+                StepAnswer::Working => Ok(String::new(alloc)),
+                StepAnswer::Answered { slot, response } => {
+                    Ok(format!(in alloc; "{p} {slot} {};", response.0)?)
+                }
+                StepAnswer::Full => Ok(format!(in alloc; "{p} full;")?),
             }
-            StepAnswer::Full => Ok(format!(in alloc; "{p} full;")?),
-        },
+        }
     }
 }
 

@@ -1,16 +1,9 @@
-use super::*;
+//! Tables of worked types, and what is wrong with other files.
+use crate::types::TEST_AND_SET;
+use cn_table::{Operation, Response, State, TableFault, read_table};
 use std::alloc::{AllocError, Global};
 use std::process::Abort;
 use std::test::Fail;
-
-const TEST_AND_SET: &str = r#"name = "test_and_set"
-states = ["zero", "one"]
-responses = ["zero", "one"]
-[[operation]]
-name = "tas"
-response = ["zero", "one"]
-next = ["one", "one"]
-"#;
 
 const OPERATION: &str = r#"[[operation]]
 name = "tas"

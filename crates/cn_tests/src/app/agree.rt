@@ -1,8 +1,8 @@
 //! The command `agree`.
-use super::certificates::*;
 use super::streams::Narrow;
-use super::types::*;
 use super::*;
+use crate::certificates::*;
+use crate::types::*;
 
 /// What `agree` says of a run.
 fn said<T>(

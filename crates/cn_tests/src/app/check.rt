@@ -1,8 +1,8 @@
 //! The command `check`.
-use super::certificates::*;
 use super::streams::{Drip, Narrow, Padded};
-use super::types::*;
 use super::*;
+use crate::certificates::*;
+use crate::types::*;
 
 /// What `check` says of a certificate.
 fn said<T>(rt: &T, alloc: Global, table: &str, certificate: &str) -> Result<String, Fail> {

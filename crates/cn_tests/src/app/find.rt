@@ -1,8 +1,8 @@
 //! The command `find`.
-use super::certificates::*;
 use super::streams::{Drip, Narrow};
-use super::types::*;
 use super::*;
+use crate::certificates::*;
+use crate::types::*;
 
 #[test]
 fn writes_certificates(rt: HostRuntime) -> Result<(), Fail> {

@@ -1,10 +1,11 @@
 //! The command `replay`.
-use super::certificates::*;
 use super::streams::{Drip, Narrow, Padded};
-use super::types::*;
 use super::*;
-use crate::replay::{Service, read_service, serve_from};
-use cn_log::Event;
+use crate::certificates::*;
+use crate::fixtures::plan_for;
+use crate::types::*;
+use cn_log::{Event, replay};
+use cn_table::{State, read_table};
 
 /// How `replay` ends, with a certificate and the counter, and what it writes.
 fn served<T>(
@@ -112,20 +113,16 @@ fn serves_three_processes(rt: HostRuntime) -> Result<(), Fail> {
 #[test]
 fn serves_the_same_from_copies(rt: HostRuntime) -> Result<(), Fail> {
     let alloc = rt.alloc();
-    let service = read_service(
-        alloc,
-        &mut TEST_AND_SET.as_bytes(),
-        &mut TEST_AND_SET_AT_3.as_bytes(),
-        &mut COUNTER_3.as_bytes(),
-    )?;
-    let copy = Service {
-        plan: service.plan.copy(alloc)?,
-        object: service.object.copy(alloc)?,
-    };
+    let plan = plan_for(&rt, alloc, TEST_AND_SET, 2)?;
+    let object = read_table(alloc, COUNTER_3.as_bytes())?;
     let events = read_events(alloc, HELPED)?;
-    let served = serve_from(alloc, &copy, "0", 4, &events)?;
-    assert_eq!(rt; served.lines.as_str(), HELPED_LINES);
-    assert_eq!(rt; served.outcome, Outcome::Whole);
+    assert!(rt; object.states() >= 1);
+    let core = replay(alloc, &plan, &object, State(0), 4, &events)?;
+    let (plan_copy, object_copy) = (plan.copy(alloc)?, object.copy(alloc)?);
+    let again = replay(alloc, &plan_copy, &object_copy, State(0), 4, &events)?;
+    assert_eq!(rt; core.entries().len(), 2);
+    assert_eq!(rt; again.entries(), core.entries());
+    assert_eq!(rt; again.schedule(), core.schedule());
     Ok(())
 }
 

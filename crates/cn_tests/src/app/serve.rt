@@ -2,51 +2,14 @@
 ghost use Rattle.std.specs.Prelude.{◌≡◌, ℕ};
 ghost use Rattle.cn_hall.specs.declared.call.Go.TheVariants.{On};
 
-use super::certificates::*;
-use super::types::*;
 use super::*;
+use crate::certificates::*;
+use crate::gates::{AlwaysOn, StopsAt, meet_flag};
+use crate::types::*;
 use cn_hall::{Gate, Go, Seat};
 use std::sync::Wait;
-use std::sync::atomic::{AtomicBool, Ordering};
-use std::thread;
+use std::sync::atomic::AtomicBool;
 use std::thread::Threads;
-
-/// A gate that lets every call go on.
-#[derive(Drop)]
-struct AlwaysOn;
-
-impl Gate for AlwaysOn {
-    ghost use Rattle.cn_hall.specs.declared.call.Go.TheVariants.{On};
-
-    ghost says = { λ _. On };
-
-    fn before(&mut self, _seat: &Seat, _step: u32) -> Go {
-        Go::On
-    }
-
-    fn said(&self) -> Go {
-        Go::On
-    }
-}
-
-/// A gate that stops each call before its third step.
-#[derive(Drop)]
-struct StopsThird {
-    last: Go,
-}
-
-impl Gate for StopsThird {
-    ghost says = { λ g. g.last };
-
-    fn before(&mut self, _seat: &Seat, step: u32) -> Go {
-        self.last = if step == 3 { Go::Stop } else { Go::On };
-        self.last
-    }
-
-    fn said(&self) -> Go {
-        self.last
-    }
-}
 
 /// A flag for each of two processes.
 #[derive(Drop)]
@@ -59,23 +22,11 @@ impl Flags {
     /// A process raises its flag. Whether that of the other goes up.
     fn meet(&self, process: u8) -> bool {
         if process == 0 {
-            meet(&self.zero, &self.one)
+            meet_flag(&self.zero, &self.one)
         } else {
-            meet(&self.one, &self.zero)
+            meet_flag(&self.one, &self.zero)
         }
     }
-}
-
-/// Raises one flag. Whether the other goes up within 1,000,000 looks.
-fn meet(raised: &AtomicBool, awaited: &AtomicBool) -> bool {
-    raised.store(true, Ordering::SeqCst);
-    for _look in 0..1_000_000u32 {
-        if awaited.load(Ordering::SeqCst) {
-            return true;
-        }
-        thread::yield_now();
-    }
-    false
 }
 
 /// A gate that waits for the other process before the first step of a call, and stops the call
@@ -179,7 +130,10 @@ fn tells_calls_that_are_stopped(rt: HostRuntime) -> Result<(), Fail> {
         "0",
         "4",
         "none/0",
-        |_| StopsThird { last: Go::On },
+        |_| StopsAt {
+            stop: 3,
+            last: Go::On,
+        },
     )?;
     assert_eq!(rt; text.as_str(), "stopped 1\nevents i1:0,s1,s1\n");
     assert_eq!(rt; ended, Ok(Outcome::Cut));

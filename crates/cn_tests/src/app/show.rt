@@ -1,8 +1,8 @@
 //! The command `show`.
-use super::certificates::*;
 use super::streams::Narrow;
-use super::types::*;
 use super::*;
+use crate::certificates::*;
+use crate::types::*;
 use cn_cert::CertFault;
 
 const TEST_AND_SET_PLAN: &str = "\
