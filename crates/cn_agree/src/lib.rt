@@ -22,6 +22,3 @@ pub use local::{Local, Stage};
 pub use node::Node;
 pub use round::Round;
 pub use schedule::{Decided, run_schedule};
-
-#[cfg(test)]
-mod tests;

@@ -36,6 +36,3 @@ pub use output::Outcome;
 pub use replay::run_replay;
 pub use serve::run_serve;
 pub use show::run_show;
-
-#[cfg(test)]
-mod tests;

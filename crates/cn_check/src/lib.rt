@@ -17,6 +17,3 @@ mod witness;
 
 pub use fault::CheckFault;
 pub use verdict::check;
-
-#[cfg(test)]
-mod tests;

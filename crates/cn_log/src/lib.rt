@@ -27,6 +27,3 @@ pub use event::{Event, StepAnswer};
 pub use event_list::replay;
 pub use fault::ReplayFault;
 pub use log_core::LogCore;
-
-#[cfg(test)]
-mod tests;

@@ -21,6 +21,3 @@ pub use fault::TableFault;
 pub use names::is_name;
 pub use read::read_table;
 pub use table::Table;
-
-#[cfg(test)]
-mod tests;

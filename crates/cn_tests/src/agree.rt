@@ -1,0 +1,354 @@
+//! Worked schedules, rounds by hand, and every world of two plans.
+ghost use Rattle.std.specs.Prelude.{◌≡◌, ◌<◌, length, IfOk};
+ghost use Rattle.cn_proto.specs.Plan.{processes_of};
+ghost use Rattle.cn_agree.specs.Beginning.{AllHaveBegun};
+ghost use Rattle.cn_agree.specs.Rounds.{RunsBy, decision_at};
+
+use crate::fixtures::plan_for;
+use crate::types::*;
+use cn_agree::{Round, ScheduleFault, laws, run_schedule};
+use cn_proto::Plan;
+use std::alloc::{AllocError, Global};
+use std::collections::BTreeSet;
+use std::fmt::Debug;
+use std::process::Abort;
+use std::test::Fail;
+
+#[test]
+fn decides_worked_schedules(rt: HostRuntime) -> Result<(), Fail> {
+    let tas = plan_for(&rt, rt.alloc(), TEST_AND_SET, 2)?;
+    let sticky = plan_for(&rt, rt.alloc(), STICKY_BIT, 3)?;
+    let (two, three) = ([10, 20].as_slice(), [5, 6, 7].as_slice());
+    let rows = [
+        (
+            &tas,
+            two,
+            [1, 1, 0, 0, 0, 0].as_slice(),
+            [Some(20), None].as_slice(),
+        ),
+        (
+            &sticky,
+            three,
+            [2, 2, 1, 1, 1, 1, 1, 1, 1, 1, 0, 0, 0, 0].as_slice(),
+            [Some(7), Some(7), None].as_slice(),
+        ),
+        (&sticky, three, [].as_slice(), [None, None, None].as_slice()),
+        (
+            &sticky,
+            three,
+            [0, 0, 0].as_slice(),
+            [None, None, None].as_slice(),
+        ),
+        (
+            &sticky,
+            three,
+            [0, 0, 0, 0].as_slice(),
+            [Some(5), None, None].as_slice(),
+        ),
+        (
+            &sticky,
+            three,
+            [0, 0, 0, 0, 0].as_slice(),
+            [Some(5), None, None].as_slice(),
+        ),
+    ];
+    for (plan, inputs, schedule, expected) in rows {
+        let decided = run_schedule(rt.alloc(), plan, inputs, schedule)?;
+        assert_eq!(rt; decided.decisions.as_slice(), expected, "{schedule:?}");
+    }
+    Ok(())
+}
+
+#[test]
+fn refuses_inputs_and_schedules(rt: HostRuntime) -> Result<(), Fail> {
+    let plan = plan_for(&rt, rt.alloc(), TEST_AND_SET, 2)?;
+    let rows = [
+        ([10].as_slice(), [].as_slice(), Some("1 InputCount")),
+        (
+            [10, 20, 30].as_slice(),
+            [0, 2].as_slice(),
+            Some("1 InputCount"),
+        ),
+        (
+            [10, 20].as_slice(),
+            [0, 2].as_slice(),
+            Some("2 NoSuchProcess 1"),
+        ),
+        (
+            [10, 20].as_slice(),
+            [255, 1, 2].as_slice(),
+            Some("2 NoSuchProcess 0"),
+        ),
+        ([10, 20].as_slice(), [0, 1].as_slice(), None),
+    ];
+    for (inputs, schedule, expected) in rows {
+        let found = match run_schedule(rt.alloc(), &plan, inputs, schedule) {
+            Ok(_) => None,
+            Err(fault) => Some(format!(in rt.alloc(); "{fault}")?),
+        };
+        assert_eq!(rt; found.as_deref(), expected, "{inputs:?} {schedule:?}");
+    }
+    Ok(())
+}
+
+#[test]
+fn prints_every_fault(rt: HostRuntime) -> Result<(), Fail> {
+    let rows = [
+        (ScheduleFault::InputCount, "1 InputCount"),
+        (ScheduleFault::NoSuchProcess(1), "2 NoSuchProcess 1"),
+        (ScheduleFault::from(AllocError), "3 OutOfMemory"),
+    ];
+    for (fault, expected) in rows {
+        let text = format!(in rt.alloc(); "{fault}")?;
+        assert_eq!(rt; text.as_str(), expected);
+    }
+    Ok(())
+}
+
+/// The plan of the witness `[0,[0],[1,1,1,1,1,1,1]]` of sticky_bit, for eight processes.
+fn plan_for_eight(rt: &impl Abort, alloc: Global) -> Result<Plan, Fail> {
+    let table = read_table(alloc, STICKY_BIT.as_bytes())?;
+    for choice in Choices::new(&table, 8) {
+        if choice.b.first() == Some(&1) {
+            assert!(rt; choice.a.len() + choice.b.len() == 8);
+            assert!(rt; choice.is_for(&table, 8));
+            return Ok(Plan::from_witness(alloc, &table, &choice)?);
+        }
+    }
+    Err("no witness")?
+}
+
+/// Process 7 of eight, with seven places on its path, runs alone, so many steps; and then the
+/// others take more steps than they need.
+fn seven_first(alloc: Global, alone: u8, more: u8) -> Result<Vec<u8>, AllocError> {
+    let mut schedule = Vec::new(alloc);
+    for _step in 0..alone {
+        schedule.push(7)?;
+    }
+    for _step in 0..more {
+        for p in 0..7 {
+            schedule.push(p)?;
+        }
+    }
+    Ok(schedule)
+}
+
+#[test]
+fn decides_for_eight(rt: HostRuntime) -> Result<(), Fail> {
+    let alloc = rt.alloc();
+    let plan = plan_for_eight(&rt, alloc)?;
+    let inputs = [10, 20, 30, 40, 50, 60, 70, 80];
+    let rows = [
+        (27, 0, [None; 8]),
+        (
+            28,
+            0,
+            [None, None, None, None, None, None, None, Some(80)],
+        ),
+        (28, 28, [Some(80); 8]),
+    ];
+    for (alone, more, expected) in rows {
+        let schedule = seven_first(alloc, alone, more)?;
+        let decided = run_schedule(alloc, &plan, &inputs, &schedule)?;
+        assert_eq!(rt; decided.decisions.as_slice(), expected.as_slice());
+        let round = replay(&rt, alloc, &plan, &inputs, &schedule)?;
+        assert_eq!(rt; round.fixed(), Some(80));
+    }
+    Ok(())
+}
+
+/// A round in which each process has begun with its input.
+fn begin_all<V: Copy>(alloc: Global, plan: &Plan, inputs: &[V]) -> Result<Round<V>, AllocError>
+    requires { length inputs.now ≡ processes_of plan.now }
+    ensures of_plan { IfOk result (RunsBy plan.now) }
+    ensures begun { IfOk result (AllHaveBegun (processes_of plan.now)) }
+{
+    laws::every_round::<V>();
+    let mut round = Round::new(alloc, plan)?;
+    for p in 0..plan.processes() {
+        round.begin(p, inputs[usize::from(p)]);
+    }
+    Ok(round)
+}
+
+/// One step of a process that has not decided.
+fn take_step<V: Copy>(rt: &impl Abort, plan: &Plan, round: &mut Round<V>, p: u8) -> Option<V>
+    requires of_plan { RunsBy plan.now round.old }
+    requires begun { AllHaveBegun (processes_of plan.now) round.old }
+    requires process { p < processes_of plan.now }
+    ensures of_plan { RunsBy plan.now round.new }
+    ensures begun { AllHaveBegun (processes_of plan.now) round.new }
+{
+    laws::every_round::<V>();
+    plan.is_sound();
+    assert!(rt; decision_of(plan, round, p).is_none());
+    round.step(plan, p)
+}
+
+/// What a process has decided.
+fn decision_of<V: Copy>(plan: &Plan, round: &Round<V>, p: u8) -> Option<V>
+    requires of_plan { RunsBy plan.now round.now }
+    requires process { p < processes_of plan.now }
+    ensures { result ≡ decision_at round.now p }
+{
+    laws::every_round::<V>();
+    round.decision(p)
+}
+
+/// Process 1 comes first at the object of test_and_set, and then process 0 runs alone.
+fn second_comes_first<V: Copy + PartialEq + Debug>(
+    rt: &impl Abort,
+    alloc: Global,
+    inputs: &[V],
+) -> Result<(), Fail> {
+    let plan = plan_for(rt, alloc, TEST_AND_SET, 2)?;
+    assert_eq!(rt; plan.processes(), 2);
+    assert_eq!(rt; inputs.len(), 2);
+    let mut round = begin_all(alloc, &plan, inputs)?;
+    assert_eq!(rt; take_step(rt, &plan, &mut round, 1), None);
+    assert_eq!(rt; round.fixed(), None, "it has written only");
+    assert_eq!(rt; take_step(rt, &plan, &mut round, 1), None);
+    assert_eq!(rt; round.fixed(), Some(inputs[1]), "it has applied");
+    assert_eq!(rt; take_step(rt, &plan, &mut round, 0), None);
+    assert_eq!(rt; take_step(rt, &plan, &mut round, 0), None);
+    assert_eq!(rt; take_step(rt, &plan, &mut round, 0), None);
+    assert_eq!(rt; decision_of(&plan, &round, 0), None);
+    assert_eq!(rt; take_step(rt, &plan, &mut round, 0), Some(inputs[1]));
+    assert_eq!(rt; decision_of(&plan, &round, 0), Some(inputs[1]));
+    assert_eq!(rt; decision_of(&plan, &round, 1), None);
+    assert_eq!(rt; round.fixed(), Some(inputs[1]));
+    Ok(())
+}
+
+#[test]
+fn rounds_run_by_hand(rt: HostRuntime) -> Result<(), Fail> {
+    second_comes_first(&rt, rt.alloc(), [10u64, 20].as_slice())?;
+    second_comes_first(&rt, rt.alloc(), [('a', true), ('b', false)].as_slice())?;
+    Ok(())
+}
+
+/// Asks of the decisions in a world, of which it knows nothing else, that they are equal, are
+/// inputs of processes that have taken a step, and came with the last of four steps for each of so
+/// many places.
+fn judge(
+    rt: &impl Abort,
+    decisions: &[Option<u64>],
+    inputs: &[u64],
+    schedule: &[u8],
+    places: &[usize],
+) {
+    let mut agreed = None;
+    for (p, (decision, places)) in decisions.iter().zip(places).enumerate() {
+        let steps = schedule.iter().filter(|q| usize::from(**q) == p).count();
+        assert_eq!(rt;
+            decision.is_some(),
+            steps / 4 >= *places,
+            "{p} after {schedule:?}"
+        );
+        if let Some(value) = decision {
+            let valid = schedule
+                .iter()
+                .any(|q| inputs.get(usize::from(*q)) == Some(value));
+            assert!(rt; valid, "{value} after {schedule:?}");
+            assert!(rt;
+                agreed.is_none() || agreed == Some(*value),
+                "{value} after {schedule:?}"
+            );
+            agreed = Some(*value);
+        }
+    }
+}
+
+/// The round after a schedule, in which no process is named after it has decided.
+fn replay(
+    rt: &impl Abort,
+    alloc: Global,
+    plan: &Plan,
+    inputs: &[u64],
+    schedule: &[u8],
+) -> Result<Round<u64>, Fail>
+    ensures { IfOk result (RunsBy plan.now) }
+{
+    assert_eq!(rt; inputs.len(), usize::from(plan.processes()));
+    let mut round = begin_all(alloc, plan, inputs)?;
+    for p in schedule {
+        assert!(rt; *p < plan.processes());
+        take_step(rt, plan, &mut round, *p);
+    }
+    Ok(round)
+}
+
+/// What each process has decided.
+fn decisions(
+    alloc: Global,
+    plan: &Plan,
+    round: &Round<u64>,
+) -> Result<Vec<Option<u64>>, AllocError>
+    requires { RunsBy plan.now round.now }
+{
+    let mut decisions = Vec::new(alloc);
+    for p in 0..plan.processes() {
+        decisions.push(decision_of(plan, round, p))?;
+    }
+    Ok(decisions)
+}
+
+/// How many worlds there are, each judged. They are found step by step, and each is kept as a
+/// schedule that leads to it.
+fn judge_worlds(
+    rt: &impl Abort,
+    alloc: Global,
+    plan: &Plan,
+    inputs: &[u64],
+    places: &[usize],
+) -> Result<usize, Fail> {
+    let mut worlds = BTreeSet::new(alloc);
+    let mut schedules = vec![in alloc; Vec::new(alloc)]?;
+    for _step in 0..25 {
+        let mut next = Vec::new(alloc);
+        for schedule in &schedules {
+            let round = replay(rt, alloc, plan, inputs, schedule)?;
+            if worlds.insert(format!(in alloc; "{round:?}")?)? {
+                let decisions = decisions(alloc, plan, &round)?;
+                judge(rt, &decisions, inputs, schedule, places);
+                push_next(alloc, &decisions, schedule, &mut next)?;
+            }
+        }
+        schedules = next;
+    }
+    assert!(rt; schedules.is_empty());
+    Ok(worlds.len())
+}
+
+/// Adds the schedules with one more step of each process that has not decided.
+fn push_next(
+    alloc: Global,
+    decisions: &[Option<u64>],
+    schedule: &[u8],
+    next: &mut Vec<Vec<u8>>,
+) -> Result<(), AllocError> {
+    for (p, decision) in (0u8..=255).zip(decisions) {
+        if decision.is_none() {
+            let mut longer = schedule.to_vec(alloc)?;
+            longer.push(p)?;
+            next.push(longer)?;
+        }
+    }
+    Ok(())
+}
+
+#[test]
+fn every_world_keeps_consensus(rt: HostRuntime) -> Result<(), Fail> {
+    // The counts are those that a separate program found.
+    let rows = [
+        (TEST_AND_SET, [10, 20].as_slice(), [1, 1].as_slice(), 34),
+        (STICKY_BIT, [5, 6, 7].as_slice(), [1, 2, 2].as_slice(), 884),
+    ];
+    for (text, inputs, places, expected) in rows {
+        assert!(rt; inputs.len() >= 2 && inputs.len() <= 8);
+        let plan = plan_for(&rt, rt.alloc(), text, inputs.len() as u8)?;
+        let worlds = judge_worlds(&rt, rt.alloc(), &plan, inputs, places)?;
+        assert_eq!(rt; worlds, expected, "{text}");
+    }
+    Ok(())
+}

@@ -1,0 +1,47 @@
+//! Lists and plans that tests of several crates start from.
+ghost use Rattle.std.specs.Prelude.{◌≡◌, ◌<◌, ◌≤◌, ◌↔◌, length, All, IsTrue};
+
+use arrayvec::ArrayVec;
+use cn_choice::Choices;
+use cn_proto::Plan;
+use cn_table::read_table;
+use std::alloc::Global;
+use std::process::Abort;
+use std::test::Fail;
+
+/// The list of these numbers.
+pub(super) fn list_of(numbers: &[u8]) -> ArrayVec<u8, 8>
+    requires { length numbers.now ≤ 8 }
+    ensures { result.items ≡ numbers.now }
+{
+    let mut list = ArrayVec::new();
+    for number in numbers {
+        list.push(*number);
+    }
+    list
+}
+
+/// Whether each of the numbers is below the limit.
+pub(super) fn are_below(numbers: &[u8], limit: u8) -> bool
+    ensures { IsTrue result ↔ All (λ x. x < limit) numbers.now }
+{
+    numbers.iter().all(|x| *x < limit)
+}
+
+/// The plan of the first canonical witness for n processes: `[0,[0],[0]]` of test_and_set for two,
+/// `[0,[0],[1,1]]` of sticky_bit for three.
+pub(super) fn plan_for(rt: &impl Abort, alloc: Global, text: &str, n: u8) -> Result<Plan, Fail>
+    requires some { 2 ≤ n }
+    requires few { n ≤ 8 }
+{
+    let table = read_table(alloc, text.as_bytes())?;
+    for choice in Choices::new(&table, n) {
+        let processes = choice.a.len() + choice.b.len();
+        assert!(rt; processes >= 2 && processes <= 8);
+        assert!(rt; choice.is_for(&table, processes as u8));
+        if let Ok(plan) = Plan::from_witness(alloc, &table, &choice) {
+            return Ok(plan);
+        }
+    }
+    Err("no witness")?
+}

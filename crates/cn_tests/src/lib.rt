@@ -1,0 +1,35 @@
+//! The tests of all library crates: what no contract says.
+//!
+//! Each module is named after the crate that it tests. A test calls the public functions on worked
+//! values, whose answers come from outside the program: numbers and texts of worked types, fakes
+//! that fail, and threads that overlap.
+#![tactic(auto)]
+
+#[cfg(test)]
+mod agree;
+#[cfg(test)]
+mod app;
+#[cfg(test)]
+mod cert;
+#[cfg(test)]
+mod certificates;
+#[cfg(test)]
+mod check;
+#[cfg(test)]
+mod choice;
+#[cfg(test)]
+mod fixtures;
+#[cfg(test)]
+mod gates;
+#[cfg(test)]
+mod hall;
+#[cfg(test)]
+mod log;
+#[cfg(test)]
+mod proto;
+#[cfg(test)]
+mod search;
+#[cfg(test)]
+mod table;
+#[cfg(test)]
+mod types;

@@ -1,0 +1,94 @@
+//! The search choice by choice, in one thread and with nothing left out, to compare with.
+ghost use Rattle.std.specs.Prelude.{◌≤◌};
+
+use cn_search::Finding;
+use cn_choice::{Choice, Choices, Collision, Examined, Team, examine, outcomes};
+use cn_table::Table;
+use std::alloc::Global;
+use std::process::Abort;
+use std::test::Fail;
+
+/// Whether no process has a pair in the result sets of both teams.
+fn keeps_apart(rt: &impl Abort, table: &Table, choice: &Choice) -> bool {
+    let n = choice.a.len() + choice.b.len();
+    assert!(rt; 2 <= n && n <= 8 && choice.is_for(table, n as u8));
+    for process in 0..n as u8 {
+        let after_a = outcomes(table, choice, Team::A, process);
+        let after_b = outcomes(table, choice, Team::B, process);
+        if after_a.meets(&after_b) {
+            return false;
+        }
+    }
+    true
+}
+
+/// The first live canonical witness for n processes, if there is one.
+fn first_witness(rt: &impl Abort, table: &Table, n: u8) -> Option<Choice>
+    requires some { 2 ≤ n }
+    requires few { n ≤ 8 }
+{
+    for choice in Choices::new(table, n) {
+        if keeps_apart(rt, table, &choice) {
+            return Some(choice);
+        }
+    }
+    None
+}
+
+/// The recorded collision of a choice that is no witness.
+fn recorded_collision(rt: &impl Abort, table: &Table, choice: &Choice) -> Option<Collision> {
+    let n = choice.a.len() + choice.b.len();
+    assert!(rt; 2 <= n && n <= 8 && choice.is_for(table, n as u8));
+    match examine(table, choice) {
+        Examined::Meets(collision) => Some(collision),
+        Examined::Splits => None,
+    }
+}
+
+/// The recorded collision of each live canonical choice for n processes.
+fn recorded_collisions(
+    rt: &impl Abort,
+    alloc: Global,
+    table: &Table,
+    n: u8,
+) -> Result<Vec<Collision>, Fail>
+    requires some { 2 ≤ n }
+    requires few { n ≤ 8 }
+{
+    let mut collisions = Vec::new(alloc);
+    for choice in Choices::new(table, n) {
+        collisions.push(recorded_collision(rt, table, &choice).ok_or("a witness")?)?;
+    }
+    Ok(collisions)
+}
+
+/// The number up to the limit, with its evidence.
+pub(super) fn find(
+    rt: &impl Abort,
+    alloc: Global,
+    table: &Table,
+    limit: u8,
+) -> Result<Finding, Fail> {
+    assert!(rt; 2 <= limit && limit <= 8);
+    let mut number = None;
+    let mut witness = None;
+    for n in 2..limit + 1 {
+        let Some(choice) = first_witness(rt, table, n) else {
+            let collisions = recorded_collisions(rt, alloc, table, n)?;
+            return Ok(Finding {
+                limit,
+                number,
+                witness,
+                collisions,
+            });
+        };
+        number = Some(n);
+        witness = Some(choice);
+    }
+    Ok(Finding {
+        limit,
+        number,
+        witness,
+        collisions: Vec::new(alloc),
+    })
+}

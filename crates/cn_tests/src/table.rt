@@ -1,0 +1,199 @@
+//! Tables of worked types, and what is wrong with other files.
+use crate::types::TEST_AND_SET;
+use cn_table::{Operation, Response, State, TableFault, read_table};
+use std::alloc::{AllocError, Global};
+use std::process::Abort;
+use std::test::Fail;
+
+const OPERATION: &str = r#"[[operation]]
+name = "tas"
+response = ["zero", "one"]
+next = ["one", "one"]
+"#;
+
+#[test]
+fn answers_each_look_up(rt: HostRuntime) -> Result<(), Fail> {
+    let read = read_table(rt.alloc(), TEST_AND_SET.as_bytes())?;
+    let copy = read.copy(rt.alloc())?;
+    for table in [&read, &copy] {
+        assert!(rt; table.states() == 2 && table.operations() == 1 && table.responses() == 2);
+        assert_eq!(rt; table.name(), "test_and_set");
+        for (state, response) in [(0, 0), (1, 1)] {
+            assert!(rt; state < table.states());
+            assert_eq!(rt;
+                table.apply(Operation(0), State(state)),
+                (Response(response), State(1))
+            );
+        }
+        assert_eq!(rt; table.state_name(State(1)), "one");
+        assert_eq!(rt; table.operation_name(Operation(0)), "tas");
+        assert_eq!(rt; table.response_name(Response(0)), "zero");
+        assert_eq!(rt; table.find_state("one"), Some(State(1)));
+        assert_eq!(rt; table.find_state("tas"), None);
+        assert_eq!(rt; table.find_operation("tas"), Some(Operation(0)));
+        assert_eq!(rt; table.find_operation("one"), None);
+        assert_eq!(rt; table.find_response("one"), Some(Response(1)));
+        assert_eq!(rt; table.find_response("two"), None);
+    }
+    Ok(())
+}
+
+/// What is wrong with the file of test-and-set, with one change.
+fn fault_at(alloc: Global, from: &str, to: &str) -> Result<Option<TableFault>, AllocError> {
+    let text = TEST_AND_SET.replacen(alloc, from, to, 1)?;
+    Ok(read_table(alloc, text.as_bytes()).err())
+}
+
+/// A list of texts: the prefix, with each of so many numbers.
+fn numbered(alloc: Global, prefix: char, count: usize) -> Result<String, AllocError> {
+    let mut out = String::new(alloc);
+    for i in 0..count {
+        out.push_str(format!(in alloc; "\"{prefix}{i}\", ")?.as_str())?;
+    }
+    Ok(out)
+}
+
+#[test]
+fn answers_the_least_fault(rt: HostRuntime) -> Result<(), Fail> {
+    let alloc = rt.alloc();
+    let many = numbered(alloc, 's', 17)?;
+    let many_alike = "\"s0\", ".repeat(alloc, 17)?;
+    let five_and_many = format!(in alloc; "5\nstates = [{many}")?;
+    for (from, to, fault) in [
+        ("name", "extra = 1\nname", TableFault::UnknownKey),
+        (
+            "responses = [\"zero\", \"one\"]\n",
+            "",
+            TableFault::MissingKey,
+        ),
+        ("\"test_and_set\"", "5", TableFault::WrongKind),
+        ("test_and_set", "TAS", TableFault::BadName),
+        ("test_and_set", "", TableFault::BadName),
+        ("\"zero\", \"one\"", many.as_str(), TableFault::Count),
+        ("\"zero\", \"one\"", "", TableFault::Count),
+        (OPERATION, "operation = []", TableFault::Count),
+        (OPERATION, "operation = 5", TableFault::WrongKind),
+        (OPERATION, "operation = [5]", TableFault::WrongKind),
+        (
+            "[\"zero\", \"one\"]",
+            "[\"zero\", \"zero\"]",
+            TableFault::Repeated,
+        ),
+        ("[\"one\", \"one\"]", "[\"one\"]", TableFault::RowLength),
+        (
+            "[\"one\", \"one\"]",
+            "[\"one\", \"two\"]",
+            TableFault::UnknownName,
+        ),
+        (
+            "name = \"test_and_set\"",
+            "extra = 1\nname = \"TAS\"",
+            TableFault::UnknownKey,
+        ),
+        (
+            "\"test_and_set\"\nstates = [\"zero\", \"one\"",
+            five_and_many.as_str(),
+            TableFault::WrongKind,
+        ),
+        ("\"zero\", \"one\"", many_alike.as_str(), TableFault::Count),
+        ("[\"one\", \"one\"]", "[\"two\"]", TableFault::RowLength),
+    ] {
+        assert_eq!(rt; fault_at(alloc, from, to)?, Some(fault), "{from} as {to}");
+    }
+    assert_eq!(rt; read_table(alloc, &[0xff]).err(), Some(TableFault::NotToml));
+    Ok(())
+}
+
+#[test]
+fn reads_names_of_1_to_32_bytes(rt: HostRuntime) -> Result<(), Fail> {
+    let alloc = rt.alloc();
+    for (length, fault) in [
+        (0, Some(TableFault::BadName)),
+        (1, None),
+        (32, None),
+        (33, Some(TableFault::BadName)),
+    ] {
+        let name = "a".repeat(alloc, length)?;
+        assert_eq!(rt;
+            fault_at(alloc, "test_and_set", name.as_str())?,
+            fault,
+            "{length} bytes"
+        );
+    }
+    Ok(())
+}
+
+/// The file of a type with so many states, responses and operations.
+fn sized(
+    alloc: Global,
+    states: usize,
+    responses: usize,
+    operations: usize,
+) -> Result<String, AllocError> {
+    let state_names = numbered(alloc, 's', states)?;
+    let response_names = numbered(alloc, 'r', responses)?;
+    let mut out = format!(in alloc;
+        "name = \"sized\"\nstates = [{state_names}]\nresponses = [{response_names}]\n"
+    )?;
+    let response = "\"r0\", ".repeat(alloc, states)?;
+    for o in 0..operations {
+        let operation = format!(in alloc;
+            "[[operation]]\nname = \"o{o}\"\nresponse = [{response}]\nnext = [{state_names}]\n"
+        )?;
+        out.push_str(operation.as_str())?;
+    }
+    Ok(out)
+}
+
+#[test]
+fn reads_up_to_16_states_and_responses_and_8_operations(rt: HostRuntime) -> Result<(), Fail> {
+    for (states, responses, operations, fault) in [
+        (1, 1, 1, None),
+        (16, 16, 8, None),
+        (17, 16, 8, Some(TableFault::Count)),
+        (16, 17, 8, Some(TableFault::Count)),
+        (16, 16, 9, Some(TableFault::Count)),
+    ] {
+        let text = sized(rt.alloc(), states, responses, operations)?;
+        let got = read_table(rt.alloc(), text.as_bytes()).err();
+        assert_eq!(rt; got, fault, "{states} {responses} {operations}");
+    }
+    Ok(())
+}
+
+#[test]
+fn reads_each_form(rt: HostRuntime) -> Result<(), Fail> {
+    for text in [
+        "responses = [\"x\"]\nstates = [\"x\"]\nname = \"x\"\n[[operation]]\nnext = [\"x\"]\nname = \"x\"\nresponse = [\"x\"]\n",
+        "operation = [{ response = [\"x\"], next = [\"x\"], name = \"x\" }]\nname = \"x\"\nstates = [\"x\"]\nresponses = [\"x\"]\n",
+    ] {
+        let table = read_table(rt.alloc(), text.as_bytes())?;
+        assert!(rt; table.states() == 1 && table.operations() == 1 && table.responses() == 1);
+        assert_eq!(rt; table.name(), "x");
+        assert_eq!(rt; table.operation_name(Operation(0)), "x");
+        assert_eq!(rt;
+            table.apply(Operation(0), State(0)),
+            (Response(0), State(0))
+        );
+    }
+    Ok(())
+}
+
+#[test]
+fn reads_each_prefix(rt: HostRuntime) {
+    let bytes = TEST_AND_SET.as_bytes();
+    for end in 0..=bytes.len() {
+        let fault = if end + 1 >= bytes.len() {
+            None
+        } else if end == 0 || bytes[end] == b'\n' || bytes[end - 1] == b'\n' {
+            Some(TableFault::MissingKey)
+        } else {
+            Some(TableFault::NotToml)
+        };
+        assert_eq!(rt;
+            read_table(rt.alloc(), &bytes[..end]).err(),
+            fault,
+            "the first {end} bytes"
+        );
+    }
+}
