@@ -105,19 +105,6 @@ fn prints_every_fault(rt: HostRuntime) -> Result<(), Fail> {
     Ok(())
 }
 
-/// The plan of the witness `[0,[0],[1,1,1,1,1,1,1]]` of sticky_bit, for eight processes.
-fn plan_for_eight(rt: &impl Abort, alloc: Global) -> Result<Plan, Fail> {
-    let table = read_table(alloc, STICKY_BIT.as_bytes())?;
-    for choice in Choices::new(&table, 8) {
-        if choice.b.first() == Some(&1) {
-            assert!(rt; choice.a.len() + choice.b.len() == 8);
-            assert!(rt; choice.is_for(&table, 8));
-            return Ok(Plan::from_witness(alloc, &table, &choice)?);
-        }
-    }
-    Err("no witness")?
-}
-
 /// Process 7 of eight, with seven places on its path, runs alone, so many steps; and then the
 /// others take more steps than they need.
 fn seven_first(alloc: Global, alone: u8, more: u8) -> Result<Vec<u8>, AllocError> {
@@ -136,7 +123,7 @@ fn seven_first(alloc: Global, alone: u8, more: u8) -> Result<Vec<u8>, AllocError
 #[test]
 fn decides_for_eight(rt: HostRuntime) -> Result<(), Fail> {
     let alloc = rt.alloc();
-    let plan = plan_for_eight(&rt, alloc)?;
+    let plan = plan_for(&rt, alloc, STICKY_BIT, 8)?;
     let inputs = [10, 20, 30, 40, 50, 60, 70, 80];
     let rows = [
         (27, 0, [None; 8]),
@@ -273,7 +260,9 @@ fn replay(
     let mut round = begin_all(alloc, plan, inputs)?;
     for p in schedule {
         assert!(rt; *p < plan.processes());
-        take_step(rt, plan, &mut round, *p);
+        if decision_of(plan, &round, *p).is_none() {
+            take_step(rt, plan, &mut round, *p);
+        }
     }
     Ok(round)
 }

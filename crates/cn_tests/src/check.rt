@@ -280,7 +280,7 @@ fn answers_the_first_of_two_faults(rt: HostRuntime) -> Result<(), Fail> {
 fn misses_no_choice_of_three_shot(rt: HostRuntime) -> Result<(), Fail> {
     let table = read_table(rt.alloc(), THREE_SHOT.as_bytes())?;
     let mut certificate = found(&rt, rt.alloc(), &table, 4)?;
-    assert_eq!(rt; certificate.collisions.len(), 84);
+    assert_eq!(rt; certificate.collisions.len(), 70);
     let last = certificate.collisions.pop();
     assert!(rt; last.is_some());
     assert_eq!(rt; check(&table, &certificate), Err(CheckFault::TooFew));

@@ -292,20 +292,12 @@ fn core_for_eight(rt: &impl Abort, alloc: Global) -> Result<LogCore, Fail>
     ensures eight { IfOk result (λ core. processes_of core.opening.plan ≡ 8) }
     ensures operation { IfOk result (λ core. 0 < length core.opening.object.operations) }
 {
-    let table = read_table(alloc, STICKY_BIT.as_bytes())?;
     let object = read_table(alloc, COUNTER_3.as_bytes())?;
     assert!(rt; object.states() >= 1);
-    for choice in Choices::new(&table, 8) {
-        if choice.b.first() == Some(&1) {
-            assert!(rt; choice.a.len() + choice.b.len() == 8);
-            assert!(rt; choice.is_for(&table, 8));
-            let plan = Plan::from_witness(alloc, &table, &choice)?;
-            let core = LogCore::new(alloc, &plan, &object, State(0), 1024)?;
-            assert!(rt; core.processes() == 8 && core.operations() == 1);
-            return Ok(core);
-        }
-    }
-    Err("no witness")?
+    let plan = plan_for(rt, alloc, STICKY_BIT, 8)?;
+    let core = LogCore::new(alloc, &plan, &object, State(0), 1024)?;
+    assert!(rt; core.processes() == 8 && core.operations() == 1);
+    Ok(core)
 }
 
 #[test]

@@ -4,7 +4,7 @@ ghost use Rattle.std.specs.Prelude.{◌≤◌};
 
 use crate::fixtures::plan_for;
 use crate::types::*;
-use cn_log::{Event, LogCore, ReplayFault, StepAnswer, laws, replay};
+use cn_log::{Entry, Event, LogCore, ReplayFault, StepAnswer, laws, replay};
 use cn_proto::Plan;
 use cn_table::{Operation, State, Table, read_table};
 use std::alloc::{AllocError, Global};
@@ -300,19 +300,6 @@ fn prints_every_fault(rt: HostRuntime) -> Result<(), Fail> {
     Ok(())
 }
 
-/// The plan of the witness `[0,[0],[1,1,1,1,1,1,1]]` of sticky_bit, for eight processes.
-fn plan_for_eight(rt: &impl Abort, alloc: Global) -> Result<Plan, Fail> {
-    let table = read_table(alloc, STICKY_BIT.as_bytes())?;
-    for choice in Choices::new(&table, 8) {
-        if choice.b.first() == Some(&1) {
-            assert!(rt; choice.a.len() + choice.b.len() == 8);
-            assert!(rt; choice.is_for(&table, 8));
-            return Ok(Plan::from_witness(alloc, &table, &choice)?);
-        }
-    }
-    Err("no witness")?
-}
-
 /// Process 0 of eight, with one place on its path, makes 1,023 calls, each of five steps; then
 /// process 7, with seven places, makes one, and goes through all 1,024 slots.
 fn filling(alloc: Global) -> Result<Vec<Event>, AllocError> {
@@ -333,7 +320,7 @@ fn filling(alloc: Global) -> Result<Vec<Event>, AllocError> {
 #[test]
 fn fills_the_greatest_log(rt: HostRuntime) -> Result<(), Fail> {
     let alloc = rt.alloc();
-    let plan = plan_for_eight(&rt, alloc)?;
+    let plan = plan_for(&rt, alloc, STICKY_BIT, 8)?;
     let object = read_table(alloc, COUNTER_3.as_bytes())?;
     assert!(rt; object.states() >= 1);
     let mut events = filling(alloc)?;

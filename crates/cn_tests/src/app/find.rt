@@ -8,11 +8,11 @@ use crate::types::*;
 fn writes_certificates(rt: HostRuntime) -> Result<(), Fail> {
     let alloc = rt.alloc();
     for (table, limit, certificate) in [
-        (TEST_AND_SET, 3, TEST_AND_SET_AT_3),
-        (IDLE, 2, IDLE_AT_2),
-        (STICKY_BIT, 4, STICKY_BIT_AT_4),
-        (STICKY_BIT, 3, STICKY_BIT_AT_3),
-        (THREE_SHOT, 3, THREE_SHOT_AT_3),
+        (TEST_AND_SET, 3, FOUND_TEST_AND_SET_AT_3),
+        (IDLE, 2, FOUND_IDLE_AT_2),
+        (STICKY_BIT, 4, FOUND_STICKY_BIT_AT_4),
+        (STICKY_BIT, 8, FOUND_STICKY_BIT_AT_8),
+        (THREE_SHOT, 3, FOUND_THREE_SHOT_AT_3),
     ] {
         let mut written = Vec::new(alloc);
         let outcome = run_find(&rt, alloc, &mut table.as_bytes(), &mut written, limit);
@@ -28,9 +28,9 @@ fn refuses_tables_and_limits(rt: HostRuntime) -> Result<(), Fail> {
     let alloc = rt.alloc();
     for (table, limit, expected) in [
         (TEST_AND_SET, 1, "find: 1 BadLimit"),
-        (TEST_AND_SET, 7, "find: 1 BadLimit"),
-        (WIDE, 6, "find: 2 TooManyChoices 407616"),
-        ("name = 5", 7, "table: 3 MissingKey"),
+        (TEST_AND_SET, 9, "find: 1 BadLimit"),
+        (WIDE, 8, "find: 2 TooManyChoices 3822192"),
+        ("name = 5", 9, "table: 3 MissingKey"),
         ("extra = 1", 3, "table: 2 UnknownKey"),
     ] {
         let mut written = Vec::new(alloc);
@@ -76,7 +76,7 @@ fn a_fault_of_the_reader_ends_the_reading(rt: HostRuntime) -> Result<(), Fail> {
 #[test]
 fn a_fault_of_the_writer_is_told(rt: HostRuntime) -> Result<(), Fail> {
     let alloc = rt.alloc();
-    let whole = TEST_AND_SET_AT_3.len() + 1;
+    let whole = FOUND_TEST_AND_SET_AT_3.len() + 1;
     for (room, expected) in [
         (0, Err(AppFault::Write)),
         (1, Err(AppFault::Write)),
