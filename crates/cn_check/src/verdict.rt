@@ -123,11 +123,6 @@ pub fn check(table: &Table, certificate: &Certificate) -> Result<(), CheckFault>
         return Err(CheckFault::BadNumber);
     }
     check_witness(table, number, &certificate.witness)?;
-    check_evidence(
-        table,
-        version,
-        limit,
-        number,
-        certificate.collisions.as_slice(),
-    )
+    let entries = certificate.collisions.as_slice();
+    check_evidence(table, version, limit, number, entries)
 }

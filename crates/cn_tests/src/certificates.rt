@@ -56,3 +56,7 @@ pub const FOUND_STICKY_BIT_AT_8: &str =
 
 pub const FOUND_THREE_SHOT_AT_3: &str =
     r#"{"collisions":[],"limit":3,"number":3,"type":"three_shot","version":2,"witness":[0,[0],[1,1]]}"#;
+
+/// The entries with which a certificate of version 1 of three shots at limit 4 ends.
+pub const THREE_SHOT_OF_THE_LAST_STATE: &str =
+    r#"{"collisions":[[5,[0],[0,0,0],0,[0],[1,0]],[5,[0],[0,0,1],0,[0],[1,0]],[5,[0],[0,1,1],0,[0],[1,0]],[5,[0],[1,1,1],0,[0],[1,0]],[5,[1],[0,0,0],0,[0],[1,0]],[5,[1],[0,0,1],0,[0],[1,0]],[5,[1],[0,1,1],0,[0],[1,0]],[5,[1],[1,1,1],0,[0],[1,0]],[5,[0,0],[0,0],0,[0],[2,0]],[5,[0,0],[0,1],0,[0],[2,0]],[5,[0,0],[1,1],0,[0],[2,0]],[5,[0,1],[0,1],0,[0],[2,0]],[5,[0,1],[1,1],0,[0],[2,0]],[5,[1,1],[1,1],0,[0],[2,0]]],"limit":4,"number":3,"type":"three_shot","version":1,"witness":null}"#;

@@ -50,14 +50,18 @@ fn accepts_what_is_found(rt: HostRuntime) -> Result<(), Fail> {
         (TEST_AND_SET, 2),
         (TEST_AND_SET, 3),
         (TEST_AND_SET, 6),
+        (TEST_AND_SET, 8),
         (IDLE, 2),
         (BINARY_REGISTER, 2),
+        (BINARY_REGISTER, 8),
         (FETCH_AND_ADD_2, 3),
         (BINARY_SWAP, 3),
         (STICKY_BIT, 4),
         (STICKY_BIT, 6),
+        (STICKY_BIT, 8),
         (THREE_SHOT, 3),
         (THREE_SHOT, 4),
+        (THREE_SHOT, 8),
         (WIDE, 4),
     ] {
         let table = read_table(rt.alloc(), text.as_bytes())?;
@@ -289,5 +293,77 @@ fn misses_no_choice_of_three_shot(rt: HostRuntime) -> Result<(), Fail> {
     assert!(rt; 8 < certificate.collisions.len());
     let _entry = certificate.collisions.remove(8);
     assert_eq!(rt; check(&table, &certificate), Err(CheckFault::NotNext(8)));
+    Ok(())
+}
+
+#[test]
+fn refutes_the_live_choices_in_version_2(rt: HostRuntime) -> Result<(), Fail> {
+    let alloc = rt.alloc();
+    let all = with_entries(alloc, &BINARY_REGISTER_ENTRIES)?;
+    let live = with_entries(
+        alloc,
+        &[BINARY_REGISTER_ENTRIES[2], BINARY_REGISTER_ENTRIES[3]],
+    )?;
+    for (certificate, version, expected) in [
+        (&all, 1, "ok"),
+        (&all, 2, "6 NotNext 0"),
+        (&live, 1, "6 NotNext 0"),
+        (&live, 2, "ok"),
+    ] {
+        let version = format!(in alloc; "\"version\":{version}")?;
+        let text = certificate.replacen(alloc, "\"version\":1", version.as_str(), 1)?;
+        let answer = verdict(alloc, BINARY_REGISTER, &text)?;
+        assert_eq!(rt; answer.as_str(), expected, "{text}");
+    }
+    Ok(())
+}
+
+#[test]
+fn tells_the_versions_apart(rt: HostRuntime) -> Result<(), Fail> {
+    let alloc = rt.alloc();
+    let table = read_table(alloc, THREE_SHOT.as_bytes())?;
+    let mut certificate = found(&rt, alloc, &table, 4)?;
+    assert_eq!(rt; check(&table, &certificate), Ok(()));
+    certificate.version = 1;
+    assert_eq!(rt; check(&table, &certificate), Err(CheckFault::TooFew));
+
+    // The choices that are not live are those of the last state, which nothing leaves.
+    let mut last = read_certificate(alloc, THREE_SHOT_OF_THE_LAST_STATE.as_bytes())?;
+    certificate.collisions.append(&mut last.collisions)?;
+    assert_eq!(rt; check(&table, &certificate), Ok(()));
+    certificate.version = 2;
+    assert_eq!(rt; check(&table, &certificate), Err(CheckFault::NotNext(70)));
+    for version in [0, 3, 255] {
+        certificate.version = version;
+        assert_eq!(rt;
+            check(&table, &certificate),
+            Err(CheckFault::BadNumber),
+            "version {version}"
+        );
+    }
+    Ok(())
+}
+
+#[test]
+fn allows_each_version_its_limits(rt: HostRuntime) -> Result<(), Fail> {
+    let table = read_table(rt.alloc(), THREE_SHOT.as_bytes())?;
+    let mut certificate = found(&rt, rt.alloc(), &table, 8)?;
+    for (version, limit, expected) in [
+        (2, 8, Ok(())),
+        (2, 7, Ok(())),
+        (2, 9, Err(CheckFault::BadNumber)),
+        (1, 8, Err(CheckFault::BadNumber)),
+        (1, 7, Err(CheckFault::BadNumber)),
+        (1, 6, Err(CheckFault::TooFew)),
+        (3, 8, Err(CheckFault::BadNumber)),
+    ] {
+        certificate.version = version;
+        certificate.limit = limit;
+        assert_eq!(rt;
+            check(&table, &certificate),
+            expected,
+            "version {version}, limit {limit}"
+        );
+    }
     Ok(())
 }
