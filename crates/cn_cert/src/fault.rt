@@ -43,6 +43,30 @@ impl From<AllocError> for CertFault {
     }
 }
 
+impl CertFault {
+    ghost use Rattle.cn_cert.specs.FaultText.{cert_fault_name, cert_fault_number};
+
+    /// The number of the fault.
+    pub fn number(&self) -> u8
+        ensures { result ≡ cert_fault_number self.now }
+    {
+        *self as u8
+    }
+
+    /// The name of the fault.
+    pub fn name(&self) -> &'static str
+        ensures { result.now ≡ cert_fault_name self.now }
+    {
+        match self {
+            CertFault::NotJson => "NotJson",
+            CertFault::WrongShape => "WrongShape",
+            CertFault::Version => "Version",
+            CertFault::Range => "Range",
+            CertFault::OutOfMemory => "OutOfMemory",
+        }
+    }
+}
+
 impl fmt::Display for CertFault {
     ghost use Rattle.std.specs.Prelude.{Some};
     ghost use Rattle.cn_cert.specs.FaultText.{cert_fault_text};
@@ -50,13 +74,7 @@ impl fmt::Display for CertFault {
     ghost output = { λ fault. Some (cert_fault_text fault) };
 
     fn fmt<W: fmt::Write>(&self, f: &mut fmt::Formatter<W>) -> fmt::Result {
-        f.write_str(match self {
-            CertFault::NotJson => "1 NotJson",
-            CertFault::WrongShape => "2 WrongShape",
-            CertFault::Version => "3 Version",
-            CertFault::Range => "4 Range",
-            CertFault::OutOfMemory => "5 OutOfMemory",
-        })
+        write!(f, "{} {}", self.number(), self.name())
     }
 }
 

@@ -1,8 +1,8 @@
 //! From bytes to a certificate, or to the first fault that the bytes have.
-ghost use Rattle.std.specs.Prelude.{◌≡◌, ◌⊎◌, Ok, Err, IfOk, IfErr};
+ghost use Rattle.std.specs.Prelude.{◌≡◌, ◌⊎◌, Ok, Err, IfOk, IfErr, IsUtf8};
 ghost use Rattle.cn_cert.specs.Certificate.{is_version};
 ghost use Rattle.cn_cert.specs.Reading.{reading};
-ghost use Rattle.cn_cert.specs.declared.fault.CertFault.TheVariants.{OutOfMemory};
+ghost use Rattle.cn_cert.specs.declared.fault.CertFault.TheVariants.{NotJson, OutOfMemory};
 
 use crate::certificate::Certificate;
 use crate::document::read_document;
@@ -28,11 +28,13 @@ fn is_version(version: u64) -> bool
 ///
 /// # Errors
 ///
-/// The first of the faults 1 to 4 of [`CertFault`] that the bytes have, or `OutOfMemory`.
+/// The first of the faults 1 to 4 of [`CertFault`] that the bytes have, or `OutOfMemory`; bytes
+/// that are not UTF-8 are refused before memory is taken.
 #[tactic(auto, unfolding(crate::specs::Faults::fault_of))]
 pub fn read_certificate(alloc: Global, bytes: &[u8]) -> Result<Certificate, CertFault>
     ensures certificate { IfOk result (λ c. reading bytes.now ≡ Ok c) }
     ensures fault { IfErr result (λ e. (e ≡ OutOfMemory) ⊎ (reading bytes.now ≡ Err e)) }
+    ensures told { ¬ IsUtf8 bytes.now → result ≡ Err NotJson }
 {
     let value = read_document(alloc, bytes)?;
     let draft = draft_from(alloc, &value)?;

@@ -1,15 +1,38 @@
 -- The text of a fault: its number and its name, and the process or the place of the entry.
-use Rattle.std.specs.Prelude.{ℕ, List, ◌++◌, codes}
-use Rattle.std.specs.Fmt.{decimal}
+use Rattle.std.specs.Prelude.{ℕ, List, Option, Some, None, codes}
+use Rattle.cn_table.specs.FaultText.{numbered_text}
 use Rattle.cn_check.specs.declared.fault.CheckFault.{CheckFault}
 use Rattle.cn_check.specs.declared.fault.CheckFault.TheVariants.{OtherType, BadNumber, WitnessShape, WitnessMeets, Unexpected, NotNext, NotACollision, TooFew}
 
+abbrev pub check_fault_number : CheckFault → ℕ
+check_fault_number OtherType = 1
+check_fault_number BadNumber = 2
+check_fault_number WitnessShape = 3
+check_fault_number (WitnessMeets process) = 4
+check_fault_number Unexpected = 5
+check_fault_number (NotNext place) = 6
+check_fault_number (NotACollision place) = 7
+check_fault_number TooFew = 8
+
+abbrev pub check_fault_name : CheckFault → List ℕ
+check_fault_name OtherType = codes "OtherType"
+check_fault_name BadNumber = codes "BadNumber"
+check_fault_name WitnessShape = codes "WitnessShape"
+check_fault_name (WitnessMeets process) = codes "WitnessMeets"
+check_fault_name Unexpected = codes "Unexpected"
+check_fault_name (NotNext place) = codes "NotNext"
+check_fault_name (NotACollision place) = codes "NotACollision"
+check_fault_name TooFew = codes "TooFew"
+
+abbrev pub check_fault_carried : CheckFault → Option ℕ
+check_fault_carried OtherType = None
+check_fault_carried BadNumber = None
+check_fault_carried WitnessShape = None
+check_fault_carried (WitnessMeets process) = Some process
+check_fault_carried Unexpected = None
+check_fault_carried (NotNext place) = Some place
+check_fault_carried (NotACollision place) = Some place
+check_fault_carried TooFew = None
+
 abbrev pub check_fault_text : CheckFault → List ℕ
-check_fault_text OtherType = codes "1 OtherType"
-check_fault_text BadNumber = codes "2 BadNumber"
-check_fault_text WitnessShape = codes "3 WitnessShape"
-check_fault_text (WitnessMeets j) = codes "4 WitnessMeets " ++ decimal j
-check_fault_text Unexpected = codes "5 Unexpected"
-check_fault_text (NotNext i) = codes "6 NotNext " ++ decimal i
-check_fault_text (NotACollision i) = codes "7 NotACollision " ++ decimal i
-check_fault_text TooFew = codes "8 TooFew"
+check_fault_text fault = numbered_text (check_fault_number fault) (check_fault_name fault) (check_fault_carried fault)

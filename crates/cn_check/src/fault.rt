@@ -1,4 +1,6 @@
 //! Why a certificate is refused.
+ghost use Rattle.std.specs.Prelude.{◌≡◌};
+
 use std::error::Error;
 use std::fmt;
 
@@ -30,6 +32,55 @@ pub enum CheckFault {
     TooFew,
 }
 
+impl CheckFault {
+    ghost use Rattle.cn_check.specs.FaultText.{check_fault_carried, check_fault_name, check_fault_number};
+
+    /// The number of the fault.
+    pub fn number(&self) -> u8
+        ensures { result ≡ check_fault_number self.now }
+    {
+        match self {
+            CheckFault::OtherType => 1,
+            CheckFault::BadNumber => 2,
+            CheckFault::WitnessShape => 3,
+            CheckFault::WitnessMeets(_) => 4,
+            CheckFault::Unexpected => 5,
+            CheckFault::NotNext(_) => 6,
+            CheckFault::NotACollision(_) => 7,
+            CheckFault::TooFew => 8,
+        }
+    }
+
+    /// The name of the fault.
+    pub fn name(&self) -> &'static str
+        ensures { result.now ≡ check_fault_name self.now }
+    {
+        match self {
+            CheckFault::OtherType => "OtherType",
+            CheckFault::BadNumber => "BadNumber",
+            CheckFault::WitnessShape => "WitnessShape",
+            CheckFault::WitnessMeets(_) => "WitnessMeets",
+            CheckFault::Unexpected => "Unexpected",
+            CheckFault::NotNext(_) => "NotNext",
+            CheckFault::NotACollision(_) => "NotACollision",
+            CheckFault::TooFew => "TooFew",
+        }
+    }
+
+    /// The number that the fault carries: the process whose result sets meet, or the place of the
+    /// entry.
+    pub fn carried(&self) -> Option<u64>
+        ensures { result ≡ check_fault_carried self.now }
+    {
+        match self {
+            CheckFault::WitnessMeets(process) => Some(u64::from(*process)),
+            CheckFault::NotNext(place) | CheckFault::NotACollision(place) => Some(*place),
+            CheckFault::OtherType | CheckFault::BadNumber | CheckFault::WitnessShape => None,
+            CheckFault::Unexpected | CheckFault::TooFew => None,
+        }
+    }
+}
+
 impl fmt::Display for CheckFault {
     ghost use Rattle.std.specs.Prelude.{Some};
     ghost use Rattle.cn_check.specs.FaultText.{check_fault_text};
@@ -37,15 +88,9 @@ impl fmt::Display for CheckFault {
     ghost output = { λ fault. Some (check_fault_text fault) };
 
     fn fmt<W: fmt::Write>(&self, f: &mut fmt::Formatter<W>) -> fmt::Result {
-        match self {
-            CheckFault::OtherType => f.write_str("1 OtherType"),
-            CheckFault::BadNumber => f.write_str("2 BadNumber"),
-            CheckFault::WitnessShape => f.write_str("3 WitnessShape"),
-            CheckFault::WitnessMeets(process) => write!(f, "4 WitnessMeets {process}"),
-            CheckFault::Unexpected => f.write_str("5 Unexpected"),
-            CheckFault::NotNext(place) => write!(f, "6 NotNext {place}"),
-            CheckFault::NotACollision(place) => write!(f, "7 NotACollision {place}"),
-            CheckFault::TooFew => f.write_str("8 TooFew"),
+        match self.carried() {
+            Some(carried) => write!(f, "{} {} {carried}", self.number(), self.name()),
+            None => write!(f, "{} {}", self.number(), self.name()),
         }
     }
 }

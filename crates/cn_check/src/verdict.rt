@@ -102,7 +102,7 @@ fn check_evidence(
 /// Checks a certificate against the table of its type.
 ///
 /// `Ok` says that the certificate is of this type and that its number is the type's up to its
-/// limit. Each certificate of a finding of this table is accepted. No memory is taken.
+/// limit. Each certificate of a finding of this table is accepted. Want of memory is no answer.
 ///
 /// # Errors
 ///

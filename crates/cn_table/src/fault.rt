@@ -53,6 +53,35 @@ impl From<AllocError> for TableFault {
     }
 }
 
+impl TableFault {
+    ghost use Rattle.cn_table.specs.FaultText.{table_fault_name, table_fault_number};
+
+    /// The number of the fault.
+    pub fn number(&self) -> u8
+        ensures { result ≡ table_fault_number self.now }
+    {
+        *self as u8
+    }
+
+    /// The name of the fault.
+    pub fn name(&self) -> &'static str
+        ensures { result.now ≡ table_fault_name self.now }
+    {
+        match self {
+            TableFault::NotToml => "NotToml",
+            TableFault::UnknownKey => "UnknownKey",
+            TableFault::MissingKey => "MissingKey",
+            TableFault::WrongKind => "WrongKind",
+            TableFault::BadName => "BadName",
+            TableFault::Count => "Count",
+            TableFault::Repeated => "Repeated",
+            TableFault::RowLength => "RowLength",
+            TableFault::UnknownName => "UnknownName",
+            TableFault::OutOfMemory => "OutOfMemory",
+        }
+    }
+}
+
 impl fmt::Display for TableFault {
     ghost use Rattle.std.specs.Prelude.{Some};
     ghost use Rattle.cn_table.specs.FaultText.{table_fault_text};
@@ -60,18 +89,7 @@ impl fmt::Display for TableFault {
     ghost output = { λ fault. Some (table_fault_text fault) };
 
     fn fmt<W: fmt::Write>(&self, f: &mut fmt::Formatter<W>) -> fmt::Result {
-        f.write_str(match self {
-            TableFault::NotToml => "1 NotToml",
-            TableFault::UnknownKey => "2 UnknownKey",
-            TableFault::MissingKey => "3 MissingKey",
-            TableFault::WrongKind => "4 WrongKind",
-            TableFault::BadName => "5 BadName",
-            TableFault::Count => "6 Count",
-            TableFault::Repeated => "7 Repeated",
-            TableFault::RowLength => "8 RowLength",
-            TableFault::UnknownName => "9 UnknownName",
-            TableFault::OutOfMemory => "10 OutOfMemory",
-        })
+        write!(f, "{} {}", self.number(), self.name())
     }
 }
 

@@ -1,7 +1,7 @@
 //! From bytes to a table, or to the first fault that the bytes have.
-ghost use Rattle.std.specs.Prelude.{◌≡◌, ◌⊎◌, Ok, Err, IfOk, IfErr};
+ghost use Rattle.std.specs.Prelude.{◌≡◌, ◌⊎◌, Ok, Err, IfOk, IfErr, IsUtf8};
 ghost use Rattle.cn_table.specs.Faults.{reading};
-ghost use Rattle.cn_table.specs.declared.fault.TableFault.TheVariants.{OutOfMemory};
+ghost use Rattle.cn_table.specs.declared.fault.TableFault.TheVariants.{NotToml, OutOfMemory};
 
 use crate::document::read_document;
 use crate::draft::draft_from;
@@ -20,11 +20,13 @@ use std::alloc::Global;
 ///
 /// # Errors
 ///
-/// The first of the faults 1 to 9 of [`TableFault`] that the bytes have, or `OutOfMemory`.
+/// The first of the faults 1 to 9 of [`TableFault`] that the bytes have, or `OutOfMemory`; bytes
+/// that are not UTF-8 are refused before memory is taken.
 #[tactic(auto, using(crate::proofs::KindLemmas::no_draft, crate::proofs::KindLemmas::no_table), unfolding(crate::specs::Faults::fault_of))]
 pub fn read_table(alloc: Global, bytes: &[u8]) -> Result<Table, TableFault>
     ensures table { IfOk result (λ t. reading bytes.now ≡ Ok t) }
     ensures fault { IfErr result (λ e. (e ≡ OutOfMemory) ⊎ (reading bytes.now ≡ Err e)) }
+    ensures told { ¬ IsUtf8 bytes.now → result ≡ Err NotToml }
 {
     let document = read_document(alloc, bytes)?;
     if has_unknown_key(&document) {

@@ -210,3 +210,33 @@ fn refuses_cut_and_deep_texts(rt: HostRuntime) -> Result<(), Fail> {
     }
     Ok(())
 }
+
+#[test]
+fn prints_each_fault(rt: HostRuntime) -> Result<(), Fail> {
+    for (fault, expected) in [
+        (CertFault::NotJson, "1 NotJson"),
+        (CertFault::WrongShape, "2 WrongShape"),
+        (CertFault::Version, "3 Version"),
+        (CertFault::Range, "4 Range"),
+        (CertFault::OutOfMemory, "5 OutOfMemory"),
+    ] {
+        let text = format!(in rt.alloc(); "{fault}")?;
+        assert_eq!(rt; text.as_str(), expected);
+    }
+    Ok(())
+}
+
+#[test]
+fn reads_and_writes_five_thousand_entries(rt: HostRuntime) -> Result<(), Fail> {
+    let alloc = rt.alloc();
+    let first = "[[0,[0],[0,0],1,[0,1],[2,1]]";
+    let entry = ",[15,[7,7,7,7],[7,7,7,7],7,[0,1,2,3,4,5,6,7],[7,6,5,4,3,2,1,0]]";
+    let mut entries = format!(in alloc; "{first}")?;
+    entries.push_str(entry.repeat(alloc, 4_998)?.as_str())?;
+    let text = changed(alloc, first, entries.as_str())?;
+    let certificate = read_certificate(alloc, text.as_bytes())?;
+    assert_eq!(rt; certificate.collisions.len(), 5_000);
+    let again = write_certificate(alloc, &certificate)?;
+    assert_eq!(rt; again.as_str(), text.as_str());
+    Ok(())
+}

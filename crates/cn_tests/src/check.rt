@@ -367,3 +367,21 @@ fn allows_each_version_its_limits(rt: HostRuntime) -> Result<(), Fail> {
     }
     Ok(())
 }
+
+#[test]
+fn prints_each_fault(rt: HostRuntime) -> Result<(), Fail> {
+    for (fault, expected) in [
+        (CheckFault::OtherType, "1 OtherType"),
+        (CheckFault::BadNumber, "2 BadNumber"),
+        (CheckFault::WitnessShape, "3 WitnessShape"),
+        (CheckFault::WitnessMeets(7), "4 WitnessMeets 7"),
+        (CheckFault::Unexpected, "5 Unexpected"),
+        (CheckFault::NotNext(8), "6 NotNext 8"),
+        (CheckFault::NotACollision(u64::MAX), "7 NotACollision 18446744073709551615"),
+        (CheckFault::TooFew, "8 TooFew"),
+    ] {
+        let text = format!(in rt.alloc(); "{fault}")?;
+        assert_eq!(rt; text.as_str(), expected);
+    }
+    Ok(())
+}

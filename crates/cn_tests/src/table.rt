@@ -197,3 +197,63 @@ fn reads_each_prefix(rt: HostRuntime) {
         );
     }
 }
+
+#[test]
+fn prints_each_fault(rt: HostRuntime) -> Result<(), Fail> {
+    for (fault, expected) in [
+        (TableFault::NotToml, "1 NotToml"),
+        (TableFault::UnknownKey, "2 UnknownKey"),
+        (TableFault::MissingKey, "3 MissingKey"),
+        (TableFault::WrongKind, "4 WrongKind"),
+        (TableFault::BadName, "5 BadName"),
+        (TableFault::Count, "6 Count"),
+        (TableFault::Repeated, "7 Repeated"),
+        (TableFault::RowLength, "8 RowLength"),
+        (TableFault::UnknownName, "9 UnknownName"),
+        (TableFault::OutOfMemory, "10 OutOfMemory"),
+    ] {
+        let text = format!(in rt.alloc(); "{fault}")?;
+        assert_eq!(rt; text.as_str(), expected);
+    }
+    Ok(())
+}
+
+/// A list of texts of 32 bytes.
+fn longest(alloc: Global, prefix: &str, count: usize) -> Result<String, AllocError> {
+    let front = prefix.repeat(alloc, 30)?;
+    let mut out = String::new(alloc);
+    for i in 10..10 + count.min(80) {
+        out.push_str(format!(in alloc; "\"{front}{i}\", ")?.as_str())?;
+    }
+    Ok(out)
+}
+
+#[test]
+fn reads_and_copies_the_greatest_table(rt: HostRuntime) -> Result<(), Fail> {
+    let alloc = rt.alloc();
+    let (states, responses) = (longest(alloc, "s", 16)?, longest(alloc, "r", 16)?);
+    let name = "t".repeat(alloc, 32)?;
+    let mut text = format!(in alloc;
+        "name = \"{name}\"\nstates = [{states}]\nresponses = [{responses}]\n"
+    )?;
+    let front = "o".repeat(alloc, 30)?;
+    for o in 10..18 {
+        let operation = format!(in alloc;
+            "[[operation]]\nname = \"{front}{o}\"\nresponse = [{responses}]\nnext = [{states}]\n"
+        )?;
+        text.push_str(operation.as_str())?;
+    }
+    let read = read_table(alloc, text.as_bytes())?;
+    let copy = read.copy(alloc)?;
+    for table in [&read, &copy] {
+        assert!(rt; table.states() == 16 && table.responses() == 16 && table.operations() == 8);
+        assert_eq!(rt; table.name(), name.as_str());
+        assert_eq!(rt;
+            table.apply(Operation(7), State(15)),
+            (Response(15), State(15))
+        );
+        let last = format!(in alloc; "{front}17")?;
+        assert_eq!(rt; table.find_operation(last.as_str()), Some(Operation(7)));
+    }
+    Ok(())
+}
