@@ -1,18 +1,23 @@
 -- Commands that fail with what events say, or that cannot write it.
-use Rattle.std.proofs.Common.{◌≡◌, ◌⊎◌, inl, inr, ℕ, List, Option, Some, MatchOption, sym, subst}
+use Rattle.std.proofs.Common.{◌≡◌, ◌⊎◌, inl, inr, ℕ, List, Option, Some, MatchOption, IsSomeAnd, sym, subst}
 use Rattle.cn_log.specs.declared.event.Event.{Event}
 use Rattle.cn_proto.specs.Plan.{Plan}
 use Rattle.cn_app.specs.Events.{capacity_of, events_of}
 use Rattle.cn_app.specs.Plans.{IsPlanOf, PlanFails}
-use Rattle.cn_app.specs.Replay.{EventsFail, FailsObject, GivesObject, IsEventFault, IsServed, ServingFails, StartFails, StartGives}
+use Rattle.cn_app.specs.Replay.{EventsFail, EventsGive, FailsObject, GivesObject, IsEventFault, IsServed, ServingFails, StartFails, StartGives}
 use Rattle.cn_app.specs.declared.fault.AppFault.{AppFault}
 use Rattle.cn_app.specs.declared.fault.AppFault.TheVariants.{Argument, OutOfMemory, Write}
 use Rattle.cn_app.specs.declared.fault.Part.TheVariants.{Capacity, Events}
 use Rattle.cn_app.specs.declared.output.Outcome.{Outcome}
 use Rattle.cn_app.proofs.FailingStarts.{fails_at_last, fails_for_more}
 
--- both texts spell what they should, and what is known of the readers
-module _ (capacity events : List ℕ) (k : ℕ) (es : List Event) (capacity_is : capacity_of capacity ≡ Some k) (events_are : events_of events ≡ Some es) (table certificate object : Option (List ℕ)) (start : List ℕ) where
+-- both texts spell what they should
+pub events_give : (capacity events : List ℕ) (k : ℕ) (es : List Event) → capacity_of capacity ≡ Some k → events_of events ≡ Some es → (P : ℕ → List Event → Type 0) → P k es → EventsGive capacity events P
+events_give capacity events k es capacity_is events_are P h =
+    subst (λ (o : Option ℕ). IsSomeAnd o (λ n. IsSomeAnd (events_of events) (P n))) (sym capacity_is) (subst (λ (o : Option (List Event)). IsSomeAnd o (P k)) (sym events_are) h)
+
+-- both texts spell what they should, and what was read
+module _ (capacity events : List ℕ) (k : ℕ) (es : List Event) (capacity_is : capacity_of capacity ≡ Some k) (events_are : events_of events ≡ Some es) (table certificate object : List ℕ) (start : List ℕ) where
   events_fail_later : (e : AppFault) (later : ℕ → List Event → Type 0) → later k es → EventsFail capacity events e later
   events_fail_later e later h =
       subst (λ (o : Option ℕ). MatchOption o (e ≡ Argument Capacity) (λ n. MatchOption (events_of events) (e ≡ Argument Events) (later n))) (sym capacity_is)

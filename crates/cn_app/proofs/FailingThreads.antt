@@ -1,19 +1,24 @@
 -- Commands that serve by threads, and fail in that, or cannot write what it came to.
-use Rattle.std.proofs.Common.{◌≡◌, ◌⊎◌, inl, inr, ℕ, List, Option, Some, MatchOption, sym, subst}
+use Rattle.std.proofs.Common.{◌≡◌, ◌⊎◌, inl, inr, ℕ, List, Option, Some, MatchOption, IsSomeAnd, sym, subst}
 use Rattle.cn_proto.specs.Plan.{Plan}
 use Rattle.cn_app.specs.Calls.{calls_of}
 use Rattle.cn_app.specs.Events.{capacity_of}
 use Rattle.cn_app.specs.Plans.{IsPlanOf, PlanFails}
 use Rattle.cn_app.specs.Replay.{FailsObject, GivesObject, StartFails, StartGives}
-use Rattle.cn_app.specs.Serve.{AreNotServed, CallsFail, IsServedByThreads, ThreadsFail}
+use Rattle.cn_app.specs.Serve.{AreNotServed, CallsFail, CallsGive, IsServedByThreads, ThreadsFail}
 use Rattle.cn_app.specs.declared.fault.AppFault.{AppFault}
 use Rattle.cn_app.specs.declared.fault.AppFault.TheVariants.{Argument, OutOfMemory, Write}
 use Rattle.cn_app.specs.declared.fault.Part.TheVariants.{Calls, Capacity}
 use Rattle.cn_app.specs.declared.output.Outcome.{Outcome}
 use Rattle.cn_app.proofs.FailingStarts.{fails_at_last, fails_for_more}
 
--- both texts spell what they should, and what is known of the readers
-module _ (capacity calls : List ℕ) (k : ℕ) (cs : List (List ℕ)) (capacity_is : capacity_of capacity ≡ Some k) (calls_are : calls_of calls ≡ Some cs) (table certificate object : Option (List ℕ)) (start : List ℕ) where
+-- both texts spell what they should
+pub calls_give : (capacity calls : List ℕ) (k : ℕ) (cs : List (List ℕ)) → capacity_of capacity ≡ Some k → calls_of calls ≡ Some cs → (P : ℕ → List (List ℕ) → Type 0) → P k cs → CallsGive capacity calls P
+calls_give capacity calls k cs capacity_is calls_are P h =
+    subst (λ (o : Option ℕ). IsSomeAnd o (λ n. IsSomeAnd (calls_of calls) (P n))) (sym capacity_is) (subst (λ (o : Option (List (List ℕ))). IsSomeAnd o (P k)) (sym calls_are) h)
+
+-- both texts spell what they should, and what was read
+module _ (capacity calls : List ℕ) (k : ℕ) (cs : List (List ℕ)) (capacity_is : capacity_of capacity ≡ Some k) (calls_are : calls_of calls ≡ Some cs) (table certificate object : List ℕ) (start : List ℕ) where
   calls_fail_later : (e : AppFault) (later : ℕ → List (List ℕ) → Type 0) → later k cs → CallsFail capacity calls e later
   calls_fail_later e later h =
       subst (λ (o : Option ℕ). MatchOption o (e ≡ Argument Capacity) (λ n. MatchOption (calls_of calls) (e ≡ Argument Calls) (later n))) (sym capacity_is)

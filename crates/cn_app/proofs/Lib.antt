@@ -18,3 +18,6 @@ pub mod SeatLemmas
 pub mod PlaceLemmas
 pub mod ServingLemmas
 pub mod LeftLemmas
+pub mod SourceLemmas
+pub mod Reading
+pub mod Running

@@ -1,5 +1,6 @@
 pub mod Arguments
 pub mod SourceBytes
+pub mod Writing
 pub mod FaultText
 pub mod Texts
 pub mod Find

@@ -1,15 +1,19 @@
 //! The command `agree`.
-ghost use Rattle.std.specs.Prelude.{◌≡◌, ◌⊎◌, ℕ, List, IfOk, IfErr, OnOk, string_bytes};
-ghost use Rattle.std.specs.Io.KnownBytes.{Appends, Keeps};
+ghost use Rattle.std.specs.Prelude.{◌≡◌, ◌≢◌, ◌⊎◌, Some, None, IfOk, IfErr, string_bytes};
 ghost use Rattle.cn_proto.specs.Plan.{Plan};
 ghost use Rattle.cn_app.specs.Agree.{decision_line, decision_lines, IsAgreed, IsRunFault, ListsFail, ListsGive, RunFails};
+ghost use Rattle.cn_app.specs.Arguments.{inputs_of, schedule_of};
 ghost use Rattle.cn_app.specs.Check.{FailsChecked, GivesChecked};
+ghost use Rattle.cn_app.specs.FaultText.{text_of};
 ghost use Rattle.cn_app.specs.Plans.{IsPlanOf, PlanFails};
+ghost use Rattle.cn_app.specs.SourceBytes.{HasRead, IsUnread, MayHaveRead};
+ghost use Rattle.cn_app.specs.Writing.{HasWritten, IsUnwritten, OnHandedOver};
 
 use crate::arguments::{read_inputs, read_schedule};
-use crate::fault::AppFault;
-use crate::output::{Outcome, write_whole};
+use crate::fault::{AppFault, Source};
+use crate::output::{Outcome, Output};
 use crate::plan::read_plan;
+use crate::source::Text;
 use cn_agree::run_schedule;
 use std::alloc::{AllocError, Global};
 use std::io::{Read, Write};
@@ -40,15 +44,21 @@ fn lines_of(alloc: Global, decisions: &[Option<u64>]) -> Result<String, AllocErr
 /// certificate's witness by a schedule: a line for each process.
 fn agreed_lines<R: Read, C: Read>(
     alloc: Global,
-    table: &mut R,
-    certificate: &mut C,
+    table: &mut Text<'_, R>,
+    certificate: &mut Text<'_, C>,
     inputs: &[u64],
     schedule: &[u8],
 ) -> Result<String, AppFault>
-    ensures lines { IfOk result (λ lines. GivesChecked (R.remaining table.old) (C.remaining certificate.old) (λ t c. (plan : Plan)
+    requires table { IsUnread table.old }
+    requires certificate { IsUnread certificate.old }
+    ensures lines { IfOk result (λ lines. GivesChecked table.new.bytes.items certificate.new.bytes.items (λ t c. (plan : Plan)
         × IsPlanOf t c plan × IsAgreed plan inputs.now schedule.now (string_bytes lines))) }
     ensures refused { IfErr result (λ e. (e ≡ AppFault.OutOfMemory)
-        ⊎ FailsChecked (R.remaining table.old) (C.remaining certificate.old) e (λ t c. PlanFails t c e (λ plan. IsRunFault plan inputs.now schedule.now e))) }
+        ⊎ FailsChecked table.new.bytes.items certificate.new.bytes.items e (λ t c. PlanFails t c e (λ plan. IsRunFault plan inputs.now schedule.now e))) }
+    ensures unwritten { IfErr result (λ e. e ≢ AppFault.Write) }
+    ensures untouched { IfErr result (λ e. text_of e ≡ Some Source.Table → certificate.new ≡ certificate.old) }
+    ensures table { HasRead Source.Table result R.remaining table.old table.new }
+    ensures certificate { MayHaveRead Source.Certificate result C.remaining certificate.old certificate.new }
 {
     let plan = read_plan(alloc, table, certificate)?;
     let decided = run_schedule(alloc, &plan, inputs, schedule)?;
@@ -66,28 +76,36 @@ fn agreed_lines<R: Read, C: Read>(
 ///
 /// # Errors
 ///
-/// The first of these: `inputs`, then `schedule`, is not spelled as it should be; one of the
-/// refusals of [`run_show`](crate::run_show) but that of the writer; there are not as many inputs
-/// as processes, or the schedule names a process that there is not; the writer fails. Want of memory
-/// can stand in place of any answer. Nothing is written unless all else went well.
-pub fn run_agree<T, R: Read, C: Read, W: Write>(
+/// The first of these: `inputs`, then `schedule`, is not spelled as it should be, and then no text
+/// is touched; one of the refusals of [`show`](crate::commands::show) but that of the writer; there
+/// are not as many inputs as processes, or the schedule names a process that there is not; the
+/// writer fails. Want of memory can stand in place of any answer. Nothing is written unless all else
+/// went well.
+pub fn agree<T, R: Read, C: Read, W: Write>(
     _rt: &T,
     alloc: Global,
-    table: &mut R,
-    certificate: &mut C,
-    writer: &mut W,
+    table: &mut Text<'_, R>,
+    certificate: &mut Text<'_, C>,
+    output: &mut Output<'_, W>,
     inputs: &str,
     schedule: &str,
 ) -> Result<Outcome, AppFault>
+    requires table { IsUnread table.old }
+    requires certificate { IsUnread certificate.old }
+    requires output { IsUnwritten output.old }
     ensures whole { IfOk result (λ outcome. outcome ≡ Outcome.Whole) }
-    ensures written { OnOk result (ListsGive inputs.now schedule.now (λ xs s. GivesChecked (R.remaining table.old) (C.remaining certificate.old) (λ t c. (plan : Plan)
-        × IsPlanOf t c plan × ((lines : List ℕ) × IsAgreed plan xs s lines × Appends (W.contents writer.old) (W.contents writer.new) lines)))) }
+    ensures agreed { OnHandedOver result (ListsGive inputs.now schedule.now (λ xs s. GivesChecked table.new.bytes.items certificate.new.bytes.items (λ t c. (plan : Plan)
+        × IsPlanOf t c plan × IsAgreed plan xs s output.new.bytes.items))) }
     ensures refused { IfErr result (λ e. (e ≡ AppFault.OutOfMemory) ⊎ ListsFail inputs.now schedule.now e (λ xs s.
-        FailsChecked (R.remaining table.old) (C.remaining certificate.old) e (λ t c. PlanFails t c e (λ plan. RunFails plan xs s e)))) }
-    ensures silent { IfErr result (λ e. (e ≡ AppFault.Write) ⊎ Keeps (W.contents writer.old) (W.contents writer.new)) }
+        FailsChecked table.new.bytes.items certificate.new.bytes.items e (λ t c. PlanFails t c e (λ plan. RunFails plan xs s e)))) }
+    ensures unspelled { (inputs_of inputs.now ≡ None) ⊎ (schedule_of schedule.now ≡ None) → (table.new ≡ table.old) × (certificate.new ≡ certificate.old) }
+    ensures untouched { IfErr result (λ e. text_of e ≡ Some Source.Table → certificate.new ≡ certificate.old) }
+    ensures table { MayHaveRead Source.Table result R.remaining table.old table.new }
+    ensures certificate { MayHaveRead Source.Certificate result C.remaining certificate.old certificate.new }
+    ensures written { HasWritten result W.contents output.old output.new }
 {
     let inputs = read_inputs(alloc, inputs)?;
     let schedule = read_schedule(alloc, schedule)?;
     let lines = agreed_lines(alloc, table, certificate, &inputs, &schedule)?;
-    write_whole(writer, lines.as_bytes())
+    output.write(lines)
 }

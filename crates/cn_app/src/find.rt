@@ -1,17 +1,41 @@
 //! The command `find`.
-ghost use Rattle.std.specs.Prelude.{◌≡◌, ◌⊎◌, ℕ, List, IfOk, IfErr, OnOk};
-ghost use Rattle.std.specs.Io.KnownBytes.{Appends, Keeps};
+ghost use Rattle.std.specs.Prelude.{◌≡◌, ◌≢◌, ◌⊎◌, IfOk, IfErr, string_bytes};
 ghost use Rattle.cn_app.specs.Find.{IsFound, SearchFails};
+ghost use Rattle.cn_app.specs.SourceBytes.{HasRead, IsUnread};
 ghost use Rattle.cn_app.specs.Texts.{table_in, Fails, Gives};
+ghost use Rattle.cn_app.specs.Writing.{HasWritten, IsUnwritten, OnHandedOver};
 
 use crate::fault::{AppFault, Source};
-use crate::output::{Outcome, write_whole};
+use crate::output::{Outcome, Output};
+use crate::source::Text;
 use crate::texts::table_from;
 use cn_cert::{Certificate, write_certificate};
-use cn_search::find;
 use std::alloc::Global;
 use std::io::{Read, Write};
 use std::thread::Threads;
+
+/// Reads a table, and makes the text of the certificate of its consensus number up to the limit.
+fn found_text<T: Threads + Sync, R: Read>(
+    rt: &T,
+    alloc: Global,
+    table: &mut Text<'_, R>,
+    limit: u8,
+) -> Result<String, AppFault>
+    requires { IsUnread table.old }
+    ensures found { IfOk result (λ text. Gives table.new.bytes.items table_in (λ t. IsFound t limit (string_bytes text))) }
+    ensures refused { IfErr result (λ e. (e ≡ AppFault.OutOfMemory) ⊎ Fails Source.Table table.new.bytes.items table_in e (λ t. SearchFails t limit e)) }
+    ensures unwritten { IfErr result (λ e. e ≢ AppFault.Write) }
+    ensures read { HasRead Source.Table result R.remaining table.old table.new }
+{
+    let table = table_from(alloc, table)?;
+    let finding = cn_search::find(rt, alloc, &table, limit)?;
+    let Ok(certificate) = Certificate::of_finding(alloc, &table, finding) else {
+        return Err(AppFault::OutOfMemory);
+    };
+    let mut text = write_certificate(alloc, &certificate)?;
+    text.push_str("\n")?;
+    Ok(text)
+}
 
 /// Reads a type table and writes the certificate of its consensus number up to the limit, and a
 /// line feed.
@@ -25,24 +49,21 @@ use std::thread::Threads;
 /// limit is refused, or there are more than 100,000 canonical choices for as many processes as the
 /// limit; the writer fails. Want of memory can stand in place of any answer. Nothing is written
 /// unless all else went well.
-pub fn run_find<T: Threads + Sync, R: Read, W: Write>(
+pub fn find<T: Threads + Sync, R: Read, W: Write>(
     rt: &T,
     alloc: Global,
-    table: &mut R,
-    writer: &mut W,
+    table: &mut Text<'_, R>,
+    output: &mut Output<'_, W>,
     limit: u8,
 ) -> Result<Outcome, AppFault>
+    requires table { IsUnread table.old }
+    requires output { IsUnwritten output.old }
     ensures whole { IfOk result (λ outcome. outcome ≡ Outcome.Whole) }
-    ensures written { OnOk result (Gives (R.remaining table.old) table_in (λ t. (text : List ℕ) × IsFound t limit text × Appends (W.contents writer.old) (W.contents writer.new) text)) }
-    ensures refused { IfErr result (λ e. (e ≡ AppFault.OutOfMemory) ⊎ Fails Source.Table (R.remaining table.old) table_in e (λ t. SearchFails t limit e)) }
-    ensures silent { IfErr result (λ e. (e ≡ AppFault.Write) ⊎ Keeps (W.contents writer.old) (W.contents writer.new)) }
+    ensures found { OnHandedOver result (Gives table.new.bytes.items table_in (λ t. IsFound t limit output.new.bytes.items)) }
+    ensures refused { IfErr result (λ e. (e ≡ AppFault.OutOfMemory) ⊎ Fails Source.Table table.new.bytes.items table_in e (λ t. SearchFails t limit e)) }
+    ensures read { HasRead Source.Table result R.remaining table.old table.new }
+    ensures written { HasWritten result W.contents output.old output.new }
 {
-    let table = table_from(alloc, table)?;
-    let finding = find(rt, alloc, &table, limit)?;
-    let Ok(certificate) = Certificate::of_finding(alloc, &table, finding) else {
-        return Err(AppFault::OutOfMemory);
-    };
-    let mut text = write_certificate(alloc, &certificate)?;
-    text.push_str("\n")?;
-    write_whole(writer, text.as_bytes())
+    let text = found_text(rt, alloc, table, limit)?;
+    output.write(text)
 }

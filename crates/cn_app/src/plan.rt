@@ -1,11 +1,14 @@
 //! The plan that a certificate stands for.
-ghost use Rattle.std.specs.Prelude.{◌≡◌, ◌⊎◌, None, IfOk, IfErr};
+ghost use Rattle.std.specs.Prelude.{◌≡◌, ◌≢◌, ◌⊎◌, Some, None, IfOk, IfErr};
 ghost use Rattle.cn_check.specs.Verdict.{IsAccepted};
 ghost use Rattle.cn_app.specs.Check.{FailsChecked, GivesChecked};
+ghost use Rattle.cn_app.specs.FaultText.{text_of};
 ghost use Rattle.cn_app.specs.Plans.{IsPlanOf, PlanFails};
+ghost use Rattle.cn_app.specs.SourceBytes.{HasRead, IsUnread, MayHaveRead};
 
 use crate::check::{Checked, read_checked};
-use crate::fault::AppFault;
+use crate::fault::{AppFault, Source};
+use crate::source::Text;
 use cn_proto::{Plan, PlanFault};
 use std::alloc::Global;
 use std::io::Read;
@@ -34,11 +37,17 @@ pub(crate) fn plan_of(alloc: Global, checked: &Checked) -> Result<Plan, AppFault
 /// certificate's witness.
 pub(crate) fn read_plan<R: Read, C: Read>(
     alloc: Global,
-    table: &mut R,
-    certificate: &mut C,
+    table: &mut Text<'_, R>,
+    certificate: &mut Text<'_, C>,
 ) -> Result<Plan, AppFault>
-    ensures plan { IfOk result (λ plan. GivesChecked (R.remaining table.old) (C.remaining certificate.old) (λ t c. IsPlanOf t c plan)) }
-    ensures refused { IfErr result (λ e. (e ≡ AppFault.OutOfMemory) ⊎ FailsChecked (R.remaining table.old) (C.remaining certificate.old) e (λ t c. PlanFails t c e (λ _. ⊥))) }
+    requires table { IsUnread table.old }
+    requires certificate { IsUnread certificate.old }
+    ensures plan { IfOk result (λ plan. GivesChecked table.new.bytes.items certificate.new.bytes.items (λ t c. IsPlanOf t c plan)) }
+    ensures refused { IfErr result (λ e. (e ≡ AppFault.OutOfMemory) ⊎ FailsChecked table.new.bytes.items certificate.new.bytes.items e (λ t c. PlanFails t c e (λ _. ⊥))) }
+    ensures unwritten { IfErr result (λ e. e ≢ AppFault.Write) }
+    ensures untouched { IfErr result (λ e. text_of e ≡ Some Source.Table → certificate.new ≡ certificate.old) }
+    ensures table { HasRead Source.Table result R.remaining table.old table.new }
+    ensures certificate { MayHaveRead Source.Certificate result C.remaining certificate.old certificate.new }
 {
     let checked = read_checked(alloc, table, certificate)?;
     plan_of(alloc, &checked)

@@ -1,21 +1,25 @@
 //! The command `serve`.
-ghost use Rattle.std.specs.Prelude.{◌≡◌, ◌⊎◌, ◌<◌, ◌≤◌, ℕ, List, length, map, string_bytes, true, IfOk, IfErr};
-ghost use Rattle.std.specs.Io.KnownBytes.{Appends, Keeps};
+ghost use Rattle.std.specs.Prelude.{◌≡◌, ◌≢◌, ◌⊎◌, ◌<◌, ◌≤◌, ℕ, List, length, map, string_bytes, true, Err, Some, None, IfOk, IfErr};
 ghost use Rattle.cn_proto.specs.Plan.{Plan as PlanOf};
 ghost use Rattle.cn_hall.specs.declared.call.Go.TheVariants.{On};
-ghost use Rattle.cn_app.specs.Calls.{calls_fit};
+ghost use Rattle.cn_app.specs.Calls.{calls_fit, calls_of};
+ghost use Rattle.cn_app.specs.Events.{capacity_of};
+ghost use Rattle.cn_app.specs.FaultText.{text_of, IsOfWork};
 ghost use Rattle.cn_app.specs.Plans.{IsPlanOf, PlanFails};
 ghost use Rattle.cn_app.specs.Replay.{FailsObject, GivesObject, StartFails, StartGives};
 ghost use Rattle.cn_app.specs.Serve.{AreNotServed, CallsFail, CallsGive, IsServedByThreads, ThreadsFail, left_lines, EachHasResponses};
+ghost use Rattle.cn_app.specs.SourceBytes.{HasRead, IsUnread, MayHaveRead};
+ghost use Rattle.cn_app.specs.Writing.{HasWritten, IfHandedOver, IsUnwritten};
 
 use crate::calls::{calls_fit, read_calls};
 use crate::events::read_capacity;
-use crate::fault::{AppFault, Part};
+use crate::fault::{AppFault, Part, Source};
 use crate::log_lines::entry_lines;
-use crate::output::{Outcome, write_whole};
+use crate::output::{Outcome, Output};
 use crate::replay::{Served, Service, read_service};
 use crate::serve_lines::{events_line, outcome_of, worked_lines};
 use crate::serving::{Served as Left, serve_calls};
+use crate::source::Text;
 use cn_hall::Gate;
 use cn_log::LogCore;
 use cn_table::{State, Table};
@@ -48,7 +52,7 @@ fn left_lines(
 }
 
 /// Serves the object by threads that make these calls: what they come to, in lines.
-fn serve<T, G, F>(
+fn serve_by_threads<T, G, F>(
     rt: &T,
     alloc: Global,
     service: &Service,
@@ -101,6 +105,7 @@ where
     ensures served { IfOk result (λ s. StartGives service.now.object start.now (λ q. IsServedByThreads service.now.plan service.now.object q capacity (map (λ list. list.items) calls.now) (string_bytes s.lines) s.outcome)) }
     ensures refused { IfErr result (λ e. (e ≡ AppFault.OutOfMemory)
         ⊎ StartFails service.now.object start.now e (λ _. AreNotServed service.now.plan service.now.object (map (λ list. list.items) calls.now) e)) }
+    ensures work { IfErr result IsOfWork }
 {
     let Some(state) = service.object.find_state(start) else {
         return Err(AppFault::Argument(Part::Start));
@@ -108,16 +113,16 @@ where
     if !calls_fit(&service.plan, &service.object, calls) {
         return Err(AppFault::Argument(Part::Calls));
     }
-    serve(rt, alloc, service, state, capacity, calls, make_gate)
+    serve_by_threads(rt, alloc, service, state, capacity, calls, make_gate)
 }
 
 /// Reads the three texts, and serves the object by threads.
 fn serve_texts<T, R: Read, C: Read, O: Read, G, F>(
     rt: &T,
     alloc: Global,
-    table: &mut R,
-    certificate: &mut C,
-    object: &mut O,
+    table: &mut Text<'_, R>,
+    certificate: &mut Text<'_, C>,
+    object: &mut Text<'_, O>,
     start: &str,
     capacity: u16,
     calls: &[Vec<u8>],
@@ -131,10 +136,19 @@ where
     requires few { capacity ≤ 1024 }
     requires gates { F.IsAlwaysCallable make_gate }
     requires on { (p : ℕ) (g : _) → F.post make_gate p g → G.says g ≡ On }
-    ensures served { IfOk result (λ s. GivesObject (R.remaining table.old) (C.remaining certificate.old) (O.remaining object.old) (λ t c o. (plan : PlanOf)
+    requires table { IsUnread table.old }
+    requires certificate { IsUnread certificate.old }
+    requires object { IsUnread object.old }
+    ensures served { IfOk result (λ s. GivesObject table.new.bytes.items certificate.new.bytes.items object.new.bytes.items (λ t c o. (plan : PlanOf)
         × IsPlanOf t c plan × StartGives o start.now (λ q. IsServedByThreads plan o q capacity (map (λ list. list.items) calls.now) (string_bytes s.lines) s.outcome))) }
-    ensures refused { IfErr result (λ e. (e ≡ AppFault.OutOfMemory) ⊎ FailsObject (R.remaining table.old) (C.remaining certificate.old) (O.remaining object.old) e (λ t c o.
+    ensures refused { IfErr result (λ e. (e ≡ AppFault.OutOfMemory) ⊎ FailsObject table.new.bytes.items certificate.new.bytes.items object.new.bytes.items e (λ t c o.
         PlanFails t c e (λ plan. StartFails o start.now e (λ _. AreNotServed plan o (map (λ list. list.items) calls.now) e)))) }
+    ensures unwritten { IfErr result (λ e. e ≢ AppFault.Write) }
+    ensures untouched_certificate { IfErr result (λ e. text_of e ≡ Some Source.Table → certificate.new ≡ certificate.old) }
+    ensures untouched_object { IfErr result (λ e. (text_of e ≡ Some Source.Table) ⊎ (text_of e ≡ Some Source.Certificate) → object.new ≡ object.old) }
+    ensures table { HasRead Source.Table result R.remaining table.old table.new }
+    ensures certificate { MayHaveRead Source.Certificate result C.remaining certificate.old certificate.new }
+    ensures object { MayHaveRead Source.Object result O.remaining object.old object.new }
 {
     let service = read_service(alloc, table, certificate, object)?;
     serve_from(rt, alloc, &service, start, capacity, calls, make_gate)
@@ -154,20 +168,21 @@ where
 ///
 /// # Errors
 ///
-/// The first of these: `capacity`, then `calls`, is not spelled as it should be; the reader of the
-/// type table fails, or gives more than 65,536 bytes; the type table is refused; so for the
-/// certificate, of at most 16,777,216 bytes, and for the object, of at most 65,536; the check
-/// refuses the certificate; it has no witness; the object has no state of the name `start`; `calls`
-/// has not one list for each process, or a number that is no operation of the object; a thread
-/// could not be started, and then those that run have finished; the writer fails. Want of memory
-/// can stand in place of any answer. Nothing is written unless all else went well.
-pub fn run_serve<T, R: Read, C: Read, O: Read, W: Write, G, F>(
+/// The first of these: `capacity`, then `calls`, is not spelled as it should be, and then no text is
+/// touched; the reader of the type table fails, or gives more than 65,536 bytes; the type table is
+/// refused; so for the certificate, of at most 16,777,216 bytes, and for the object, of at most
+/// 65,536; the check refuses the certificate; it has no witness; the object has no state of the name
+/// `start`; `calls` has not one list for each process, or a number that is no operation of the
+/// object; a thread could not be started, and then those that run have finished; the writer fails.
+/// Want of memory can stand in place of any answer but that for `capacity`. Nothing is written
+/// unless all else went well, and a text is not touched where an earlier one is refused.
+pub fn serve<T, R: Read, C: Read, O: Read, W: Write, G, F>(
     rt: &T,
     alloc: Global,
-    table: &mut R,
-    certificate: &mut C,
-    object: &mut O,
-    writer: &mut W,
+    table: &mut Text<'_, R>,
+    certificate: &mut Text<'_, C>,
+    object: &mut Text<'_, O>,
+    output: &mut Output<'_, W>,
     start: &str,
     capacity: &str,
     calls: &str,
@@ -179,12 +194,23 @@ where
     F: Fn(u8) -> G,
     requires gates { F.IsAlwaysCallable make_gate }
     requires on { (p : ℕ) (g : _) → F.post make_gate p g → G.says g ≡ On }
-    ensures written { IfOk result (λ outcome. CallsGive capacity.now calls.now (λ k cs. GivesObject (R.remaining table.old) (C.remaining certificate.old) (O.remaining object.old) (λ t c o. (plan : PlanOf)
-        × IsPlanOf t c plan × StartGives o start.now (λ q. (lines : List ℕ) × IsServedByThreads plan o q k cs lines outcome × Appends (W.contents writer.old) (W.contents writer.new) lines)))) }
+    requires table { IsUnread table.old }
+    requires certificate { IsUnread certificate.old }
+    requires object { IsUnread object.old }
+    requires output { IsUnwritten output.old }
+    ensures served { IfHandedOver result (λ outcome. CallsGive capacity.now calls.now (λ k cs. GivesObject table.new.bytes.items certificate.new.bytes.items object.new.bytes.items (λ t c o. (plan : PlanOf)
+        × IsPlanOf t c plan × StartGives o start.now (λ q. IsServedByThreads plan o q k cs output.new.bytes.items outcome)))) }
     ensures refused { IfErr result (λ e. (e ≡ AppFault.OutOfMemory) ⊎ CallsFail capacity.now calls.now e (λ k cs.
-        FailsObject (R.remaining table.old) (C.remaining certificate.old) (O.remaining object.old) e (λ t c o.
+        FailsObject table.new.bytes.items certificate.new.bytes.items object.new.bytes.items e (λ t c o.
         PlanFails t c e (λ plan. StartFails o start.now e (λ _. ThreadsFail plan o cs e))))) }
-    ensures silent { IfErr result (λ e. (e ≡ AppFault.Write) ⊎ Keeps (W.contents writer.old) (W.contents writer.new)) }
+    ensures told { capacity_of capacity.now ≡ None → result ≡ Err (AppFault.Argument Part.Capacity) }
+    ensures unspelled { (capacity_of capacity.now ≡ None) ⊎ (calls_of calls.now ≡ None) → (table.new ≡ table.old) × (certificate.new ≡ certificate.old) × (object.new ≡ object.old) }
+    ensures untouched_certificate { IfErr result (λ e. text_of e ≡ Some Source.Table → certificate.new ≡ certificate.old) }
+    ensures untouched_object { IfErr result (λ e. (text_of e ≡ Some Source.Table) ⊎ (text_of e ≡ Some Source.Certificate) → object.new ≡ object.old) }
+    ensures table { MayHaveRead Source.Table result R.remaining table.old table.new }
+    ensures certificate { MayHaveRead Source.Certificate result C.remaining certificate.old certificate.new }
+    ensures object { MayHaveRead Source.Object result O.remaining object.old object.new }
+    ensures written { HasWritten result W.contents output.old output.new }
 {
     let capacity = read_capacity(capacity)?;
     let calls = read_calls(alloc, calls)?;
@@ -199,6 +225,6 @@ where
         &calls,
         make_gate,
     )?;
-    write_whole(writer, served.lines.as_bytes())?;
+    output.write(served.lines)?;
     Ok(served.outcome)
 }

@@ -1,38 +1,65 @@
 //! The command `show`.
-ghost use Rattle.std.specs.Prelude.{◌≡◌, ◌⊎◌, IfOk, IfErr, OnOk};
-ghost use Rattle.std.specs.Io.KnownBytes.{Appends, Keeps};
+ghost use Rattle.std.specs.Prelude.{◌≡◌, ◌≢◌, ◌⊎◌, Some, IfOk, IfErr, string_bytes};
 ghost use Rattle.cn_proto.specs.Plan.{Plan};
 ghost use Rattle.cn_proto.specs.PlanText.{plan_text};
 ghost use Rattle.cn_app.specs.Check.{FailsChecked, GivesChecked};
+ghost use Rattle.cn_app.specs.FaultText.{text_of};
 ghost use Rattle.cn_app.specs.Plans.{IsPlanOf, PlanFails};
+ghost use Rattle.cn_app.specs.SourceBytes.{HasRead, IsUnread, MayHaveRead};
+ghost use Rattle.cn_app.specs.Writing.{HasWritten, IsUnwritten, OnHandedOver};
 
-use crate::fault::AppFault;
-use crate::output::{Outcome, write_whole};
+use crate::fault::{AppFault, Source};
+use crate::output::{Outcome, Output};
 use crate::plan::read_plan;
+use crate::source::Text;
 use std::alloc::Global;
 use std::io::{Read, Write};
+
+/// Reads a table and a certificate, checks the one against the other, and makes the text of the
+/// plan of the certificate's witness.
+fn shown_text<R: Read, C: Read>(
+    alloc: Global,
+    table: &mut Text<'_, R>,
+    certificate: &mut Text<'_, C>,
+) -> Result<String, AppFault>
+    requires table { IsUnread table.old }
+    requires certificate { IsUnread certificate.old }
+    ensures shown { IfOk result (λ text. GivesChecked table.new.bytes.items certificate.new.bytes.items (λ t c. (plan : Plan) × IsPlanOf t c plan × (string_bytes text ≡ plan_text plan))) }
+    ensures refused { IfErr result (λ e. (e ≡ AppFault.OutOfMemory) ⊎ FailsChecked table.new.bytes.items certificate.new.bytes.items e (λ t c. PlanFails t c e (λ _. ⊥))) }
+    ensures unwritten { IfErr result (λ e. e ≢ AppFault.Write) }
+    ensures untouched { IfErr result (λ e. text_of e ≡ Some Source.Table → certificate.new ≡ certificate.old) }
+    ensures table { HasRead Source.Table result R.remaining table.old table.new }
+    ensures certificate { MayHaveRead Source.Certificate result C.remaining certificate.old certificate.new }
+{
+    let plan = read_plan(alloc, table, certificate)?;
+    Ok(plan.show(alloc)?)
+}
 
 /// Reads a type table and a certificate, checks the one against the other, and writes the text of
 /// the plan of the certificate's witness.
 ///
 /// # Errors
 ///
-/// Those of [`run_check`](crate::run_check); where the check accepts the certificate and it has no
-/// witness, `NoWitness`, before writing.
-pub fn run_show<T, R: Read, C: Read, W: Write>(
+/// Those of [`check`](crate::commands::check); where the check accepts the certificate and it has
+/// no witness, `NoWitness`, before writing.
+pub fn show<T, R: Read, C: Read, W: Write>(
     _rt: &T,
     alloc: Global,
-    table: &mut R,
-    certificate: &mut C,
-    writer: &mut W,
+    table: &mut Text<'_, R>,
+    certificate: &mut Text<'_, C>,
+    output: &mut Output<'_, W>,
 ) -> Result<Outcome, AppFault>
+    requires table { IsUnread table.old }
+    requires certificate { IsUnread certificate.old }
+    requires output { IsUnwritten output.old }
     ensures whole { IfOk result (λ outcome. outcome ≡ Outcome.Whole) }
-    ensures written { OnOk result (GivesChecked (R.remaining table.old) (C.remaining certificate.old) (λ t c. (plan : Plan)
-        × IsPlanOf t c plan × Appends (W.contents writer.old) (W.contents writer.new) (plan_text plan))) }
-    ensures refused { IfErr result (λ e. (e ≡ AppFault.OutOfMemory) ⊎ FailsChecked (R.remaining table.old) (C.remaining certificate.old) e (λ t c. PlanFails t c e (λ _. e ≡ AppFault.Write))) }
-    ensures silent { IfErr result (λ e. (e ≡ AppFault.Write) ⊎ Keeps (W.contents writer.old) (W.contents writer.new)) }
+    ensures shown { OnHandedOver result (GivesChecked table.new.bytes.items certificate.new.bytes.items (λ t c. (plan : Plan) × IsPlanOf t c plan × (output.new.bytes.items ≡ plan_text plan))) }
+    ensures refused { IfErr result (λ e. (e ≡ AppFault.OutOfMemory) ⊎ FailsChecked table.new.bytes.items certificate.new.bytes.items e (λ t c. PlanFails t c e (λ _. e ≡ AppFault.Write))) }
+    ensures untouched { IfErr result (λ e. text_of e ≡ Some Source.Table → certificate.new ≡ certificate.old) }
+    ensures table { HasRead Source.Table result R.remaining table.old table.new }
+    ensures certificate { MayHaveRead Source.Certificate result C.remaining certificate.old certificate.new }
+    ensures written { HasWritten result W.contents output.old output.new }
 {
-    let plan = read_plan(alloc, table, certificate)?;
-    let text = plan.show(alloc)?;
-    write_whole(writer, text.as_bytes())
+    let text = shown_text(alloc, table, certificate)?;
+    output.write(text)
 }

@@ -1,37 +1,41 @@
-use Rattle.std.proofs.Common.{◌∙◌, ap, inl, string_bytes}
+use Rattle.std.proofs.Common.{Some, Vec, Global, ℕ, List, ap, map, subst, sym, ◌∙◌}
 use Rattle.std.proofs.lemmas.Result.{err_from_is_err_and}
-use Rattle.cn_log.specs.Opening.{Opening}
-use Rattle.cn_app.specs.Serve.{outcome_of}
-use Rattle.cn_app.proofs.CallLemmas.{calls_of_operations}
-use Rattle.cn_app.proofs.ThreadLemmas.{each_has_responses, served_by_threads}
+use Rattle.cn_proto.specs.Plan.{Plan}
+use Rattle.cn_app.specs.Plans.{IsPlanOf}
+use Rattle.cn_app.specs.Replay.{GivesObject, StartGives}
+use Rattle.cn_app.specs.Serve.{IsServedByThreads}
+use Rattle.cn_app.proofs.FailingThreads.{calls_give, threads_fail}
 use Rattle.cn_app.proofs.serve.serve.Goals as goal
 
-pub serve_calls-requires-clause-operations : goal.serve_calls-requires-clause-operations
-serve_calls-requires-clause-operations g c κs within =
-    rw c.in_ok-core.ensures.opening (calls_of_operations (λ list. list.items) c.args.service.now.plan c.args.service.now.object c.args.calls.now c.requires.fit)
+abbrev lists_of : List (Vec ℕ Global) → List (List ℕ)
+lists_of calls = map (λ list. list.items) calls
 
-pub left_lines-requires-clause-object : goal.left_lines-requires-clause-object
-left_lines-requires-clause-object g c = ap (λ (o : Opening). o.object) (c.in_ok-left.ensures.opening ∙ c.in_ok-core.ensures.opening)
+pub returns-in_err-served-clause-refused : goal.returns-in_err-served-clause-refused
+returns-in_err-served-clause-refused g c =
+    let p = err_from_is_err_and c.from_residual-in_err-served.result c.from_residual-in_err-served.ensures.1 in
+    rw (p.1, p.2)
+    (threads_fail c.args.capacity.now c.args.calls.now c.in_ok-capacity.capacity (lists_of c.deref.result.now) c.in_ok-capacity.ensures.capacity
+    (c.in_ok-calls.ensures.calls ∙ ap (λ l. Some (lists_of l)) (sym c.deref.ensures.value)) c.serve_texts.new.table.bytes.items c.serve_texts.new.certificate.bytes.items c.serve_texts.new.object.bytes.items
+    c.args.start.now c.in_err-served.field-0.0 c.in_err-served.ensures.refused)
 
-pub left_lines-requires-clause-range : goal.left_lines-requires-clause-range
-left_lines-requires-clause-range g c =
-    each_has_responses c.args.service.now.object c.args.calls.now c.in_ok-left.left.core c.in_ok-left.left.worked.items (ap (λ (o : Opening). o.object) (c.in_ok-left.ensures.opening ∙ c.in_ok-core.ensures.opening))
-    c.in_ok-left.ensures.count c.in_ok-left.ensures.served
+pub returns-in_err-served-clause-untouched_object : goal.returns-in_err-served-clause-untouched_object
+returns-in_err-served-clause-untouched_object g c =
+    let p = err_from_is_err_and c.from_residual-in_err-served.result c.from_residual-in_err-served.ensures.1 in
+    rw (p.1, p.2) c.in_err-served.ensures.untouched_object
 
-pub returns-clause-served : goal.returns-clause-served
-returns-clause-served g c =
-    served_by_threads c.args.service.now.plan c.args.service.now.object c.args.start.0 c.args.capacity c.args.calls.now c.in_ok-left.left.core c.in_ok-left.left.worked.items
-    (string_bytes c.in_ok-lines.lines) c.outcome_of-outcome.result (c.in_ok-left.ensures.opening ∙ c.in_ok-core.ensures.opening) c.requires.fit c.in_ok-left.ensures.count
-    (record {
-      may_come = c.is_linearized.ensures.events;
-      linearized = c.is_linearized.ensures.linearized;
-      bypass = c.is_linearized.ensures.bypass;
-      served = c.in_ok-left.ensures.served;
-      written = c.in_ok-lines.ensures;
-    })
-    (c.outcome_of-outcome.ensures ∙ ap outcome_of c.deref.ensures.value)
-
-pub returns-in_err-lines-clause-refused : goal.returns-in_err-lines-clause-refused
-returns-in_err-lines-clause-refused g c =
-    let p = err_from_is_err_and c.from_residual-in_err-lines.result c.from_residual-in_err-lines.ensures.1 in
-    rw p.1 (inl p.2)
+pub returns-in_err-write-clause-served : goal.returns-in_err-write-clause-served
+returns-in_err-write-clause-served g c =
+    let p = err_from_is_err_and c.from_residual-in_err-write.result c.from_residual-in_err-write.ensures.1 in
+    let table = c.serve_texts.new.table.bytes.items in
+    let certificate = c.serve_texts.new.certificate.bytes.items in
+    let object = c.serve_texts.new.object.bytes.items in
+    let outcome = c.in_ok-served.served.outcome in
+    let served = subst (λ (l : List ℕ). GivesObject table certificate object (λ t x o. (plan : Plan) × IsPlanOf t x plan
+    × StartGives o c.args.start.now (λ q. IsServedByThreads plan o q c.in_ok-capacity.capacity (lists_of c.deref.result.now) l outcome))) (sym c.write.ensures.kept) c.in_ok-served.ensures.served in
+    rw p.1
+    (λ _. (
+      outcome,
+      calls_give c.args.capacity.now c.args.calls.now c.in_ok-capacity.capacity (lists_of c.deref.result.now) c.in_ok-capacity.ensures.capacity
+          (c.in_ok-calls.ensures.calls ∙ ap (λ l. Some (lists_of l)) (sym c.deref.ensures.value))
+          (λ k cs. GivesObject table certificate object (λ t x o. (plan : Plan) × IsPlanOf t x plan × StartGives o c.args.start.now (λ q. IsServedByThreads plan o q k cs c.write.new.self.bytes.items outcome))) served,
+    ))

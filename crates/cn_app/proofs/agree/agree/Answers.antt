@@ -1,7 +1,7 @@
 use Rattle.std.proofs.Common.{Some, ap, sym, ◌∙◌}
 use Rattle.std.proofs.lemmas.Result.{err_from_is_err_and}
 use Rattle.cn_app.proofs.FailingRuns.{run_fails}
-use Rattle.cn_app.proofs.agree.run_agree.Goals as goal
+use Rattle.cn_app.proofs.agree.agree.Goals as goal
 
 pub returns-in_err-lines-clause-refused : goal.returns-in_err-lines-clause-refused
 returns-in_err-lines-clause-refused g c =
@@ -9,4 +9,4 @@ returns-in_err-lines-clause-refused g c =
     rw (p.1, p.2)
     (run_fails c.args.inputs.now c.args.schedule.now c.deref.result.now c.deref-2.result.now
     (c.in_ok-inputs.ensures.inputs ∙ ap Some (sym c.deref.ensures.value)) (c.in_ok-schedule.ensures.schedule ∙ ap Some (sym c.deref-2.ensures.value))
-    (g.R.Read.remaining c.args.table.now) (g.C.Read.remaining c.args.certificate.now) c.in_err-lines.field-0.0 c.in_err-lines.ensures.refused)
+    c.agreed_lines.new.table.bytes.items c.agreed_lines.new.certificate.bytes.items c.in_err-lines.field-0.0 c.in_err-lines.ensures.refused)
