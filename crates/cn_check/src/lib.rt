@@ -1,8 +1,9 @@
 //! The checker of certificates, which finds for itself whether what a certificate says holds.
 //!
 //! [`check`] goes through the evidence by code of its own: with the search it shares the definitions
-//! and their laws, and the steps of the table. It is never refused for want of memory. Where it answers `Ok`, the number is that of the type, whoever made
-//! the certificate; otherwise a [`CheckFault`] says what is wrong.
+//! and their laws, and the steps of the table. It is never refused for want of memory. Where it
+//! answers `Ok`, the number is that of the type, whoever made the certificate; otherwise a
+//! [`CheckFault`] says what is wrong.
 #![tactic(auto)]
 
 mod choice;
