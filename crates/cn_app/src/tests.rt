@@ -7,6 +7,7 @@ mod certificates;
 mod check;
 mod faults;
 mod find;
+mod kept;
 mod replay;
 mod serve;
 mod show;
