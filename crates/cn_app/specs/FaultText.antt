@@ -1,5 +1,5 @@
 -- The text of each fault, as it stands behind `cnum: ` on standard error, and its exit status.
-use Rattle.std.specs.Prelude.{◌≡◌, ◌≢◌, ℕ, List, ◌++◌, codes, Option, Some, None}
+use Rattle.std.specs.Prelude.{◌≡◌, ◌≢◌, ℕ, List, [], ◌++◌, codes, Option, Some, None}
 use Rattle.cn_table.specs.FaultText.{table_fault_text}
 use Rattle.cn_table.specs.declared.fault.TableFault.{TableFault}
 use Rattle.cn_table.specs.declared.fault.TableFault.TheVariants as table
@@ -59,6 +59,41 @@ fault_text (fault.Read s) = codes "cannot read " ++ source_text s
 fault_text fault.Write = codes "cannot write"
 fault_text fault.Thread = codes "cannot start a thread"
 fault_text fault.OutOfMemory = codes "out of memory"
+
+-- the same fault, with want of memory in whatever layer as one
+abbrev pub plain_of : AppFault → AppFault
+plain_of (fault.Table table.OutOfMemory) = fault.OutOfMemory
+plain_of (fault.Object table.OutOfMemory) = fault.OutOfMemory
+plain_of (fault.Certificate cert.OutOfMemory) = fault.OutOfMemory
+plain_of (fault.Find find.OutOfMemory) = fault.OutOfMemory
+plain_of (fault.Schedule schedule.OutOfMemory) = fault.OutOfMemory
+plain_of (fault.Replay replay.OutOfMemory) = fault.OutOfMemory
+plain_of f = f
+
+-- the words before the text of the fault that it carries
+abbrev pub head_of : AppFault → List ℕ
+head_of fault.Words = codes "words refused"
+head_of (fault.Argument p) = codes "argument: "
+head_of (fault.Table f) = codes "table: "
+head_of (fault.Object f) = codes "object: "
+head_of (fault.Certificate f) = codes "certificate: "
+head_of (fault.TooLong s) = source_text s
+head_of (fault.Check f) = codes "check: "
+head_of fault.NoWitness = codes "certificate: no witness"
+head_of (fault.Find f) = codes "find: "
+head_of (fault.Schedule f) = codes "schedule: "
+head_of (fault.Replay f) = codes "replay: "
+head_of (fault.Read s) = codes "cannot read "
+head_of fault.Write = codes "cannot write"
+head_of fault.Thread = codes "cannot start a thread"
+head_of fault.OutOfMemory = codes "out of memory"
+
+-- and the words behind it
+abbrev pub tail_of : AppFault → List ℕ
+tail_of (fault.Argument p) = part_text p
+tail_of (fault.TooLong s) = codes ": too long"
+tail_of (fault.Read s) = source_text s
+tail_of f = []
 
 abbrev pub status_of : AppFault → ℕ
 status_of fault.Words = 3

@@ -180,17 +180,46 @@ impl From<ServeFault> for AppFault {
     }
 }
 
+impl Source {
+    ghost use Rattle.cn_app.specs.FaultText.{source_text};
+
+    /// The word for it in the text of a fault.
+    pub fn name(&self) -> &'static str
+        ensures { result.now ≡ source_text self.now }
+    {
+        match self {
+            Source::Table => "table",
+            Source::Certificate => "certificate",
+            Source::Object => "object",
+        }
+    }
+}
+
+impl Part {
+    ghost use Rattle.cn_app.specs.FaultText.{part_text};
+
+    /// The word for it in the text of a fault.
+    pub fn name(&self) -> &'static str
+        ensures { result.now ≡ part_text self.now }
+    {
+        match self {
+            Part::Inputs => "INPUTS",
+            Part::Schedule => "SCHEDULE",
+            Part::Start => "START",
+            Part::Capacity => "CAPACITY",
+            Part::Events => "EVENTS",
+            Part::Calls => "CALLS",
+        }
+    }
+}
+
 impl fmt::Display for Source {
     ghost use Rattle.cn_app.specs.FaultText.{source_text};
 
     ghost output = { λ s. Some (source_text s) };
 
     fn fmt<W: fmt::Write>(&self, f: &mut fmt::Formatter<W>) -> fmt::Result {
-        f.write_str(match self {
-            Source::Table => "table",
-            Source::Certificate => "certificate",
-            Source::Object => "object",
-        })
+        f.write_str(self.name())
     }
 }
 
@@ -200,14 +229,80 @@ impl fmt::Display for Part {
     ghost output = { λ p. Some (part_text p) };
 
     fn fmt<W: fmt::Write>(&self, f: &mut fmt::Formatter<W>) -> fmt::Result {
-        f.write_str(match self {
-            Part::Inputs => "INPUTS",
-            Part::Schedule => "SCHEDULE",
-            Part::Start => "START",
-            Part::Capacity => "CAPACITY",
-            Part::Events => "EVENTS",
-            Part::Calls => "CALLS",
-        })
+        f.write_str(self.name())
+    }
+}
+
+impl AppFault {
+    ghost use Rattle.cn_app.specs.FaultText.{head_of, plain_of, status_of, tail_of};
+
+    /// The same fault, with want of memory in whatever layer as `OutOfMemory`.
+    pub fn plain(&self) -> AppFault
+        ensures { result ≡ plain_of self.now }
+    {
+        match self {
+            AppFault::Table(TableFault::OutOfMemory)
+            | AppFault::Object(TableFault::OutOfMemory)
+            | AppFault::Certificate(CertFault::OutOfMemory)
+            | AppFault::Find(FindFault::OutOfMemory)
+            | AppFault::Schedule(ScheduleFault::OutOfMemory)
+            | AppFault::Replay(ReplayFault::OutOfMemory) => AppFault::OutOfMemory,
+            fault => *fault,
+        }
+    }
+
+    /// The words of its text before the text of the fault that it carries, or, where it carries
+    /// none, before the [`tail`](AppFault::tail).
+    pub fn head(&self) -> &'static str
+        ensures { result.now ≡ head_of (plain_of self.now) }
+    {
+        match self.plain() {
+            AppFault::Words => "words refused",
+            AppFault::Argument(_) => "argument: ",
+            AppFault::Table(_) => "table: ",
+            AppFault::Object(_) => "object: ",
+            AppFault::Certificate(_) => "certificate: ",
+            AppFault::TooLong(source) => source.name(),
+            AppFault::Check(_) => "check: ",
+            AppFault::NoWitness => "certificate: no witness",
+            AppFault::Find(_) => "find: ",
+            AppFault::Schedule(_) => "schedule: ",
+            AppFault::Replay(_) => "replay: ",
+            AppFault::Read(_) => "cannot read ",
+            AppFault::Write => "cannot write",
+            AppFault::Thread => "cannot start a thread",
+            AppFault::OutOfMemory => "out of memory",
+        }
+    }
+
+    /// The words of its text behind the text of the fault that it carries, if any.
+    pub fn tail(&self) -> &'static str
+        ensures { result.now ≡ tail_of self.now }
+    {
+        match self {
+            AppFault::Argument(part) => part.name(),
+            AppFault::TooLong(_) => ": too long",
+            AppFault::Read(source) => source.name(),
+            _ => "",
+        }
+    }
+
+    /// The exit status of the program: 1 where the certificate was checked and is refused or has no
+    /// witness, 2 for a text that is refused, 3 for words, an argument, a limit, a count of
+    /// choices, a schedule or events that are refused, 4 where reading or writing failed or
+    /// no thread could be started, 5 for want of memory.
+    pub fn status(&self) -> u8
+        ensures { result ≡ status_of self.now }
+    {
+        match self.plain() {
+            AppFault::Check(_) | AppFault::NoWitness => 1,
+            AppFault::Table(_) | AppFault::Object(_) => 2,
+            AppFault::Certificate(_) | AppFault::TooLong(_) => 2,
+            AppFault::Words | AppFault::Argument(_) => 3,
+            AppFault::Find(_) | AppFault::Schedule(_) | AppFault::Replay(_) => 3,
+            AppFault::Read(_) | AppFault::Write | AppFault::Thread => 4,
+            AppFault::OutOfMemory => 5,
+        }
     }
 }
 
@@ -217,58 +312,17 @@ impl fmt::Display for AppFault {
     ghost output = { λ e. Some (fault_text e) };
 
     fn fmt<W: fmt::Write>(&self, f: &mut fmt::Formatter<W>) -> fmt::Result {
-        match self {
-            AppFault::Table(TableFault::OutOfMemory)
-            | AppFault::Object(TableFault::OutOfMemory)
-            | AppFault::Certificate(CertFault::OutOfMemory)
-            | AppFault::Find(FindFault::OutOfMemory)
-            | AppFault::Schedule(ScheduleFault::OutOfMemory)
-            | AppFault::Replay(ReplayFault::OutOfMemory)
-            | AppFault::OutOfMemory => f.write_str("out of memory"),
-            AppFault::Words => f.write_str("words refused"),
-            AppFault::Argument(part) => write!(f, "argument: {part}"),
-            AppFault::Table(fault) => write!(f, "table: {fault}"),
-            AppFault::Object(fault) => write!(f, "object: {fault}"),
-            AppFault::Certificate(fault) => write!(f, "certificate: {fault}"),
-            AppFault::TooLong(source) => write!(f, "{source}: too long"),
-            AppFault::Check(fault) => write!(f, "check: {fault}"),
-            AppFault::NoWitness => f.write_str("certificate: no witness"),
-            AppFault::Find(fault) => write!(f, "find: {fault}"),
-            AppFault::Schedule(fault) => write!(f, "schedule: {fault}"),
-            AppFault::Replay(fault) => write!(f, "replay: {fault}"),
-            AppFault::Read(source) => write!(f, "cannot read {source}"),
-            AppFault::Write => f.write_str("cannot write"),
-            AppFault::Thread => f.write_str("cannot start a thread"),
+        let (head, tail) = (self.head(), self.tail());
+        match self.plain() {
+            AppFault::Table(fault) | AppFault::Object(fault) => write!(f, "{head}{fault}{tail}"),
+            AppFault::Certificate(fault) => write!(f, "{head}{fault}{tail}"),
+            AppFault::Check(fault) => write!(f, "{head}{fault}{tail}"),
+            AppFault::Find(fault) => write!(f, "{head}{fault}{tail}"),
+            AppFault::Schedule(fault) => write!(f, "{head}{fault}{tail}"),
+            AppFault::Replay(fault) => write!(f, "{head}{fault}{tail}"),
+            _ => write!(f, "{head}{tail}"),
         }
     }
 }
 
 impl Error for AppFault {}
-
-impl AppFault {
-    ghost use Rattle.cn_app.specs.FaultText.{status_of};
-
-    /// The exit status of the program: 1 where the certificate was checked and is refused or has no
-    /// witness, 2 for a text that is refused, 3 for words, an argument, a limit, a count of
-    /// choices, a schedule or events that are refused, 4 where reading or writing failed or
-    /// no thread could be started, 5 for want of memory.
-    pub fn status(&self) -> u8
-        ensures { result ≡ status_of self.now }
-    {
-        match self {
-            AppFault::Table(TableFault::OutOfMemory)
-            | AppFault::Object(TableFault::OutOfMemory)
-            | AppFault::Certificate(CertFault::OutOfMemory)
-            | AppFault::Find(FindFault::OutOfMemory)
-            | AppFault::Schedule(ScheduleFault::OutOfMemory)
-            | AppFault::Replay(ReplayFault::OutOfMemory)
-            | AppFault::OutOfMemory => 5,
-            AppFault::Check(_) | AppFault::NoWitness => 1,
-            AppFault::Table(_) | AppFault::Object(_) => 2,
-            AppFault::Certificate(_) | AppFault::TooLong(_) => 2,
-            AppFault::Words | AppFault::Argument(_) => 3,
-            AppFault::Find(_) | AppFault::Schedule(_) | AppFault::Replay(_) => 3,
-            AppFault::Read(_) | AppFault::Write | AppFault::Thread => 4,
-        }
-    }
-}

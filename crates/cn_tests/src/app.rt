@@ -6,6 +6,7 @@ mod calls;
 mod check;
 mod faults;
 mod find;
+mod kept;
 mod replay;
 mod serve;
 mod show;

@@ -6,9 +6,12 @@ mod always_on;
 mod lazy_file;
 mod words;
 
+ghost use Rattle.cn_app.specs.SourceBytes.{IsUnread};
+ghost use Rattle.cn_app.specs.Writing.{IsUnwritten};
+
 use always_on::AlwaysOn;
 use clap::{ArgMatches, Error};
-use cn_app::{AppFault, Outcome, run_agree, run_check, run_find, run_replay, run_serve, run_show};
+use cn_app::{AppFault, Outcome, Output, Text, commands};
 use lazy_file::LazyFile;
 use std::alloc::Global;
 use std::io::{ErrorKind, Read, Write};
@@ -26,17 +29,22 @@ fn text<'a>(words: &ArgMatches<'a>, name: &str) -> Result<&'a str, AppFault> {
 fn run_on_object<T: Threads + Wait + Sync + Files, I: Read, C: Read, O: Write>(
     rt: &T,
     alloc: Global,
-    table: &mut I,
-    certificate: &mut C,
-    output: &mut O,
+    table: &mut Text<'_, I>,
+    certificate: &mut Text<'_, C>,
+    output: &mut Output<'_, O>,
     command: &str,
     words: &ArgMatches<'_>,
-) -> Result<Outcome, AppFault> {
-    let mut object = LazyFile::new(rt, text(words, "OBJECT")?);
+) -> Result<Outcome, AppFault>
+    requires table { IsUnread table.old }
+    requires certificate { IsUnread certificate.old }
+    requires output { IsUnwritten output.old }
+{
+    let mut file = LazyFile::new(rt, text(words, "OBJECT")?);
+    let mut object = Text::new(alloc, &mut file);
     let (start, capacity) = (text(words, "START")?, text(words, "CAPACITY")?);
     if command == "replay" {
         let events = text(words, "EVENTS")?;
-        return run_replay(
+        return commands::replay(
             rt,
             alloc,
             table,
@@ -49,7 +57,7 @@ fn run_on_object<T: Threads + Wait + Sync + Files, I: Read, C: Read, O: Write>(
         );
     }
     let calls = text(words, "CALLS")?;
-    run_serve(
+    commands::serve(
         rt,
         alloc,
         table,
@@ -67,22 +75,26 @@ fn run_on_object<T: Threads + Wait + Sync + Files, I: Read, C: Read, O: Write>(
 fn run<T: Threads + Wait + Sync + Files, I: Read, O: Write>(
     rt: &T,
     alloc: Global,
-    table: &mut I,
-    output: &mut O,
+    table: &mut Text<'_, I>,
+    output: &mut Output<'_, O>,
     words: &ArgMatches<'_>,
-) -> Result<Outcome, AppFault> {
+) -> Result<Outcome, AppFault>
+    requires table { IsUnread table.old }
+    requires output { IsUnwritten output.old }
+{
     let (command, words) = words.subcommand().ok_or(AppFault::Words)?;
     if command == "find" {
         let limit = words.get_one::<u8>("limit").ok_or(AppFault::Words)?;
-        return run_find(rt, alloc, table, output, limit);
+        return commands::find(rt, alloc, table, output, limit);
     }
-    let mut certificate = LazyFile::new(rt, text(words, "CERT")?);
+    let mut file = LazyFile::new(rt, text(words, "CERT")?);
+    let mut certificate = Text::new(alloc, &mut file);
     match command {
-        "check" => run_check(rt, alloc, table, &mut certificate, output),
-        "show" => run_show(rt, alloc, table, &mut certificate, output),
+        "check" => commands::check(rt, alloc, table, &mut certificate, output),
+        "show" => commands::show(rt, alloc, table, &mut certificate, output),
         "agree" => {
             let (inputs, schedule) = (text(words, "INPUTS")?, text(words, "SCHEDULE")?);
-            run_agree(rt, alloc, table, &mut certificate, output, inputs, schedule)
+            commands::agree(rt, alloc, table, &mut certificate, output, inputs, schedule)
         }
         "replay" | "serve" => {
             run_on_object(rt, alloc, table, &mut certificate, output, command, words)
@@ -136,9 +148,10 @@ fn main(rt: HostRuntime) -> ExitCode {
     };
     match command.try_get_matches_from(given.as_slice()) {
         Ok(matches) => {
-            let mut input = rt.stdin();
-            let mut output = rt.stdout();
-            let outcome = run(&rt, alloc, &mut input, &mut output, &matches);
+            let (mut input, mut output) = (rt.stdin(), rt.stdout());
+            let mut table = Text::new(alloc, &mut input);
+            let mut output = Output::new(alloc, &mut output);
+            let outcome = run(&rt, alloc, &mut table, &mut output, &matches);
             ended(&rt, outcome)
         }
         Err(error) => told(&rt, &error),
