@@ -41,7 +41,7 @@ fn found_text<T: Threads + Sync, R: Read>(
 /// line feed.
 ///
 /// The number is the greatest n from 2 to the limit for which the type is n-discerning. The limit
-/// is from 2 to 6. `rt` starts the threads of the search.
+/// is from 2 to 8. `rt` starts the threads of the search.
 ///
 /// # Errors
 ///

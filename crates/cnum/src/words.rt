@@ -26,11 +26,12 @@ const FIND_AFTER: &str = "\
 Reads a type table in TOML from standard input: the keys name, states, responses and, for each
 operation, name, response and next. Looks for the greatest n from 2 to N for which the type is
 n-discerning, that is, the number of processes that the type with registers can bring to
-agreement, as far as N shows. N is from 2 to 6. A search of more than 100000 choices for N
+agreement, as far as N shows. N is from 2 to 8. A search of more than 100000 choices for N
 processes is refused.
 
 Writes a certificate, one line of JSON: the number, or null; a witness for it; and for each
-choice of operations and teams for one process more a collision, which shows that it is none.
+choice of operations and teams for one process more in which every operation leads away from the
+start state a collision, which shows that it is none.
 
 Exit status: 0 done, 2 the table is refused, 3 the words, the limit or the count of choices are
 refused, 4 reading or writing failed, 5 out of memory.
@@ -143,7 +144,7 @@ fn find<'a>(alloc: Global) -> Result<Command<'a>, AllocError> {
     let limit = Arg::new(alloc, "limit")
         .long("limit")
         .value_name("N")
-        .help("The greatest number looked for, from 2 to 6")
+        .help("The greatest number looked for, from 2 to 8")
         .required(true)
         .action(ArgAction::Set)
         .value_parser(value_parser!(u8));

@@ -53,7 +53,7 @@ fn one_byte_more_than_the_limit_is_read(rt: HostRuntime) -> Result<(), Fail> {
 #[test]
 fn an_output_keeps_what_was_handed_over(rt: HostRuntime) -> Result<(), Fail> {
     let alloc = rt.alloc();
-    let whole = format!(in alloc; "{TEST_AND_SET_AT_3}\n")?;
+    let whole = format!(in alloc; "{FOUND_TEST_AND_SET_AT_3}\n")?;
     for (room, progress) in [
         (1, Progress::Failed),
         (whole.len() - 1, Progress::Failed),
