@@ -1,7 +1,7 @@
 //! Laws of rounds and schedules. A law is a function that does nothing: its contract is the law.
 ghost use Rattle.std.specs.Prelude.{◌≡◌, ◌<◌, ◌↔◌, ℕ, List, length, None, Some};
 ghost use Rattle.cn_choice.specs.declared.team.Team.{Team as TeamOf};
-ghost use Rattle.cn_proto.specs.Plan.{protocol_of, processes_of};
+ghost use Rattle.cn_proto.specs.Plan.{IsPlan, Plan as PlanOf, protocol_of, processes_of};
 ghost use Rattle.cn_proto.specs.Protocol.{Protocol};
 ghost use Rattle.cn_proto.specs.Sound.{IsSound};
 ghost use Rattle.cn_agree.specs.AtomicStep.{IsAtomic};
@@ -14,6 +14,7 @@ ghost use Rattle.cn_agree.specs.World.{World, input_at, local_at};
 ghost use Rattle.cn_agree.specs.declared.local.Local.TheVariants.{NotBegun};
 
 use cn_proto::Plan;
+use cn_proto::laws::every_plan;
 
 /// A step is atomic: one action touches one object or one register, and all else stays, but the
 /// local state of the process and the record of the first application at the root; and what the
@@ -29,6 +30,13 @@ pub fn every_schedule<V>(plan: &Plan)
     ensures { (inputs : List V) (schedule : List ℕ) → length inputs ≡ processes_of plan.now → IsSchedule (processes_of plan.now) schedule → IsConsensus (protocol_of plan.now) (processes_of plan.now) inputs schedule (decisions_after plan.now inputs schedule) }
 {
     plan.is_sound();
+}
+
+/// The same, said of each plan as data.
+pub fn plans_reach_consensus<V>()
+    ensures { (plan : PlanOf) → IsPlan plan → (inputs : List V) (schedule : List ℕ) → length inputs ≡ processes_of plan → IsSchedule (processes_of plan) schedule → IsConsensus (protocol_of plan) (processes_of plan) inputs schedule (decisions_after plan inputs schedule) }
+{
+    every_plan();
 }
 
 /// Every round keeps consensus, whatever its processes did so far.

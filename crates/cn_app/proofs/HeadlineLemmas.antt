@@ -1,39 +1,32 @@
 -- The parts of the headline.
-use Rattle.std.proofs.Common.{◌≡◌, ℕ, ◌+◌, ◌≤◌, ◌<◌, ◌↔◌, List, ◌∷◌, ◌++◌, length, Contains, Option, Some, None, IsSomeAnd, MatchOption, ap, arith, refl, sym, ◌∙◌, subst, length-append}
+use Rattle.std.proofs.Common.{◌≡◌, ℕ, ◌+◌, ◌≤◌, ◌<◌, ◌↔◌, List, ◌∷◌, ◌++◌, length, Contains, Option, Some, None, IsSomeAnd, MatchOption, ap, arith, sym, ◌∙◌, subst, length-append}
 use Rattle.cn_table.proofs.Lists.{Contains-between}
 use Rattle.cn_table.specs.TypeTable.{TypeTable}
-use Rattle.cn_choice.specs.Canonical.{Choice, IsCanonical, canonical_choices, raw_choice_of}
+use Rattle.cn_choice.specs.Canonical.{Choice, IsCanonical, raw_choice_of}
+use Rattle.cn_choice.specs.Live.{IsLive, live_choices}
 use Rattle.cn_choice.specs.RawChoices.{IsRawChoice}
 use Rattle.cn_search.specs.Evidence.{IsFindingFor, IsFirstWitness, choices_for}
 use Rattle.cn_search.specs.Finding.{Finding}
 use Rattle.cn_proto.specs.Plan.{Plan, IsPlan, nodes_of, processes_of, protocol_of}
 use Rattle.cn_proto.specs.Sound.{IsSound}
 use Rattle.cn_proto.specs.Tournament.{team_of}
-use Rattle.cn_agree.proofs.Agreeing.{every_schedule}
 use Rattle.cn_log.specs.Linearized.{IsLinearized}
 use Rattle.cn_log.specs.Log.{IsEventList}
 use Rattle.cn_log.specs.Opening.{IsOpening, Opening, opening_of, setting_of}
 use Rattle.cn_log.specs.declared.event.Event.{Event}
-use Rattle.cn_app.specs.Headline.{ReachesConsensus, ServesObjects}
+use Rattle.cn_app.specs.Headline.{ServesObjects}
 
--- the canonical choices of the type are for as many processes as is said
+-- the live choices of the type are for as many processes as is said
 abbrev pub AreListed : Type 0
-AreListed = (t : TypeTable) (n : ℕ) (c : Choice) → Contains (canonical_choices (length t.states) (length t.operations) n) c ↔ (IsCanonical c × IsRawChoice t n (raw_choice_of c))
+AreListed = (t : TypeTable) (n : ℕ) (c : Choice) → Contains (live_choices t n) c ↔ (IsCanonical c × IsRawChoice t n (raw_choice_of c) × IsLive t (raw_choice_of c))
 
 -- every log is linearized
 abbrev pub AreLinearized : Type 0
 AreLinearized = (o : Opening) (events : List Event) → IsOpening o → IsEventList (setting_of o) events → IsLinearized (setting_of o) events
 
--- every plan is sound, and no path has more places than there are nodes
+-- every plan is sound
 abbrev pub AreSound : Type 0
 AreSound = (p : Plan) → IsPlan p → IsSound (protocol_of p) (processes_of p) (nodes_of p) (team_of (length p.choice.a))
-
-abbrev pub AreShort : Type 0
-AreShort = (p : Plan) → IsPlan p → (process : ℕ) → process < processes_of p → length ((protocol_of p).path process) ≤ nodes_of p
-
-pub reaches_consensus : AreSound → AreShort → (V : Type 0) (plan : Plan) → IsPlan plan → ReachesConsensus V plan
-reaches_consensus sound short V plan is inputs schedule many all =
-    every_schedule (protocol_of plan) (processes_of plan) (nodes_of plan) (team_of (length plan.choice.a)) (sound plan is) inputs schedule many all (short plan is) refl
 
 pub serves_objects : AreSound → AreLinearized → (plan : Plan) → IsPlan plan → ServesObjects plan
 serves_objects sound linearized plan is object start capacity events known some few may =
