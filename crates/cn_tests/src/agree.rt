@@ -127,11 +127,7 @@ fn decides_for_eight(rt: HostRuntime) -> Result<(), Fail> {
     let inputs = [10, 20, 30, 40, 50, 60, 70, 80];
     let rows = [
         (27, 0, [None; 8]),
-        (
-            28,
-            0,
-            [None, None, None, None, None, None, None, Some(80)],
-        ),
+        (28, 0, [None, None, None, None, None, None, None, Some(80)]),
         (28, 28, [Some(80); 8]),
     ];
     for (alone, more, expected) in rows {
@@ -268,11 +264,7 @@ fn replay(
 }
 
 /// What each process has decided.
-fn decisions(
-    alloc: Global,
-    plan: &Plan,
-    round: &Round<u64>,
-) -> Result<Vec<Option<u64>>, AllocError>
+fn decisions(alloc: Global, plan: &Plan, round: &Round<u64>) -> Result<Vec<Option<u64>>, AllocError>
     requires { RunsBy plan.now round.now }
 {
     let mut decisions = Vec::new(alloc);

@@ -13,8 +13,8 @@ mod show;
 mod streams;
 
 use cn_app::{
-    AppFault, Outcome, Part, Source, read_calls, read_events, read_inputs, read_schedule, run_agree,
-    run_check, run_find, run_replay, run_serve, run_show,
+    AppFault, Outcome, Part, Source, read_calls, read_events, read_inputs, read_schedule,
+    run_agree, run_check, run_find, run_replay, run_serve, run_show,
 };
 use std::alloc::Global;
 use std::test::Fail;

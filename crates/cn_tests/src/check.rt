@@ -377,7 +377,10 @@ fn prints_each_fault(rt: HostRuntime) -> Result<(), Fail> {
         (CheckFault::WitnessMeets(7), "4 WitnessMeets 7"),
         (CheckFault::Unexpected, "5 Unexpected"),
         (CheckFault::NotNext(8), "6 NotNext 8"),
-        (CheckFault::NotACollision(u64::MAX), "7 NotACollision 18446744073709551615"),
+        (
+            CheckFault::NotACollision(u64::MAX),
+            "7 NotACollision 18446744073709551615",
+        ),
         (CheckFault::TooFew, "8 TooFew"),
     ] {
         let text = format!(in rt.alloc(); "{fault}")?;

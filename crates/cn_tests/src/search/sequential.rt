@@ -1,8 +1,8 @@
 //! The search choice by choice, in one thread and with nothing left out, to compare with.
 ghost use Rattle.std.specs.Prelude.{◌≤◌};
 
-use cn_search::Finding;
 use cn_choice::{Choice, Choices, Collision, Examined, Team, examine, outcomes};
+use cn_search::Finding;
 use cn_table::Table;
 use std::alloc::Global;
 use std::process::Abort;
