@@ -21,7 +21,7 @@ module _ {T R : Type 0} (source : Source) (remaining : R → Option (List ℕ)) 
   pub may_be_read : (r : Result T AppFault) → MayHaveRead source r remaining old new → (P : List ℕ → AppFault → Type 0) → IfErr r (P new.bytes.items)
       → IfErr r (λ e. MayBeRead source r remaining first last (λ bytes. P bytes e))
   may_be_read (Ok x) h P p = p
-  may_be_read (Err e) (inl same) P p = (new.bytes.items, inl (last_is ∙ ap (λ t. t.reader.now) same ∙ sym first_is), p)
+  may_be_read (Err e) (inl same) P p = (new.bytes.items, inl (last_is ∙ ap (λ t. t.reader.now) same.0 ∙ sym first_is), p)
   may_be_read (Err e) (inr h) P p = (new.bytes.items, inr (rw (first_is, last_is) h.given), p)
 
 -- the writer was so before and is so now

@@ -1,5 +1,5 @@
 -- What reading a text says of its bytes, whether or not they were known before.
-use Rattle.std.specs.Prelude.{◌≡◌, ◌⊎◌, ℕ, ◌+◌, ◌<◌, ◌≤◌, List, [], length, Option, Result, MatchResult}
+use Rattle.std.specs.Prelude.{◌≡◌, ◌≢◌, ◌⊎◌, ℕ, ◌+◌, ◌<◌, ◌≤◌, List, [], length, Option, Result, MatchResult}
 use Rattle.std.specs.Io.KnownBytes.{Consumes, IsAtEnd}
 use Rattle.cn_app.specs.declared.fault.AppFault.{AppFault}
 use Rattle.cn_app.specs.declared.fault.AppFault.TheVariants.{OutOfMemory, Read}
@@ -35,9 +35,10 @@ pub record HasRead {T R : Type 0} (source : Source) (result : Result T AppFault)
   pub given : HasGiven source result (remaining old.reader.now) (remaining new.reader.now) new.bytes.items
   pub told : MatchResult result (λ _. new.progress ≡ Done) (λ e. e ≡ Read source → new.progress ≡ Failed)
 
--- on success so, and on a fault so or the text is as it was
+-- on success so, and on a fault so, or the text is as it was and the fault is not that its reader failed
 abbrev pub MayHaveRead : {T R : Type 0} → Source → Result T AppFault → (R → Option (List ℕ)) → Text R → Text R → Type 0
-MayHaveRead source result remaining old new = MatchResult result (λ _. HasRead source result remaining old new) (λ _. (new ≡ old) ⊎ HasRead source result remaining old new)
+MayHaveRead source result remaining old new =
+    MatchResult result (λ _. HasRead source result remaining old new) (λ e. ((new ≡ old) × (e ≢ Read source)) ⊎ HasRead source result remaining old new)
 
 -- there are bytes that the reader gave, of which this holds
 abbrev pub WasRead : {T R : Type 0} → Source → Result T AppFault → (R → Option (List ℕ)) → R → R → (List ℕ → Type 0) → Type 0

@@ -37,3 +37,13 @@ returns-in_err-write-clause-served g c =
       events_give c.args.capacity.now c.args.events.now c.in_ok-capacity.capacity c.deref.result.now c.in_ok-capacity.ensures.capacity (c.in_ok-events.ensures.events ∙ ap Some (sym c.deref.ensures.value))
           (λ k es. GivesObject table certificate object (λ t x o. (plan : Plan) × IsPlanOf t x plan × StartGives o c.args.start.now (λ q. IsServed plan o q k es c.write.new.self.bytes.items outcome))) served,
     ))
+
+pub returns-in_err-served-clause-untouched_certificate : goal.returns-in_err-served-clause-untouched_certificate
+returns-in_err-served-clause-untouched_certificate g c =
+    let p = err_from_is_err_and c.from_residual-in_err-served.result c.from_residual-in_err-served.ensures.1 in
+    rw (p.1, p.2) c.in_err-served.ensures.untouched_certificate
+
+pub returns-in_err-served-clause-untouched_object : goal.returns-in_err-served-clause-untouched_object
+returns-in_err-served-clause-untouched_object g c =
+    let p = err_from_is_err_and c.from_residual-in_err-served.result c.from_residual-in_err-served.ensures.1 in
+    rw (p.1, p.2) c.in_err-served.ensures.untouched_object

@@ -39,3 +39,8 @@ returns-in_err-write-clause-served g c =
           (c.in_ok-calls.ensures.calls ∙ ap (λ l. Some (lists_of l)) (sym c.deref.ensures.value))
           (λ k cs. GivesObject table certificate object (λ t x o. (plan : Plan) × IsPlanOf t x plan × StartGives o c.args.start.now (λ q. IsServedByThreads plan o q k cs c.write.new.self.bytes.items outcome))) served,
     ))
+
+pub returns-in_err-served-clause-untouched_certificate : goal.returns-in_err-served-clause-untouched_certificate
+returns-in_err-served-clause-untouched_certificate g c =
+    let p = err_from_is_err_and c.from_residual-in_err-served.result c.from_residual-in_err-served.ensures.1 in
+    rw (p.1, p.2) c.in_err-served.ensures.untouched_certificate
