@@ -1,5 +1,7 @@
 -- A round while its processes begin.
-use Rattle.std.proofs.Common.{ℕ, zero, suc, ◌≡◌, ◌≢◌, ◌+◌, ◌<◌, ◌≤◌, [], replicate, slice_index_or, refl, sym, ap, ◌∙◌, arith, get_or-set_same, get_or-set_other, cases_eq, ⊎_elim}
+use Rattle.std.proofs.Common.{ℕ, zero, suc, ◌≡◌, ◌≢◌, ◌+◌, ◌<◌, ◌≤◌, [], replicate, slice_index_or, refl, sym, ap, ◌∙◌, arith, length, get_or-set_same, get_or-set_other}
+use Rattle.std.proofs.Math.Logic.{⊎_elim}
+use Rattle.std.proofs.lemmas.Bool.{cases_eq}
 use Rattle.cn_proto.specs.Plan.{Plan, protocol_of, processes_of, nodes_of}
 use Rattle.cn_agree.specs.declared.local.Stage.TheVariants.{Write}
 use Rattle.cn_agree.specs.declared.local.Local.{Local}
@@ -23,7 +25,10 @@ none_begun {V = V} plan w is r = record {
   waiting = λ p le. ap (λ (u : World V). local_at u p) is ∙ waits (processes_of plan) p;
 }
   where
-    waits : (n p : ℕ) → slice_index_or (replicate n (NotBegun {V = V})) p NotBegun ≡ NotBegun
+    idle : Local V
+    idle = NotBegun
+
+    waits : (n p : ℕ) → slice_index_or (replicate n idle) p idle ≡ idle
     waits zero p = refl
     waits (suc n) zero = refl
     waits (suc n) (suc p) = waits n p

@@ -4,4 +4,4 @@ use Rattle.cn_agree.specs.Rounds.{RunsBy}
 use Rattle.cn_tests.proofs.agree.replay.Given as goal
 
 abbrev pub invariant-loop-p : goal.invariant-loop-p
-invariant-loop-p l = RunsBy l.plan l.round × AllHaveBegun (processes_of l.plan) l.round
+invariant-loop-p g l = RunsBy l.plan l.round × AllHaveBegun (processes_of l.plan) l.round
