@@ -242,7 +242,7 @@ fn judge(
     }
 }
 
-/// The round after a schedule, in which no process is named after it has decided.
+/// The round after a schedule; a process that has decided takes no step.
 fn replay(
     rt: &impl Abort,
     alloc: Global,
