@@ -5,7 +5,7 @@ use Rattle.cn_log.specs.Callers.{call_of, calls_by, calls_from, entries_by}
 use Rattle.cn_log.specs.declared.entry.Entry.{Entry}
 use Rattle.cn_log.specs.declared.event.Event.{Event}
 use Rattle.cn_log.specs.declared.event.Event.TheVariants.{Invoke, Step}
-use Rattle.cn_log.proofs.ListLemmas.{get_low, get_push_new}
+use Rattle.cn_table.proofs.Lists.{get_low, get_push_new}
 use Rattle.cn_hall.specs.Calls.{IsUnseen, next_call}
 use Rattle.cn_hall.specs.Seats.{SeatState, IsLog, caller, placed, seen}
 use Rattle.cn_hall.proofs.LogLaws.{Called, Owned}

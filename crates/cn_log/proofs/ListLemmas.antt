@@ -1,6 +1,7 @@
 -- Reads of a function changed at one place, and of entries.
 use Rattle.std.proofs.Common.{ℕ, zero, suc, ◌≡◌, ◌≢◌, ◌⊎◌, inl, inr, Bool, true, false, ◌<◌, ◌==◌, List, [], ◌∷◌, ◌++◌, length, take, slice_get, Some, refl, sym, ap, arith, true≢false}
 use Rattle.std.proofs.lemmas.Bool.Decides.{nat_tests}
+pub use Rattle.cn_table.proofs.Lists.{get_push_old, get_push_new, get_low}
 use Rattle.cn_log.specs.declared.entry.Entry.{Entry}
 use Rattle.cn_log.specs.Log.{same_entry, has_entry, put}
 
@@ -61,20 +62,6 @@ has_yes (f ∷ es) e h = go (same_entry f e) refl (has_yes es e)
     go : (b : Bool) → same_entry f e ≡ b → (has_entry es e ≡ true → (k : ℕ) × (k < length es) × (slice_get es k ≡ Some e)) → (k : ℕ) × (k < length (f ∷ es)) × (slice_get (f ∷ es) k ≡ Some e)
     go true t rest = (zero, omega arith, ap Some (same_is f e t))
     go false t rest = let r = rest (rw t at h) in (suc r.0, (let l = r.1 in omega arith), r.2)
-
-pub get_push_old : {A : Type 0} (xs : List A) (x : A) (k : ℕ) (y : A) → slice_get xs k ≡ Some y → slice_get (xs ++ x ∷ []) k ≡ Some y
-get_push_old [] x k y h = absurd cc
-get_push_old (z ∷ xs) x zero y h = h
-get_push_old (z ∷ xs) x (suc k) y h = get_push_old xs x k y h
-
-pub get_push_new : {A : Type 0} (xs : List A) (x : A) → slice_get (xs ++ x ∷ []) (length xs) ≡ Some x
-get_push_new [] x = refl
-get_push_new (z ∷ xs) x = get_push_new xs x
-
-pub get_low : {A : Type 0} (xs : List A) (k : ℕ) (x : A) → slice_get xs k ≡ Some x → k < length xs
-get_low [] k x h = absurd cc
-get_low (y ∷ xs) zero x h = omega arith
-get_low (y ∷ xs) (suc k) x h = let l = get_low xs k x h in omega arith
 
 -- a list that stands at the front of another is that much of it
 pub take_front : {A : Type 0} (front xs : List A) → ((j : ℕ) (x : A) → slice_get front j ≡ Some x → slice_get xs j ≡ Some x) → take (length front) xs ≡ front

@@ -1,5 +1,5 @@
 -- Lists: what more than one crate needs of them.
-use Rattle.std.proofs.Common.{◌≡◌, ℕ, ◌<◌, ◌+◌, List, [], ◌∷◌, ◌++◌, length, drop, get_or, map, Option, Some, None, option_map, All, Contains, arith, refl, ap, subst, sym, ◌∙◌, append_assoc}
+use Rattle.std.proofs.Common.{◌≡◌, ℕ, zero, suc, ◌<◌, ◌+◌, List, [], ◌∷◌, ◌++◌, length, drop, get_or, map, slice_get, Option, Some, None, option_map, All, Contains, arith, refl, ap, subst, sym, ◌∙◌, append_assoc}
 use Rattle.std.proofs.lemmas.List.{drop_more}
 use Rattle.std.proofs.lemmas.List.Elements.{All-contains, All-contains_itself, All-weaker, Contains-append_left, Contains-append_right}
 use Rattle.cn_table.specs.Draft.{all_some, ◌>>=◌}
@@ -8,6 +8,22 @@ use Rattle.cn_table.proofs.ListLemmas.{map_twice}
 -- what stands between two parts of a list is in it
 pub Contains-between : {X : Type 0} (xs before after : List X) (x : X) → before ++ x ∷ after ≡ xs → Contains xs x
 Contains-between xs before after x e = subst (λ (ys : List _). Contains ys x) e (Contains-append_right before (x ∷ after) x (0, omega arith, refl))
+
+-- what stands in a list stands there still where one more is put behind it, and that one stands behind them all
+pub get_push_old : {A : Type 0} (xs : List A) (x : A) (k : ℕ) (y : A) → slice_get xs k ≡ Some y → slice_get (xs ++ x ∷ []) k ≡ Some y
+get_push_old [] x k y h = absurd cc
+get_push_old (z ∷ xs) x zero y h = h
+get_push_old (z ∷ xs) x (suc k) y h = get_push_old xs x k y h
+
+pub get_push_new : {A : Type 0} (xs : List A) (x : A) → slice_get (xs ++ x ∷ []) (length xs) ≡ Some x
+get_push_new [] x = refl
+get_push_new (z ∷ xs) x = get_push_new xs x
+
+-- what stands in a list has a place in it
+pub get_low : {A : Type 0} (xs : List A) (k : ℕ) (x : A) → slice_get xs k ≡ Some x → k < length xs
+get_low [] k x h = absurd cc
+get_low (y ∷ xs) zero x h = omega arith
+get_low (y ∷ xs) (suc k) x h = let l = get_low xs k x h in omega arith
 
 -- what holds of each element of a list holds of each element of its parts
 pub All-parts : {X : Type 0} (P : X → Type 0) (xs ys : List X) → All P (xs ++ ys) → All P xs × All P ys
