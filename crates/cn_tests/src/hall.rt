@@ -300,29 +300,55 @@ fn core_for_eight(rt: &impl Abort, alloc: Global) -> Result<LogCore, Fail>
     Ok(core)
 }
 
+/// A hall over a new core for eight processes, and its seats 6 and 7.
+fn opened_for_eight<R: Wait + Abort>(rt: &R, alloc: Global) -> Result<(Hall, Seat, Seat), Fail>
+    ensures of { IfOk result (λ r. IsSeatOf r.0 r.1 × IsSeatOf r.0 r.2) }
+    ensures idle { IfOk result (λ r. (pending r.1 ≡ None) × (pending r.2 ≡ None)) }
+    ensures operation { IfOk result (λ r. (0 < length r.1.core.opening.object.operations) × (0 < length r.2.core.opening.object.operations)) }
+{
+    let core = core_for_eight(rt, alloc)?;
+    let Ok((hall, mut seats)) = open(rt, alloc, core) else {
+        panic!(rt; "no memory")
+    };
+    let Some(seven) = seats.pop() else {
+        unreachable!()
+    };
+    let Some(six) = seats.pop() else {
+        unreachable!()
+    };
+    Ok((hall, six, seven))
+}
+
 #[test]
 fn serves_eight_seats(rt: HostRuntime) -> Result<(), Fail> {
     let alloc = rt.alloc();
-    let core = core_for_eight(&rt, alloc)?;
-    let Ok((hall, mut seats)) = open(&rt, alloc, core) else {
-        panic!(&rt; "no memory")
-    };
-    assert!(rt; seats.len() == 8);
-    let Some(mut seven) = seats.pop() else {
-        unreachable!()
-    };
-    let Some(mut six) = seats.pop() else {
-        unreachable!()
-    };
+    let (hall, mut six, mut seven) = opened_for_eight(&rt, alloc)?;
     assert!(rt; six.process() == 6 && seven.process() == 7);
-    let reply = hall.call(&rt, &mut seven, Operation(0), &mut AlwaysOn)?;
-    assert!(rt; reply.slot == 0 && reply.response == Response(0));
-    let reply = hall.call(&rt, &mut six, Operation(0), &mut AlwaysOn)?;
-    assert!(rt; reply.slot == 1 && reply.response == Response(1));
-    assert!(rt; matches!(hall.meet(&rt, &mut seven, &mut six), Order::Less));
-    seats.push(six)?;
-    seats.push(seven)?;
-    let core = hall.close(&rt, seats);
-    assert!(rt; core.entries().len() == 2 && core.replayed(7) == 1 && core.at_end(0) == false);
+    let first = hall.call(&rt, &mut seven, Operation(0), &mut AlwaysOn);
+    assert!(rt;
+        first
+            == Ok(Reply {
+                slot: 0,
+                response: Response(0)
+            })
+    );
+    let second = hall.call(&rt, &mut six, Operation(0), &mut AlwaysOn);
+    assert!(rt;
+        second
+            == Ok(Reply {
+                slot: 1,
+                response: Response(1)
+            })
+    );
+    assert!(rt; matches!(hall.meet(&rt, &mut six, &mut seven), Order::Greater));
+    // Each has seven places on its path, so 29 steps for each slot.
+    let parts = [
+        (Event::Invoke(7, 0), 1),
+        (Event::Step(7), 29),
+        (Event::Invoke(6, 0), 1),
+        (Event::Step(6), 58),
+    ];
+    let seats = Vec::with_capacity(alloc, 2)?;
+    close(&rt, alloc, hall, six, seven, seats, &parts)?;
     Ok(())
 }
