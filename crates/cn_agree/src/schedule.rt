@@ -29,7 +29,7 @@ impl Model for Decided {
 }
 
 /// The first place of a schedule that names none of so many processes.
-pub(crate) fn stranger_at(processes: u8, schedule: &[u8]) -> Option<usize>
+fn stranger_at(processes: u8, schedule: &[u8]) -> Option<usize>
     ensures { result ≡ position (λ p. nat_le processes p) schedule.now }
 {
     schedule.iter().position(|p| *p >= processes)
@@ -77,7 +77,7 @@ fn step_all<V: Copy>(plan: &Plan, round: &mut Round<V>, schedule: &[u8])
 }
 
 /// What each of so many processes has decided.
-pub(crate) fn decisions<V: Copy>(
+fn decisions<V: Copy>(
     alloc: Global,
     round: &Round<V>,
     processes: u8,
@@ -93,7 +93,7 @@ pub(crate) fn decisions<V: Copy>(
 }
 
 /// The round after a schedule, where each process has begun with its input.
-pub(crate) fn round_after<V: Copy>(
+fn round_after<V: Copy>(
     alloc: Global,
     plan: &Plan,
     inputs: &[V],

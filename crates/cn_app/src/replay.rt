@@ -125,7 +125,7 @@ fn serve(
 }
 
 /// Serves the object from the state of this name.
-pub(crate) fn serve_from(
+fn serve_from(
     alloc: Global,
     service: &Service,
     start: &str,

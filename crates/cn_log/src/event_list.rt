@@ -57,7 +57,7 @@ pub fn replay(
 }
 
 /// Why the event cannot come as event `place`, if it cannot.
-pub(crate) fn fault_of(core: &LogCore, place: u64, event: Event) -> Option<ReplayFault>
+fn fault_of(core: &LogCore, place: u64, event: Event) -> Option<ReplayFault>
     ensures fault { result ≡ event_fault (setting core.now) (state_of (setting core.now) core.now.schedule) place event }
     ensures events { IsEventList (setting core.now) core.now.schedule }
 {

@@ -14,91 +14,18 @@ use std::fmt::Debug;
 use std::process::Abort;
 use std::test::Fail;
 
-#[test]
-fn decides_worked_schedules(rt: HostRuntime) -> Result<(), Fail> {
-    let tas = plan_for(&rt, rt.alloc(), TEST_AND_SET, 2)?;
-    let sticky = plan_for(&rt, rt.alloc(), STICKY_BIT, 3)?;
-    let (two, three) = ([10, 20].as_slice(), [5, 6, 7].as_slice());
-    let rows = [
-        (
-            &tas,
-            two,
-            [1, 1, 0, 0, 0, 0].as_slice(),
-            [Some(20), None].as_slice(),
-        ),
-        (
-            &sticky,
-            three,
-            [2, 2, 1, 1, 1, 1, 1, 1, 1, 1, 0, 0, 0, 0].as_slice(),
-            [Some(7), Some(7), None].as_slice(),
-        ),
-        (&sticky, three, [].as_slice(), [None, None, None].as_slice()),
-        (
-            &sticky,
-            three,
-            [0, 0, 0].as_slice(),
-            [None, None, None].as_slice(),
-        ),
-        (
-            &sticky,
-            three,
-            [0, 0, 0, 0].as_slice(),
-            [Some(5), None, None].as_slice(),
-        ),
-        (
-            &sticky,
-            three,
-            [0, 0, 0, 0, 0].as_slice(),
-            [Some(5), None, None].as_slice(),
-        ),
-    ];
-    for (plan, inputs, schedule, expected) in rows {
-        let decided = run_schedule(rt.alloc(), plan, inputs, schedule)?;
-        assert_eq!(rt; decided.decisions.as_slice(), expected, "{schedule:?}");
-    }
-    Ok(())
-}
-
-#[test]
-fn refuses_inputs_and_schedules(rt: HostRuntime) -> Result<(), Fail> {
-    let plan = plan_for(&rt, rt.alloc(), TEST_AND_SET, 2)?;
-    let rows = [
-        ([10].as_slice(), [].as_slice(), Some("1 InputCount")),
-        (
-            [10, 20, 30].as_slice(),
-            [0, 2].as_slice(),
-            Some("1 InputCount"),
-        ),
-        (
-            [10, 20].as_slice(),
-            [0, 2].as_slice(),
-            Some("2 NoSuchProcess 1"),
-        ),
-        (
-            [10, 20].as_slice(),
-            [255, 1, 2].as_slice(),
-            Some("2 NoSuchProcess 0"),
-        ),
-        ([10, 20].as_slice(), [0, 1].as_slice(), None),
-    ];
-    for (inputs, schedule, expected) in rows {
-        let found = match run_schedule(rt.alloc(), &plan, inputs, schedule) {
-            Ok(_) => None,
-            Err(fault) => Some(format!(in rt.alloc(); "{fault}")?),
-        };
-        assert_eq!(rt; found.as_deref(), expected, "{inputs:?} {schedule:?}");
-    }
-    Ok(())
+/// Each fault, and how it reads.
+fn fault_texts() -> [(ScheduleFault, &'static str); 3] {
+    [
+        (ScheduleFault::InputCount, "1 InputCount"),
+        (ScheduleFault::NoSuchProcess(1), "2 NoSuchProcess 1"),
+        (ScheduleFault::from(AllocError), "3 OutOfMemory"),
+    ]
 }
 
 #[test]
 fn prints_every_fault(rt: HostRuntime) -> Result<(), Fail> {
-    let rows = [
-        (ScheduleFault::InputCount, "1 InputCount"),
-        (ScheduleFault::NoSuchProcess(1), "2 NoSuchProcess 1"),
-        (ScheduleFault::from(AllocError), "3 OutOfMemory"),
-    ];
-    for (fault, expected) in rows {
+    for (fault, expected) in fault_texts() {
         let text = format!(in rt.alloc(); "{fault}")?;
         assert_eq!(rt; text.as_str(), expected);
     }
@@ -123,7 +50,7 @@ fn seven_first(alloc: Global, alone: u8, more: u8) -> Result<Vec<u8>, AllocError
 #[test]
 fn decides_for_eight(rt: HostRuntime) -> Result<(), Fail> {
     let alloc = rt.alloc();
-    let plan = plan_for(&rt, alloc, STICKY_BIT, 8)?;
+    let plan = plan_for(&rt, alloc, sticky_bit(), 8)?;
     let inputs = [10, 20, 30, 40, 50, 60, 70, 80];
     let rows = [
         (27, 0, [None; 8]),
@@ -184,7 +111,7 @@ fn second_comes_first<V: Copy + PartialEq + Debug>(
     alloc: Global,
     inputs: &[V],
 ) -> Result<(), Fail> {
-    let plan = plan_for(rt, alloc, TEST_AND_SET, 2)?;
+    let plan = plan_for(rt, alloc, test_and_set(), 2)?;
     assert_eq!(rt; plan.processes(), 2);
     assert_eq!(rt; inputs.len(), 2);
     let mut round = begin_all(alloc, &plan, inputs)?;
@@ -322,8 +249,13 @@ fn push_next(
 fn every_world_keeps_consensus(rt: HostRuntime) -> Result<(), Fail> {
     // The counts are those that a separate program found.
     let rows = [
-        (TEST_AND_SET, [10, 20].as_slice(), [1, 1].as_slice(), 34),
-        (STICKY_BIT, [5, 6, 7].as_slice(), [1, 2, 2].as_slice(), 884),
+        (test_and_set(), [10, 20].as_slice(), [1, 1].as_slice(), 34),
+        (
+            sticky_bit(),
+            [5, 6, 7].as_slice(),
+            [1, 2, 2].as_slice(),
+            884,
+        ),
     ];
     for (text, inputs, places, expected) in rows {
         assert!(rt; inputs.len() >= 2 && inputs.len() <= 8);

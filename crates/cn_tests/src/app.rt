@@ -1,6 +1,5 @@
 //! What the contracts do not say: that memory suffices, the texts, and what a failing reader or
 //! writer comes to.
-mod agree;
 mod arguments;
 mod calls;
 mod check;
@@ -9,12 +8,11 @@ mod find;
 mod kept;
 mod replay;
 mod serve;
-mod show;
 mod streams;
 
 use cn_app::{
     AppFault, Outcome, Part, Source, read_calls, read_events, read_inputs, read_schedule,
-    run_agree, run_check, run_find, run_replay, run_serve, run_show,
+    run_check, run_find, run_replay, run_serve,
 };
 use std::alloc::Global;
 use std::test::Fail;

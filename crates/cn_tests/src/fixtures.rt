@@ -3,9 +3,10 @@ ghost use Rattle.std.specs.Prelude.{◌≡◌, ◌<◌, ◌≤◌, ◌↔◌, le
 
 use arrayvec::ArrayVec;
 use cn_choice::Choices;
+use cn_log::Event;
 use cn_proto::Plan;
-use cn_table::read_table;
-use std::alloc::Global;
+use cn_table::{Table, TableFault, read_table};
+use std::alloc::{AllocError, Global};
 use std::process::Abort;
 use std::test::Fail;
 
@@ -28,13 +29,29 @@ pub(super) fn are_below(numbers: &[u8], limit: u8) -> bool
     numbers.iter().all(|x| *x < limit)
 }
 
+/// The table that a text spells.
+pub(super) fn table_of(alloc: Global, text: &str) -> Result<Table, TableFault> {
+    read_table(alloc, text.as_bytes())
+}
+
+/// A list of events: each so many times.
+pub(super) fn events_of(alloc: Global, parts: &[(Event, u8)]) -> Result<Vec<Event>, AllocError> {
+    let mut events = Vec::new(alloc);
+    for (event, times) in parts {
+        for _time in 0..*times {
+            events.push(*event)?;
+        }
+    }
+    Ok(events)
+}
+
 /// The plan of the first canonical witness for n processes: `[0,[0],[0]]` of test_and_set for two,
 /// `[0,[0],[1,1]]` of sticky_bit for three.
 pub(super) fn plan_for(rt: &impl Abort, alloc: Global, text: &str, n: u8) -> Result<Plan, Fail>
     requires some { 2 ≤ n }
     requires few { n ≤ 8 }
 {
-    let table = read_table(alloc, text.as_bytes())?;
+    let table = table_of(alloc, text)?;
     for choice in Choices::new(&table, n) {
         let processes = choice.a.len() + choice.b.len();
         assert!(rt; processes >= 2 && processes <= 8);

@@ -6,12 +6,12 @@ ghost use Rattle.std.specs.Vec.{vec_capacity};
 ghost use Rattle.cn_hall.specs.Seats.{IsSeatOf, pending};
 ghost use Rattle.cn_hall.specs.declared.call.Go.TheVariants.{On};
 
-use crate::fixtures::plan_for;
+use crate::fixtures::{events_of, plan_for, table_of};
 use crate::gates::{AlwaysOn, StopsAt, is_raised, meet_flag};
 use crate::types::*;
 use cn_hall::{CallFault, Gate, Go, Hall, OpenFault, Reply, Seat, open};
 use cn_log::{Event, LogCore, replay};
-use cn_table::{Operation, Response, State, read_table};
+use cn_table::{Operation, Response, State};
 use std::alloc::{AllocError, Global};
 use std::cmp::Ordering as Order;
 use std::process::Abort;
@@ -67,8 +67,8 @@ fn core_after(
     ensures two { IfOk result (λ core. processes_of core.opening.plan ≡ 2) }
     ensures operation { IfOk result (λ core. 0 < length core.opening.object.operations) }
 {
-    let plan = plan_for(rt, alloc, TEST_AND_SET, 2)?;
-    let object = read_table(alloc, COUNTER_3.as_bytes())?;
+    let plan = plan_for(rt, alloc, test_and_set(), 2)?;
+    let object = table_of(alloc, counter_3())?;
     assert!(rt; object.states() >= 1);
     let core = replay(alloc, &plan, &object, State(0), capacity, events)?;
     assert!(rt; core.processes() == 2 && core.operations() == 1);
@@ -118,12 +118,7 @@ fn close<R: Wait + Abort>(
     seats.push_reserved(zero);
     seats.push_reserved(one);
     let core = hall.close(rt, seats);
-    let mut expected = Vec::new(alloc);
-    for (event, times) in parts {
-        for _time in 0..*times {
-            expected.push(*event)?;
-        }
-    }
+    let expected = events_of(alloc, parts)?;
     assert!(rt; core.schedule() == expected.as_slice());
     Ok(())
 }
@@ -267,15 +262,19 @@ fn opens_or_hands_the_core_back(rt: HostRuntime) -> Result<(), Fail> {
     Ok(())
 }
 
-#[test]
-fn prints_every_fault(rt: HostRuntime) -> Result<(), Fail> {
-    let alloc = rt.alloc();
-    let rows = [
+/// Each fault, and how it reads.
+fn fault_texts() -> [(CallFault, &'static str); 3] {
+    [
         (CallFault::LogFull, "1 LogFull"),
         (CallFault::Stopped, "2 Stopped"),
         (CallFault::from(AllocError), "3 OutOfMemory"),
-    ];
-    for (fault, expected) in rows {
+    ]
+}
+
+#[test]
+fn prints_every_fault(rt: HostRuntime) -> Result<(), Fail> {
+    let alloc = rt.alloc();
+    for (fault, expected) in fault_texts() {
         let text = format!(in alloc; "{fault}")?;
         assert_eq!(rt; text.as_str(), expected);
     }
@@ -292,9 +291,9 @@ fn core_for_eight(rt: &impl Abort, alloc: Global) -> Result<LogCore, Fail>
     ensures eight { IfOk result (λ core. processes_of core.opening.plan ≡ 8) }
     ensures operation { IfOk result (λ core. 0 < length core.opening.object.operations) }
 {
-    let object = read_table(alloc, COUNTER_3.as_bytes())?;
+    let object = table_of(alloc, counter_3())?;
     assert!(rt; object.states() >= 1);
-    let plan = plan_for(rt, alloc, STICKY_BIT, 8)?;
+    let plan = plan_for(rt, alloc, sticky_bit(), 8)?;
     let core = LogCore::new(alloc, &plan, &object, State(0), 1024)?;
     assert!(rt; core.processes() == 8 && core.operations() == 1);
     Ok(core)

@@ -2,7 +2,7 @@
 //!
 //! Each module is named after the crate that it tests. A test calls the public functions on worked
 //! values, whose answers come from outside the program: numbers and texts of worked types, fakes
-//! that fail, and threads that overlap.
+//! that fail, and threads that overlap. What the program shows stands in `tests/rows`.
 #![tactic(auto)]
 
 #[cfg(test)]

@@ -2,11 +2,11 @@
 //! replayed.
 ghost use Rattle.std.specs.Prelude.{◌≤◌};
 
-use crate::fixtures::plan_for;
+use crate::fixtures::{events_of, plan_for, table_of};
 use crate::types::*;
 use cn_log::{Entry, Event, LogCore, ReplayFault, StepAnswer, laws, replay};
 use cn_proto::Plan;
-use cn_table::{Operation, State, Table, read_table};
+use cn_table::{Operation, State, Table};
 use std::alloc::{AllocError, Global};
 use std::process::Abort;
 use std::test::Fail;
@@ -14,17 +14,6 @@ use std::test::Fail;
 const CALL_0: (Event, u8) = (Event::Invoke(0, 0), 1);
 
 const CALL_1: (Event, u8) = (Event::Invoke(1, 0), 1);
-
-/// A list of events: each so many times.
-fn events_of(alloc: Global, parts: &[(Event, u8)]) -> Result<Vec<Event>, AllocError> {
-    let mut events = Vec::new(alloc);
-    for (event, times) in parts {
-        for _time in 0..*times {
-            events.push(*event)?;
-        }
-    }
-    Ok(events)
-}
 
 /// The event comes. What it answers, as text: the process, its slot and its response; or that the
 /// process found no slot.
@@ -192,8 +181,8 @@ fn begins_for_two(rt: &impl Abort, alloc: Global, plan: &Plan, object: &Table) -
 #[test]
 fn answers_worked_lists(rt: HostRuntime) -> Result<(), Fail> {
     let alloc = rt.alloc();
-    let plan = plan_for(&rt, alloc, TEST_AND_SET, 2)?;
-    let object = read_table(alloc, COUNTER_3.as_bytes())?;
+    let plan = plan_for(&rt, alloc, test_and_set(), 2)?;
+    let object = table_of(alloc, counter_3())?;
     answers_for_two(&rt, alloc, &plan, &object)?;
     begins_for_two(&rt, alloc, &plan, &object)?;
     let (plan_copy, object_copy) = (plan.copy(alloc)?, object.copy(alloc)?);
@@ -203,8 +192,8 @@ fn answers_worked_lists(rt: HostRuntime) -> Result<(), Fail> {
 #[test]
 fn helps_and_fills_for_three(rt: HostRuntime) -> Result<(), Fail> {
     let alloc = rt.alloc();
-    let plan = plan_for(&rt, alloc, STICKY_BIT, 3)?;
-    let object = read_table(alloc, COUNTER_3.as_bytes())?;
+    let plan = plan_for(&rt, alloc, sticky_bit(), 3)?;
+    let object = table_of(alloc, counter_3())?;
     let parts = [
         (Event::Invoke(1, 0), 1),
         (Event::Step(1), 9),
@@ -224,76 +213,21 @@ fn helps_and_fills_for_three(rt: HostRuntime) -> Result<(), Fail> {
     )
 }
 
-/// Faults of the first event.
-fn refuses_first_events(
-    rt: &impl Abort,
-    alloc: Global,
-    plan: &Plan,
-    object: &Table,
-) -> Result<(), Fail> {
-    let (stranger, unknown) = ((Event::Invoke(2, 1), 1), (Event::Invoke(0, 1), 1));
-    replays_to(rt, alloc, plan, object, 4, &[stranger], "1 NoSuchProcess 0")?;
-    replays_to(
-        rt,
-        alloc,
-        plan,
-        object,
-        4,
-        &[unknown],
-        "2 NoSuchOperation 0",
-    )?;
-    replays_to(
-        rt,
-        alloc,
-        plan,
-        object,
-        4,
-        &[(Event::Step(0), 1)],
-        "4 Idle 0",
-    )
-}
-
-/// Faults of later events.
-fn refuses_later_events(
-    rt: &impl Abort,
-    alloc: Global,
-    plan: &Plan,
-    object: &Table,
-) -> Result<(), Fail> {
-    replays_to(rt, alloc, plan, object, 4, &[CALL_0, CALL_0], "3 NotIdle 1")?;
-    replays_to(
-        rt,
-        alloc,
-        plan,
-        object,
-        4,
-        &[CALL_0, (Event::Invoke(0, 1), 1)],
-        "2 NoSuchOperation 1",
-    )?;
-    let after = [CALL_0, CALL_1, (Event::Step(1), 5), CALL_1];
-    replays_to(rt, alloc, plan, object, 1, &after, "5 AtEnd 7")
-}
-
-#[test]
-fn names_the_first_fault(rt: HostRuntime) -> Result<(), Fail> {
-    let alloc = rt.alloc();
-    let plan = plan_for(&rt, alloc, TEST_AND_SET, 2)?;
-    let object = read_table(alloc, COUNTER_3.as_bytes())?;
-    refuses_first_events(&rt, alloc, &plan, &object)?;
-    refuses_later_events(&rt, alloc, &plan, &object)
-}
-
-#[test]
-fn prints_every_fault(rt: HostRuntime) -> Result<(), Fail> {
-    let rows = [
+/// Each fault, and how it reads.
+fn fault_texts() -> [(ReplayFault, &'static str); 6] {
+    [
         (ReplayFault::NoSuchProcess(0), "1 NoSuchProcess 0"),
         (ReplayFault::NoSuchOperation(10), "2 NoSuchOperation 10"),
         (ReplayFault::NotIdle(1), "3 NotIdle 1"),
         (ReplayFault::Idle(2), "4 Idle 2"),
         (ReplayFault::AtEnd(7), "5 AtEnd 7"),
         (ReplayFault::from(AllocError), "6 OutOfMemory"),
-    ];
-    for (fault, expected) in rows {
+    ]
+}
+
+#[test]
+fn prints_every_fault(rt: HostRuntime) -> Result<(), Fail> {
+    for (fault, expected) in fault_texts() {
         let text = format!(in rt.alloc(); "{fault}")?;
         assert_eq!(rt; text.as_str(), expected);
     }
@@ -320,8 +254,8 @@ fn filling(alloc: Global) -> Result<Vec<Event>, AllocError> {
 #[test]
 fn fills_the_greatest_log(rt: HostRuntime) -> Result<(), Fail> {
     let alloc = rt.alloc();
-    let plan = plan_for(&rt, alloc, STICKY_BIT, 8)?;
-    let object = read_table(alloc, COUNTER_3.as_bytes())?;
+    let plan = plan_for(&rt, alloc, sticky_bit(), 8)?;
+    let object = table_of(alloc, counter_3())?;
     assert!(rt; object.states() >= 1);
     let mut events = filling(alloc)?;
     let core = replay(alloc, &plan, &object, State(0), 1024, &events)?;
@@ -345,8 +279,8 @@ fn looks_up_where_processes_stand(rt: HostRuntime) -> Result<(), Fail> {
     laws::every_log();
     laws::every_caller();
     laws::every_call();
-    let plan = plan_for(&rt, alloc, TEST_AND_SET, 2)?;
-    let object = read_table(alloc, COUNTER_3.as_bytes())?;
+    let plan = plan_for(&rt, alloc, test_and_set(), 2)?;
+    let object = table_of(alloc, counter_3())?;
     let parts = [
         (Event::Invoke(0, 0), 1),
         (Event::Invoke(1, 0), 1),

@@ -1,19 +1,13 @@
 //! Tables of worked types, and what is wrong with other files.
-use crate::types::TEST_AND_SET;
+use crate::types::test_and_set;
 use cn_table::{Operation, Response, State, TableFault, read_table};
 use std::alloc::{AllocError, Global};
 use std::process::Abort;
 use std::test::Fail;
 
-const OPERATION: &str = r#"[[operation]]
-name = "tas"
-response = ["zero", "one"]
-next = ["one", "one"]
-"#;
-
 #[test]
 fn answers_each_look_up(rt: HostRuntime) -> Result<(), Fail> {
-    let read = read_table(rt.alloc(), TEST_AND_SET.as_bytes())?;
+    let read = read_table(rt.alloc(), test_and_set().as_bytes())?;
     let copy = read.copy(rt.alloc())?;
     for table in [&read, &copy] {
         assert!(rt; table.states() == 2 && table.operations() == 1 && table.responses() == 2);
@@ -38,12 +32,6 @@ fn answers_each_look_up(rt: HostRuntime) -> Result<(), Fail> {
     Ok(())
 }
 
-/// What is wrong with the file of test-and-set, with one change.
-fn fault_at(alloc: Global, from: &str, to: &str) -> Result<Option<TableFault>, AllocError> {
-    let text = TEST_AND_SET.replacen(alloc, from, to, 1)?;
-    Ok(read_table(alloc, text.as_bytes()).err())
-}
-
 /// A list of texts: the prefix, with each of so many numbers.
 fn numbered(alloc: Global, prefix: char, count: usize) -> Result<String, AllocError> {
     let mut out = String::new(alloc);
@@ -51,76 +39,6 @@ fn numbered(alloc: Global, prefix: char, count: usize) -> Result<String, AllocEr
         out.push_str(format!(in alloc; "\"{prefix}{i}\", ")?.as_str())?;
     }
     Ok(out)
-}
-
-#[test]
-fn answers_the_least_fault(rt: HostRuntime) -> Result<(), Fail> {
-    let alloc = rt.alloc();
-    let many = numbered(alloc, 's', 17)?;
-    let many_alike = "\"s0\", ".repeat(alloc, 17)?;
-    let five_and_many = format!(in alloc; "5\nstates = [{many}")?;
-    for (from, to, fault) in [
-        ("name", "extra = 1\nname", TableFault::UnknownKey),
-        (
-            "responses = [\"zero\", \"one\"]\n",
-            "",
-            TableFault::MissingKey,
-        ),
-        ("\"test_and_set\"", "5", TableFault::WrongKind),
-        ("test_and_set", "TAS", TableFault::BadName),
-        ("test_and_set", "", TableFault::BadName),
-        ("\"zero\", \"one\"", many.as_str(), TableFault::Count),
-        ("\"zero\", \"one\"", "", TableFault::Count),
-        (OPERATION, "operation = []", TableFault::Count),
-        (OPERATION, "operation = 5", TableFault::WrongKind),
-        (OPERATION, "operation = [5]", TableFault::WrongKind),
-        (
-            "[\"zero\", \"one\"]",
-            "[\"zero\", \"zero\"]",
-            TableFault::Repeated,
-        ),
-        ("[\"one\", \"one\"]", "[\"one\"]", TableFault::RowLength),
-        (
-            "[\"one\", \"one\"]",
-            "[\"one\", \"two\"]",
-            TableFault::UnknownName,
-        ),
-        (
-            "name = \"test_and_set\"",
-            "extra = 1\nname = \"TAS\"",
-            TableFault::UnknownKey,
-        ),
-        (
-            "\"test_and_set\"\nstates = [\"zero\", \"one\"",
-            five_and_many.as_str(),
-            TableFault::WrongKind,
-        ),
-        ("\"zero\", \"one\"", many_alike.as_str(), TableFault::Count),
-        ("[\"one\", \"one\"]", "[\"two\"]", TableFault::RowLength),
-    ] {
-        assert_eq!(rt; fault_at(alloc, from, to)?, Some(fault), "{from} as {to}");
-    }
-    assert_eq!(rt; read_table(alloc, &[0xff]).err(), Some(TableFault::NotToml));
-    Ok(())
-}
-
-#[test]
-fn reads_names_of_1_to_32_bytes(rt: HostRuntime) -> Result<(), Fail> {
-    let alloc = rt.alloc();
-    for (length, fault) in [
-        (0, Some(TableFault::BadName)),
-        (1, None),
-        (32, None),
-        (33, Some(TableFault::BadName)),
-    ] {
-        let name = "a".repeat(alloc, length)?;
-        assert_eq!(rt;
-            fault_at(alloc, "test_and_set", name.as_str())?,
-            fault,
-            "{length} bytes"
-        );
-    }
-    Ok(())
 }
 
 /// The file of a type with so many states, responses and operations.
@@ -181,7 +99,7 @@ fn reads_each_form(rt: HostRuntime) -> Result<(), Fail> {
 
 #[test]
 fn reads_each_prefix(rt: HostRuntime) {
-    let bytes = TEST_AND_SET.as_bytes();
+    let bytes = test_and_set().as_bytes();
     for end in 0..=bytes.len() {
         let fault = if end + 1 >= bytes.len() {
             None
@@ -198,9 +116,9 @@ fn reads_each_prefix(rt: HostRuntime) {
     }
 }
 
-#[test]
-fn prints_each_fault(rt: HostRuntime) -> Result<(), Fail> {
-    for (fault, expected) in [
+/// Each fault, and how it reads.
+fn fault_texts() -> [(TableFault, &'static str); 10] {
+    [
         (TableFault::NotToml, "1 NotToml"),
         (TableFault::UnknownKey, "2 UnknownKey"),
         (TableFault::MissingKey, "3 MissingKey"),
@@ -211,7 +129,12 @@ fn prints_each_fault(rt: HostRuntime) -> Result<(), Fail> {
         (TableFault::RowLength, "8 RowLength"),
         (TableFault::UnknownName, "9 UnknownName"),
         (TableFault::OutOfMemory, "10 OutOfMemory"),
-    ] {
+    ]
+}
+
+#[test]
+fn prints_each_fault(rt: HostRuntime) -> Result<(), Fail> {
+    for (fault, expected) in fault_texts() {
         let text = format!(in rt.alloc(); "{fault}")?;
         assert_eq!(rt; text.as_str(), expected);
     }

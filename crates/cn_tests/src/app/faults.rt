@@ -8,19 +8,23 @@ use cn_search::FindFault;
 use cn_table::TableFault;
 use std::process::Abort;
 
-/// Each fault reads so, and ends the program with this status.
-fn read_as(rt: &impl Abort, alloc: Global, rows: &[(AppFault, &str, u8)]) -> Result<(), Fail> {
-    for (fault, text, status) in rows {
-        let said = format!(in alloc; "{fault}")?;
-        assert_eq!(rt; said.as_str(), *text);
-        assert_eq!(rt; fault.status(), *status, "{text}");
-    }
+/// Asserts that the fault reads so, and ends the program with this status.
+fn reads_as(
+    rt: &impl Abort,
+    alloc: Global,
+    fault: AppFault,
+    text: &str,
+    status: u8,
+) -> Result<(), Fail> {
+    let said = format!(in alloc; "{fault}")?;
+    assert_eq!(rt; said.as_str(), text);
+    assert_eq!(rt; fault.status(), status, "{text}");
     Ok(())
 }
 
-#[test]
-fn reads_as_the_formats_say(rt: HostRuntime) -> Result<(), Fail> {
-    let rows = [
+/// Faults that carry no other, how they read, and their statuses.
+fn plain_faults() -> [(AppFault, &'static str, u8); 17] {
+    [
         (AppFault::Words, "words refused", 3),
         (AppFault::Argument(Part::Inputs), "argument: INPUTS", 3),
         (AppFault::Argument(Part::Schedule), "argument: SCHEDULE", 3),
@@ -46,14 +50,20 @@ fn reads_as_the_formats_say(rt: HostRuntime) -> Result<(), Fail> {
         (AppFault::Write, "cannot write", 4),
         (AppFault::Thread, "cannot start a thread", 4),
         (AppFault::OutOfMemory, "out of memory", 5),
-    ];
-    read_as(&rt, rt.alloc(), &rows)
+    ]
 }
 
 #[test]
-fn texts_of_tables_read_as_the_formats_say(rt: HostRuntime) -> Result<(), Fail> {
-    let alloc = rt.alloc();
-    for (fault, text) in [
+fn reads_as_the_formats_say(rt: HostRuntime) -> Result<(), Fail> {
+    for (fault, text, status) in plain_faults() {
+        reads_as(&rt, rt.alloc(), fault, text, status)?;
+    }
+    Ok(())
+}
+
+/// The faults of a table, and how they read.
+fn table_faults() -> [(TableFault, &'static str); 9] {
+    [
         (TableFault::NotToml, "1 NotToml"),
         (TableFault::UnknownKey, "2 UnknownKey"),
         (TableFault::MissingKey, "3 MissingKey"),
@@ -63,30 +73,34 @@ fn texts_of_tables_read_as_the_formats_say(rt: HostRuntime) -> Result<(), Fail> 
         (TableFault::Repeated, "7 Repeated"),
         (TableFault::RowLength, "8 RowLength"),
         (TableFault::UnknownName, "9 UnknownName"),
-    ] {
+    ]
+}
+
+#[test]
+fn texts_of_tables_read_as_the_formats_say(rt: HostRuntime) -> Result<(), Fail> {
+    let alloc = rt.alloc();
+    for (fault, text) in table_faults() {
         let table = format!(in alloc; "table: {text}")?;
         let object = format!(in alloc; "object: {text}")?;
-        let rows = [
-            (AppFault::Table(fault), table.as_str(), 2),
-            (AppFault::Object(fault), object.as_str(), 2),
-        ];
-        read_as(&rt, alloc, &rows)?;
+        reads_as(&rt, alloc, AppFault::Table(fault), &table, 2)?;
+        reads_as(&rt, alloc, AppFault::Object(fault), &object, 2)?;
     }
     Ok(())
 }
 
-#[test]
-fn refusals_of_certificates_read_as_the_formats_say(rt: HostRuntime) -> Result<(), Fail> {
-    let refused = [
+/// The faults of a certificate, and how they read.
+fn certificate_faults() -> [(CertFault, &'static str); 4] {
+    [
         (CertFault::NotJson, "certificate: 1 NotJson"),
         (CertFault::WrongShape, "certificate: 2 WrongShape"),
         (CertFault::Version, "certificate: 3 Version"),
         (CertFault::Range, "certificate: 4 Range"),
-    ];
-    for (fault, text) in refused {
-        read_as(&rt, rt.alloc(), &[(AppFault::Certificate(fault), text, 2)])?;
-    }
-    let checked = [
+    ]
+}
+
+/// What is wrong with a certificate, and how it reads.
+fn check_faults() -> [(CheckFault, &'static str); 8] {
+    [
         (CheckFault::OtherType, "check: 1 OtherType"),
         (CheckFault::BadNumber, "check: 2 BadNumber"),
         (CheckFault::WitnessShape, "check: 3 WitnessShape"),
@@ -95,16 +109,23 @@ fn refusals_of_certificates_read_as_the_formats_say(rt: HostRuntime) -> Result<(
         (CheckFault::NotNext(8), "check: 6 NotNext 8"),
         (CheckFault::NotACollision(0), "check: 7 NotACollision 0"),
         (CheckFault::TooFew, "check: 8 TooFew"),
-    ];
-    for (fault, text) in checked {
-        read_as(&rt, rt.alloc(), &[(AppFault::Check(fault), text, 1)])?;
+    ]
+}
+
+#[test]
+fn refusals_of_certificates_read_as_the_formats_say(rt: HostRuntime) -> Result<(), Fail> {
+    for (fault, text) in certificate_faults() {
+        reads_as(&rt, rt.alloc(), AppFault::Certificate(fault), text, 2)?;
+    }
+    for (fault, text) in check_faults() {
+        reads_as(&rt, rt.alloc(), AppFault::Check(fault), text, 1)?;
     }
     Ok(())
 }
 
-#[test]
-fn refusals_of_work_read_as_the_formats_say(rt: HostRuntime) -> Result<(), Fail> {
-    let rows = [
+/// Faults of a search, a schedule or events, how they read, and their statuses.
+fn faults_of_work() -> [(AppFault, &'static str, u8); 9] {
+    [
         (AppFault::Find(FindFault::BadLimit), "find: 1 BadLimit", 3),
         (
             AppFault::Find(FindFault::TooManyChoices(407_616)),
@@ -146,13 +167,20 @@ fn refusals_of_work_read_as_the_formats_say(rt: HostRuntime) -> Result<(), Fail>
             "replay: 5 AtEnd 7",
             3,
         ),
-    ];
-    read_as(&rt, rt.alloc(), &rows)
+    ]
 }
 
 #[test]
-fn want_of_memory_is_one_fault(rt: HostRuntime) -> Result<(), Fail> {
-    for fault in [
+fn refusals_of_work_read_as_the_formats_say(rt: HostRuntime) -> Result<(), Fail> {
+    for (fault, text, status) in faults_of_work() {
+        reads_as(&rt, rt.alloc(), fault, text, status)?;
+    }
+    Ok(())
+}
+
+/// The want of memory of each call.
+fn wants_of_memory() -> [AppFault; 11] {
+    [
         AppFault::Table(TableFault::OutOfMemory),
         AppFault::Object(TableFault::OutOfMemory),
         AppFault::Certificate(CertFault::OutOfMemory),
@@ -164,7 +192,12 @@ fn want_of_memory_is_one_fault(rt: HostRuntime) -> Result<(), Fail> {
         AppFault::from(FindFault::OutOfMemory),
         AppFault::from(ScheduleFault::OutOfMemory),
         AppFault::from(ReplayFault::OutOfMemory),
-    ] {
+    ]
+}
+
+#[test]
+fn want_of_memory_is_one_fault(rt: HostRuntime) -> Result<(), Fail> {
+    for fault in wants_of_memory() {
         let said = format!(in rt.alloc(); "{fault}")?;
         assert_eq!(rt; said.as_str(), "out of memory");
         assert_eq!(rt; fault.status(), 5);

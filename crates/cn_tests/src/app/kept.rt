@@ -8,14 +8,14 @@ use cn_app::{Output, Progress, Text, commands};
 #[test]
 fn a_text_keeps_what_was_read(rt: HostRuntime) -> Result<(), Fail> {
     let alloc = rt.alloc();
-    let whole = TEST_AND_SET.len();
+    let whole = test_and_set().len();
     for (left, given, progress) in [
         (0, 0, Progress::Failed),
         (7, 7, Progress::Failed),
         (whole, whole, Progress::Failed),
         (whole + 1, whole, Progress::Done),
     ] {
-        let bytes = TEST_AND_SET.as_bytes();
+        let bytes = test_and_set().as_bytes();
         let mut reader = Drip { bytes, left };
         let mut written = Vec::new(alloc);
         let mut table = Text::new(alloc, &mut reader);
@@ -34,7 +34,7 @@ fn a_text_keeps_what_was_read(rt: HostRuntime) -> Result<(), Fail> {
 fn one_byte_more_than_the_limit_is_read(rt: HostRuntime) -> Result<(), Fail> {
     let alloc = rt.alloc();
     let mut reader = Padded {
-        text: TEST_AND_SET.as_bytes(),
+        text: test_and_set().as_bytes(),
         spaces: 100_000,
     };
     let mut written = Vec::new(alloc);
@@ -45,7 +45,7 @@ fn one_byte_more_than_the_limit_is_read(rt: HostRuntime) -> Result<(), Fail> {
     assert_eq!(rt; table.bytes.len(), 65_537);
     assert_eq!(rt;
         table.into_reader().spaces,
-        100_000 + TEST_AND_SET.len() - 65_537
+        100_000 + test_and_set().len() - 65_537
     );
     Ok(())
 }
@@ -53,13 +53,13 @@ fn one_byte_more_than_the_limit_is_read(rt: HostRuntime) -> Result<(), Fail> {
 #[test]
 fn an_output_keeps_what_was_handed_over(rt: HostRuntime) -> Result<(), Fail> {
     let alloc = rt.alloc();
-    let whole = format!(in alloc; "{FOUND_TEST_AND_SET_AT_3}\n")?;
+    let whole = format!(in alloc; "{}\n", found_test_and_set_at_3())?;
     for (room, progress) in [
         (1, Progress::Failed),
         (whole.len() - 1, Progress::Failed),
         (whole.len(), Progress::Done),
     ] {
-        let mut reader = TEST_AND_SET.as_bytes();
+        let mut reader = test_and_set().as_bytes();
         let mut writer = Narrow { room };
         let mut table = Text::new(alloc, &mut reader);
         let mut output = Output::new(alloc, &mut writer);

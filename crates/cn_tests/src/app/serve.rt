@@ -78,7 +78,7 @@ where
         alloc,
         &mut texts.0.as_bytes(),
         &mut texts.1.as_bytes(),
-        &mut COUNTER_3.as_bytes(),
+        &mut counter_3().as_bytes(),
         &mut written,
         start,
         capacity,
@@ -89,36 +89,9 @@ where
     Ok((outcome, text))
 }
 
-const TWO: (&str, &str) = (TEST_AND_SET, TEST_AND_SET_AT_3);
-
-#[test]
-fn serves_one_process_after_the_other(rt: HostRuntime) -> Result<(), Fail> {
-    for (capacity, calls, outcome, expected) in [
-        (
-            "4",
-            "0,0/none",
-            Outcome::Whole,
-            "answer 0 0 0\nanswer 0 1 1\nentry 0 0 inc 0 1\nentry 1 0 inc 1 2\nevents i0:0,s0,s0,s0,s0,s0,i0:0,s0,s0,s0,s0,s0\n",
-        ),
-        (
-            "1",
-            "0,0/none",
-            Outcome::Cut,
-            "answer 0 0 0\nfull 0\nentry 0 0 inc 0 1\nevents i0:0,s0,s0,s0,s0,s0\n",
-        ),
-        (
-            "0004",
-            "none/000",
-            Outcome::Whole,
-            "answer 1 0 0\nentry 0 1 inc 0 1\nevents i1:0,s1,s1,s1,s1,s1\n",
-        ),
-        ("4", "none/none", Outcome::Whole, "events none\n"),
-    ] {
-        let (ended, text) = served(&rt, rt.alloc(), TWO, "0", capacity, calls, |_| AlwaysOn)?;
-        assert_eq!(rt; text.as_str(), expected, "{capacity} {calls}");
-        assert_eq!(rt; ended, Ok(outcome), "{capacity} {calls}");
-    }
-    Ok(())
+/// The table and the certificate of test-and-set.
+fn two() -> (&'static str, &'static str) {
+    (test_and_set(), test_and_set_at_3())
 }
 
 #[test]
@@ -126,7 +99,7 @@ fn tells_calls_that_are_stopped(rt: HostRuntime) -> Result<(), Fail> {
     let (ended, text) = served(
         &rt,
         rt.alloc(),
-        TWO,
+        two(),
         "0",
         "4",
         "none/0",
@@ -162,9 +135,9 @@ fn replayed<T>(rt: &T, alloc: Global, capacity: &str, events: &str) -> Result<St
     let outcome = run_replay(
         rt,
         alloc,
-        &mut TEST_AND_SET.as_bytes(),
-        &mut TEST_AND_SET_AT_3.as_bytes(),
-        &mut COUNTER_3.as_bytes(),
+        &mut test_and_set().as_bytes(),
+        &mut test_and_set_at_3().as_bytes(),
+        &mut counter_3().as_bytes(),
         &mut written,
         "0",
         capacity,
@@ -177,7 +150,7 @@ fn replayed<T>(rt: &T, alloc: Global, capacity: &str, events: &str) -> Result<St
 fn tells_events_that_replay_to_the_same_log(rt: HostRuntime) -> Result<(), Fail> {
     let alloc = rt.alloc();
     for _time in 0..200u8 {
-        let (ended, text) = served(&rt, alloc, TWO, "0", "8", "0,0/0,0", |_| AlwaysOn)?;
+        let (ended, text) = served(&rt, alloc, two(), "0", "8", "0,0/0,0", |_| AlwaysOn)?;
         assert_eq!(rt; ended, Ok(Outcome::Whole));
         let (before, events) = text.as_str().split_once("events ").ok_or("no events")?;
         let again = replayed(&rt, alloc, "8", events.trim_end())?;
@@ -199,7 +172,7 @@ fn meeting<T: Threads + Wait + Sync>(
     served(
         rt,
         alloc,
-        TWO,
+        two(),
         "0",
         "4",
         "0/0",
@@ -219,37 +192,5 @@ fn calls_of_two_processes_overlap(rt: HostRuntime) -> Result<(), Fail> {
     };
     let (ended, text) = meeting(&rt, rt.alloc(), &flags)?;
     assert_eq!(rt; ended, Ok(Outcome::Whole), "{text}");
-    Ok(())
-}
-
-#[test]
-fn wants_calls_of_the_processes_and_operations_there_are(rt: HostRuntime) -> Result<(), Fail> {
-    for (start, capacity, calls, expected) in [
-        ("0", "4", "0", "argument: CALLS"),
-        ("0", "4", "0/0/0", "argument: CALLS"),
-        ("0", "4", "1/0", "argument: CALLS"),
-        ("0", "4", "none/0,0,1", "argument: CALLS"),
-        ("3", "4", "0", "argument: START"),
-        ("3", "0", "0/", "argument: CAPACITY"),
-        ("3", "4", "0/", "argument: CALLS"),
-    ] {
-        let text = served(&rt, rt.alloc(), TWO, start, capacity, calls, |_| AlwaysOn)?.1;
-        assert_eq!(rt; text.as_str(), expected, "{start} {capacity} {calls}");
-    }
-    Ok(())
-}
-
-#[test]
-fn wants_calls_after_a_witness(rt: HostRuntime) -> Result<(), Fail> {
-    for (texts, expected) in [
-        (("extra = 1", "[]"), "table: 2 UnknownKey"),
-        ((IDLE, "[]"), "certificate: 2 WrongShape"),
-        ((IDLE, TEST_AND_SET_AT_3), "check: 1 OtherType"),
-        ((IDLE, IDLE_AT_2), "certificate: no witness"),
-        ((STICKY_BIT, STICKY_BIT_AT_3), "argument: CALLS"),
-    ] {
-        let text = served(&rt, rt.alloc(), texts, "0", "4", "0/0", |_| AlwaysOn)?.1;
-        assert_eq!(rt; text.as_str(), expected);
-    }
     Ok(())
 }
