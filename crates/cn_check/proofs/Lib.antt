@@ -1,11 +1,12 @@
 pub mod CollisionLemmas
-pub mod DistinctLemmas
 pub mod EntryLemmas
 pub mod FaultLemmas
-pub mod MarkLemmas
 pub mod ProgressLemmas
 pub mod ResultSetLemmas
+pub mod RunLemmas
+pub mod SetLemmas
 pub mod StepLemmas
 pub mod TurnLemmas
 pub mod VerdictLemmas
+pub mod WalkedLemmas
 pub mod WalkLemmas

@@ -3,6 +3,8 @@ pub mod Faults
 pub mod FaultText
 pub mod PartFaults
 pub mod Progress
+pub mod Runs
 pub mod Seeing
+pub mod Seen
 pub mod Verdict
 pub mod Versions

@@ -8,10 +8,12 @@
 
 mod choice;
 mod fault;
+mod kept;
 pub mod laws;
-mod marks;
+mod pairs;
 mod refutation;
 mod seeing;
+mod sets;
 mod steps;
 mod verdict;
 mod witness;

@@ -1,31 +1,38 @@
 //! What an order shows to a process.
-ghost use Rattle.std.specs.Prelude.{◌≡◌, ◌<◌, ◌+◌, ◌↔◌, ℕ, length, nat_eq, All, IfSome, IsTrue, Some};
-ghost use Rattle.std.specs.List.{IsDistinct};
+ghost use Rattle.std.specs.Prelude.{◌≡◌, ◌<◌, ◌≤◌, ◌+◌, ◌↔◌, ℕ, length, All, IfSome, IsTrue, Some};
 ghost use Rattle.cn_choice.specs.Canonical.{FitsTable, raw_choice_of};
 ghost use Rattle.cn_choice.specs.Orders.{IsOrder};
 ghost use Rattle.cn_choice.specs.ResultSets.{BeginsIn, pair_of};
+ghost use Rattle.cn_check.specs.Runs.{IsIn};
 ghost use Rattle.cn_check.specs.Seeing.{Shows};
 
-use crate::choice::{are_below, operation_of, processes, team_of};
+use crate::choice::{operation_of, processes, team_of};
+use crate::sets::{has_moved, with_moved};
 use cn_choice::laws::pair_along_order;
 use cn_choice::{Choice, Team};
 use cn_table::Table;
 
-/// Whether no number stands twice in the list.
-fn are_distinct(list: &[u8]) -> bool
-    ensures { IsTrue result ↔ IsDistinct nat_eq list.now }
+/// Whether the process is one of n, at most 8, and has not moved.
+fn may_move(used: u8, process: u8, n: u8) -> bool
+    requires { n ≤ 8 }
+    ensures { IsTrue result ↔ ((process < n) × (¬ IsIn used process)) }
 {
-    match list {
-        [] => true,
-        [first, rest @ ..] => !rest.contains(first) && are_distinct(rest),
-    }
+    process < n && !has_moved(used, process)
 }
 
-/// Whether the list is an order of some of n processes.
+/// Whether the list is an order of some of n processes, at most 8.
 fn is_order(list: &[u8], n: u8) -> bool
+    requires { n ≤ 8 }
     ensures { IsTrue result ↔ IsOrder n list.now }
 {
-    !list.is_empty() && are_below(list, n) && are_distinct(list)
+    let mut used = 0;
+    for process in list {
+        if !may_move(used, *process, n) {
+            return false;
+        }
+        used = with_moved(used, *process);
+    }
+    !list.is_empty()
 }
 
 /// Whether the first process of the order is in the team.

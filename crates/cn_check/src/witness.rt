@@ -1,87 +1,90 @@
 //! Whether a choice is a witness.
-ghost use Rattle.std.specs.Prelude.{◌≡◌, ◌<◌, ◌≤◌, ◌+◌, ◌⊎◌, ◌↔◌, ◌∷◌, ◌++◌, [], ℕ, length, IfNone, IfSome};
+ghost use Rattle.std.specs.Prelude.{◌≡◌, ◌<◌, ◌+◌, ◌⊎◌, ◌↔◌, ℕ, length, IfNone, IfSome};
 ghost use Rattle.cn_choice.specs.Canonical.{FitsTable, raw_choice_of};
 ghost use Rattle.cn_choice.specs.Discerning.{IsWitness, ResultSetsMeet};
 ghost use Rattle.cn_choice.specs.ResultSets.{InResultSet};
-ghost use Rattle.cn_check.specs.Seeing.{IsMarked, IsShownFrom, Shows};
+ghost use Rattle.cn_check.specs.Runs.{EndsIn, IsIn, ShowsFrom, move_of};
+ghost use Rattle.cn_check.specs.Seen.{AreWalked, HasPair};
 
-use crate::choice::processes;
-use crate::marks::Marks;
-use crate::seeing::pair_shown;
-use arrayvec::ArrayVec;
-use cn_choice::laws::{process_of_pair, short_orders};
+use crate::choice::{operation_of, processes, team_of};
+use crate::kept::Kept;
+use crate::pairs::Pairs;
+use crate::sets::{has_moved, only, union, with_moved};
+use cn_choice::laws::{pair_along_order, process_of_pair};
 use cn_choice::{Choice, Team};
-use cn_table::Table;
+use cn_table::{State, Table};
 
-/// The list with one process more.
-fn followed_by(list: &[u8], process: u8) -> ArrayVec<u8, 8>
-    requires { length list.now < 8 }
-    ensures { result.items ≡ list.now ++ process ∷ [] }
-{
-    let mut longer = ArrayVec::new();
-    for earlier in list {
-        longer.push(*earlier);
-    }
-    longer.push(process);
-    longer
-}
-
-/// Marks the pair that the list shows to the process, if it shows one.
-fn mark_shown(
-    marks: &mut Marks,
-    table: &Table,
-    choice: &Choice,
-    team: Team,
-    list: &[u8],
-    process: u8,
-)
-    requires { FitsTable table.now choice.now }
-    ensures { (r q : ℕ) → IsMarked marks.new r q ↔ (IsMarked marks.old r q ⊎ Shows table.now (raw_choice_of choice.now) team process (r, q) list.now) }
-{
-    // A table has at most 16 of each, so that each pair has its mark.
-    let fits = table.responses() <= 16 && table.states() <= 16;
-    prove!(fits);
-    if let Some((response, state)) = pair_shown(table, choice, team, list, process) {
-        marks.mark(response, state);
-    }
-}
-
-/// Marks what the list and the longer lists that begin with it show to the process.
-fn mark_from(
-    marks: &mut Marks,
-    table: &Table,
-    choice: &Choice,
-    team: Team,
-    list: &[u8],
-    process: u8,
-)
+/// The response to a process when it moves in this state, and the state after it.
+fn move_of(table: &Table, choice: &Choice, process: u8, state: State) -> (u8, State)
     requires fits { FitsTable table.now choice.now }
-    requires short { length list.now ≤ length choice.now.a + length choice.now.b }
-    ensures { (r q : ℕ) → IsMarked marks.new r q ↔ (IsMarked marks.old r q ⊎ IsShownFrom table.now (raw_choice_of choice.now) team process (r, q) list.now) }
+    requires process { process < length choice.now.a + length choice.now.b }
+    requires state { state.0 < length table.now.states }
+    ensures value { (result.0, result.1.0) ≡ move_of table.now (raw_choice_of choice.now) process state.0 }
+    ensures response { result.0 < 16 }
+    ensures known { result.1.0 < length table.now.states }
 {
-    // A list of all processes is the beginning of no longer order.
-    short_orders();
-    mark_shown(marks, table, choice, team, list, process);
-    let n = processes(table, choice);
-    if list.len() == n as usize {
-        return;
+    // A table has at most 16 responses.
+    let _responses = table.responses();
+    let (response, after) = table.apply(operation_of(choice, process), state);
+    (response.0, after)
+}
+
+/// The states in which the runs from a point can end: these processes have moved, and the object is
+/// in this state. What the runs show is added to the pairs, and the set is kept for the point. A point
+/// with a set that is not empty was visited: what the runs from it show is among the pairs.
+fn walk(
+    kept: &mut Kept,
+    pairs: &mut Pairs,
+    table: &Table,
+    choice: &Choice,
+    used: u8,
+    state: State,
+) -> u16
+    requires fits { FitsTable table.now choice.now }
+    requires state { state.0 < length table.now.states }
+    requires walked { AreWalked table.now (raw_choice_of choice.now) kept.old pairs.old }
+    ensures ends { (q : ℕ) → IsIn result q ↔ EndsIn table.now (raw_choice_of choice.now) used state.0 q }
+    ensures shown { (j r q : ℕ) → HasPair pairs.new j r q
+        ↔ (HasPair pairs.old j r q ⊎ ShowsFrom table.now (raw_choice_of choice.now) used state.0 j r q) }
+    ensures walked { AreWalked table.now (raw_choice_of choice.now) kept.new pairs.new }
+{
+    // A table has at most 16 states.
+    let _states = table.states();
+    let before = kept.at(used, state.0);
+    if before != 0 {
+        return before;
     }
-    for next in 0..n {
-        if !list.contains(&next) {
-            let longer = followed_by(list, next);
-            mark_from(marks, table, choice, team, longer.as_slice(), process);
+    let mut ends = only(state.0);
+    for next in 0..processes(table, choice) {
+        if !has_moved(used, next) {
+            let (response, after) = move_of(table, choice, next, state);
+            let later = walk(kept, pairs, table, choice, with_moved(used, next), after);
+            pairs.add(next, response, later);
+            ends = union(ends, later);
         }
     }
+    kept.put(used, state.0, ends);
+    ends
 }
 
-/// The result set of the team and the process.
-fn result_set(table: &Table, choice: &Choice, team: Team, process: u8) -> Marks
+/// The result sets of the team.
+fn result_sets(table: &Table, choice: &Choice, team: Team) -> Pairs
     requires { FitsTable table.now choice.now }
-    ensures { (r q : ℕ) → IsMarked result r q ↔ InResultSet table.now (raw_choice_of choice.now) team process (r, q) }
+    ensures { (j r q : ℕ) → HasPair result j r q ↔ InResultSet table.now (raw_choice_of choice.now) team j (r, q) }
 {
-    let mut marks = Marks::new();
-    mark_from(&mut marks, table, choice, team, &[], process);
-    marks
+    // What a process sees is found by going along the order once.
+    pair_along_order();
+    let mut kept = Kept::new();
+    let mut pairs = Pairs::new();
+    for first in 0..processes(table, choice) {
+        if team_of(choice, first) == team {
+            let (response, after) = move_of(table, choice, first, choice.state);
+            let used = with_moved(0, first);
+            let later = walk(&mut kept, &mut pairs, table, choice, used, after);
+            pairs.add(first, response, later);
+        }
+    }
+    pairs
 }
 
 /// The least process whose result sets meet; none where the choice is a witness.
@@ -93,10 +96,10 @@ pub(crate) fn first_meeting(table: &Table, choice: &Choice) -> Option<u8>
 {
     // Who is no process of the choice has no pair in a result set.
     process_of_pair();
+    let after_a = result_sets(table, choice, Team::A);
+    let after_b = result_sets(table, choice, Team::B);
     for process in 0..processes(table, choice) {
-        let after_a = result_set(table, choice, Team::A, process);
-        let after_b = result_set(table, choice, Team::B, process);
-        if after_a.meets(&after_b) {
+        if after_a.meets(&after_b, process) {
             return Some(process);
         }
     }

@@ -8,7 +8,7 @@ use Rattle.cn_check.specs.Versions.{choices_in_version}
 use Rattle.cn_check.proofs.ProgressLemmas.{come_as, come_first, none_counts, part_over, part_past}
 use Rattle.cn_check.proofs.StepLemmas.{first_list, written_over, zeros_known}
 use Rattle.cn_check.proofs.refutation.check_size.Goals as goal
-use Rattle.cn_check.proofs.refutation.check_size.Goals.{then-all_count+in_ok-place, else-all_count}
+use Rattle.cn_check.proofs.refutation.check_size.Goals.{Joined-all_count, then-all_count+in_ok-place, else-all_count}
 
 pub loop-a-init : goal.loop-a-init
 loop-a-init c =
@@ -24,43 +24,44 @@ loop-a-init c =
       refuted = c.requires.refuted;
     }
 
-pub returns-then-not-step-clause-passed : goal.returns-then-not-step-clause-passed
-returns-then-not-step-clause-passed c =
+-- past the choices with this list, whether it counts or not
+past : (c : Joined-all_count) →
+    let t = c.args.table.now in
+    let m : ℕ = length t.operations in
+    HasComeTo (choices_in_version c.args.version t c.args.n) c.args.start (counting c.args.version t (with_size m c.args.n c.args.state.0 c.args.size)) c.if-all_count.place
+    (counting c.args.version t (flat_map (with_first m c.args.n c.args.state.0) (rising_after m c.loop-a.a.items)))
+past c =
     let t = c.args.table.now in
     let v : ℕ = c.args.version in
     let m : ℕ = length t.operations in
     let s : ℕ = c.args.state.0 in
     let a : List ℕ = c.loop-a.a.items in
     let choices : List Choice = choices_in_version v t c.args.n in
-    let all : List Choice = counting v t (with_size m c.args.n s c.args.size) in
-    let past : HasComeTo choices c.args.start all c.if-all_count.place (counting v t (flat_map (with_first m c.args.n s) (rising_after m a))) = elim c.if-all_count.branch [
+    elim c.if-all_count.branch [
       | then-all_count+in_ok-place w ↦
           rw w.place-is
-          (part_past choices c.args.start all v t (with_first m c.args.n s) c.loop-a.place a (rising_after m a) c.loop-a.invariant.come w.in_ok-place.place (rw w.as_slice-then-all_count.ensures.value at w.in_ok-place.ensures.passed))
+          (part_past choices c.args.start _ v t (with_first m c.args.n s) c.loop-a.place a (rising_after m a) c.loop-a.invariant.come w.in_ok-place.place (rw w.as_slice-then-all_count.ensures.value at w.in_ok-place.ensures.passed))
       | else-all_count w ↦
           (let counts = rw c.as_slice.ensures.value at (sym c.all_count.ensures ∙ w.if-all_count.false) in
-          rw w.place-is (part_over choices c.args.start all v t (with_first m c.args.n s) c.loop-a.place a (rising_after m a) c.loop-a.invariant.come (none_counts v t s a _ counts)))
-    ] in
+          rw w.place-is (part_over choices c.args.start _ v t (with_first m c.args.n s) c.loop-a.place a (rising_after m a) c.loop-a.invariant.come (none_counts v t s a _ counts)))
+    ]
+
+pub returns-then-not-step-clause-passed : goal.returns-then-not-step-clause-passed
+returns-then-not-step-clause-passed c =
+    let t = c.args.table.now in
+    let v : ℕ = c.args.version in
+    let f : List ℕ → List Choice = with_first (length t.operations) c.args.n c.args.state.0 in
     let none = rw (c.operations-operations.ensures.number, c.as_mut_slice.ensures.value) at (c.step.ensures.last c.if-not-step.true) in
-    come_as choices c.args.start all c.if-all_count.place _ _ (ap (λ (lists : List (List ℕ)). counting v t (flat_map (with_first m c.args.n s) lists)) none) past
+    come_as (choices_in_version v t c.args.n) c.args.start _ c.if-all_count.place _ _ (ap (λ (lists : List (List ℕ)). counting v t (flat_map f lists)) none)
+    (past (goal.at.returns-then-not-step-clause-passed c).Joined-all_count)
 
 pub loop-a-preserved : goal.loop-a-preserved
 loop-a-preserved c =
     let t = c.args.table.now in
     let v : ℕ = c.args.version in
-    let m : ℕ = length t.operations in
-    let s : ℕ = c.args.state.0 in
+    let f : List ℕ → List Choice = with_first (length t.operations) c.args.n c.args.state.0 in
     let a : List ℕ = c.loop-a.a.items in
     let choices : List Choice = choices_in_version v t c.args.n in
-    let all : List Choice = counting v t (with_size m c.args.n s c.args.size) in
-    let past : HasComeTo choices c.args.start all c.if-all_count.place (counting v t (flat_map (with_first m c.args.n s) (rising_after m a))) = elim c.if-all_count.branch [
-      | then-all_count+in_ok-place w ↦
-          rw w.place-is
-          (part_past choices c.args.start all v t (with_first m c.args.n s) c.loop-a.place a (rising_after m a) c.loop-a.invariant.come w.in_ok-place.place (rw w.as_slice-then-all_count.ensures.value at w.in_ok-place.ensures.passed))
-      | else-all_count w ↦
-          (let counts = rw c.as_slice.ensures.value at (sym c.all_count.ensures ∙ w.if-all_count.false) in
-          rw w.place-is (part_over choices c.args.start all v t (with_first m c.args.n s) c.loop-a.place a (rising_after m a) c.loop-a.invariant.come (none_counts v t s a _ counts)))
-    ] in
     let refuted : AreRefuted t choices c.args.entries.now c.if-all_count.place = elim c.if-all_count.branch [
       | then-all_count+in_ok-place w ↦ rw w.place-is w.in_ok-place.ensures.refuted
       | else-all_count w ↦ rw w.place-is c.loop-a.invariant.refuted
@@ -72,6 +73,6 @@ loop-a-preserved c =
     rw same (record {
       known = known c.loop-a.invariant.known;
       long = long ∙ c.loop-a.invariant.long;
-      come = come_as choices c.args.start all c.if-all_count.place _ _ (ap (λ (lists : List (List ℕ)). counting v t (flat_map (with_first m c.args.n s) lists)) more) past;
+      come = come_as choices c.args.start _ c.if-all_count.place _ _ (ap (λ (lists : List (List ℕ)). counting v t (flat_map f lists)) more) (past (goal.at.loop-a-preserved c).Joined-all_count);
       refuted = refuted;
     })

@@ -1,0 +1,42 @@
+-- Runs that go on from a point: some processes have moved, and the object is in a state.
+use Rattle.std.specs.Prelude.{◌≡◌, ℕ, ◌^◌, ◌<◌, ◌⊎◌, List, length, nat_eq, Some, bit_or, slice_index}
+use Rattle.std.specs.Int.{bit_at}
+use Rattle.std.specs.List.{AllByRecursion, IsDistinct}
+use Rattle.cn_table.specs.Run.{responses_along, state_after}
+use Rattle.cn_table.specs.TypeTable.{TypeTable, transition}
+use Rattle.cn_choice.specs.RawChoices.{RawChoice}
+use Rattle.cn_choice.specs.ResultSets.{operations_of, response_of}
+
+-- the number is in the set: sets of small numbers are the bits of a number
+abbrev pub IsIn : ℕ → ℕ → Type 0
+IsIn set k = bit_at set k ≡ 1
+
+-- the processes that have moved, with one more
+abbrev pub moved : ℕ → ℕ → ℕ
+moved used p = bit_or used (2 ^ p)
+
+-- the response to process p when it moves in the state, and the state after it
+abbrev pub move_of : TypeTable → RawChoice → ℕ → ℕ → ℕ × ℕ
+move_of t c p state = transition t (slice_index c.operations p) state
+
+-- moves of some of n processes that have not moved yet, of none twice
+pub record AreMoves (n used : ℕ) (moves : List ℕ) : Type 0 where
+  pub known : AllByRecursion (λ p. p < n) moves
+  pub distinct : IsDistinct nat_eq moves
+  pub fresh : AllByRecursion (λ p. ¬ IsIn used p) moves
+
+-- some such moves, or none, leave the object in state q
+abbrev pub EndsIn : TypeTable → RawChoice → ℕ → ℕ → ℕ → Type 0
+EndsIn t c used state q = (moves : List ℕ) × AreMoves (length c.operations) used moves × (state_after t state (operations_of c moves) ≡ q)
+
+-- by some such moves process j gets response r, and the object is left in state q
+abbrev pub ShowsFrom : TypeTable → RawChoice → ℕ → ℕ → ℕ → ℕ → ℕ → Type 0
+ShowsFrom t c used state j r q =
+    (moves : List ℕ) × AreMoves (length c.operations) used moves × (response_of j moves (responses_along t state (operations_of c moves)) ≡ Some r)
+    × (state_after t state (operations_of c moves) ≡ q)
+
+-- the same, where process p moves first: it is process j, or the moves after it show the pair
+abbrev pub ShowsBy : TypeTable → RawChoice → ℕ → ℕ → ℕ → ℕ → ℕ → ℕ → Type 0
+ShowsBy t c used state p j r q =
+    let move = move_of t c p state in
+    ShowsFrom t c (moved used p) move.1 j r q ⊎ ((j ≡ p) × (r ≡ move.0) × EndsIn t c (moved used p) move.1 q)

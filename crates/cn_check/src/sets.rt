@@ -1,0 +1,42 @@
+//! Sets of small numbers, as the bits of a number.
+ghost use Rattle.std.specs.Prelude.{◌≡◌, ◌<◌, ◌⊎◌, ◌↔◌, ℕ, IsTrue};
+ghost use Rattle.cn_check.specs.Runs.{IsIn, moved};
+
+/// Whether the process is one of those that have moved.
+pub(crate) fn has_moved(used: u8, process: u8) -> bool
+    requires { process < 8 }
+    ensures { IsTrue result ↔ IsIn used process }
+{
+    used >> process & 1 == 1
+}
+
+/// The processes that have moved, and one more.
+pub(crate) fn with_moved(used: u8, process: u8) -> u8
+    requires { process < 8 }
+    ensures with { result ≡ moved used process }
+    ensures more { ¬ IsIn used process → used < result }
+{
+    used | 1 << process
+}
+
+/// The set of this number alone.
+pub(crate) fn only(number: u8) -> u16
+    requires { number < 16 }
+    ensures { (q : ℕ) → IsIn result q ↔ (q ≡ number) }
+{
+    1 << number
+}
+
+/// What is in one set or in the other.
+pub(crate) fn union(set: u16, other: u16) -> u16
+    ensures { (q : ℕ) → IsIn result q ↔ (IsIn set q ⊎ IsIn other q) }
+{
+    set | other
+}
+
+/// Whether some number is in both sets.
+pub(crate) fn share(set: u16, other: u16) -> bool
+    ensures { IsTrue result ↔ ((q : ℕ) × IsIn set q × IsIn other q) }
+{
+    set & other != 0
+}
