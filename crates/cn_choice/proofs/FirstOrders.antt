@@ -1,69 +1,124 @@
--- The first order into a set, found in the list of those that begin in a team and have a process.
-use Rattle.std.proofs.Common.{◌≡◌, ℕ, ◌+◌, ◌⊎◌, inl, inr, List, [], ◌∷◌, ◌++◌, length, length-append, refl, sym, ap, ◌∙◌, subst, All, Contains, Some}
+-- The first order into a set, from the first ways of each length.
+use Rattle.std.proofs.Common.{◌≡◌, ◌≢◌, ℕ, ◌+◌, ◌^◌, ◌<◌, ◌≤◌, ◌⊎◌, ◌↔◌, inl, inr, List, [], ◌∷◌, length, length-append, refl, sym, ap, ◌∙◌, subst, arith, All, Bool, Option, Some, None, cond, nat_eq}
+use Rattle.std.specs.Prelude.{IsBitSet, slice_index}
+use Rattle.std.specs.Int.Bits.{bit_or}
 use Rattle.std.specs.List.{AllByRecursion}
-use Rattle.std.proofs.lemmas.List.Elements.{recursion_from_All}
-use Rattle.arrayvec.specs.ArrayVec.{ArrayVec}
+use Rattle.std.proofs.lemmas.Bool.{and_from, and_parts, le-leb, leb-true, lt-ltb, ltb-true}
+use Rattle.std.proofs.lemmas.List.Elements.{All-from_recursion, recursion_from_All}
+use Rattle.cn_table.specs.Run.{responses_along, state_after}
 use Rattle.cn_table.specs.TypeTable.{TypeTable}
 use Rattle.cn_choice.specs.declared.team.Team.{Team}
 use Rattle.cn_choice.specs.Canonical.{Choice, raw_choice_of}
 use Rattle.cn_choice.specs.Orders.{ComesBefore, IsOrder}
-use Rattle.cn_choice.specs.OrdersLeft.{as_array}
 use Rattle.cn_choice.specs.OutcomeOrders.{IsFirstInto, LeadsInto, NoneInto}
-use Rattle.cn_choice.specs.OutcomeSets.{Has}
 use Rattle.cn_choice.specs.RawChoices.{RawChoice}
-use Rattle.cn_choice.specs.ResultSets.{BeginsIn, pair_of}
-use Rattle.cn_choice.specs.TeamOrders.{orders_of}
-use Rattle.cn_choice.proofs.LastAnswers.{pair_in}
-use Rattle.cn_choice.proofs.ListedOrder.{not_before_itself, not_both_before}
-use Rattle.cn_choice.proofs.Members.{Contains-from_IsIn, IsIn, IsIn-append_cases, IsIn-append_right, IsIn-from_Contains, Pairs, each_at}
-use Rattle.cn_choice.proofs.TeamOrderLemmas.{Before, team_orders, team_orders_pairs}
+use Rattle.cn_choice.specs.ResultSets.{BeginsIn, operations_of, pair_of, response_of}
+use Rattle.cn_choice.specs.Subsets.{answer_of, next_of}
+use Rattle.cn_choice.specs.Tails.{BeginsWithin, Ends, Hits, IsFirstWay, IsFresh, IsWay, NoWay, seen_after}
+use Rattle.cn_choice.specs.TeamOrders.{begins_within, team_from, team_to}
+use Rattle.cn_choice.proofs.ArrangementLemmas.{Differ}
+use Rattle.cn_choice.proofs.BitSets.{pow_set, union_set}
+use Rattle.cn_choice.proofs.LastAnswers.{pair_parts, pair_whole}
+use Rattle.cn_choice.proofs.LastProcess.{zero_has_none}
+use Rattle.cn_choice.proofs.Listing.{differ_from, distinct_from, fits_below, not_empty, some_length}
+use Rattle.cn_choice.proofs.Members.{IsIn, each_at, each_from}
+use Rattle.cn_choice.proofs.TailLemmas.{in_pow}
+use Rattle.cn_choice.proofs.TeamOrderLemmas.{begins_from, begins_to}
+use Rattle.cn_choice.proofs.Walks.{first_of_cond, first_some}
 
--- it stands before all that are behind it
-behind : {X : Type 0} (R : X → X → Type 0) (before after : List X) (x : X) → Pairs R (before ++ x ∷ after) → AllByRecursion (R x) after
-behind R [] after x p = p.0
-behind R (y ∷ before) after x p = behind R before after x p.1
+-- ---- where a way ends
+
+abbrev along : TypeTable → RawChoice → ℕ → ℕ → List ℕ → Option ℕ
+along t c j state ps = response_of j ps (responses_along t state (operations_of c ps))
+
+abbrev after : TypeTable → RawChoice → ℕ → List ℕ → ℕ
+after t c state ps = state_after t state (operations_of c ps)
+
+ends_to : (t : TypeTable) (c : RawChoice) (j state : ℕ) (seen : Option ℕ) (ps : List ℕ) (pair : ℕ × ℕ) → Ends t c j state seen ps pair → (first_some seen (along t c j state ps) ≡ Some pair.0) × (after t c state ps ≡ pair.1)
+ends_to t c j state None [] pair h = h
+ends_to t c j state (Some s) [] pair h = h
+ends_to t c j state None (p ∷ ps) pair h =
+    let r = ends_to t c j (next_of t c p state) (seen_after j p (answer_of t c p state) None) ps pair h in
+    (sym (first_of_cond None (nat_eq p j) (answer_of t c p state) (along t c j (next_of t c p state) ps)) ∙ r.0, r.1)
+ends_to t c j state (Some s) (p ∷ ps) pair h = ends_to t c j (next_of t c p state) (Some s) ps pair h
+
+ends_from : (t : TypeTable) (c : RawChoice) (j state : ℕ) (seen : Option ℕ) (ps : List ℕ) (pair : ℕ × ℕ) → first_some seen (along t c j state ps) ≡ Some pair.0 → after t c state ps ≡ pair.1 → Ends t c j state seen ps pair
+ends_from t c j state None [] pair e f = (e, f)
+ends_from t c j state (Some s) [] pair e f = (e, f)
+ends_from t c j state None (p ∷ ps) pair e f =
+    ends_from t c j (next_of t c p state) (seen_after j p (answer_of t c p state) None) ps pair (first_of_cond None (nat_eq p j) (answer_of t c p state) (along t c j (next_of t c p state) ps) ∙ e) f
+ends_from t c j state (Some s) (p ∷ ps) pair e f = ends_from t c j (next_of t c p state) (Some s) ps pair e f
+
+-- ---- fresh lists
+
+fresh_from : (n used : ℕ) (xs : List ℕ) → AllByRecursion (λ p. p < n) xs → Differ xs → ((x : ℕ) → IsIn x xs → ¬ IsBitSet used x) → IsFresh n used xs
+fresh_from n used [] a d h = tt
+fresh_from n used (x ∷ xs) a d h = (
+  a.0,
+  h x (inl refl),
+  fresh_from n (bit_or used (2 ^ x)) xs a.1 d.1 (λ y i s. elim ((union_set used (2 ^ x) y).0 s) [ inl u ↦ h y (inr i) u | inr b ↦ each_at (λ z. x ≢ z) xs y d.0 i (sym (pow_set x y b)) ]),
+)
+
+fresh_to : (n used : ℕ) (xs : List ℕ) → IsFresh n used xs → AllByRecursion (λ p. p < n) xs × Differ xs × ((x : ℕ) → IsIn x xs → ¬ IsBitSet used x)
+fresh_to n used [] h = (tt, tt, λ x i. absurd i)
+fresh_to n used (x ∷ xs) h =
+    let r = fresh_to n (bit_or used (2 ^ x)) xs h.2 in (
+      (h.0, r.0),
+      (each_from (λ z. x ≢ z) xs (λ y i e. r.2 y i ((union_set used (2 ^ x) y).1 (inr (subst (IsBitSet (2 ^ x)) e (in_pow x))))), r.1),
+      λ y i s. elim i [ inl e ↦ h.1 (subst (IsBitSet used) (sym e) s) | inr k ↦ r.2 y k ((union_set used (2 ^ x) y).1 (inl s)) ],
+    )
+
+-- no order of this length that begins in the team leads into the set
+abbrev pub NoneOf : TypeTable → Choice → RawChoice → Team → ℕ → List ℕ → ℕ → Type 0
+NoneOf t c raw team j set size = NoWay t raw j set size (team_from c team) (team_to c team) 0 raw.state None
 
 module _ (t : TypeTable) (c : Choice) (raw : RawChoice) (same : raw ≡ raw_choice_of c) (team : Team) (j : ℕ) where
   long : length c.a + length c.b ≡ length raw.operations
   long = sym (length-append c.a c.b) ∙ sym (ap (λ (r : RawChoice). length r.operations) same)
 
-  -- what is listed begins in the team
-  pub listed_is : (before after : List (ArrayVec ℕ)) (o : ArrayVec ℕ) → before ++ o ∷ after ≡ orders_of c team j → IsOrder (length raw.operations) o.items × BeginsIn raw team o.items
-  listed_is before after o parts =
-      let member : IsIn o (orders_of c team j) = subst (λ (os : List (ArrayVec ℕ)). IsIn o os) parts (IsIn-append_right o before (o ∷ after) (inl refl)) in
-      let r = (team_orders c team j o).0 (Contains-from_IsIn o (orders_of c team j) member) in
-      (subst (λ (n : ℕ). IsOrder n o.items) long r.0, subst (λ (r : RawChoice). BeginsIn r team o.items) (sym same) r.1)
+  order_way : (x : List ℕ) → IsOrder (length raw.operations) x → BeginsIn raw team x → IsWay (length raw.operations) (length x) (team_from c team) (team_to c team) 0 x
+  order_way x o b = record {
+    long = refl;
+    begins = within x (begins_to c team x (subst (λ (n : ℕ). All (λ p. p < n) x) (sym long) o.known) (subst (λ (r : RawChoice). BeginsIn r team x) same b));
+    fresh = fresh_from (length raw.operations) 0 x (recursion_from_All (λ p. p < length raw.operations) x o.known) (differ_from x o.distinct) (λ y i. zero_has_none y);
+  }
+    where
+      within : (x : List ℕ) → begins_within (team_from c team) (team_to c team) x ≡ Bool.true → BeginsWithin (team_from c team) (team_to c team) x
+      within [] e = tt
+      within (p ∷ ps) e = let r = and_parts _ _ e in (leb-true _ _ r.0, ltb-true _ _ r.1)
+
+  way_order : (size : ℕ) (x : List ℕ) → 1 ≤ size → IsWay (length raw.operations) size (team_from c team) (team_to c team) 0 x → IsOrder (length raw.operations) x × BeginsIn raw team x
+  way_order size [] some w = absurd (omega (arith, w.long, some))
+  way_order size (p ∷ ps) some w =
+      let r = fresh_to (length raw.operations) 0 (p ∷ ps) w.fresh in (
+        record { someone = not_empty size (p ∷ ps) w.long some; known = All-from_recursion (λ p. p < length raw.operations) (p ∷ ps) r.0; distinct = distinct_from (p ∷ ps) r.1 },
+        subst (λ (r : RawChoice). BeginsIn r team (p ∷ ps)) (sym same) (begins_from c team (p ∷ ps) (and_from _ _ (le-leb _ _ w.begins.0) (lt-ltb _ _ w.begins.1))),
+      )
 
   module _ (set : List ℕ) where
-    abbrev Misses : ArrayVec ℕ → Type 0
-    Misses o = ¬ LeadsInto t raw team j set o.items
+    hits_from : (x : List ℕ) → LeadsInto t raw team j set x → Hits t raw j set raw.state None x
+    hits_from x leads = let r = pair_parts t raw j x leads.0.0 leads.0.1 leads.1.1 in (leads.0, ends_from t raw j raw.state None x leads.0 r.0 r.1, leads.2)
 
-    -- what leads into the set is listed
-    there : (x : List ℕ) → IsOrder (length raw.operations) x → LeadsInto t raw team j set x → IsIn (as_array x) (orders_of c team j)
-    there x o leads = IsIn-from_Contains (as_array x) (orders_of c team j) ((team_orders c team j (as_array x)).1 (
-      subst (λ (n : ℕ). IsOrder n x) (sym long) o,
-      subst (λ (r : RawChoice). BeginsIn r team x) same leads.1.0,
-      Contains-from_IsIn j x (pair_in t raw j x leads.0 leads.1.1),
-    ))
+    none_at : (x : List ℕ) → IsOrder (length raw.operations) x → NoneOf t c raw team j set (length x) → ¬ LeadsInto t raw team j set x
+    none_at x o none leads = none x (order_way x o leads.1.0) (hits_from x leads)
 
-    pub none_into : All Misses (orders_of c team j) → NoneInto t raw team j set
-    none_into none x o leads = each_at Misses (orders_of c team j) (as_array x) (recursion_from_All Misses (orders_of c team j) none) (there x o leads) leads
+    pub none_into : ((size : ℕ) → 1 ≤ size → size < length raw.operations + 1 → NoneOf t c raw team j set size) → NoneInto t raw team j set
+    none_into none x o =
+        let few = fits_below (length raw.operations) x (recursion_from_All (λ p. p < length raw.operations) x o.known) (differ_from x o.distinct) in
+        none_at x o (none (length x) (some_length x o.someone) (omega (arith, few)))
 
-    -- the first that leads into the set, by those listed before it
-    pub first_into : (before after : List (ArrayVec ℕ)) (o : ArrayVec ℕ) (pair : ℕ × ℕ) → before ++ o ∷ after ≡ orders_of c team j → All Misses before → pair_of t raw o.items j ≡ Some pair → Has set pair.0 pair.1
-        → IsFirstInto t raw team j set o.items pair
-    first_into before after o pair parts none gives has =
-        let is = listed_is before after o parts in
+    -- the first way of the least length that has one
+    pub first_into : (size : ℕ) (order : List ℕ) (pair : ℕ × ℕ) → 1 ≤ size → ((k : ℕ) → 1 ≤ k → k < size → NoneOf t c raw team j set k)
+        → IsFirstWay t raw j set size (team_from c team) (team_to c team) 0 raw.state None order pair → IsFirstInto t raw team j set order pair
+    first_into size order pair some none f =
+        let is = way_order size order some f.way in
+        let e = ends_to t raw j raw.state None order pair f.ends in
         record {
           ordered = is.0;
-          leads = (is.1, gives);
-          has = has;
-          earlier = λ x ordered first leads.
-              elim (IsIn-append_cases (as_array x) before (o ∷ after) (subst (λ (os : List (ArrayVec ℕ)). IsIn (as_array x) os) (sym parts) (there x ordered leads))) [
-                | inl i ↦ each_at Misses before (as_array x) (recursion_from_All Misses before none) i leads
-                | inr i ↦ elim i [
-                  | inl e ↦ not_before_itself x (subst (λ (a : ArrayVec ℕ). ComesBefore x a.items) e first)
-                  | inr later ↦ not_both_before x o.items first (each_at (Before o) after (as_array x) (behind Before before after o (subst (Pairs Before) (sym parts) (team_orders_pairs c team j))) later)
-                ]
-              ];
+          leads = (is.1, pair_whole t raw j order pair.0 pair.1 e.0 e.1);
+          has = f.has;
+          earlier = λ x o before leads. elim before [
+            | inl shorter ↦ none_at x o (none (length x) (some_length x o.someone) (omega (arith, shorter, f.way.long))) leads
+            | inr later ↦ f.earlier x (subst (λ (k : ℕ). IsWay (length raw.operations) k (team_from c team) (team_to c team) 0 x) (later.0 ∙ f.way.long) (order_way x o leads.1.0)) later.1 (hits_from x leads)
+          ];
         }

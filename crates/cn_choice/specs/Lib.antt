@@ -21,4 +21,6 @@ pub mod Renumbering
 pub mod ResultSets
 pub mod Rising
 pub mod Subsets
+pub mod Tails
 pub mod TeamOrders
+pub mod Twins

@@ -1,0 +1,97 @@
+//! Places from which an order cannot go on into a set.
+ghost use Rattle.std.specs.Prelude.{◌≡◌, ◌<◌, ◌⊎◌, ℕ, Option, IfSome, IsTrue, Bool, true, false, slice_index_or};
+ghost use Rattle.cn_choice.specs.Tails.{IsKept, rank_of};
+
+use crate::bits::{contains, with};
+use crate::tails::Place;
+use std::marker::Model;
+
+/// Places, by the processes that have moved: whether the row of these was begun, and the row, which
+/// has a set of states for each response.
+#[derive(Drop)]
+pub(crate) struct DeadEnds {
+    begun: [bool; 256],
+    rows: [[u16; 17]; 256],
+}
+
+impl Model for DeadEnds {
+    ghost use Rattle.std.specs.Prelude.{List, ℕ, Bool};
+
+    ghost Value = { List Bool × List (List ℕ) };
+
+    ghost view = { λ s. (s.begun, s.rows) };
+
+    ghost invariant = { λ _. Unit {0} };
+}
+
+/// The place of the response in a row. With none yet it is the first.
+fn rank_of(seen: Option<u8>) -> usize
+    requires { IfSome seen (λ response. response < 16) }
+    ensures place { result ≡ rank_of seen }
+    ensures range { rank_of seen < 17 }
+{
+    match seen {
+        None => 0,
+        Some(response) => response as usize + 1,
+    }
+}
+
+impl DeadEnds {
+    /// No place.
+    pub(crate) fn new() -> DeadEnds
+        ensures { (used state : ℕ) (seen : Option ℕ) → ¬ IsKept result used seen state }
+    {
+        DeadEnds {
+            begun: [false; 256],
+            rows: [[0; 17]; 256],
+        }
+    }
+
+    /// Keeps no place any more.
+    pub(crate) fn clear(&mut self)
+        ensures { (used state : ℕ) (seen : Option ℕ) → ¬ IsKept self.new used seen state }
+    {
+        self.begun = [false; 256];
+    }
+
+    /// Whether the place is kept. None is with fewer than two processes to go.
+    pub(crate) fn has(&self, place: Place) -> bool
+        requires used { place.used < 256 }
+        requires seen { IfSome place.seen (λ response. response < 16) }
+        requires state { place.state.0 < 16 }
+        ensures { IsTrue result → (1 < place.left) × IsKept self.now place.used place.seen place.state.0 }
+    {
+        let used = place.used as usize;
+        if place.left < 2 || !self.begun[used] {
+            return false;
+        }
+        contains(self.rows[used][rank_of(place.seen)], place.state.0)
+    }
+
+    /// Begins the row of these processes, if it was not begun.
+    fn begin(&mut self, used: usize)
+        requires { used < 256 }
+        ensures { (u q : ℕ) (s : Option ℕ) → IsKept self.new u s q → IsKept self.old u s q }
+    {
+        if !self.begun[used] {
+            self.begun[used] = true;
+            self.rows[used] = [0; 17];
+        }
+    }
+
+    /// Keeps the place, if there are two processes or more to go.
+    pub(crate) fn add(&mut self, place: Place)
+        requires used { place.used < 256 }
+        requires seen { IfSome place.seen (λ response. response < 16) }
+        requires state { place.state.0 < 16 }
+        ensures { (u q : ℕ) (s : Option ℕ) → IsKept self.new u s q → IsKept self.old u s q ⊎ ((u ≡ place.used) × (s ≡ place.seen) × (q ≡ place.state.0)) }
+    {
+        if place.left < 2 {
+            return;
+        }
+        let used = place.used as usize;
+        self.begin(used);
+        let rank = rank_of(place.seen);
+        self.rows[used][rank] = with(self.rows[used][rank], place.state.0);
+    }
+}

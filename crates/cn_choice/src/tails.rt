@@ -1,0 +1,163 @@
+//! How an order may go on: the first way, in list order, to a pair of a set.
+ghost use Rattle.std.specs.Prelude.{◌≡◌, ◌≢◌, ◌+◌, ◌-◌, ◌^◌, ◌<◌, ◌≤◌, ◌⊎◌, ◌↔◌, ℕ, [], length, slice_index, IfNone, IfSome, IsBitSet, IsFalse, IsTrue, None, Some};
+ghost use Rattle.std.specs.Int.Bits.{bit_or};
+ghost use Rattle.cn_choice.specs.OutcomeSets.{Has};
+ghost use Rattle.cn_choice.specs.RawChoices.{IsRawChoice};
+ghost use Rattle.cn_choice.specs.Subsets.{answer_of, next_of};
+ghost use Rattle.cn_choice.specs.Tails.{AreDead, IsFirstWay, NoWay, moved, seen_after};
+
+use crate::bits::{contains, with};
+use crate::dead_ends::DeadEnds;
+use crate::laws::RawChoice;
+use crate::result_sets::OutcomeSet;
+use crate::subset_rows::operation_of;
+use arrayvec::ArrayVec;
+use cn_table::{Response, State, Table};
+
+/// Where an order has come to: the processes that have moved, how many are still to move, the state
+/// that was left, and the response that the process in question has got, if it has moved.
+#[derive(Clone, Copy)]
+pub(crate) struct Place {
+    pub used: u16,
+    pub left: u8,
+    pub state: State,
+    pub seen: Option<u8>,
+}
+
+/// The response that process j has got: the first.
+fn seen_after(j: u8, process: u8, response: u8, seen: Option<u8>) -> Option<u8>
+    ensures { result ≡ seen_after j process response seen }
+{
+    match seen {
+        None if process == j => Some(response),
+        _ => seen,
+    }
+}
+
+/// The place to which the process comes.
+fn place_after(table: &Table, choice: &RawChoice, j: u8, place: Place, process: u8) -> Place
+    requires fits { IsRawChoice table.now (length choice.now.operations) choice.now }
+    requires state { place.state.0 < length table.now.states }
+    requires process { process < length choice.now.operations }
+    requires few { length choice.now.operations ≤ 8 }
+    requires left { 1 ≤ place.left }
+    requires used { place.used < 256 }
+    requires seen { IfSome place.seen (λ response. response < 16) }
+    ensures used { result.used ≡ bit_or place.used (2 ^ process) }
+    ensures small { result.used < 256 }
+    ensures left { result.left ≡ place.left - 1 }
+    ensures state { result.state.0 ≡ next_of table.now choice.now process place.state.0 }
+    ensures known { result.state.0 < length table.now.states }
+    ensures seen { result.seen ≡ seen_after j process (answer_of table.now choice.now process place.state.0) place.seen }
+    ensures in_range { IfSome result.seen (λ response. response < 16) }
+{
+    let _responses = table.responses();
+    let (response, state) = table.apply(operation_of(choice, process), place.state);
+    Place {
+        used: place.used | (1 << process),
+        left: place.left - 1,
+        state,
+        seen: seen_after(j, process, response.0, place.seen),
+    }
+}
+
+/// The empty list and the pair of the place, if the set has it.
+fn end_within(set: &OutcomeSet, place: Place) -> Option<(ArrayVec<u8, 8>, (u8, u8))>
+    ensures none { IfNone result ((response : ℕ) → place.seen ≡ Some response → ¬ Has set.now response place.state.0) }
+    ensures empty { IfSome result (λ found. found.0.items ≡ []) }
+    ensures ends { IfSome result (λ found. (place.seen ≡ Some found.1.0) × (place.state.0 ≡ found.1.1)) }
+    ensures has { IfSome result (λ found. Has set.now found.1.0 found.1.1) }
+    ensures in_range { IfSome result (λ found. (found.1.0 < 16) × (found.1.1 < 16)) }
+{
+    let response = place.seen?;
+    if set.has(Response(response), place.state) {
+        Some((ArrayVec::new(), (response, place.state.0)))
+    } else {
+        None
+    }
+}
+
+/// Whether the process is to move next: it has not moved, and it is j, or there is time for j and no
+/// process with its operation was tried.
+fn is_open(choice: &RawChoice, j: u8, place: Place, tried: u16, process: u8) -> bool
+    requires process { process < length choice.now.operations }
+    requires few { length choice.now.operations ≤ 8 }
+    requires operation { slice_index choice.now.operations process < 16 }
+    ensures open { IsTrue result → ¬ IsBitSet place.used process }
+    ensures closed { IsFalse result → IsBitSet place.used process ⊎ ((process ≢ j) × (((place.left ≡ 1) × (place.seen ≡ None)) ⊎ IsBitSet tried (slice_index choice.now.operations process))) }
+{
+    if contains(place.used, process) {
+        return false;
+    }
+    if process == j {
+        return true;
+    }
+    if place.left == 1 && place.seen.is_none() {
+        return false;
+    }
+    !contains(tried, operation_of(choice, process).0)
+}
+
+/// The operations tried, with that of the process. Process j stands for itself alone.
+fn tried_after(choice: &RawChoice, j: u8, tried: u16, process: u8) -> u16
+    requires process { process < length choice.now.operations }
+    requires operation { slice_index choice.now.operations process < 16 }
+    ensures { (o : ℕ) → IsBitSet result o → IsBitSet tried o ⊎ ((process ≢ j) × (o ≡ slice_index choice.now.operations process)) }
+{
+    if process == j {
+        tried
+    } else {
+        with(tried, operation_of(choice, process).0)
+    }
+}
+
+/// The first way to go on to the end that leads into the set, and its pair. The first process of it
+/// is from low on and below high; of those with the same operation only the first is tried. The dead
+/// ends of orders of this length are kept, but for the last two processes.
+pub(crate) fn way_into(
+    table: &Table,
+    choice: &RawChoice,
+    j: u8,
+    set: &OutcomeSet,
+    dead: &mut DeadEnds,
+    low: u8,
+    high: u8,
+    place: Place,
+) -> Option<(ArrayVec<u8, 8>, (u8, u8))>
+    requires few { length choice.now.operations ≤ 8 }
+    requires fits { IsRawChoice table.now (length choice.now.operations) choice.now }
+    requires left { place.left ≤ 8 }
+    requires high { high ≤ length choice.now.operations }
+    requires used { place.used < 256 }
+    requires seen { IfSome place.seen (λ response. response < 16) }
+    requires state { place.state.0 < length table.now.states }
+    requires dead { 2 < place.left → AreDead table.now choice.now j set.now (place.left + moved place.used) dead.old }
+    ensures none { IfNone result (NoWay table.now choice.now j set.now place.left low high place.used place.state.0 place.seen) }
+    ensures first { IfSome result (λ found. IsFirstWay table.now choice.now j set.now place.left low high place.used place.state.0 place.seen found.0.items found.1) }
+    ensures in_range { IfSome result (λ found. (found.1.0 < 16) × (found.1.1 < 16)) }
+    ensures dead { AreDead table.now choice.now j set.now (place.left + moved place.used) dead.old → AreDead table.now choice.now j set.now (place.left + moved place.used) dead.new }
+{
+    if place.left == 0 {
+        return end_within(set, place);
+    }
+    let (_operations, _states) = (table.operations(), table.states());
+    let n = choice.operations.len() as u8;
+    let mut tried = 0;
+    for process in low..high {
+        if !is_open(choice, j, place, tried, process) {
+            continue;
+        }
+        tried = tried_after(choice, j, tried, process);
+        let next = place_after(table, choice, j, place, process);
+        if dead.has(next) {
+            continue;
+        }
+        let found = way_into(table, choice, j, set, dead, 0, n, next);
+        if let Some((mut tail, pair)) = found {
+            tail.insert(0, process);
+            return Some((tail, pair));
+        }
+        dead.add(next);
+    }
+    None
+}
