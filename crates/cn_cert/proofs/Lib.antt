@@ -1,7 +1,11 @@
+pub mod ArrayWalks
+pub mod Conversions
 pub mod FindingRanges
 pub mod NoFloats
+pub mod ObjectWalks
 pub mod PrintedValues
 pub mod RangeLemmas
 pub mod SpelledCertificates
 pub mod ValueLemmas
+pub mod Walks
 pub mod WrittenCertificates

@@ -3,6 +3,7 @@ pub mod CertificateText
 pub mod Document
 pub mod Values
 pub mod Draft
+pub mod Tokens
 pub mod Ranges
 pub mod Faults
 pub mod Reading

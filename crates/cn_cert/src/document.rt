@@ -1,24 +1,43 @@
-//! From bytes to a JSON value.
-ghost use Rattle.std.specs.Prelude.{◌≡◌, Err, IsUtf8};
-ghost use Rattle.serde_json.specs.View.{view};
+//! From bytes to what they say as a certificate.
+ghost use Rattle.std.specs.Prelude.{◌≡◌, Some, Err, IfOk, IfErr, IsUtf8, option_map};
+ghost use Rattle.json.specs.Lex.{tokens};
+ghost use Rattle.serde_json.specs.Read.{read};
 ghost use Rattle.cn_cert.specs.Document.{document_of};
-ghost use Rattle.cn_cert.specs.Reads.{Reads};
+ghost use Rattle.cn_cert.specs.Draft.{draft_of};
+ghost use Rattle.cn_cert.specs.Reads.{Refuses};
 
+use crate::draft::Draft;
 use crate::fault::CertFault;
-use serde_json::Value;
+use crate::object::draft;
+use json::{Reader, Scratch};
 use std::alloc::Global;
 
-/// The JSON value that the bytes spell.
-pub(crate) fn read_document(alloc: Global, bytes: &[u8]) -> Result<Value, CertFault>
-    ensures document { Reads CertFault.NotJson view result (document_of bytes.now) }
+/// So deep arrays and objects nest at most.
+const MOST_DEPTH: usize = 127;
+
+fn draft_of_text(alloc: Global, text: &str) -> Result<Option<Draft>, CertFault>
+    ensures ok { IfOk result (λ o. option_map draft_of (read text.now) ≡ Some o) }
+    ensures err { IfErr result (λ e. Refuses e (read text.now)) }
+{
+    let mut scratch = Scratch::new(alloc);
+    let Ok(mut reader) = Reader::new(text, &mut scratch) else {
+        return Err(CertFault::OutOfMemory);
+    };
+    let draft = draft(alloc, &mut reader, MOST_DEPTH)?;
+    if reader.next().is_some() {
+        return Err(CertFault::NotJson);
+    }
+    Ok(draft)
+}
+
+/// What the JSON value that the bytes spell says, where it has the shape of a certificate.
+pub(crate) fn read_draft(alloc: Global, bytes: &[u8]) -> Result<Option<Draft>, CertFault>
+    ensures ok { IfOk result (λ o. option_map draft_of (document_of bytes.now) ≡ Some o) }
+    ensures err { IfErr result (λ e. Refuses e (document_of bytes.now)) }
     ensures told { ¬ IsUtf8 bytes.now → result ≡ Err CertFault.NotJson }
 {
     let Ok(text) = str::from_utf8(bytes) else {
         return Err(CertFault::NotJson);
     };
-    match Value::from_str(alloc, text) {
-        Ok(value) => Ok(value),
-        Err(e) if e.is_memory() => Err(CertFault::OutOfMemory),
-        Err(_) => Err(CertFault::NotJson),
-    }
+    draft_of_text(alloc, text)
 }

@@ -4,14 +4,17 @@
 //! [`read_certificate`] reads it back, or says by a [`CertFault`] what is wrong with a text.
 #![tactic(auto)]
 
+mod array;
 mod certificate;
 mod document;
 mod draft;
 mod fault;
 pub mod laws;
+mod number;
+mod object;
 mod ranges;
 mod read;
-mod values;
+mod skip;
 mod write;
 
 pub use certificate::Certificate;

@@ -5,8 +5,7 @@ ghost use Rattle.cn_cert.specs.Reading.{reading};
 ghost use Rattle.cn_cert.specs.declared.fault.CertFault.TheVariants.{NotJson, OutOfMemory};
 
 use crate::certificate::Certificate;
-use crate::document::read_document;
-use crate::draft::draft_from;
+use crate::document::read_draft;
 use crate::fault::CertFault;
 use crate::ranges;
 use std::alloc::Global;
@@ -36,8 +35,9 @@ pub fn read_certificate(alloc: Global, bytes: &[u8]) -> Result<Certificate, Cert
     ensures fault { IfErr result (λ e. (e ≡ OutOfMemory) ⊎ (reading bytes.now ≡ Err e)) }
     ensures told { ¬ IsUtf8 bytes.now → result ≡ Err NotJson }
 {
-    let value = read_document(alloc, bytes)?;
-    let draft = draft_from(alloc, &value)?;
+    let Some(draft) = read_draft(alloc, bytes)? else {
+        return Err(CertFault::WrongShape);
+    };
     if !is_version(draft.version) {
         return Err(CertFault::Version);
     }

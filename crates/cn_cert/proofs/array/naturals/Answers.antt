@@ -1,0 +1,11 @@
+use Rattle.std.proofs.Common.{◌≡◌, [], ap, ◌∙◌, arith}
+use Rattle.cn_cert.specs.Values.{naturals_of}
+use Rattle.cn_cert.specs.Tokens.{data_at, told}
+use Rattle.cn_cert.proofs.Walks.{empty_told}
+use Rattle.cn_cert.proofs.array.naturals.Goals as goal
+
+pub returns-in_err-token-clause-err : goal.returns-in_err-token-clause-err
+returns-in_err-token-clause-err c =
+    let empty : c.args.reader.now ≡ [] = grind arith in
+    let none = ap (λ ts. told naturals_of (data_at c.args.depth ts)) empty ∙ empty_told naturals_of c.args.depth in
+    grind (arith, none)

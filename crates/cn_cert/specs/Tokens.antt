@@ -1,0 +1,144 @@
+-- What stands at the front of the tokens of a text, with the tokens behind it.
+use Rattle.std.specs.Prelude.{◌≡◌, ◌<◌, ◌-◌, map, bytes_eq, ℕ, List, length, Bool, true, false, Option, Some, None, option_map, codes, if◌then◌else◌}
+use Rattle.json.specs.Json.{items, members, value}
+use Rattle.json.specs.Token.{Token}
+use Rattle.serde_json.specs.Data.{Data, null, array, Items, no_items, item, Members, no_members, member}
+use Rattle.serde_json.specs.Find.{as_str, as_array}
+use Rattle.serde_json.specs.Read.{of_json, of_items, of_members, converted}
+use Rattle.cn_table.specs.Draft.{all_some, ◌>>=◌}
+use Rattle.cn_choice.specs.Canonical.{Choice}
+use Rattle.cn_choice.specs.Collisions.{Collision}
+use Rattle.cn_cert.specs.Certificate.{Certificate}
+use Rattle.cn_cert.specs.Document.{list_of}
+use Rattle.cn_cert.specs.Values.{natural_of, naturals_of, nullable, at_key}
+use Rattle.cn_cert.specs.Draft.{choice_of, collisions_of}
+
+-- a value that nests at most so deep; the items of an array, and the members of an object, that was opened
+abbrev pub data_at : ℕ → List Token → Option (Data × List Token)
+data_at depth ts = converted of_json (value depth ts)
+
+abbrev pub items_at : ℕ → List Token → Option (Items × List Token)
+items_at depth ts = converted of_items (items (value depth) (length ts) ts)
+
+abbrev pub members_at : ℕ → Members → List Token → Option (Members × List Token)
+members_at depth found ts = converted (λ ms. of_members ms found) (members (value depth) (length ts) ts)
+
+-- what is told of it, and the tokens behind it
+abbrev pub told : {A B : Type 0} → (A → B) → Option (A × List Token) → Option (B × List Token)
+told f there = option_map (λ p. (f p.0, p.1)) there
+
+-- nothing is told of it
+abbrev pub nothing : {A : Type 0} → A → Unit {0}
+nothing _ = tt
+
+-- the items of an array that is still open, or none behind its end
+abbrev pub rest_at : Bool → ℕ → List Token → Option (Items × List Token)
+rest_at true depth ts = items_at depth ts
+rest_at false depth ts = Some (no_items, ts)
+
+abbrev pub first_item : {X : Type 0} → (Data → Option X) → Items → Option X
+first_item kind no_items = None
+first_item kind (item d ds) = kind d
+
+abbrev pub later_items : Items → Items
+later_items no_items = no_items
+later_items (item d ds) = ds
+
+-- an item of a kind, and the items behind it
+abbrev pub next_item : {X : Type 0} → (Data → Option X) → Items → Option X × Items
+next_item kind ds = (first_item kind ds, later_items ds)
+
+-- a state and two lists
+abbrev pub choice_parts : Option ℕ → Option (List ℕ) → Option (List ℕ) → Option Choice
+choice_parts state a b = do
+  s ← state
+  x ← a
+  y ← b
+  Some (record { state = s; a = x; b = y })
+
+abbrev pub next_choice : Items → Option Choice × Items
+next_choice ds =
+    let at_a = later_items ds in
+    let at_b = later_items at_a in
+    (choice_parts (first_item natural_of ds) (first_item naturals_of at_a) (first_item naturals_of at_b), later_items at_b)
+
+abbrev pub is_over : Items → Bool
+is_over no_items = true
+is_over (item d ds) = false
+
+-- the thing, if the test holds
+abbrev pub only_if : {X : Type 0} → Bool → Option X → Option X
+only_if true o = o
+only_if false o = None
+
+-- a choice and nothing behind it
+abbrev pub choice_items : Items → Option Choice
+choice_items ds = only_if (is_over (next_choice ds).1) (next_choice ds).0
+
+-- a collision has two such parts: a choice, and a process with two orders
+abbrev pub collision_parts : Option Choice → Option Choice → Option Collision
+collision_parts choice orders = do
+  c ← choice
+  o ← orders
+  Some (record { choice = c; process = o.state; alpha = o.a; beta = o.b })
+
+abbrev pub collision_items : Items → Option Collision
+collision_items ds =
+    let choice = next_choice ds in
+    let orders = next_choice choice.1 in
+    only_if (is_over orders.1) (collision_parts choice.0 orders.0)
+
+-- all of the items, where each is of a kind
+abbrev pub all_items : {X : Type 0} → (Data → Option X) → Items → Option (List X)
+all_items kind ds = all_some (map kind (list_of ds))
+
+-- an array was opened, or another value passed over
+abbrev pub Opens : Bool → ℕ → List Token → List Token → Type 0
+Opens true depth old new = (0 < depth) × (data_at depth old ≡ told array (items_at (depth - 1) new))
+Opens false depth old new = told as_array (data_at depth old) ≡ Some (None, new)
+
+-- what stands at the six keys
+pub record Slots : Type 0 where
+  pub collisions : Option (List Collision)
+  pub limit : Option ℕ
+  pub number : Option (Option ℕ)
+  pub type_name : Option (List ℕ)
+  pub version : Option ℕ
+  pub witness : Option (Option Choice)
+
+abbrev pub slots_of : Members → Slots
+slots_of ms = record {
+  collisions = at_key (codes "collisions") collisions_of ms;
+  limit = at_key (codes "limit") natural_of ms;
+  number = at_key (codes "number") (nullable natural_of) ms;
+  type_name = at_key (codes "type") as_str ms;
+  version = at_key (codes "version") natural_of ms;
+  witness = at_key (codes "witness") (nullable choice_of) ms;
+}
+
+-- the same with one more member
+abbrev pub with_member : List ℕ → Slots → Data → Slots
+with_member key s d = record {
+  collisions = if bytes_eq key (codes "collisions") then collisions_of d else s.collisions;
+  limit = if bytes_eq key (codes "limit") then natural_of d else s.limit;
+  number = if bytes_eq key (codes "number") then nullable natural_of d else s.number;
+  type_name = if bytes_eq key (codes "type") then as_str d else s.type_name;
+  version = if bytes_eq key (codes "version") then natural_of d else s.version;
+  witness = if bytes_eq key (codes "witness") then nullable choice_of d else s.witness;
+}
+
+-- the certificate, where something stands at each key
+abbrev pub draft_parts : Slots → Option Certificate
+draft_parts s = do
+  collisions ← s.collisions
+  limit ← s.limit
+  number ← s.number
+  type_name ← s.type_name
+  version ← s.version
+  witness ← s.witness
+  Some (record { version = version; type_name = type_name; limit = limit; number = number; witness = witness; collisions = collisions })
+
+-- the same keys, with nothing at them
+abbrev pub keys_of : Members → Members
+keys_of no_members = no_members
+keys_of (member k d ms) = member k null (keys_of ms)

@@ -1,0 +1,205 @@
+//! The object of a certificate, a member after another.
+ghost use Rattle.std.specs.Prelude.{◌≡◌, ◌==◌, IfOk, IfErr, Some, None, option_map, string_bytes};
+ghost use Rattle.serde_json.specs.Data.{no_members, object};
+ghost use Rattle.serde_json.specs.Find.{as_str};
+ghost use Rattle.serde_json.specs.View.{members_view};
+ghost use Rattle.cn_cert.specs.Document.{members_len};
+ghost use Rattle.cn_cert.specs.Draft.{choice_of, draft_of};
+ghost use Rattle.cn_cert.specs.Reads.{Refuses};
+ghost use Rattle.cn_cert.specs.Tokens.{data_at, members_at, told, nothing, slots_of, with_member, draft_parts};
+ghost use Rattle.cn_cert.specs.Values.{natural_of, nullable};
+
+use crate::array::{choice, collisions, natural};
+use crate::draft::{Draft, DraftChoice, DraftCollision};
+use crate::fault::CertFault;
+use crate::number;
+use crate::skip::{first, key, rest_of};
+use json::{Reader, Token};
+use serde_json::{Map, Value};
+use std::alloc::Global;
+use std::marker::Model;
+
+/// What stands at the six keys, as far as it is of the kind that belongs there.
+#[derive(Drop)]
+struct Slots {
+    collisions: Option<Vec<DraftCollision>>,
+    limit: Option<u64>,
+    number: Option<Option<u64>>,
+    type_name: Option<String>,
+    version: Option<u64>,
+    witness: Option<Option<DraftChoice>>,
+}
+
+impl Model for Slots {
+    ghost use Rattle.std.specs.Prelude.{option_map, string_bytes};
+    ghost use Rattle.cn_cert.specs.Tokens.{Slots};
+
+    ghost Value = { Slots };
+
+    ghost view = { λ s. record { collisions = option_map (λ v. v.items) s.collisions; limit = s.limit; number = s.number; type_name = option_map string_bytes s.type_name; version = s.version; witness = s.witness } };
+}
+
+fn no_slots() -> Slots
+    ensures { result ≡ slots_of no_members }
+{
+    Slots {
+        collisions: None,
+        limit: None,
+        number: None,
+        type_name: None,
+        version: None,
+        witness: None,
+    }
+}
+
+fn draft_of_slots(slots: Slots) -> Option<Draft>
+    ensures { result ≡ draft_parts slots }
+{
+    let Slots {
+        collisions,
+        limit,
+        number,
+        type_name,
+        version,
+        witness,
+    } = slots;
+    Some(Draft {
+        collisions: collisions?,
+        limit: limit?,
+        number: number?,
+        type_name: type_name?,
+        version: version?,
+        witness: witness?,
+    })
+}
+
+/// The text that a value is.
+fn text(alloc: Global, reader: &mut Reader<'_>, depth: usize) -> Result<Option<String>, CertFault>
+    ensures ok { IfOk result (λ o. told as_str (data_at depth reader.old) ≡ Some (option_map string_bytes o, reader.new)) }
+    ensures err { IfErr result (λ e. Refuses e (told as_str (data_at depth reader.old))) }
+{
+    let token = first(reader)?;
+    if let Token::String(text) = token {
+        return Ok(Some(String::from_str(alloc, text)?));
+    }
+    rest_of(reader, depth, token)?;
+    Ok(None)
+}
+
+/// The unsigned integer that a value is, or none for null.
+fn natural_or_null(reader: &mut Reader<'_>, depth: usize) -> Result<Option<Option<u64>>, CertFault>
+    ensures ok { IfOk result (λ o. told (nullable natural_of) (data_at depth reader.old) ≡ Some (o, reader.new)) }
+    ensures err { IfErr result (λ e. Refuses e (told (nullable natural_of) (data_at depth reader.old))) }
+{
+    let token = first(reader)?;
+    if let Token::Null = token {
+        return Ok(Some(None));
+    }
+    if let Token::Number(text) = token {
+        return match number::natural(text)? {
+            Some(n) => Ok(Some(Some(n))),
+            None => Ok(None),
+        };
+    }
+    rest_of(reader, depth, token)?;
+    Ok(None)
+}
+
+/// The choice that a value is, or none for null.
+fn choice_or_null(
+    alloc: Global,
+    reader: &mut Reader<'_>,
+    depth: usize,
+) -> Result<Option<Option<DraftChoice>>, CertFault>
+    ensures ok { IfOk result (λ o. told (nullable choice_of) (data_at depth reader.old) ≡ Some (o, reader.new)) }
+    ensures err { IfErr result (λ e. Refuses e (told (nullable choice_of) (data_at depth reader.old))) }
+{
+    let token = first(reader)?;
+    if let Token::Null = token {
+        return Ok(Some(None));
+    }
+    match choice(alloc, reader, depth, token)? {
+        Some(choice) => Ok(Some(Some(choice))),
+        None => Ok(None),
+    }
+}
+
+/// Reads the value at this key.
+fn read_member(
+    alloc: Global,
+    reader: &mut Reader<'_>,
+    depth: usize,
+    key: &str,
+    slots: &mut Slots,
+) -> Result<(), CertFault>
+    ensures ok { IfOk result (λ _. told (with_member key.now slots.old) (data_at depth reader.old) ≡ Some (slots.new, reader.new)) }
+    ensures err { IfErr result (λ e. Refuses e (told nothing (data_at depth reader.old))) }
+{
+    if key == "collisions" {
+        slots.collisions = collisions(alloc, reader, depth)?;
+    } else if key == "limit" {
+        slots.limit = natural(reader, depth)?;
+    } else if key == "number" {
+        slots.number = natural_or_null(reader, depth)?;
+    } else if key == "type" {
+        slots.type_name = text(alloc, reader, depth)?;
+    } else if key == "version" {
+        slots.version = natural(reader, depth)?;
+    } else if key == "witness" {
+        slots.witness = choice_or_null(alloc, reader, depth)?;
+    } else {
+        let token = first(reader)?;
+        rest_of(reader, depth, token)?;
+    }
+    Ok(())
+}
+
+/// Whether an object has just so many keys.
+fn has_len(map: &Map<String, Value>, len: usize) -> bool
+    ensures { result ≡ (members_len (members_view map.now.entries) == len) }
+{
+    map.len() == len
+}
+
+/// The rest of an object as a certificate. Of two equal keys the last one counts.
+fn draft_members(
+    alloc: Global,
+    reader: &mut Reader<'_>,
+    depth: usize,
+) -> Result<Option<Draft>, CertFault>
+    ensures ok { IfOk result (λ o. told (λ ms. draft_of (object ms)) (members_at depth no_members reader.old) ≡ Some (o, reader.new)) }
+    ensures err { IfErr result (λ e. Refuses e (told (λ ms. draft_of (object ms)) (members_at depth no_members reader.old))) }
+{
+    let mut slots = no_slots();
+    let mut keys: Map<String, Value> = Map::new(alloc);
+    'members: while let Some(name) = key(reader)? {
+        let copied = String::from_str(alloc, name)?;
+        read_member(alloc, reader, depth, name, &mut slots)?;
+        drop(keys.insert(copied, Value::Null)?);
+    }
+    if has_len(&keys, 6) {
+        Ok(draft_of_slots(slots))
+    } else {
+        Ok(None)
+    }
+}
+
+/// What a value says, where it has the shape of a certificate.
+pub(crate) fn draft(
+    alloc: Global,
+    reader: &mut Reader<'_>,
+    depth: usize,
+) -> Result<Option<Draft>, CertFault>
+    ensures ok { IfOk result (λ o. told draft_of (data_at depth reader.old) ≡ Some (o, reader.new)) }
+    ensures err { IfErr result (λ e. Refuses e (told draft_of (data_at depth reader.old))) }
+{
+    let token = first(reader)?;
+    if let Token::BeginObject = token {
+        if depth == 0 {
+            return Err(CertFault::NotJson);
+        }
+        return draft_members(alloc, reader, depth - 1);
+    }
+    rest_of(reader, depth, token)?;
+    Ok(None)
+}
