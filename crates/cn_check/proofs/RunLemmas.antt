@@ -48,9 +48,6 @@ as_other M N L m n = (λ x. n.1 (m.0 x), λ y. m.1 (n.0 y))
 abbrev pub Below : (ℕ → Type 0) → ℕ → Type 0
 Below P k = (p : ℕ) × (p < k) × P p
 
-pub below_none : (P : ℕ → Type 0) → ¬ Below P 0
-below_none P h = absurd (omega (arith, h.1))
-
 pub below_next : (P : ℕ → Type 0) (k : ℕ) → Below P (k + 1) ↔ (Below P k ⊎ P k)
 below_next P k = (
   λ h.

@@ -7,9 +7,6 @@ use Rattle.cn_check.specs.Seen.{AreWalked, HasPair, kept_at}
 use Rattle.cn_check.proofs.SetLemmas.{same_or_other}
 
 module _ (t : TypeTable) (c : RawChoice) where
-  pub walked_none : (kept sets : List ℕ) → ((used state : ℕ) → kept_at kept used state ≡ 0) → AreWalked t c kept sets
-  walked_none kept sets none = record { ends = λ u s q l some. absurd (some (none u s)); shown = λ u s j r q l some. absurd (some (none u s)) }
-
   pub walked_more : (kept before after : List ℕ) → ((j r q : ℕ) → HasPair before j r q → HasPair after j r q) → AreWalked t c kept before → AreWalked t c kept after
   walked_more kept before after more w = record { ends = w.ends; shown = λ u s j r q l some h. more j r q (w.shown u s j r q l some h) }
 
