@@ -1,5 +1,6 @@
 pub mod ArrayWalks
 pub mod Conversions
+pub mod DigitLemmas
 pub mod FindingRanges
 pub mod NoFloats
 pub mod ObjectWalks

@@ -9,7 +9,7 @@ ghost use Rattle.cn_cert.specs.Tokens.{Opens, data_at, items_at, rest_at, told, 
 ghost use Rattle.cn_cert.specs.Values.{natural_of, naturals_of};
 ghost use Rattle.cn_cert.specs.Draft.{choice_of, collision_of, collisions_of};
 
-use crate::draft::{DraftChoice, DraftCollision};
+use crate::draft::{DraftChoice, DraftCollision, Numbers};
 use crate::fault::CertFault;
 use crate::number;
 use crate::skip::{first, rest_of, rest_of_items};
@@ -30,6 +30,7 @@ pub(crate) fn natural(reader: &mut Reader<'_>, depth: usize) -> Result<Option<u6
 }
 
 /// Opens the array that begins with this token, or passes over the rest of another value.
+#[inline(always)]
 fn opens(reader: &mut Reader<'_>, depth: usize, token: Token<'_>) -> Result<bool, CertFault>
     ensures ok { IfOk result (λ opened. Opens opened depth (token_of token.entry ∷ reader.old) reader.new) }
     ensures err { IfErr result (λ e. Refuses e (data_at depth (token_of token.entry ∷ reader.old))) }
@@ -48,11 +49,11 @@ fn natural_items(
     alloc: Global,
     reader: &mut Reader<'_>,
     depth: usize,
-) -> Result<Option<Vec<u64>>, CertFault>
+) -> Result<Option<Numbers>, CertFault>
     ensures ok { IfOk result (λ o. told (all_items natural_of) (items_at depth reader.old) ≡ Some (option_map (λ v. v.items) o, reader.new)) }
     ensures err { IfErr result (λ e. Refuses e (told (all_items natural_of) (items_at depth reader.old))) }
 {
-    let mut found = Vec::new(alloc);
+    let mut found = Numbers::new(alloc);
     'items: while !reader.take_end_array() {
         match natural(reader, depth)? {
             Some(n) => found.push(n)?,
@@ -70,7 +71,7 @@ fn naturals(
     alloc: Global,
     reader: &mut Reader<'_>,
     depth: usize,
-) -> Result<Option<Vec<u64>>, CertFault>
+) -> Result<Option<Numbers>, CertFault>
     ensures ok { IfOk result (λ o. told naturals_of (data_at depth reader.old) ≡ Some (option_map (λ v. v.items) o, reader.new)) }
     ensures err { IfErr result (λ e. Refuses e (told naturals_of (data_at depth reader.old))) }
 {
@@ -83,6 +84,7 @@ fn naturals(
 }
 
 /// Whether an item follows in the array, which is no longer open at its end.
+#[inline(always)]
 fn has_next(reader: &mut Reader<'_>, open: &mut bool) -> bool
     ensures value { result ≡ open.new }
     ensures more { MatchBool result ((open.old ≡ true) × (after_end_array reader.old ≡ None) × (reader.new ≡ reader.old)) ((depth : ℕ) → rest_at open.old depth reader.old ≡ Some (no_items, reader.new)) }
@@ -93,6 +95,7 @@ fn has_next(reader: &mut Reader<'_>, open: &mut bool) -> bool
     *open
 }
 
+#[inline(always)]
 fn next_natural(
     reader: &mut Reader<'_>,
     depth: usize,
@@ -113,7 +116,7 @@ fn next_naturals(
     reader: &mut Reader<'_>,
     depth: usize,
     open: &mut bool,
-) -> Result<Option<Vec<u64>>, CertFault>
+) -> Result<Option<Numbers>, CertFault>
     ensures ok { IfOk result (λ o. told (next_item naturals_of) (rest_at open.old depth reader.old) ≡ told (λ ds. (option_map (λ v. v.items) o, ds)) (rest_at open.new depth reader.new)) }
     ensures err { IfErr result (λ e. Refuses e (told (next_item naturals_of) (rest_at open.old depth reader.old))) }
 {
@@ -126,8 +129,8 @@ fn next_naturals(
 
 fn choice_of_parts(
     state: Option<u64>,
-    a: Option<Vec<u64>>,
-    b: Option<Vec<u64>>,
+    a: Option<Numbers>,
+    b: Option<Numbers>,
 ) -> Option<DraftChoice>
     ensures { result ≡ choice_parts state (option_map (λ v. v.items) a) (option_map (λ v. v.items) b) }
 {

@@ -1,12 +1,16 @@
 //! What a text says, before any number is looked at.
+use smallvec::SmallVec;
 use std::marker::Model;
+
+/// A list of numbers, which is mostly short.
+pub(crate) type Numbers = SmallVec<u64, 4>;
 
 /// A choice before any number is looked at.
 #[derive(Drop)]
 pub(crate) struct DraftChoice {
     pub state: u64,
-    pub a: Vec<u64>,
-    pub b: Vec<u64>,
+    pub a: Numbers,
+    pub b: Numbers,
 }
 
 impl Model for DraftChoice {
@@ -22,8 +26,8 @@ impl Model for DraftChoice {
 pub(crate) struct DraftCollision {
     pub choice: DraftChoice,
     pub process: u64,
-    pub alpha: Vec<u64>,
-    pub beta: Vec<u64>,
+    pub alpha: Numbers,
+    pub beta: Numbers,
 }
 
 impl Model for DraftCollision {

@@ -1,5 +1,6 @@
 //! The numbers of a text.
-ghost use Rattle.std.specs.Prelude.{◌≡◌, ◌==◌, ◌<◌, length, option_map, slice_index, IsTrue, true, false};
+ghost use Rattle.std.specs.Prelude.{◌≡◌, ◌==◌, ◌<◌, length, option_map, slice_index, IfSome, IsTrue, Some, true, false};
+ghost use Rattle.serde_json.specs.Data.{unsigned};
 ghost use Rattle.serde_json.specs.Find.{as_u64};
 ghost use Rattle.serde_json.specs.Read.{number_of, number_from, float_of};
 ghost use Rattle.cn_cert.specs.Reads.{Reads};
@@ -45,14 +46,36 @@ fn has_minus(bytes: &[u8]) -> bool
     !bytes.is_empty() && bytes[0] == b'-'
 }
 
-/// The unsigned integer that a number is, if it is one.
-pub(crate) fn natural(text: &str) -> Result<Option<u64>, CertFault>
-    ensures { Reads CertFault.NotJson (λ o. o) result (option_map as_u64 (number_of text.now)) }
+/// The number of a text of one digit, as most are.
+#[inline(always)]
+fn digit(bytes: &[u8]) -> Option<u64>
+    ensures { IfSome result (λ n. number_of bytes.now ≡ Some (unsigned n)) }
 {
-    let bytes = text.as_bytes();
+    if bytes.len() == 1 && b'0' <= bytes[0] && bytes[0] <= b'9' {
+        Some((bytes[0] - b'0') as u64)
+    } else {
+        None
+    }
+}
+
+fn any(bytes: &[u8]) -> Result<Option<u64>, CertFault>
+    ensures { Reads CertFault.NotJson (λ o. o) result (option_map as_u64 (number_of bytes.now)) }
+{
     if has_minus(bytes) {
         negative(&Numeral::scan(&bytes[1..]))
     } else {
         unsigned(&Numeral::scan(bytes))
+    }
+}
+
+/// The unsigned integer that a number is, if it is one.
+#[inline(always)]
+pub(crate) fn natural(text: &str) -> Result<Option<u64>, CertFault>
+    ensures { Reads CertFault.NotJson (λ o. o) result (option_map as_u64 (number_of text.now)) }
+{
+    let bytes = text.as_bytes();
+    match digit(bytes) {
+        Some(n) => Ok(Some(n)),
+        None => any(bytes),
     }
 }

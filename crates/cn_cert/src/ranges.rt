@@ -58,8 +58,8 @@ fn short_list(numbers: &[u64]) -> Result<ArrayVec<u8, 8>, CertFault>
 fn choice(draft: &DraftChoice) -> Result<Choice, CertFault>
     ensures { Reads CertFault.Range (λ c. c) result (within is_choice_in_range draft.now) }
 {
-    let a = short_list(&draft.a)?;
-    let b = short_list(&draft.b)?;
+    let a = short_list(draft.a.as_slice())?;
+    let b = short_list(draft.b.as_slice())?;
     if draft.state > GREATEST_STATE {
         return Err(CertFault::Range);
     }
@@ -84,8 +84,8 @@ fn collision(draft: &DraftCollision) -> Result<Collision, CertFault>
     ensures { Reads CertFault.Range (λ c. c) result (collision_within draft.now) }
 {
     let choice = choice(&draft.choice)?;
-    let alpha = short_list(&draft.alpha)?;
-    let beta = short_list(&draft.beta)?;
+    let alpha = short_list(draft.alpha.as_slice())?;
+    let beta = short_list(draft.beta.as_slice())?;
     if draft.process > GREATEST_NUMBER {
         return Err(CertFault::Range);
     }

@@ -11,6 +11,7 @@ use crate::number::natural;
 use json::{Reader, Token};
 
 /// The next token.
+#[inline(always)]
 pub(crate) fn first<'a>(reader: &mut Reader<'a>) -> Result<Token<'a>, CertFault>
     ensures first { IfOk result (λ t. reader.old ≡ token_of t ∷ reader.new) }
     ensures none { IfErr result (λ e. (e ≡ CertFault.NotJson) × (reader.old ≡ [])) }

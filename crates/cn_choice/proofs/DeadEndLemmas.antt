@@ -1,10 +1,9 @@
 -- The dead ends that are kept, after one is added.
-use Rattle.std.proofs.Common.{◌≡◌, ◌≢◌, ℕ, zero, suc, ◌+◌, ◌<◌, ◌⊎◌, ◌↔◌, inl, inr, List, [], ◌∷◌, get_or, get_or-set_other, replicate, refl, sym, ap, ◌∙◌, subst, arith, Bool, true, false, Option, Some, None, true≢false}
+use Rattle.std.proofs.Common.{◌≡◌, ℕ, zero, suc, ◌⊎◌, ◌↔◌, inl, inr, List, [], ◌∷◌, get_or, get_or-set_other, replicate, refl, sym, ap, ◌∙◌, subst, arith, Bool, false, Option, Some, None}
 use Rattle.std.proofs.Math.ListN.{set}
 use Rattle.std.specs.Prelude.{IsBitSet}
 use Rattle.cn_choice.specs.Tails.{IsKept, rank_of}
 use Rattle.cn_choice.proofs.LastProcess.{same_or_not, zero_has_none}
-use Rattle.cn_choice.proofs.Unions.{zeros, zeros_none}
 
 -- what was put is there, or there is no such place
 set_at : {X : Type 0} (xs : List X) (i : ℕ) (a d : X) → (get_or (set xs i a) i d ≡ a) ⊎ (get_or (set xs i a) i d ≡ d)
@@ -23,20 +22,6 @@ pub none_begun : (n used : ℕ) → get_or (replicate n false) used false ≡ fa
 none_begun zero used = refl
 none_begun (suc n) zero = refl
 none_begun (suc n) (suc used) = none_begun n used
-
--- a row of no states
-pub kept_begun : (begun : List Bool) (rows : List (List ℕ)) (used u q : ℕ) (s : Option ℕ) → IsKept (set begun used true, set rows used (zeros 17)) u s q → IsKept (begun, rows) u s q
-kept_begun begun rows used u q s h = elim (same_or_not u used) [
-  | inl e ↦ absurd (elim (set_at rows used (zeros 17) []) [
-    | inl there ↦ zeros_none 17 (rank_of s) q (subst (λ (row : List ℕ). IsBitSet (get_or row (rank_of s) 0) q) (ap (λ (i : ℕ). get_or (set rows used (zeros 17)) i []) e ∙ there) h.2)
-    | inr gone ↦ zero_has_none q (subst (λ (row : List ℕ). IsBitSet (get_or row (rank_of s) 0) q) (ap (λ (i : ℕ). get_or (set rows used (zeros 17)) i []) e ∙ gone) h.2)
-  ])
-  | inr n ↦ (
-    sym (get_or-set_other begun used u true false n) ∙ h.0,
-    h.1,
-    subst (λ (row : List ℕ). IsBitSet (get_or row (rank_of s) 0) q) (get_or-set_other rows used u (zeros 17) [] n) h.2,
-  )
-]
 
 -- one state more
 pub kept_more : (begun : List Bool) (rows : List (List ℕ)) (used state w : ℕ) (seen : Option ℕ) → ((q : ℕ) → IsBitSet w q ↔ (IsBitSet (get_or (get_or rows used []) (rank_of seen) 0) q ⊎ (q ≡ state)))

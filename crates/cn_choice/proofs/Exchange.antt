@@ -1,12 +1,11 @@
 -- Two processes exchanged: where they are twins, what is shown to the others stays.
-use Rattle.std.proofs.Common.{◌≡◌, ◌≢◌, ℕ, ◌+◌, ◌<◌, ◌⊎◌, ◌↔◌, inl, inr, List, length, map, refl, sym, ap, ◌∙◌, subst, arith, cond, nat_eq, Contains}
+use Rattle.std.proofs.Common.{◌≡◌, ◌≢◌, ℕ, ◌+◌, ◌<◌, ◌⊎◌, ◌↔◌, inl, inr, List, length, map, refl, sym, ap, ◌∙◌, subst, arith, cond, nat_eq}
 use Rattle.std.specs.Prelude.{slice_get, slice_index, IsBitSet}
 use Rattle.std.proofs.lemmas.Bool.{eq-eqb, ne_eqb}
 use Rattle.std.proofs.lemmas.List.Elements.{recursion_from_All}
 use Rattle.cn_table.specs.TypeTable.{TypeTable}
 use Rattle.cn_table.specs.Run.{state_after}
 use Rattle.cn_choice.specs.declared.team.Team.{Team}
-use Rattle.cn_choice.specs.Collisions.{IsCollision}
 use Rattle.cn_choice.specs.RawChoices.{RawChoice}
 use Rattle.cn_choice.specs.Renumbering.{Embeds}
 use Rattle.cn_choice.specs.ResultSets.{InResultSet, pair_of}

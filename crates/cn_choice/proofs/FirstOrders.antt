@@ -1,6 +1,6 @@
 -- The first order into a set, from the first ways of each length.
-use Rattle.std.proofs.Common.{◌≡◌, ◌≢◌, ℕ, ◌+◌, ◌^◌, ◌<◌, ◌≤◌, ◌⊎◌, ◌↔◌, inl, inr, List, [], ◌∷◌, length, length-append, refl, sym, ap, ◌∙◌, subst, arith, All, Bool, Option, Some, None, cond, nat_eq}
-use Rattle.std.specs.Prelude.{IsBitSet, slice_index}
+use Rattle.std.proofs.Common.{◌≡◌, ◌≢◌, ℕ, ◌+◌, ◌^◌, ◌<◌, ◌≤◌, inl, inr, List, [], ◌∷◌, length, length-append, refl, sym, ap, ◌∙◌, subst, arith, All, Bool, Option, Some, None, nat_eq}
+use Rattle.std.specs.Prelude.{IsBitSet}
 use Rattle.std.specs.Int.Bits.{bit_or}
 use Rattle.std.specs.List.{AllByRecursion}
 use Rattle.std.proofs.lemmas.Bool.{and_from, and_parts, le-leb, leb-true, lt-ltb, ltb-true}
@@ -9,10 +9,10 @@ use Rattle.cn_table.specs.Run.{responses_along, state_after}
 use Rattle.cn_table.specs.TypeTable.{TypeTable}
 use Rattle.cn_choice.specs.declared.team.Team.{Team}
 use Rattle.cn_choice.specs.Canonical.{Choice, raw_choice_of}
-use Rattle.cn_choice.specs.Orders.{ComesBefore, IsOrder}
+use Rattle.cn_choice.specs.Orders.{IsOrder}
 use Rattle.cn_choice.specs.OutcomeOrders.{IsFirstInto, LeadsInto, NoneInto}
 use Rattle.cn_choice.specs.RawChoices.{RawChoice}
-use Rattle.cn_choice.specs.ResultSets.{BeginsIn, operations_of, pair_of, response_of}
+use Rattle.cn_choice.specs.ResultSets.{BeginsIn, operations_of, response_of}
 use Rattle.cn_choice.specs.Subsets.{answer_of, next_of}
 use Rattle.cn_choice.specs.Tails.{BeginsWithin, Ends, Hits, IsFirstWay, IsFresh, IsWay, NoWay, seen_after}
 use Rattle.cn_choice.specs.TeamOrders.{begins_within, team_from, team_to}

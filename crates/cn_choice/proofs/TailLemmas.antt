@@ -1,5 +1,5 @@
 -- The ways to go on, one first process after the other.
-use Rattle.std.proofs.Common.{◌≡◌, ◌≢◌, ℕ, zero, suc, ◌+◌, ◌-◌, ◌^◌, ◌<◌, ◌≤◌, ◌⊎◌, ◌↔◌, inl, inr, List, [], ◌∷◌, length, map, refl, sym, ap, ◌∙◌, subst, arith, Bool, true, false, cond, nat_eq, Option, Some, None, Ordering, Less, Equal, Greater}
+use Rattle.std.proofs.Common.{◌≡◌, ◌≢◌, ℕ, zero, suc, ◌+◌, ◌-◌, ◌^◌, ◌<◌, ◌≤◌, ◌⊎◌, inl, inr, List, [], ◌∷◌, length, map, refl, sym, ap, ◌∙◌, subst, arith, Bool, cond, nat_eq, Option, Some, None, Less, Equal, Greater}
 use Rattle.std.specs.Prelude.{IsBitSet, slice_index}
 use Rattle.std.specs.Int.{bit_at}
 use Rattle.std.specs.Int.Bits.{bit_or}
@@ -95,6 +95,12 @@ module _ (t : TypeTable) (c : RawChoice) (p q : ℕ) (same : slice_index c.opera
       let moved = subst (λ (o : ℕ). Ends t c j (transition t o state).1 (seen_after j y (transition t o state).0 seen) (map (exchange p q) ys) pair) (same_operation y) here in
       subst (λ (s : Option ℕ). Ends t c j (next_of t c (exchange p q y) state) s (map (exchange p q) ys) pair) (same_seen y (answer_of t c (exchange p q y) state) seen) moved
 
+-- ---- a response that was got stays
+
+ends_seen : (t : TypeTable) (c : RawChoice) (j state r : ℕ) (ps : List ℕ) (pair : ℕ × ℕ) → Ends t c j state (Some r) ps pair → r ≡ pair.0
+ends_seen t c j state r [] pair h = cc h.0
+ends_seen t c j state r (p ∷ ps) pair h = ends_seen t c j (next_of t c p state) r ps pair h
+
 -- ---- how many have moved
 
 count_other : (k p used : ℕ) → k ≤ p → count_below k (bit_or used (2 ^ p)) ≡ count_below k used
@@ -120,6 +126,14 @@ long_after used p left l n some = omega (arith, count_more 8 p used l (clear_fro
 pub tried_more : (c : RawChoice) (j low end used o : ℕ) → IsTried c j low end used o → IsTried c j low (end + 1) used o
 tried_more c j low end used o h = (h.0, h.1, omega (arith, h.2), h.3, h.4, h.5)
 
+-- and the operation of the next process
+pub tried_next : (c : RawChoice) (j low p used before after : ℕ) → low ≤ p → ¬ IsBitSet used p → ((o : ℕ) → IsBitSet before o → IsTried c j low p used o)
+    → ((o : ℕ) → IsBitSet after o → IsBitSet before o ⊎ ((p ≢ j) × (o ≡ slice_index c.operations p))) → (o : ℕ) → IsBitSet after o → IsTried c j low (p + 1) used o
+tried_next c j low p used before after from free old added o s = elim (added o s) [
+  | inl b ↦ tried_more c j low p used o (old o b)
+  | inr r ↦ (p, from, omega arith, r.0, free, sym r.1)
+]
+
 module _ (t : TypeTable) (c : RawChoice) (j : ℕ) (set : List ℕ) (size low high used state : ℕ) (seen : Option ℕ) where
   abbrev Way : List ℕ → Type 0
   Way ps = IsWay (length c.operations) size low high used ps
@@ -138,6 +152,12 @@ module _ (t : TypeTable) (c : RawChoice) (j : ℕ) (set : List ℕ) (size low hi
       let no : None ≡ Some hits.0.0 = sym still ∙ hits.1.0 in
       absurd (cc no)
   dead_late p n one none (x ∷ ps) way hits = absurd (omega (arith, way.long, one))
+
+  -- it gets a response of no pair of the set
+  pub dead_unwanted : (p r : ℕ) → seen_after j p (answer_of t c p state) seen ≡ Some r → ((q : ℕ) → ¬ Has set r q) → Dead p
+  dead_unwanted p r got none ps way hits =
+      let same = ends_seen t c j (next_of t c p state) r ps hits.0 (subst (λ (s : Option ℕ). Ends t c j (next_of t c p state) s ps hits.0) got hits.1) in
+      none hits.0.1 (subst (λ (x : ℕ). Has set x hits.0.1) (sym same) hits.2)
 
   way_before : (p q : ℕ) (ps : List ℕ) → p < q → low ≤ p → p < high → ¬ IsBitSet used p → Way (q ∷ ps) → Way (p ∷ map (exchange p q) ps)
   way_before p q ps less l u n way = record {
@@ -208,8 +228,8 @@ module _ (t : TypeTable) (c : RawChoice) (j : ℕ) (set : List ℕ) (long : ℕ)
   dead_kept before after used left state seen sum none added dead u q l s kept e = elim (added u q s kept) [
     | inl old ↦ dead u q l s old e
     | inr new ↦
-      let same : l ≡ left = omega (arith, e, sum, ap moved new.0) in
-      subst (λ (x : ℕ). NoWay t c j set x 0 (length c.operations) u q s) (sym same)
-          (subst (λ (x : ℕ). NoWay t c j set left 0 (length c.operations) x q s) (sym new.0)
-          (subst (λ (x : ℕ). NoWay t c j set left 0 (length c.operations) used x s) (sym new.2) (subst (λ (x : Option ℕ). NoWay t c j set left 0 (length c.operations) used state x) (sym new.1) none)))
+        let same : l ≡ left = omega (arith, e, sum, ap moved new.0) in
+        subst (λ (x : ℕ). NoWay t c j set x 0 (length c.operations) u q s) (sym same)
+        (subst (λ (x : ℕ). NoWay t c j set left 0 (length c.operations) x q s) (sym new.0)
+        (subst (λ (x : ℕ). NoWay t c j set left 0 (length c.operations) used x s) (sym new.2) (subst (λ (x : Option ℕ). NoWay t c j set left 0 (length c.operations) used state x) (sym new.1) none)))
   ]

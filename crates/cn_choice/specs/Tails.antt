@@ -1,5 +1,6 @@
 -- How an order may go on, and what it leads to.
-use Rattle.std.specs.Prelude.{◌≡◌, ◌≢◌, ℕ, zero, suc, ◌+◌, ◌*◌, ◌^◌, ◌<◌, ◌≤◌, ◌⊎◌, List, [], ◌∷◌, length, nat_eq, if◌then◌else◌, Option, Some, None, IsBitSet, slice_index, slice_index_or, Bool, true, false}
+use Rattle.std.specs.Prelude.{◌≡◌, ◌≢◌, ℕ, zero, suc, ◌+◌, ◌^◌, ◌<◌, ◌≤◌, ◌⊎◌, List, [], ◌∷◌, length, nat_eq, if◌then◌else◌}
+use Rattle.std.specs.Prelude.{Option, Some, None, IsBitSet, slice_index, slice_index_or, Bool, true, false}
 use Rattle.std.specs.Int.{bit_at}
 use Rattle.std.specs.Int.Bits.{bit_or}
 use Rattle.std.specs.Ordering.{nat_cmp}
@@ -58,16 +59,23 @@ abbrev pub rank_of : Option ℕ → ℕ
 rank_of None = 0
 rank_of (Some response) = response + 1
 
--- the place is kept: for each set of processes that have moved there is whether its row was begun, and the row, which has a set of states for each response
+-- the place is kept: for the processes that have moved there is whether their row was begun, and the row: a set of states for each response
 abbrev pub IsKept : List Bool × List (List ℕ) → ℕ → Option ℕ → ℕ → Type 0
-IsKept kept used seen state = (slice_index_or kept.0 used false ≡ true) × (rank_of seen < 17) × IsBitSet (slice_index (slice_index_or kept.1 used []) (rank_of seen)) state
+IsKept kept used seen state =
+    (slice_index_or kept.0 used false ≡ true) × (rank_of seen < 17) × IsBitSet (slice_index (slice_index_or kept.1 used []) (rank_of seen)) state
 
 -- no way to an order of this length goes on from a place that is kept
 abbrev pub AreDead : TypeTable → RawChoice → ℕ → List ℕ → ℕ → List Bool × List (List ℕ) → Type 0
-AreDead t c j set long kept = (used state left : ℕ) (seen : Option ℕ) → IsKept kept used seen state → left + moved used ≡ long → NoWay t c j set left 0 (length c.operations) used state seen
+AreDead t c j set long kept =
+    (used state left : ℕ) (seen : Option ℕ) → IsKept kept used seen state → left + moved used ≡ long → NoWay t c j set left 0 (length c.operations) used state seen
+
+-- where this holds of the old places, it holds of the new ones
+abbrev pub StayDead : TypeTable → RawChoice → ℕ → List ℕ → ℕ → List Bool × List (List ℕ) → List Bool × List (List ℕ) → Type 0
+StayDead t c j set long before after = AreDead t c j set long before → AreDead t c j set long after
 
 -- the first way, in lexicographic order, that leads into the set, and its pair
-pub record IsFirstWay (t : TypeTable) (c : RawChoice) (j : ℕ) (set : List ℕ) (size low high used state : ℕ) (seen : Option ℕ) (ps : List ℕ) (pair : ℕ × ℕ) : Type 0 where
+pub record IsFirstWay (t : TypeTable) (c : RawChoice) (j : ℕ) (set : List ℕ) (size low high used state : ℕ) (seen : Option ℕ)
+    (ps : List ℕ) (pair : ℕ × ℕ) : Type 0 where
   pub way : IsWay (length c.operations) size low high used ps
   pub ends : Ends t c j state seen ps pair
   pub has : Has set pair.0 pair.1
@@ -76,3 +84,8 @@ pub record IsFirstWay (t : TypeTable) (c : RawChoice) (j : ℕ) (set : List ℕ)
 -- a process from low on and below the end, not j, that has not moved has this operation
 abbrev pub IsTried : RawChoice → ℕ → ℕ → ℕ → ℕ → ℕ → Type 0
 IsTried c j low end used operation = (p : ℕ) × (low ≤ p) × (p < end) × (p ≢ j) × ¬ IsBitSet used p × (slice_index c.operations p ≡ operation)
+
+-- a process that need not move next: it has moved, or it is not j, and there is no time for j or its operation was tried
+abbrev pub IsPassed : RawChoice → ℕ → ℕ → ℕ → Option ℕ → ℕ → ℕ → Type 0
+IsPassed c j used left seen tried p =
+    IsBitSet used p ⊎ ((p ≢ j) × (((left ≡ 1) × (seen ≡ None)) ⊎ IsBitSet tried (slice_index c.operations p)))

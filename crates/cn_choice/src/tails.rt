@@ -1,10 +1,11 @@
 //! How an order may go on: the first way, in list order, to a pair of a set.
-ghost use Rattle.std.specs.Prelude.{◌≡◌, ◌≢◌, ◌+◌, ◌-◌, ◌^◌, ◌<◌, ◌≤◌, ◌⊎◌, ◌↔◌, ℕ, [], length, slice_index, IfNone, IfSome, IsBitSet, IsFalse, IsTrue, None, Some};
+ghost use Rattle.std.specs.Prelude.{◌≡◌, ◌≢◌, ◌+◌, ◌-◌, ◌^◌, ◌<◌, ◌≤◌, ◌⊎◌, ℕ, [], length, slice_index};
+ghost use Rattle.std.specs.Prelude.{IfNone, IfSome, IsBitSet, IsFalse, IsTrue, Some};
 ghost use Rattle.std.specs.Int.Bits.{bit_or};
 ghost use Rattle.cn_choice.specs.OutcomeSets.{Has};
 ghost use Rattle.cn_choice.specs.RawChoices.{IsRawChoice};
 ghost use Rattle.cn_choice.specs.Subsets.{answer_of, next_of};
-ghost use Rattle.cn_choice.specs.Tails.{AreDead, IsFirstWay, NoWay, moved, seen_after};
+ghost use Rattle.cn_choice.specs.Tails.{AreDead, IsFirstWay, IsPassed, NoWay, StayDead, moved, seen_after};
 
 use crate::bits::{contains, with};
 use crate::dead_ends::DeadEnds;
@@ -77,6 +78,17 @@ fn end_within(set: &OutcomeSet, place: Place) -> Option<(ArrayVec<u8, 8>, (u8, u
     }
 }
 
+/// Whether the set has no pair of the response that was got.
+fn is_unwanted(set: &OutcomeSet, place: Place) -> bool
+    requires { IfSome place.seen (λ response. response < 16) }
+    ensures { IsTrue result → (response : ℕ) × (place.seen ≡ Some response) × ((q : ℕ) → ¬ Has set.now response q) }
+{
+    match place.seen {
+        None => false,
+        Some(response) => !contains(set.responses(), response),
+    }
+}
+
 /// Whether the process is to move next: it has not moved, and it is j, or there is time for j and no
 /// process with its operation was tried.
 fn is_open(choice: &RawChoice, j: u8, place: Place, tried: u16, process: u8) -> bool
@@ -84,7 +96,7 @@ fn is_open(choice: &RawChoice, j: u8, place: Place, tried: u16, process: u8) -> 
     requires few { length choice.now.operations ≤ 8 }
     requires operation { slice_index choice.now.operations process < 16 }
     ensures open { IsTrue result → ¬ IsBitSet place.used process }
-    ensures closed { IsFalse result → IsBitSet place.used process ⊎ ((process ≢ j) × (((place.left ≡ 1) × (place.seen ≡ None)) ⊎ IsBitSet tried (slice_index choice.now.operations process))) }
+    ensures closed { IsFalse result → IsPassed choice.now j place.used place.left place.seen tried process }
 {
     if contains(place.used, process) {
         return false;
@@ -133,9 +145,9 @@ pub(crate) fn way_into(
     requires state { place.state.0 < length table.now.states }
     requires dead { 2 < place.left → AreDead table.now choice.now j set.now (place.left + moved place.used) dead.old }
     ensures none { IfNone result (NoWay table.now choice.now j set.now place.left low high place.used place.state.0 place.seen) }
-    ensures first { IfSome result (λ found. IsFirstWay table.now choice.now j set.now place.left low high place.used place.state.0 place.seen found.0.items found.1) }
+    ensures first { IfSome result (λ f. IsFirstWay table.now choice.now j set.now place.left low high place.used place.state.0 place.seen f.0.items f.1) }
     ensures in_range { IfSome result (λ found. (found.1.0 < 16) × (found.1.1 < 16)) }
-    ensures dead { AreDead table.now choice.now j set.now (place.left + moved place.used) dead.old → AreDead table.now choice.now j set.now (place.left + moved place.used) dead.new }
+    ensures dead { StayDead table.now choice.now j set.now (place.left + moved place.used) dead.old dead.new }
 {
     if place.left == 0 {
         return end_within(set, place);
@@ -149,6 +161,9 @@ pub(crate) fn way_into(
         }
         tried = tried_after(choice, j, tried, process);
         let next = place_after(table, choice, j, place, process);
+        if process == j && is_unwanted(set, next) {
+            continue;
+        }
         if dead.has(next) {
             continue;
         }

@@ -26,7 +26,7 @@ items-preserved c =
     let going : (after_end_array l.reader ≡ None) × (c.take_end_array.new.self ≡ l.reader) = grind arith in
     let read : told natural_of (data_at c.args.depth c.take_end_array.new.self) ≡ Some (Some c.in-Some.n, c.natural.new.reader) = grind arith in
     l.invariant ∙ list_next natural_of c.args.depth l.found.items l.reader c.natural.new.reader c.in-Some.n going.0 (ap (λ ts. told natural_of (data_at c.args.depth ts)) (sym going.1) ∙ read)
-    ∙ ap (λ xs. behind natural_of c.args.depth xs c.natural.new.reader) (sym c.in_ok-push-in-Some.ensures.items)
+    ∙ ap (λ xs. behind natural_of c.args.depth xs c.natural.new.reader) (sym c.in_ok-push-in-Some.ensures.ok)
 
 pub returns-in_err-rest_of_items-in-None-clause-err : goal.returns-in_err-rest_of_items-in-None-clause-err
 returns-in_err-rest_of_items-in-None-clause-err c =

@@ -1,10 +1,9 @@
-use Rattle.std.proofs.Common.{ℕ, ◌+◌, ◌-◌, ◌^◌, ◌<◌, ◌≤◌, ◌≡◌, ◌⊎◌, ◌∙◌, inl, inr, List, length, arith, refl, sym, ap, subst}
-use Rattle.std.specs.Prelude.{IsBitSet, slice_index}
+use Rattle.std.proofs.Common.{ℕ, ◌+◌, ◌-◌, ◌^◌, ◌≤◌, ◌≡◌, ◌∙◌, inl, inr, length, arith, refl, sym, ap, subst}
 use Rattle.cn_choice.specs.RawChoices.{RawChoice}
 use Rattle.std.specs.Int.Bits.{bit_or}
 use Rattle.cn_choice.specs.Subsets.{answer_of, next_of}
-use Rattle.cn_choice.specs.Tails.{AreDead, IsTried, NoWay, moved, seen_after}
-use Rattle.cn_choice.proofs.TailLemmas.{Dead, dead_closed, dead_here, dead_kept, dead_more, first_way, long_after, tried_more}
+use Rattle.cn_choice.specs.Tails.{AreDead, moved, seen_after}
+use Rattle.cn_choice.proofs.TailLemmas.{dead_closed, dead_here, dead_kept, dead_more, dead_unwanted, first_way, long_after, tried_more, tried_next}
 use Rattle.cn_choice.proofs.tails.+way_into.Goals as goal
 
 pub loop-process-preserved-then-not-is_open : goal.loop-process-preserved-then-not-is_open
@@ -12,11 +11,24 @@ loop-process-preserved-then-not-is_open t c =
     let a = c.args in
     let p = c.loop-process.process in
     let here = dead_closed a.table.now a.choice.now a.j a.set.now a.place.left a.low a.high a.place.used a.place.state.0 a.place.seen p c.loop-process-test.true c.loop-process.invariant.dead
-        (elim (c.if-not-is_open.ensures.closed refl) [ inl u ↦ inl u | inr r ↦ inr (r.0, elim r.1 [ inl late ↦ inl late | inr s ↦ inr (c.loop-process.invariant.tried _ s) ]) ]) in
+    (elim (c.if-not-is_open.ensures.closed refl) [ inl u ↦ inl u | inr r ↦ inr (r.0, elim r.1 [ inl late ↦ inl late | inr s ↦ inr (c.loop-process.invariant.tried _ s) ]) ]) in
     record {
       dead = dead_more a.table.now a.choice.now a.j a.set.now a.place.left a.low a.high a.place.used a.place.state.0 a.place.seen p c.loop-process.invariant.dead here;
       kept = c.loop-process.invariant.kept;
       tried = λ o s. tried_more a.choice.now a.j a.low p a.place.used o (c.loop-process.invariant.tried o s);
+    }
+
+pub loop-process-preserved-then-is_unwanted : goal.loop-process-preserved-then-is_unwanted
+loop-process-preserved-then-is_unwanted t c =
+    let a = c.args in
+    let p = c.loop-process.process in
+    let free = c.if-not-is_open.ensures.open refl in
+    let unwanted = c.if-is_unwanted.ensures refl in
+    let here = dead_unwanted a.table.now a.choice.now a.j a.set.now a.place.left a.low a.high a.place.used a.place.state.0 a.place.seen p unwanted.0 (sym c.place_after-next.ensures.seen ∙ unwanted.1) unwanted.2 in
+    record {
+      dead = dead_more a.table.now a.choice.now a.j a.set.now a.place.left a.low a.high a.place.used a.place.state.0 a.place.seen p c.loop-process.invariant.dead here;
+      kept = c.loop-process.invariant.kept;
+      tried = tried_next a.choice.now a.j a.low p a.place.used c.loop-process.tried c.tried_after-tried.result c.loop-process.auto.process free c.loop-process.invariant.tried c.tried_after-tried.ensures;
     }
 
 pub loop-process-preserved-then-has : goal.loop-process-preserved-then-has
@@ -29,16 +41,12 @@ loop-process-preserved-then-has t c =
     let sum = long_after a.place.used p a.place.left (omega (arith, c.loop-process-test.true, c.requires.high, c.requires.few)) free some in
     let kept = rw (next.used, next.state, next.seen, next.left) at (c.if-has.ensures refl) in
     let none = c.loop-process.invariant.kept (c.requires.dead (omega (arith, kept.0))) (bit_or a.place.used (2 ^ p)) (next_of a.table.now a.choice.now p a.place.state.0) (a.place.left - 1)
-        (seen_after a.j p (answer_of a.table.now a.choice.now p a.place.state.0) a.place.seen) kept.1 sum in
+    (seen_after a.j p (answer_of a.table.now a.choice.now p a.place.state.0) a.place.seen) kept.1 sum in
     let here = dead_here a.table.now a.choice.now a.j a.set.now a.place.left a.low a.high a.place.used a.place.state.0 a.place.seen p (length a.choice.now.operations) refl some none in
-    let later : (o : ℕ) → IsBitSet c.tried_after-tried.result o → IsTried a.choice.now a.j a.low (p + 1) a.place.used o = λ o s. elim (c.tried_after-tried.ensures o s) [
-      | inl b ↦ tried_more a.choice.now a.j a.low p a.place.used o (c.loop-process.invariant.tried o b)
-      | inr r ↦ (p, c.loop-process.auto.process, omega arith, r.0, free, sym r.1)
-    ] in
     record {
       dead = dead_more a.table.now a.choice.now a.j a.set.now a.place.left a.low a.high a.place.used a.place.state.0 a.place.seen p c.loop-process.invariant.dead here;
       kept = c.loop-process.invariant.kept;
-      tried = later;
+      tried = tried_next a.choice.now a.j a.low p a.place.used c.loop-process.tried c.tried_after-tried.result c.loop-process.auto.process free c.loop-process.invariant.tried c.tried_after-tried.ensures;
     }
 
 pub way_into-found-requires : goal.way_into-found-requires
@@ -48,8 +56,28 @@ way_into-found-requires t c =
     let every : c.len-n.result ≡ length a.choice.now.operations = omega (arith, ap (λ (r : RawChoice). length r.operations) c.choice.view_is, c.len-n.ensures.value) in
     let sum = long_after a.place.used c.loop-process.process a.place.left (omega (arith, c.loop-process-test.true, c.requires.high, c.requires.few)) (c.if-not-is_open.ensures.open refl) (omega (arith, c.if-place-eq0.false)) in (
       omega (arith, next.left, c.if-place-eq0.false, c.decreases),
-      (c.requires.few, (c.requires.fits, (omega (arith, next.left, c.requires.left), (omega (arith, every), (next.small, (next.in_range, (next.known,
-      λ more. rw (next.used, next.left, sum) (c.loop-process.invariant.kept (c.requires.dead (omega (arith, more, next.left))))))))))),
+      (
+        c.requires.few,
+        (
+          c.requires.fits,
+          (
+            omega (arith, next.left, c.requires.left),
+            (
+              omega (arith, every),
+              (
+                next.small,
+                (
+                  next.in_range,
+                  (
+                    next.known,
+                    λ more. rw (next.used, next.left, sum) (c.loop-process.invariant.kept (c.requires.dead (omega (arith, more, next.left)))),
+                  ),
+                ),
+              ),
+            ),
+          ),
+        ),
+      ),
     )
 
 pub returns-in-Some-clause-first : goal.returns-in-Some-clause-first
@@ -67,7 +95,8 @@ returns-in-Some-clause-dead t c = λ d.
     let next = c.place_after-next.ensures in
     let sum = long_after a.place.used c.loop-process.process a.place.left (omega (arith, c.loop-process-test.true, c.requires.high, c.requires.few)) (c.if-not-is_open.ensures.open refl) (omega (arith, c.if-place-eq0.false)) in
     let more = rw (next.used, next.left) at c.way_into-found.ensures.dead in
-    subst (λ (k : ℕ). AreDead a.table.now a.choice.now a.j a.set.now k c.way_into-found.new.dead) sum (more (subst (λ (k : ℕ). AreDead a.table.now a.choice.now a.j a.set.now k c.loop-process.dead) (sym sum) (c.loop-process.invariant.kept d)))
+    subst (λ (k : ℕ). AreDead a.table.now a.choice.now a.j a.set.now k c.way_into-found.new.dead) sum
+    (more (subst (λ (k : ℕ). AreDead a.table.now a.choice.now a.j a.set.now k c.loop-process.dead) (sym sum) (c.loop-process.invariant.kept d)))
 
 pub loop-process-preserved : goal.loop-process-preserved
 loop-process-preserved t c =
@@ -82,14 +111,12 @@ loop-process-preserved t c =
     let added = rw (next.used, next.state, next.seen) at c.add.ensures in
     let more = rw (next.used, next.left) at c.way_into-found.ensures.dead in
     let here = dead_here a.table.now a.choice.now a.j a.set.now a.place.left a.low a.high a.place.used a.place.state.0 a.place.seen p c.len-n.result every some none in
-    let later : (o : ℕ) → IsBitSet c.tried_after-tried.result o → IsTried a.choice.now a.j a.low (p + 1) a.place.used o = λ o s. elim (c.tried_after-tried.ensures o s) [
-      | inl b ↦ tried_more a.choice.now a.j a.low p a.place.used o (c.loop-process.invariant.tried o b)
-      | inr r ↦ (p, c.loop-process.auto.process, omega arith, r.0, free, sym r.1)
-    ] in
     record {
       dead = dead_more a.table.now a.choice.now a.j a.set.now a.place.left a.low a.high a.place.used a.place.state.0 a.place.seen p c.loop-process.invariant.dead here;
-      kept = λ d. dead_kept a.table.now a.choice.now a.j a.set.now (a.place.left + moved a.place.used) c.way_into-found.new.dead c.add.new.self (bit_or a.place.used (2 ^ p)) (a.place.left - 1) (next_of a.table.now a.choice.now p a.place.state.0)
+      kept = λ d. dead_kept a.table.now a.choice.now a.j a.set.now (a.place.left + moved a.place.used) c.way_into-found.new.dead c.add.new.self
+          (bit_or a.place.used (2 ^ p)) (a.place.left - 1) (next_of a.table.now a.choice.now p a.place.state.0)
           (seen_after a.j p (answer_of a.table.now a.choice.now p a.place.state.0) a.place.seen) sum (rw every at none) added
-          (subst (λ (k : ℕ). AreDead a.table.now a.choice.now a.j a.set.now k c.way_into-found.new.dead) sum (more (subst (λ (k : ℕ). AreDead a.table.now a.choice.now a.j a.set.now k c.loop-process.dead) (sym sum) (c.loop-process.invariant.kept d))));
-      tried = later;
+          (subst (λ (k : ℕ). AreDead a.table.now a.choice.now a.j a.set.now k c.way_into-found.new.dead) sum
+          (more (subst (λ (k : ℕ). AreDead a.table.now a.choice.now a.j a.set.now k c.loop-process.dead) (sym sum) (c.loop-process.invariant.kept d))));
+      tried = tried_next a.choice.now a.j a.low p a.place.used c.loop-process.tried c.tried_after-tried.result c.loop-process.auto.process free c.loop-process.invariant.tried c.tried_after-tried.ensures;
     }

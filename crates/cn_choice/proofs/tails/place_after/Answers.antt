@@ -1,4 +1,4 @@
-use Rattle.std.proofs.Common.{ℕ, ◌≡◌, ◌*◌, ◌^◌, ◌%◌, ◌<◌, arith, sym, subst}
+use Rattle.std.proofs.Common.{ℕ, ◌^◌, ◌<◌, arith, sym, subst}
 use Rattle.std.specs.Int.Bits.{bit_or}
 use Rattle.std.proofs.lemmas.Nat.{one_shl, or_lt, pow_below}
 use Rattle.cn_choice.proofs.tails.place_after.Goals as goal

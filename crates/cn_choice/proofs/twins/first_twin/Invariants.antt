@@ -1,4 +1,4 @@
-use Rattle.std.proofs.Common.{◌≤◌, ◌<◌}
+use Rattle.std.proofs.Common.{◌≤◌}
 use Rattle.cn_choice.specs.Twins.{IsRun}
 use Rattle.cn_choice.proofs.twins.first_twin.Given as goal
 

@@ -1,4 +1,4 @@
-use Rattle.std.proofs.Common.{◌≤◌, ◌<◌, ◌⊎◌, inl, inr, ◌+◌, ◌≡◌, ℕ, arith, subst, sym}
+use Rattle.std.proofs.Common.{inl, inr, ◌+◌, ℕ, arith, subst, sym}
 use Rattle.std.specs.Prelude.{IsBitSet}
 use Rattle.cn_choice.proofs.BitSets.{member_below}
 use Rattle.cn_choice.proofs.Packing.{below_or_last}

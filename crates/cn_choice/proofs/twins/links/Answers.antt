@@ -13,6 +13,7 @@ one_more c links more k some l t h = record {
 
 pub loop-process-preserved : goal.loop-process-preserved
 loop-process-preserved c = elim c.if-is_linked.branch [
-  | then-is_linked w ↦ subst (AreLinks c.args.choice.now) (sym w.links-is) (one_more c.args.choice.now c.loop-process.links w.with-links.result c.loop-process.process (omega (arith, c.loop-process.auto.process)) c.loop-process.invariant (c.is_linked.ensures w.if-is_linked.true) w.with-links.ensures)
+  | then-is_linked w ↦ subst (AreLinks c.args.choice.now) (sym w.links-is) (one_more c.args.choice.now c.loop-process.links w.with-links.result c.loop-process.process (omega (arith, c.loop-process.auto.process))
+      c.loop-process.invariant (c.is_linked.ensures w.if-is_linked.true) w.with-links.ensures)
   | else-is_linked w ↦ subst (AreLinks c.args.choice.now) (sym w.links-is) c.loop-process.invariant
 ]

@@ -1,4 +1,4 @@
-use Rattle.std.proofs.Common.{◌≡◌, ◌≤◌, length, IfSome}
+use Rattle.std.proofs.Common.{◌≡◌, length, IfSome}
 use Rattle.cn_choice.specs.ChoicesLeft.{IsOnTheWay}
 use Rattle.cn_choice.specs.LiveLeft.{all_left, live_left}
 use Rattle.cn_choice.proofs.choices.ChoicesIterator.next.Given as goal

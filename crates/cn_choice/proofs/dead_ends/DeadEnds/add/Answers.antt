@@ -1,5 +1,5 @@
-use Rattle.std.proofs.Common.{◌≡◌, ◌⊎◌, inl, inr, ℕ, List, Bool, subst}
-use Rattle.cn_choice.specs.Tails.{IsKept, rank_of}
+use Rattle.std.proofs.Common.{inl, inr, ℕ, List, Bool, subst}
+use Rattle.cn_choice.specs.Tails.{IsKept}
 use Rattle.cn_choice.proofs.DeadEndLemmas.{kept_more}
 use Rattle.cn_choice.proofs.dead_ends.DeadEnds.add.Goals as goal
 

@@ -5,21 +5,21 @@ use Rattle.serde_json.specs.Find.{as_u64}
 use Rattle.serde_json.specs.Read.{number_of, number_from}
 use Rattle.cn_cert.specs.Reads.{Reads}
 use Rattle.cn_cert.specs.declared.fault.CertFault.TheVariants.{NotJson}
-use Rattle.cn_cert.proofs.number.natural.Goals as goal
+use Rattle.cn_cert.proofs.number.any.Goals as goal
 
 pub returns-then-has_minus : goal.returns-then-has_minus
 unfolding number_of
 returns-then-has_minus c =
-    let s = c.as_bytes-bytes.result.now in
+    let s = c.args.bytes.now in
     let signed : (get_or s 0 0 == 45) ≡ true = sym c.if-has_minus.ensures.value in
     let parts : c.scan.result ≡ scan (drop 1 s) = c.scan.ensures.parts ∙ ap scan (take_all _ (drop 1 s) (omega (arith, length-drop 1 s))) in
     let read : number_from true (scan (drop 1 s)) ≡ number_of s = rw signed in
-    subst (λ o. Reads NotJson (λ x. x) c.negative.result (option_map as_u64 o)) (ap (number_from true) parts ∙ read ∙ ap number_of c.as_bytes-bytes.ensures.value) c.negative.ensures
+    subst (λ o. Reads NotJson (λ x. x) c.negative.result (option_map as_u64 o)) (ap (number_from true) parts ∙ read) c.negative.ensures
 
 pub returns-else-has_minus : goal.returns-else-has_minus
 unfolding number_of
 returns-else-has_minus c =
-    let s = c.as_bytes-bytes.result.now in
+    let s = c.args.bytes.now in
     let plain : (get_or s 0 0 == 45) ≡ false = sym c.if-has_minus.ensures.value in
     let read : number_from false (scan s) ≡ number_of s = rw plain in
-    subst (λ o. Reads NotJson (λ x. x) c.unsigned.result (option_map as_u64 o)) (ap (number_from false) c.scan-else-has_minus.ensures.parts ∙ read ∙ ap number_of c.as_bytes-bytes.ensures.value) c.unsigned.ensures
+    subst (λ o. Reads NotJson (λ x. x) c.unsigned.result (option_map as_u64 o)) (ap (number_from false) c.scan-else-has_minus.ensures.parts ∙ read) c.unsigned.ensures
