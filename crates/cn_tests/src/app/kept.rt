@@ -1,9 +1,31 @@
 //! What texts and outputs keep.
+ghost use Rattle.cn_app.specs.SourceBytes.{IsUnread};
+ghost use Rattle.cn_app.specs.Writing.{IsUnwritten};
+
 use super::streams::{Drip, Narrow, Padded};
 use super::*;
 use crate::certificates::*;
 use crate::types::*;
 use cn_app::{Output, Progress, Text, commands};
+use std::io::{Read, Write};
+use std::thread::Threads;
+
+/// How `find` ends over this text and this output.
+fn searched<T, R, W>(
+    rt: &T,
+    alloc: Global,
+    table: &mut Text<'_, R>,
+    output: &mut Output<'_, W>,
+) -> Result<Outcome, AppFault>
+where
+    T: Threads + Sync,
+    R: Read,
+    W: Write,
+    requires table { IsUnread table.now }
+    requires output { IsUnwritten output.now }
+{
+    commands::find(rt, alloc, table, output, 3)
+}
 
 #[test]
 fn a_text_keeps_what_was_read(rt: HostRuntime) -> Result<(), Fail> {
@@ -20,9 +42,9 @@ fn a_text_keeps_what_was_read(rt: HostRuntime) -> Result<(), Fail> {
         let mut written = Vec::new(alloc);
         let mut table = Text::new(alloc, &mut reader);
         let mut output = Output::new(alloc, &mut written);
-        let _ = commands::find(&rt, alloc, &mut table, &mut output, 3);
+        let _ = searched(&rt, alloc, &mut table, &mut output);
         assert!(rt;
-            table.bytes.as_slice() == &bytes[..given],
+            table.bytes.as_slice() == &bytes[..given.min(bytes.len())],
             "after {left} bytes"
         );
         assert_eq!(rt; table.progress, progress, "after {left} bytes");
@@ -40,7 +62,7 @@ fn one_byte_more_than_the_limit_is_read(rt: HostRuntime) -> Result<(), Fail> {
     let mut written = Vec::new(alloc);
     let mut table = Text::new(alloc, &mut reader);
     let mut output = Output::new(alloc, &mut written);
-    let outcome = commands::find(&rt, alloc, &mut table, &mut output, 3);
+    let outcome = searched(&rt, alloc, &mut table, &mut output);
     assert_eq!(rt; outcome, Err(AppFault::TooLong(Source::Table)));
     assert_eq!(rt; table.bytes.len(), 65_537);
     assert_eq!(rt;
@@ -56,14 +78,14 @@ fn an_output_keeps_what_was_handed_over(rt: HostRuntime) -> Result<(), Fail> {
     let whole = format!(in alloc; "{}\n", found_test_and_set_at_3())?;
     for (room, progress) in [
         (1, Progress::Failed),
-        (whole.len() - 1, Progress::Failed),
+        (whole.len().saturating_sub(1), Progress::Failed),
         (whole.len(), Progress::Done),
     ] {
         let mut reader = test_and_set().as_bytes();
         let mut writer = Narrow { room };
         let mut table = Text::new(alloc, &mut reader);
         let mut output = Output::new(alloc, &mut writer);
-        let _ = commands::find(&rt, alloc, &mut table, &mut output, 3);
+        let _ = searched(&rt, alloc, &mut table, &mut output);
         assert!(rt;
             output.bytes.as_slice() == whole.as_bytes(),
             "room for {room}"
