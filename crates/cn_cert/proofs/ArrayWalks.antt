@@ -266,11 +266,6 @@ not_over depth ts r going e = from (data_at depth ts) refl
 pub opened_told : {A : Type 0} (K : Data → A) (depth : ℕ) (old new : List Token) → Opens true depth old new → told K (data_at depth old) ≡ told (λ ds. K (array ds)) (items_at (depth - 1) new)
 opened_told K depth old new opened = ap (told K) opened.1 ∙ told_twice array K (λ ds. K (array ds)) (λ _. refl) (items_at (depth - 1) new)
 
-pub passed_told : {A : Type 0} (K : Data → A) (F : Option Items → A) (depth : ℕ) (old new : List Token) → ((d : Data) → K d ≡ F (as_array d)) → Opens false depth old new → told K (data_at depth old) ≡ Some (F None, new)
-passed_told K F depth old new each passed =
-    let d = told_of as_array (data_at depth old) None new passed in
-    ap (told K) d.1 ∙ ap (λ x. Some (x, new)) (each d.0 ∙ ap F d.2)
-
 -- a state, and two lists, one after another
 pub choice_steps : (there one two three : Option (Items × List Token)) (s : Option ℕ) (a b : Option (List ℕ)) → told (next_item natural_of) there ≡ told (λ ds. (s, ds)) one
     → told (next_item naturals_of) one ≡ told (λ ds. (a, ds)) two → told (next_item naturals_of) two ≡ told (λ ds. (b, ds)) three → told next_choice there ≡ told (λ ds. (choice_parts s a b, ds)) three

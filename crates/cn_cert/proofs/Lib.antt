@@ -2,7 +2,6 @@ pub mod ArrayWalks
 pub mod Conversions
 pub mod DigitLemmas
 pub mod FindingRanges
-pub mod NoFloats
 pub mod ObjectWalks
 pub mod PrintedValues
 pub mod RangeLemmas
@@ -10,3 +9,4 @@ pub mod SpelledCertificates
 pub mod ValueLemmas
 pub mod Walks
 pub mod WrittenCertificates
+pub mod WrittenTexts

@@ -1,24 +1,20 @@
 -- The members of an object, and values that are of a kind or null.
-use Rattle.std.proofs.Common.{◌≡◌, ℕ, ◌+◌, List, [], ◌∷◌, Bool, true, false, true≢false, Option, Some, None, option_map, option_and_then, codes, bytes_eq, Ordering, Less, Equal, Greater, if◌then◌else◌, refl, sym, ap, ◌∙◌, arith, ◌==◌, Bor, nat_cmp}
+use Rattle.std.proofs.Common.{◌≡◌, ℕ, ◌+◌, List, ◌∷◌, Bool, true, false, true≢false, Option, Some, None, option_map, option_and_then, codes, bytes_eq, Ordering, Less, Equal, Greater, if◌then◌else◌, refl, sym, ap, ◌∙◌, arith, ◌==◌, Bor, nat_cmp}
 use Rattle.std.proofs.lemmas.Slice.Eq.{bytes_eq-Decides}
 use Rattle.std.specs.Cmp.Lexicographic.{slice_cmp}
 use Rattle.std.specs.Ordering.{match_ordering}
-use Rattle.json.specs.Json.{value}
-use Rattle.json.specs.Lex.{tokens}
 use Rattle.json.specs.Reads.{token_of}
 use Rattle.json.specs.Token.{Token}
 use Rattle.json.specs.declared.token.Token.{Token as ReadToken}
 use Rattle.json.specs.declared.token.Token.TheVariants as read
 use Rattle.serde_json.specs.Data.{Num, Data, null, boolean, number, string, array, object, Members, no_members, member, put}
 use Rattle.serde_json.specs.Find.{as_str, as_u64, get_member}
-use Rattle.serde_json.specs.Read.{read as read_text}
 use Rattle.serde_json.proofs.Views.{get_member-put, get_member-put_other}
 use Rattle.cn_cert.specs.Document.{members_len}
 use Rattle.cn_cert.specs.Draft.{choice_of, collisions_of, draft_from, draft_of}
 use Rattle.cn_cert.specs.Values.{natural_of, nullable, at_key}
 use Rattle.cn_cert.specs.Tokens.{data_at, told, Slots, slots_of, with_member, draft_parts, keys_of}
-use Rattle.cn_cert.proofs.Conversions.{whole_read, whole_and_more, whole_refused}
-use Rattle.cn_cert.proofs.Walks.{told_of, told_none}
+use Rattle.cn_cert.proofs.Walks.{told_of}
 use Rattle.cn_cert.proofs.ArrayWalks.{sort, token_sort, sorted}
 
 -- ---- values of other kinds
@@ -128,14 +124,3 @@ keys_len (member k d ms) = ap (λ n. n + 1) (keys_len ms)
 pub draft_is : (ms : Members) (six : Bool) (s : Slots) → (members_len (keys_of ms) == 6) ≡ six → slots_of ms ≡ s → draft_of (object ms) ≡ (if six then draft_parts s else None)
 unfolding draft_from
 draft_is ms six s e f = ap (λ n. if n == 6 then draft_from ms else None) (sym (keys_len ms)) ∙ ap (λ b. if b then draft_parts (slots_of ms) else None) e ∙ ap (λ x. if six then draft_parts x else None) f
-
--- ---- the whole text
-
-pub text_read : {A : Type 0} (K : Data → A) (text : List ℕ) (a : A) → told K (data_at 127 (tokens text)) ≡ Some (a, []) → option_map K (read_text text) ≡ Some a
-text_read K text a e = let d = told_of K (data_at 127 (tokens text)) a [] e in ap (option_map K) (whole_read (value 127 (tokens text)) d.0 d.1) ∙ ap Some d.2
-
-pub text_with_more : {A : Type 0} (K : Data → A) (text : List ℕ) (a : A) (t : Token) (r : List Token) → told K (data_at 127 (tokens text)) ≡ Some (a, t ∷ r) → read_text text ≡ None
-text_with_more K text a t r e = let d = told_of K (data_at 127 (tokens text)) a (t ∷ r) e in whole_and_more (value 127 (tokens text)) d.0 t r d.1
-
-pub text_refused : {A : Type 0} (K : Data → A) (text : List ℕ) → told K (data_at 127 (tokens text)) ≡ None → read_text text ≡ None
-text_refused K text e = whole_refused (value 127 (tokens text)) (told_none K (data_at 127 (tokens text)) e)

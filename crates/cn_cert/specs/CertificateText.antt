@@ -1,6 +1,6 @@
 -- The JSON value of a certificate, and its one text.
-use Rattle.std.specs.Prelude.{ℕ, List, Option, Some, None, map, codes}
-use Rattle.serde_json.specs.Data.{Data, null, number, unsigned, string, array, object, item, no_items, member, no_members}
+use Rattle.std.specs.Prelude.{ℕ, ◌++◌, ◌∷◌, List, Option, Some, None, map, codes}
+use Rattle.serde_json.specs.Data.{Data, null, number, unsigned, string, array, object, item, no_items, Members, member, no_members}
 use Rattle.serde_json.specs.View.{items_of}
 use Rattle.serde_json.specs.Written.{compact_text}
 use Rattle.cn_choice.specs.Canonical.{Choice}
@@ -48,3 +48,16 @@ certificate_data c =
 -- the one text: compact, with integers in decimal
 abbrev pub certificate_text : Certificate → List ℕ
 certificate_text c = compact_text (certificate_data c)
+
+-- the text of a state or a process, and two lists, in an array
+abbrev pub part_text : ℕ → List ℕ → List ℕ → List ℕ
+part_text n a b = compact_text (number_data n) ++ (44 ∷ (compact_text (numbers_data a) ++ (44 ∷ compact_text (numbers_data b))))
+
+-- the members behind the collisions
+abbrev pub other_members : Certificate → Members
+other_members c =
+    member (codes "limit") (number_data c.limit)
+    (member (codes "number") (number_or_null c.number)
+    (member (codes "type") (string c.type_name)
+    (member (codes "version") (number_data c.version)
+    (member (codes "witness") (witness_data c.witness) no_members))))

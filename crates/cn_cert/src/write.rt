@@ -1,8 +1,9 @@
 //! From a certificate to its text.
-ghost use Rattle.std.specs.Prelude.{◌≡◌, true, string_bytes, IfOk, IsOkUnless, Ok};
-ghost use Rattle.serde_json.specs.View.{view};
+ghost use Rattle.std.specs.Prelude.{◌≡◌, ◌++◌, true, false, decimal, string_bytes, IfOk, OnOk, IsOkUnless, Ok};
+ghost use Rattle.serde_json.specs.Written.{compact_text, members_text};
+ghost use Rattle.serde_json.specs.Data.{string};
 ghost use Rattle.cn_cert.specs.Certificate.{is_version};
-ghost use Rattle.cn_cert.specs.CertificateText.{numbers_data, number_or_null, witness_data, collision_data, collisions_data, certificate_data, certificate_text};
+ghost use Rattle.cn_cert.specs.CertificateText.{numbers_data, number_or_null, witness_data, collision_data, collisions_data, other_members, part_text, certificate_text};
 ghost use Rattle.cn_cert.specs.Ranges.{is_in_range};
 ghost use Rattle.cn_cert.specs.Reading.{reading};
 
@@ -10,75 +11,132 @@ use crate::certificate::Certificate;
 use crate::fault::CertFault;
 use crate::laws;
 use cn_choice::{Choice, Collision};
-use serde_json::{Value, json};
+use serde_json::Value;
 use std::alloc::{AllocError, Global};
 
-fn numbers(alloc: Global, list: &[u8]) -> Result<Value, AllocError>
-    ensures { IfOk result (λ v. view v ≡ numbers_data list.now) }
+fn push_number(out: &mut String, n: u8) -> Result<(), AllocError>
+    ensures { OnOk result (string_bytes out.new ≡ string_bytes out.old ++ decimal n) }
 {
-    let mut values = Vec::new(alloc);
-    for n in list {
-        values.push(Value::from(*n))?;
+    if n < 10 {
+        out.push((b'0' + n) as char)
+    } else {
+        let mut buffer = itoa::Buffer::new();
+        out.push_str(buffer.format(n))
     }
-    Ok(Value::Array(values))
 }
 
-fn number_or_null(number: Option<u8>) -> Value
-    ensures { view result ≡ number_or_null number }
+fn push_numbers(out: &mut String, list: &[u8]) -> Result<(), AllocError>
+    ensures { OnOk result (string_bytes out.new ≡ string_bytes out.old ++ compact_text (numbers_data list.now)) }
+{
+    out.push('[')?;
+    let mut later = false;
+    for n in list {
+        if later {
+            out.push(',')?;
+        }
+        push_number(out, *n)?;
+        later = true;
+    }
+    out.push(']')
+}
+
+fn push_number_or_null(out: &mut String, number: Option<u8>) -> Result<(), AllocError>
+    ensures { OnOk result (string_bytes out.new ≡ string_bytes out.old ++ compact_text (number_or_null number)) }
 {
     match number {
-        Some(n) => Value::from(n),
-        None => Value::Null,
+        Some(n) => push_number(out, n),
+        None => out.push_str("null"),
     }
 }
 
-fn witness(alloc: Global, witness: &Option<Choice>) -> Result<Value, AllocError>
-    ensures { IfOk result (λ v. view v ≡ witness_data witness.now) }
+/// A state or a process, and two lists.
+fn push_part(out: &mut String, n: u8, a: &[u8], b: &[u8]) -> Result<(), AllocError>
+    ensures { OnOk result (string_bytes out.new ≡ string_bytes out.old ++ part_text n a.now b.now) }
+{
+    push_number(out, n)?;
+    out.push(',')?;
+    push_numbers(out, a)?;
+    out.push(',')?;
+    push_numbers(out, b)
+}
+
+fn push_witness(out: &mut String, witness: &Option<Choice>) -> Result<(), AllocError>
+    ensures { OnOk result (string_bytes out.new ≡ string_bytes out.old ++ compact_text (witness_data witness.now)) }
 {
     match witness {
         Some(choice) => {
-            let a = numbers(alloc, choice.a.as_slice())?;
-            let b = numbers(alloc, choice.b.as_slice())?;
-            json!(in alloc; [choice.state.0, a, b])
+            out.push('[')?;
+            push_part(
+                out,
+                choice.state.0,
+                choice.a.as_slice(),
+                choice.b.as_slice(),
+            )?;
+            out.push(']')
         }
-        None => Ok(Value::Null),
+        None => out.push_str("null"),
     }
 }
 
-fn collision(alloc: Global, collision: &Collision) -> Result<Value, AllocError>
-    ensures { IfOk result (λ v. view v ≡ collision_data collision.now) }
+fn push_collision(out: &mut String, collision: &Collision) -> Result<(), AllocError>
+    ensures { OnOk result (string_bytes out.new ≡ string_bytes out.old ++ compact_text (collision_data collision.now)) }
 {
-    let a = numbers(alloc, collision.choice.a.as_slice())?;
-    let b = numbers(alloc, collision.choice.b.as_slice())?;
-    let alpha = numbers(alloc, collision.alpha.as_slice())?;
-    let beta = numbers(alloc, collision.beta.as_slice())?;
-    json!(in alloc; [collision.choice.state.0, a, b, collision.process, alpha, beta])
+    let choice = &collision.choice;
+    out.push('[')?;
+    push_part(
+        out,
+        choice.state.0,
+        choice.a.as_slice(),
+        choice.b.as_slice(),
+    )?;
+    out.push(',')?;
+    push_part(
+        out,
+        collision.process,
+        collision.alpha.as_slice(),
+        collision.beta.as_slice(),
+    )?;
+    out.push(']')
 }
 
-fn collisions(alloc: Global, list: &[Collision]) -> Result<Value, AllocError>
-    ensures { IfOk result (λ v. view v ≡ collisions_data list.now) }
+fn push_collisions(out: &mut String, list: &[Collision]) -> Result<(), AllocError>
+    ensures { OnOk result (string_bytes out.new ≡ string_bytes out.old ++ compact_text (collisions_data list.now)) }
 {
-    let mut values = Vec::new(alloc);
+    out.push('[')?;
+    let mut later = false;
     for entry in list {
-        values.push(collision(alloc, entry)?)?;
+        if later {
+            out.push(',')?;
+        }
+        push_collision(out, entry)?;
+        later = true;
     }
-    Ok(Value::Array(values))
+    out.push(']')
 }
 
-fn value(alloc: Global, certificate: &Certificate) -> Result<Value, AllocError>
-    ensures { IfOk result (λ v. view v ≡ certificate_data certificate.now) }
+/// The name in quotes, with what JSON escapes.
+fn push_name(alloc: Global, out: &mut String, name: &str) -> Result<(), AllocError>
+    ensures { OnOk result (string_bytes out.new ≡ string_bytes out.old ++ compact_text (string name.now)) }
 {
-    let collisions = collisions(alloc, &certificate.collisions)?;
-    let number = number_or_null(certificate.number);
-    let witness = witness(alloc, &certificate.witness)?;
-    json!(in alloc; {
-        "collisions": collisions,
-        "limit": certificate.limit,
-        "number": number,
-        "type": certificate.type_name.as_str(),
-        "version": certificate.version,
-        "witness": witness
-    })
+    let text = Value::try_from_str(alloc, name)?.to_string(alloc)?;
+    out.push_str(text.as_str())
+}
+
+/// The members behind the collisions, and the end of the object.
+fn push_rest(alloc: Global, out: &mut String, certificate: &Certificate) -> Result<(), AllocError>
+    ensures { OnOk result (string_bytes out.new ≡ string_bytes out.old ++ members_text true (other_members certificate.now)) }
+{
+    out.push_str(",\"limit\":")?;
+    push_number(out, certificate.limit)?;
+    out.push_str(",\"number\":")?;
+    push_number_or_null(out, certificate.number)?;
+    out.push_str(",\"type\":")?;
+    push_name(alloc, out, certificate.type_name.as_str())?;
+    out.push_str(",\"version\":")?;
+    push_number(out, certificate.version)?;
+    out.push_str(",\"witness\":")?;
+    push_witness(out, &certificate.witness)?;
+    out.push('}')
 }
 
 /// The one text of a certificate: compact JSON, its keys in the order of their bytes, its numbers
@@ -87,7 +145,6 @@ fn value(alloc: Global, certificate: &Certificate) -> Result<Value, AllocError>
 /// # Errors
 ///
 /// `OutOfMemory`, and nothing else.
-#[tactic(auto, using(crate::proofs::NoFloats::certificate))]
 pub fn write_certificate(alloc: Global, certificate: &Certificate) -> Result<String, CertFault>
     ensures text { IfOk result (λ s. string_bytes s ≡ certificate_text certificate.now) }
     // A certificate of version 1 or 2 whose parts are in their ranges is read back from its text.
@@ -95,6 +152,9 @@ pub fn write_certificate(alloc: Global, certificate: &Certificate) -> Result<Str
     ensures memory { IsOkUnless result CertFault.OutOfMemory }
 {
     laws::written_is_read_back();
-    let value = value(alloc, certificate)?;
-    Ok(value.to_string(alloc)?)
+    let mut out = String::new(alloc);
+    out.push_str("{\"collisions\":")?;
+    push_collisions(&mut out, &certificate.collisions)?;
+    push_rest(alloc, &mut out, certificate)?;
+    Ok(out)
 }
