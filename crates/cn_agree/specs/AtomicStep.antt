@@ -31,10 +31,12 @@ touched P here Apply = Object
 touched P here (Read response) = Object
 touched P here (Take response state) = Register (P.judge here.role response.0 state.0)
 
--- process p, at its i-th place, goes from w to w' by one action: all stays but what it touches at its node, its own local state, and the record of the first application at the root
+-- process p, at its i-th place, goes from w to w' by one action: all stays but what it touches at
+-- its node, its own local state, and the record of the first application at the root
 pub record ActsOnce {V : Type 0} (P : Protocol) (p i : ℕ) (x : V) (stage : Stage) (w w' : World V) : Type 0 where
   -- every other object and register, here and at the other nodes
-  pub other_parts : (part : Part) → part ≢ touched P (place_of P p i) stage → content (node_at P w' (place_of P p i).node) part ≡ content (node_at P w (place_of P p i).node) part
+  pub other_parts : (part : Part) → part ≢ touched P (place_of P p i) stage
+      → content (node_at P w' (place_of P p i).node) part ≡ content (node_at P w (place_of P p i).node) part
   pub other_nodes : (v : ℕ) → v ≢ (place_of P p i).node → node_at P w' v ≡ node_at P w v
   pub other_processes : (q : ℕ) → q ≢ p → local_at w' q ≡ local_at w q
   pub inputs : w'.inputs ≡ w.inputs
