@@ -47,7 +47,8 @@ pub record ActsOnce {V : Type 0} (P : Protocol) (p i : ℕ) (x : V) (stage : Sta
 pub record LooksAlike {V : Type 0} (P : Protocol) (p i : ℕ) (x : V) (stage : Stage) (w u : World V) : Type 0 where
   pub here : local_at w p ≡ Active i x stage
   pub there : local_at u p ≡ Active i x stage
-  pub shared : content (node_at P w (place_of P p i).node) (touched P (place_of P p i) stage) ≡ content (node_at P u (place_of P p i).node) (touched P (place_of P p i) stage)
+  pub shared : content (node_at P w (place_of P p i).node) (touched P (place_of P p i) stage)
+      ≡ content (node_at P u (place_of P p i).node) (touched P (place_of P p i) stage)
 
 -- both worlds have the node of that place
 pub record HasPlace {V : Type 0} (P : Protocol) (p i : ℕ) (w u : World V) : Type 0 where
@@ -59,4 +60,5 @@ pub record IsAtomic (V : Type 0) (P : Protocol) (p : ℕ) : Type 0 where
   pub one_action : (w : World V) (i : ℕ) (x : V) (stage : Stage) → local_at w p ≡ Active i x stage → ActsOnce P p i x stage w (after_step P p w)
   pub local : (w u : World V) (i : ℕ) (x : V) (stage : Stage) → LooksAlike P p i x stage w u → local_at (after_step P p w) p ≡ local_at (after_step P p u) p
   pub shared : (w u : World V) (i : ℕ) (x : V) (stage : Stage) → HasPlace P p i w u → LooksAlike P p i x stage w u
-      → content (node_at P (after_step P p w) (place_of P p i).node) (touched P (place_of P p i) stage) ≡ content (node_at P (after_step P p u) (place_of P p i).node) (touched P (place_of P p i) stage)
+      → content (node_at P (after_step P p w) (place_of P p i).node) (touched P (place_of P p i) stage)
+      ≡ content (node_at P (after_step P p u) (place_of P p i).node) (touched P (place_of P p i) stage)

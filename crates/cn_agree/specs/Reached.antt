@@ -15,5 +15,6 @@ HasBegun w p = local_at w p ≢ NotBegun
 -- from the first world, beginnings and the steps of this schedule lead here; a process begins once, and has begun where the schedule names it
 pub data IsReached {V : Type 0} (P : Protocol) (n : ℕ) (nodes : ℕ) : List ℕ → World V → Type 0 where
   Opens : IsReached P n nodes [] (first_world P n nodes)
-  Begins : {schedule : List ℕ} {w : World V} (p : ℕ) (x : V) → p < n → local_at w p ≡ NotBegun → IsReached P n nodes schedule w → IsReached P n nodes schedule (begun p x w)
+  Begins : {schedule : List ℕ} {w : World V} (p : ℕ) (x : V) → p < n → local_at w p ≡ NotBegun
+      → IsReached P n nodes schedule w → IsReached P n nodes schedule (begun p x w)
   Steps : {schedule : List ℕ} {w : World V} (p : ℕ) → p < n → HasBegun w p → IsReached P n nodes schedule w → IsReached P n nodes (schedule ++ p ∷ []) (after_step P p w)
