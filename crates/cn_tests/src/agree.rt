@@ -10,7 +10,6 @@ use cn_agree::{Round, ScheduleFault, laws, run_schedule};
 use cn_proto::Plan;
 use std::alloc::{AllocError, Global};
 use std::collections::BTreeSet;
-use std::fmt::Debug;
 use std::process::Abort;
 use std::test::Fail;
 
@@ -105,28 +104,53 @@ fn decision_of<V: Copy>(plan: &Plan, round: &Round<V>, p: u8) -> Option<V>
     round.decision(p)
 }
 
+/// The round after a schedule; a process that has decided takes no step.
+fn replay<V: Copy>(
+    rt: &impl Abort,
+    alloc: Global,
+    plan: &Plan,
+    inputs: &[V],
+    schedule: &[u8],
+) -> Result<Round<V>, Fail>
+    ensures { IfOk result (RunsBy plan.now) }
+{
+    assert!(rt; inputs.len() == usize::from(plan.processes()));
+    let mut round = begin_all(alloc, plan, inputs)?;
+    for p in schedule {
+        assert!(rt; *p < plan.processes());
+        if decision_of(plan, &round, *p).is_none() {
+            take_step(rt, plan, &mut round, *p);
+        }
+    }
+    Ok(round)
+}
+
 /// Process 1 comes first at the object of test_and_set, and then process 0 runs alone.
-fn second_comes_first<V: Copy + PartialEq + Debug>(
+fn second_comes_first<V: Copy + PartialEq>(
     rt: &impl Abort,
     alloc: Global,
     inputs: &[V],
 ) -> Result<(), Fail> {
     let plan = plan_for(rt, alloc, test_and_set(), 2)?;
-    assert_eq!(rt; plan.processes(), 2);
-    assert_eq!(rt; inputs.len(), 2);
-    let mut round = begin_all(alloc, &plan, inputs)?;
-    assert_eq!(rt; take_step(rt, &plan, &mut round, 1), None);
-    assert_eq!(rt; round.fixed(), None, "it has written only");
-    assert_eq!(rt; take_step(rt, &plan, &mut round, 1), None);
-    assert_eq!(rt; round.fixed(), Some(inputs[1]), "it has applied");
-    assert_eq!(rt; take_step(rt, &plan, &mut round, 0), None);
-    assert_eq!(rt; take_step(rt, &plan, &mut round, 0), None);
-    assert_eq!(rt; take_step(rt, &plan, &mut round, 0), None);
-    assert_eq!(rt; decision_of(&plan, &round, 0), None);
-    assert_eq!(rt; take_step(rt, &plan, &mut round, 0), Some(inputs[1]));
-    assert_eq!(rt; decision_of(&plan, &round, 0), Some(inputs[1]));
-    assert_eq!(rt; decision_of(&plan, &round, 1), None);
-    assert_eq!(rt; round.fixed(), Some(inputs[1]));
+    assert!(rt; plan.processes() == 2 && inputs.len() == 2);
+    let second = Some(inputs[1]);
+    for (steps, fixed, decided) in [
+        (1, None, None),
+        (2, second, None),
+        (5, second, None),
+        (6, second, second),
+    ] {
+        let round = replay(rt, alloc, &plan, inputs, &[1, 1, 0, 0, 0, 0][..steps])?;
+        assert!(rt; round.fixed() == fixed, "fixed after {steps}");
+        assert!(rt;
+            decision_of(&plan, &round, 0) == decided,
+            "decided after {steps}"
+        );
+        assert!(rt;
+            decision_of(&plan, &round, 1).is_none(),
+            "the second after {steps}"
+        );
+    }
     Ok(())
 }
 
@@ -167,27 +191,6 @@ fn judge(
             agreed = Some(*value);
         }
     }
-}
-
-/// The round after a schedule; a process that has decided takes no step.
-fn replay(
-    rt: &impl Abort,
-    alloc: Global,
-    plan: &Plan,
-    inputs: &[u64],
-    schedule: &[u8],
-) -> Result<Round<u64>, Fail>
-    ensures { IfOk result (RunsBy plan.now) }
-{
-    assert_eq!(rt; inputs.len(), usize::from(plan.processes()));
-    let mut round = begin_all(alloc, plan, inputs)?;
-    for p in schedule {
-        assert!(rt; *p < plan.processes());
-        if decision_of(plan, &round, *p).is_none() {
-            take_step(rt, plan, &mut round, *p);
-        }
-    }
-    Ok(round)
 }
 
 /// What each process has decided.

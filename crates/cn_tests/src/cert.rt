@@ -1,9 +1,6 @@
 //! Certificates of worked types, written and read, and what is wrong with other texts.
 use crate::certificates::*;
-use crate::fixtures::table_of;
-use crate::types::*;
-use cn_cert::{CertFault, Certificate, read_certificate, write_certificate};
-use cn_search::find;
+use cn_cert::{CertFault, read_certificate, write_certificate};
 use std::alloc::{AllocError, Global};
 use std::test::Fail;
 
@@ -11,56 +8,6 @@ use std::test::Fail;
 fn written_again(alloc: Global, text: &str) -> Result<String, CertFault> {
     let certificate = read_certificate(alloc, text.as_bytes())?;
     write_certificate(alloc, &certificate)
-}
-
-/// Types, limits, and the certificate of what is found.
-fn findings() -> [(&'static str, u8, &'static str); 6] {
-    [
-        (test_and_set(), 3, found_test_and_set_at_3()),
-        (idle(), 2, found_idle_at_2()),
-        (binary_register(), 2, found_binary_register_at_2()),
-        (fetch_and_add_2(), 3, found_fetch_and_add_2_at_3()),
-        (sticky_bit(), 4, found_sticky_bit_at_4()),
-        (three_shot(), 3, found_three_shot_at_3()),
-    ]
-}
-
-#[test]
-fn writes_findings_and_reads_them_back(rt: HostRuntime) -> Result<(), Fail> {
-    let alloc = rt.alloc();
-    for (table, limit, expected) in findings() {
-        let table = table_of(alloc, table)?;
-        let finding = find(&rt, alloc, &table, limit)?;
-        let certificate = Certificate::of_finding(alloc, &table, finding)
-            .ok()
-            .ok_or("no certificate")?;
-        let text = write_certificate(alloc, &certificate)?;
-        assert_eq!(rt; text.as_str(), expected);
-        let again = written_again(alloc, expected)?;
-        assert_eq!(rt; again.as_str(), expected);
-    }
-    Ok(())
-}
-
-/// Certificates of version 1.
-fn certificates_of_version_1() -> [&'static str; 6] {
-    [
-        test_and_set_at_3(),
-        idle_at_2(),
-        binary_register_at_2(),
-        fetch_and_add_2_at_3(),
-        sticky_bit_at_4(),
-        three_shot_at_3(),
-    ]
-}
-
-#[test]
-fn writes_version_1_as_it_was_read(rt: HostRuntime) -> Result<(), Fail> {
-    for text in certificates_of_version_1() {
-        let again = written_again(rt.alloc(), text)?;
-        assert_eq!(rt; again.as_str(), text);
-    }
-    Ok(())
 }
 
 /// The text for test-and-set, with one change.
@@ -101,10 +48,11 @@ fn reads_other_texts_of_one_certificate(rt: HostRuntime) -> Result<(), Fail> {
 }
 
 /// Parts of the text for test-and-set, and others with the ends of the ranges.
-fn greatest_numbers() -> [(&'static str, &'static str); 7] {
+fn greatest_numbers() -> [(&'static str, &'static str); 8] {
     [
         ("\"version\":1", "\"version\":2"),
         ("\"limit\":3", "\"limit\":255"),
+        ("\"number\":2", "\"number\":null"),
         ("\"number\":2", "\"number\":0"),
         ("\"number\":2", "\"number\":255"),
         ("[0,[0],[0]]", "[15,[],[7,6,5,4,3,2,1,0]]"),
@@ -127,7 +75,7 @@ fn reads_numbers_up_to_the_ends_of_their_ranges(rt: HostRuntime) -> Result<(), F
 #[test]
 fn refuses_cut_and_deep_texts(rt: HostRuntime) -> Result<(), Fail> {
     let alloc = rt.alloc();
-    let bytes = binary_register_at_2().as_bytes();
+    let bytes = test_and_set_at_3().as_bytes();
     for len in 0..bytes.len() {
         let found = read_certificate(alloc, &bytes[..len]).err();
         assert_eq!(rt; found, Some(CertFault::NotJson), "{len} bytes");
@@ -158,20 +106,5 @@ fn prints_each_fault(rt: HostRuntime) -> Result<(), Fail> {
         let text = format!(in rt.alloc(); "{fault}")?;
         assert_eq!(rt; text.as_str(), expected);
     }
-    Ok(())
-}
-
-#[test]
-fn reads_and_writes_five_thousand_entries(rt: HostRuntime) -> Result<(), Fail> {
-    let alloc = rt.alloc();
-    let first = "[[0,[0],[0,0],1,[0,1],[2,1]]";
-    let entry = ",[15,[7,7,7,7],[7,7,7,7],7,[0,1,2,3,4,5,6,7],[7,6,5,4,3,2,1,0]]";
-    let mut entries = format!(in alloc; "{first}")?;
-    entries.push_str(entry.repeat(alloc, 4_998)?.as_str())?;
-    let text = changed(alloc, first, entries.as_str())?;
-    let certificate = read_certificate(alloc, text.as_bytes())?;
-    assert_eq!(rt; certificate.collisions.len(), 5_000);
-    let again = write_certificate(alloc, &certificate)?;
-    assert_eq!(rt; again.as_str(), text.as_str());
     Ok(())
 }

@@ -43,7 +43,8 @@ fn a_fault_of_the_writer_is_told(rt: HostRuntime) -> Result<(), Fail> {
         (3, Ok(Outcome::Whole)),
     ] {
         let mut writer = Narrow { room };
-        let (mut table, mut certificate) = (idle().as_bytes(), idle_at_2().as_bytes());
+        let mut table = test_and_set().as_bytes();
+        let mut certificate = test_and_set_at_3().as_bytes();
         let outcome = ended(&rt, rt.alloc(), &mut table, &mut certificate, &mut writer);
         assert_eq!(rt; outcome, expected, "room for {room}");
     }
