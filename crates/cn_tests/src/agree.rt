@@ -134,22 +134,16 @@ fn second_comes_first<V: Copy + PartialEq>(
     let plan = plan_for(rt, alloc, test_and_set(), 2)?;
     assert!(rt; plan.processes() == 2 && inputs.len() == 2);
     let second = Some(inputs[1]);
-    for (steps, fixed, decided) in [
-        (1, None, None),
-        (2, second, None),
-        (5, second, None),
-        (6, second, second),
+    for (schedule, fixed, decided) in [
+        ([1].as_slice(), None, None),
+        (&[1, 1], second, None),
+        (&[1, 1, 0, 0, 0], second, None),
+        (&[1, 1, 0, 0, 0, 0], second, second),
     ] {
-        let round = replay(rt, alloc, &plan, inputs, &[1, 1, 0, 0, 0, 0][..steps])?;
-        assert!(rt; round.fixed() == fixed, "fixed after {steps}");
-        assert!(rt;
-            decision_of(&plan, &round, 0) == decided,
-            "decided after {steps}"
-        );
-        assert!(rt;
-            decision_of(&plan, &round, 1).is_none(),
-            "the second after {steps}"
-        );
+        let round = replay(rt, alloc, &plan, inputs, schedule)?;
+        assert!(rt; round.fixed() == fixed, "{schedule:?}");
+        assert!(rt; decision_of(&plan, &round, 0) == decided, "{schedule:?}");
+        assert!(rt; decision_of(&plan, &round, 1).is_none(), "{schedule:?}");
     }
     Ok(())
 }
