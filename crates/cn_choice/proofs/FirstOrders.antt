@@ -10,7 +10,7 @@ use Rattle.cn_table.specs.TypeTable.{TypeTable}
 use Rattle.cn_choice.specs.declared.team.Team.{Team}
 use Rattle.cn_choice.specs.Canonical.{Choice, raw_choice_of}
 use Rattle.cn_choice.specs.Orders.{IsOrder}
-use Rattle.cn_choice.specs.OutcomeOrders.{IsFirstInto, LeadsInto, NoneInto}
+use Rattle.cn_choice.specs.OutcomeOrders.{IsFirstInto, LeadsInto, NoneInto, NoneOfLength}
 use Rattle.cn_choice.specs.RawChoices.{RawChoice}
 use Rattle.cn_choice.specs.ResultSets.{BeginsIn, operations_of, response_of}
 use Rattle.cn_choice.specs.Subsets.{answer_of, next_of}
@@ -20,7 +20,7 @@ use Rattle.cn_choice.proofs.ArrangementLemmas.{Differ}
 use Rattle.cn_choice.proofs.BitSets.{pow_set, union_set}
 use Rattle.cn_choice.proofs.LastAnswers.{pair_parts, pair_whole}
 use Rattle.cn_choice.proofs.LastProcess.{zero_has_none}
-use Rattle.cn_choice.proofs.Listing.{differ_from, distinct_from, fits_below, not_empty, some_length}
+use Rattle.cn_choice.proofs.Listing.{differ_from, distinct_from, fits_below, not_empty}
 use Rattle.cn_choice.proofs.Members.{IsIn, each_at, each_from}
 use Rattle.cn_choice.proofs.TailLemmas.{in_pow}
 use Rattle.cn_choice.proofs.TeamOrderLemmas.{begins_from, begins_to}
@@ -68,10 +68,6 @@ fresh_to n used (x ∷ xs) h =
       λ y i s. elim i [ inl e ↦ h.1 (subst (IsBitSet used) (sym e) s) | inr k ↦ r.2 y k ((union_set used (2 ^ x) y).1 (inl s)) ],
     )
 
--- no order of this length that begins in the team leads into the set
-abbrev pub NoneOf : TypeTable → Choice → RawChoice → Team → ℕ → List ℕ → ℕ → Type 0
-NoneOf t c raw team j set size = NoWay t raw j set size (team_from c team) (team_to c team) 0 raw.state None
-
 module _ (t : TypeTable) (c : Choice) (raw : RawChoice) (same : raw ≡ raw_choice_of c) (team : Team) (j : ℕ) where
   long : length c.a + length c.b ≡ length raw.operations
   long = sym (length-append c.a c.b) ∙ sym (ap (λ (r : RawChoice). length r.operations) same)
@@ -99,26 +95,30 @@ module _ (t : TypeTable) (c : Choice) (raw : RawChoice) (same : raw ≡ raw_choi
     hits_from : (x : List ℕ) → LeadsInto t raw team j set x → Hits t raw j set raw.state None x
     hits_from x leads = let r = pair_parts t raw j x leads.0.0 leads.0.1 leads.1.1 in (leads.0, ends_from t raw j raw.state None x leads.0 r.0 r.1, leads.2)
 
-    none_at : (x : List ℕ) → IsOrder (length raw.operations) x → NoneOf t c raw team j set (length x) → ¬ LeadsInto t raw team j set x
-    none_at x o none leads = none x (order_way x o leads.1.0) (hits_from x leads)
+    pub none_at : (size : ℕ) → NoWay t raw j set size (team_from c team) (team_to c team) 0 raw.state None → NoneOfLength t raw team j set size
+    none_at size none x o long leads = none x (subst (λ (k : ℕ). IsWay (length raw.operations) k (team_from c team) (team_to c team) 0 x) long (order_way x o leads.1.0)) (hits_from x leads)
 
-    pub none_into : ((size : ℕ) → 1 ≤ size → size < length raw.operations + 1 → NoneOf t c raw team j set size) → NoneInto t raw team j set
+    pub none_into : ((size : ℕ) → size < length raw.operations + 1 → NoneOfLength t raw team j set size) → NoneInto t raw team j set
     none_into none x o =
         let few = fits_below (length raw.operations) x (recursion_from_All (λ p. p < length raw.operations) x o.known) (differ_from x o.distinct) in
-        none_at x o (none (length x) (some_length x o.someone) (omega (arith, few)))
+        none (length x) (omega (arith, few)) x o refl
 
     -- the first way of the least length that has one
-    pub first_into : (size : ℕ) (order : List ℕ) (pair : ℕ × ℕ) → 1 ≤ size → ((k : ℕ) → 1 ≤ k → k < size → NoneOf t c raw team j set k)
+    pub first_into : (size : ℕ) (order : List ℕ) (pair : ℕ × ℕ) → ((k : ℕ) → k < size → NoneOfLength t raw team j set k)
         → IsFirstWay t raw j set size (team_from c team) (team_to c team) 0 raw.state None order pair → IsFirstInto t raw team j set order pair
-    first_into size order pair some none f =
-        let is = way_order size order some f.way in
+    first_into size order pair none f =
+        let is = way_order size order (someone order f.way.long f.ends) f.way in
         let e = ends_to t raw j raw.state None order pair f.ends in
         record {
           ordered = is.0;
           leads = (is.1, pair_whole t raw j order pair.0 pair.1 e.0 e.1);
           has = f.has;
           earlier = λ x o before leads. elim before [
-            | inl shorter ↦ none_at x o (none (length x) (some_length x o.someone) (omega (arith, shorter, f.way.long))) leads
+            | inl shorter ↦ none (length x) (omega (arith, shorter, f.way.long)) x o refl leads
             | inr later ↦ f.earlier x (subst (λ (k : ℕ). IsWay (length raw.operations) k (team_from c team) (team_to c team) 0 x) (later.0 ∙ f.way.long) (order_way x o leads.1.0)) later.1 (hits_from x leads)
           ];
         }
+      where
+        someone : (order : List ℕ) → length order ≡ size → Ends t raw j raw.state None order pair → 1 ≤ size
+        someone [] long ends = absurd (cc ends.0)
+        someone (p ∷ ps) long ends = omega (arith, long)

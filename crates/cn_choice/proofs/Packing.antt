@@ -9,11 +9,13 @@ use Rattle.cn_choice.specs.declared.team.Team.{Team}
 use Rattle.cn_choice.specs.RawChoices.{RawChoice}
 use Rattle.cn_choice.specs.ResultSets.{InResultSet}
 use Rattle.cn_choice.specs.Subsets.{Finds, Gives, IsWithout, next_of}
+use Rattle.cn_choice.specs.Tails.{count_below}
 use Rattle.cn_choice.specs.Twins.{AreLinks, AreTwins, IsMover, IsPacked, IsRun}
-use Rattle.cn_choice.proofs.BitSets.{by_bit, cleared, cleared_is, member_below, pow_set, union_set, without_less}
+use Rattle.cn_choice.proofs.BitSets.{by_bit, cleared, cleared_is, filled, member_below, pow_set, union_set, without_less}
 use Rattle.cn_choice.proofs.Exchange.{IsExchanged, exchange_first, exchange_other, exchange_second, finds_before, finds_next, gives_exchanged, twin_results, which, without_exchanged}
 use Rattle.cn_choice.proofs.LastProcess.{LeavesLast, bit_from, set_from}
 use Rattle.cn_choice.proofs.LastAnswers.{gives_member}
+use Rattle.cn_choice.proofs.Sizes.{count_more}
 
 pub below_or_last : (i k : ℕ) → i < k + 1 → (i < k) ⊎ (i ≡ k)
 below_or_last zero zero l = inr refl
@@ -112,6 +114,12 @@ moved_less p subset rest s n w =
     ) in
     omega (arith, without_less (bit_or rest (2 ^ p)) p rest here back, without_less subset (p + 1) rest s w, pow_below p (p + 1) (omega arith))
 
+size_moved : (p subset rest : ℕ) → p + 1 < 8 → IsBitSet subset (p + 1) → ¬ IsBitSet subset p → IsWithout subset (p + 1) rest → count_below 8 (bit_or rest (2 ^ p)) ≡ count_below 8 subset
+size_moved p subset rest l s n w =
+    let one = count_more 8 p rest (omega (arith, l)) (λ a. n ((w p).0 a).0) in
+    let other = count_more 8 (p + 1) rest l (λ a. ((w (p + 1)).0 a).1 refl) in
+    one ∙ (sym other ∙ ap (count_below 8) (filled subset (p + 1) rest s w))
+
 -- a subset without one of its processes is less
 pub rest_less : (subset p rest : ℕ) → rest + 2 ^ p ≡ subset → rest < subset
 rest_less subset p rest e = omega (arith, pow_pos p, e)
@@ -176,12 +184,12 @@ module _ (t : TypeTable) (c : RawChoice) (team : Team) (links : ℕ) (linked : A
         16 p (omega arith) s (n, h) in
         (g.0, g.1, g.2.1)
 
-    -- what a subset gives, a packed one gives
+    -- what a subset gives, a packed one of its size gives
     pub packing : (fuel subset r q : ℕ) → subset < fuel → subset < 2 ^ length c.operations → length c.operations ≤ 8 → Gives t c team j subset r q
-        → (packed : ℕ) × (packed < 2 ^ length c.operations) × IsPacked links packed × Gives t c team j packed r q
+        → (packed : ℕ) × (packed < 2 ^ length c.operations) × IsPacked links packed × Gives t c team j packed r q × (count_below 8 packed ≡ count_below 8 subset)
     packing zero subset r q l u few g = absurd (omega (arith, l))
     packing (suc fuel) subset r q l u few g = elim (packed_or_not links subset (omega (arith, u, pow_below (length c.operations) 16 (omega (arith, few))))) [
-      | inl p ↦ (subset, u, p, g)
+      | inl p ↦ (subset, u, p, g, refl)
       | inr h ↦ (
           let p = h.0 in
           let small : subset < 2 ^ 16 = omega (arith, u, pow_below (length c.operations) 16 (omega (arith, few))) in
@@ -191,7 +199,10 @@ module _ (t : TypeTable) (c : RawChoice) (team : Team) (links : ℕ) (linked : A
           let x = moved_down p subset rest h.2 h.3 v in
           let less = moved_less p subset rest h.2 h.3 v in
           let not_p : j ≢ p = λ e. h.3 (subst (IsBitSet subset) e (gives_member t c team j subset r q g)) in
-          packing fuel other r q (omega (arith, less, l)) (omega (arith, less, u)) few (gives_exchanged t c p (linked.twins p h.1) team j subset other r q not_p (not_linked p h.1) x g)
+          let inside : p + 1 < 8 = omega (arith, few, member_below (length c.operations) subset (p + 1) u h.2) in
+          let found = packing fuel other r q (omega (arith, less, l)) (omega (arith, less, u)) few (gives_exchanged t c p (linked.twins p h.1) team j subset other r q not_p (not_linked p h.1) x g) in
+          let size : count_below 8 found.0 ≡ count_below 8 subset = omega (arith, found.4, size_moved p subset rest inside h.2 h.3 v) in
+          (found.0, found.1, found.2, found.3, size)
           )
     ]
 

@@ -1,22 +1,22 @@
 -- The ways to go on, one first process after the other.
-use Rattle.std.proofs.Common.{◌≡◌, ◌≢◌, ℕ, zero, suc, ◌+◌, ◌-◌, ◌^◌, ◌<◌, ◌≤◌, ◌⊎◌, inl, inr, List, [], ◌∷◌, length, map, refl, sym, ap, ◌∙◌, subst, arith, Bool, cond, nat_eq, Option, Some, None, Less, Equal, Greater}
+use Rattle.std.proofs.Common.{◌≡◌, ◌≢◌, ℕ, suc, ◌+◌, ◌-◌, ◌^◌, ◌<◌, ◌≤◌, ◌⊎◌, inl, inr, List, [], ◌∷◌, length, map, refl, sym, ap, ◌∙◌, subst, arith, Bool, cond, nat_eq, Option, Some, None, Less, Equal, Greater}
 use Rattle.std.specs.Prelude.{IsBitSet, slice_index}
-use Rattle.std.specs.Int.{bit_at}
 use Rattle.std.specs.Int.Bits.{bit_or}
 use Rattle.std.specs.Ordering.{nat_cmp}
 use Rattle.std.specs.Cmp.{nat_cmp_is}
 use Rattle.std.specs.Cmp.Lexicographic.{slice_cmp}
 use Rattle.std.proofs.lemmas.Bool.{cases_order, ne_eqb}
 use Rattle.std.proofs.lemmas.List.{length-map}
-use Rattle.std.proofs.lemmas.Nat.Bits.{bit_at-lt, bit_at-pow_other, bit_at-pow_same, bit_at_or}
+use Rattle.std.proofs.lemmas.Nat.Bits.{bit_at-pow_same}
 use Rattle.cn_table.specs.TypeTable.{TypeTable, transition}
 use Rattle.cn_choice.specs.OutcomeSets.{Has}
 use Rattle.cn_choice.specs.RawChoices.{RawChoice}
 use Rattle.cn_choice.specs.Subsets.{answer_of, next_of}
-use Rattle.cn_choice.specs.Tails.{AreDead, BeginsWithin, Ends, Hits, IsFirstWay, IsFresh, IsKept, IsTried, IsWay, NoWay, count_below, moved, seen_after}
+use Rattle.cn_choice.specs.Tails.{AreDead, BeginsWithin, Ends, Hits, IsFirstWay, IsFresh, IsKept, IsTried, IsWay, NoWay, moved, seen_after}
 use Rattle.cn_choice.proofs.BitSets.{pow_set, union_set}
 use Rattle.cn_choice.proofs.Exchange.{IsExchanged, exchange, exchange_first, exchange_other, exchange_second, exchange_twice, which}
-use Rattle.cn_choice.proofs.LastProcess.{clear_from, same_or_not, set_from}
+use Rattle.cn_choice.proofs.LastProcess.{same_or_not, set_from}
+use Rattle.cn_choice.proofs.Sizes.{count_more}
 
 pub in_pow : (k : ℕ) → IsBitSet (2 ^ k) k
 in_pow k = set_from (2 ^ k) k (bit_at-pow_same k)
@@ -103,23 +103,10 @@ ends_seen t c j state r (p ∷ ps) pair h = ends_seen t c j (next_of t c p state
 
 -- ---- how many have moved
 
-count_other : (k p used : ℕ) → k ≤ p → count_below k (bit_or used (2 ^ p)) ≡ count_below k used
-count_other zero p used l = refl
-count_other (suc k) p used l =
-    let n : k ≢ p = omega (arith, l) in
-    omega (arith, count_other k p used (omega (arith, l)), bit_at_or used (2 ^ p) k, bit_at-pow_other p k n, bit_at-lt used k)
-
-count_more : (k p used : ℕ) → p < k → bit_at used p ≡ 0 → count_below k (bit_or used (2 ^ p)) ≡ suc (count_below k used)
-count_more zero p used l z = absurd (omega (arith, l))
-count_more (suc k) p used l z = elim (same_or_not k p) [
-  | inl e ↦ omega (arith, count_other k p used (omega (arith, e)), bit_at_or used (2 ^ p) k, ap (bit_at (2 ^ p)) e ∙ bit_at-pow_same p, ap (bit_at used) e ∙ z)
-  | inr n ↦ omega (arith, count_more k p used (omega (arith, l, n)) z, bit_at_or used (2 ^ p) k, bit_at-pow_other p k n, bit_at-lt used k)
-]
-
 -- with one more, as many as before are in the order
 pub long_after : (used p left : ℕ) → p < 8 → ¬ IsBitSet used p → 1 ≤ left → left - 1 + moved (bit_or used (2 ^ p)) ≡ left + moved used
 unfolding moved
-long_after used p left l n some = omega (arith, count_more 8 p used l (clear_from used p n), some)
+long_after used p left l n some = omega (arith, count_more 8 p used l n, some)
 
 -- ---- the first process of a way
 

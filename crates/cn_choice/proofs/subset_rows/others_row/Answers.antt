@@ -4,7 +4,7 @@ use Rattle.cn_choice.specs.OutcomeSets.{Has}
 use Rattle.cn_choice.specs.Subsets.{Gives, OtherLast}
 use Rattle.cn_choice.proofs.BitSets.{member_below}
 use Rattle.cn_choice.proofs.Packing.{rest_less, rest_packed}
-use Rattle.cn_choice.proofs.Unions.{from_all, from_none, gives_leaves, other_more, zeros_none}
+use Rattle.cn_choice.proofs.Unions.{from_all, from_none, gives_leaves, other_more, other_self, zeros_none}
 use Rattle.cn_choice.proofs.subset_rows.others_row.Goals as goal
 
 pub loop-left-init : goal.loop-left-init
@@ -52,6 +52,13 @@ loop-left-preserved c =
           (λ p m. ((c.movers-left.ensures p).0 m).0) (i.0 q) c.least-process.ensures.member c.without-left.ensures.others c.without-rest.ensures.others (λ r. moved r q) (λ r. c.merged-row.ensures.same r q),
       c.merged-row.ensures.row,
     )
+
+pub loop-left-preserved-then-process-j : goal.loop-left-preserved-then-process-j
+loop-left-preserved-then-process-j c = (
+  λ q. other_self c.args.table.now c.args.choice.now c.args.team c.args.j c.args.subset c.movers-left.result c.loop-left.left c.least-process.result c.without-left.result (get_or c.loop-left.row q 0) q
+      (omega arith) (c.loop-left.invariant.0 q) c.least-process.ensures.member c.without-left.ensures.others,
+  c.loop-left.invariant.1,
+)
 
 pub returns : goal.returns
 returns c = record {
