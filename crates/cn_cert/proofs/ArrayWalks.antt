@@ -13,7 +13,7 @@ use Rattle.cn_cert.specs.Document.{list_of}
 use Rattle.cn_cert.specs.Draft.{choice_from, choice_of, collision_from, collision_of}
 use Rattle.cn_cert.specs.Reads.{Reads, Refuses}
 use Rattle.cn_cert.specs.Values.{natural_of, naturals_of}
-use Rattle.cn_cert.specs.Tokens.{Opens, data_at, items_at, rest_at, told, nothing, next_item, next_choice, first_item, later_items, choice_parts, choice_items, collision_items, collision_parts, is_over, all_items}
+use Rattle.cn_cert.specs.Tokens.{Opens, data_at, items_at, rest_at, told, nothing, next_item, next_choice, first_item, later_items, choice_parts, next_collision, whole, in_array, collision_parts, is_over, all_items}
 use Rattle.cn_cert.specs.declared.fault.CertFault.{CertFault}
 use Rattle.cn_cert.specs.declared.fault.CertFault.TheVariants.{NotJson}
 use Rattle.std.proofs.lemmas.Bool.{eqb-true}
@@ -144,19 +144,12 @@ front_one : {X : Type 0} (front : List X) (x : X) (rest : Option (List X)) → w
 front_one front x None = refl
 front_one front x (Some xs) = ap Some (sym (append_assoc front (x ∷ []) xs))
 
-none_yet : {X : Type 0} (rest : Option (List X)) → with_front [] rest ≡ rest
-none_yet None = refl
-none_yet (Some xs) = refl
-
 pub const_told : {A C : Type 0} (c : C) (there : Option (A × List Token)) (r : List Token) → told nothing there ≡ Some (tt, r) → told (λ _. c) there ≡ Some (c, r)
 const_told c there r e = let d = told_of nothing there tt r e in ap (told (λ _. c)) d.1
 
 module _ {X : Type 0} (kind : Data → Option X) (depth : ℕ) where
   abbrev pub behind : List X → List Token → Option (Option (List X) × List Token)
   behind front ts = told (λ ds. with_front front (all_items kind ds)) (items_at depth ts)
-
-  pub list_first : (ts : List Token) → told (all_items kind) (items_at depth ts) ≡ behind [] ts
-  list_first ts = told_same (all_items kind) (λ ds. with_front [] (all_items kind ds)) (λ ds. sym (none_yet (all_items kind ds))) (items_at depth ts)
 
   module _ (front : List X) (ts : List Token) where
     pub list_next : (r : List Token) (x : X) → after_end_array ts ≡ None → told kind (data_at depth ts) ≡ Some (Some x, r) → behind front ts ≡ behind (front ++ x ∷ []) r
@@ -206,7 +199,7 @@ all_parts (Some c) (Some p) None b = refl
 all_parts (Some c) (Some p) (Some a) None = refl
 all_parts (Some c) (Some p) (Some a) (Some b) = refl
 
-pub choice_is : (ds : Items) → choice_of (array ds) ≡ choice_items ds
+choice_is : (ds : Items) → choice_of (array ds) ≡ whole next_choice ds
 unfolding choice_from
 choice_is no_items = refl
 choice_is (item d no_items) = sym (parts_short (natural_of d) None)
@@ -214,7 +207,7 @@ choice_is (item d (item e no_items)) = sym (parts_short (natural_of d) (naturals
 choice_is (item d (item e (item f no_items))) = refl
 choice_is (item d (item e (item f (item g ds)))) = rw (not_so_many (length (d ∷ e ∷ f ∷ g ∷ list_of ds)) 3 (omega arith)) refl
 
-pub collision_is : (ds : Items) → collision_of (array ds) ≡ collision_items ds
+collision_is : (ds : Items) → collision_of (array ds) ≡ whole next_collision ds
 unfolding collision_from choice_from
 collision_is no_items = refl
 collision_is (item d no_items) = ap (λ c. collision_parts c None) (sym (parts_short (natural_of d) None))
@@ -224,6 +217,22 @@ collision_is (item d (item e (item f (item g no_items)))) = sym (ap (collision_p
 collision_is (item d (item e (item f (item g (item h no_items))))) = sym (ap (collision_parts _) (parts_short (natural_of g) (naturals_of h)) ∙ orders_none _)
 collision_is (item d (item e (item f (item g (item h (item i no_items)))))) = all_parts (choice_parts (natural_of d) (naturals_of e) (naturals_of f)) (natural_of g) (naturals_of h) (naturals_of i)
 collision_is (item d (item e (item f (item g (item h (item i (item j ds))))))) = rw (not_so_many (length (d ∷ e ∷ f ∷ g ∷ h ∷ i ∷ j ∷ list_of ds)) 6 (omega arith)) refl
+
+pub choice_in_array : (d : Data) → in_array (whole next_choice) d ≡ choice_of d
+choice_in_array null = refl
+choice_in_array (boolean b) = refl
+choice_in_array (number n) = refl
+choice_in_array (string s) = refl
+choice_in_array (array ds) = sym (choice_is ds)
+choice_in_array (object ms) = refl
+
+pub collision_in_array : (d : Data) → in_array (whole next_collision) d ≡ collision_of d
+collision_in_array null = refl
+collision_in_array (boolean b) = refl
+collision_in_array (number n) = refl
+collision_in_array (string s) = refl
+collision_in_array (array ds) = sym (collision_is ds)
+collision_in_array (object ms) = refl
 
 -- ---- steps within such an array
 

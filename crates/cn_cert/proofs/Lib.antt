@@ -2,6 +2,7 @@ pub mod ArrayWalks
 pub mod Conversions
 pub mod DigitLemmas
 pub mod FindingRanges
+pub mod LineFeeds
 pub mod ObjectWalks
 pub mod PrintedValues
 pub mod RangeLemmas

@@ -1,5 +1,5 @@
 -- JSON values that are read back from their compact texts.
-use Rattle.std.proofs.Common.{◌≡◌, ℕ, suc, ◌^◌, ◌<◌, ◌≤◌, List, [], ◌∷◌, Bool, true, false, Some, option_map, option_and_then, map, IsUtf8, refl, ap, sym, ◌∙◌, arith, append-nil, decimal}
+use Rattle.std.proofs.Common.{◌≡◌, ℕ, suc, ◌^◌, ◌<◌, ◌≤◌, List, [], ◌∷◌, ◌++◌, Bool, true, false, Some, option_map, option_and_then, map, IsUtf8, refl, ap, sym, ◌∙◌, arith, append-nil, decimal}
 use Rattle.std.specs.List.{list_all}
 use Rattle.std.proofs.lemmas.Bool.{and_parts}
 use Rattle.std.proofs.lemmas.Fmt.{IsAscii-decimal}
@@ -17,6 +17,7 @@ use Rattle.serde_json.specs.View.{items_of}
 use Rattle.serde_json.specs.Written.{outline, items_outline, members_outline, comma_if, compact_text, items_text, members_text}
 use Rattle.serde_json.proofs.Numbers.{number_of-decimal}
 use Rattle.serde_json.proofs.Texts.{print-outline}
+use Rattle.cn_cert.proofs.LineFeeds.{line_tokens, same_read}
 
 -- the text is UTF-8 and has numbers where it should, the value nests at most so deep, and what was written is the value
 pub record IsReadBack (most : ℕ) (d : Data) : Type 0 where
@@ -104,3 +105,9 @@ read_back most d back few =
     let written = ap tokens (sym (print-outline d)) ∙ tokens-print (json_tokens (outline d)) (ArePrintable-json_tokens (outline d) back.numbers) ∙ sym (append-nil (json_tokens (outline d))) in
     ap (option_and_then of_json) (ap (option_and_then (λ p. json.if_last p.0 p.1))
     (ap (json.value 127) written ∙ value-json_tokens (outline d) 127 [] (omega (arith, back.shallow)))) ∙ back.same
+
+-- a line feed behind it changes nothing
+pub line_read_back : (most : ℕ) (d : Data) → IsReadBack most d → most ≤ 127 → read (compact_text d ++ 10 ∷ []) ≡ Some d
+line_read_back most d back few =
+    let printed = ap (λ t. tokens (t ++ 10 ∷ [])) (sym (print-outline d)) ∙ line_tokens (json_tokens (outline d)) (ArePrintable-json_tokens (outline d) back.numbers) ∙ ap tokens (print-outline d) in
+    same_read (compact_text d ++ 10 ∷ []) (compact_text d) printed ∙ read_back most d back few

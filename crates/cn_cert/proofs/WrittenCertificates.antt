@@ -1,5 +1,5 @@
 -- A certificate within the ranges is read back from its text.
-use Rattle.std.proofs.Common.{◌≡◌, ◌==◌, ◌||◌, ℕ, suc, ◌^◌, ◌<◌, ◌≤◌, List, [], ◌∷◌, Bool, true, false, Option, Some, None, Ok, codes, IsUtf8, nat_le, nat_lt, refl, arith, leb-true}
+use Rattle.std.proofs.Common.{◌≡◌, ◌==◌, ◌||◌, ℕ, suc, ◌^◌, ◌<◌, ◌≤◌, List, [], ◌∷◌, ◌++◌, Bool, true, false, Option, Some, None, Ok, codes, IsUtf8, nat_le, nat_lt, refl, arith, leb-true}
 use Rattle.std.specs.List.{list_all}
 use Rattle.std.proofs.lemmas.Bool.{and_parts, eqb-true}
 use Rattle.std.proofs.lemmas.Bool.Decides.{nat_tests}
@@ -14,7 +14,7 @@ use Rattle.cn_cert.specs.CertificateText.{number_data, numbers_data, number_or_n
 use Rattle.cn_cert.specs.Faults.{fault_of}
 use Rattle.cn_cert.specs.Ranges.{is_byte, is_number_in_range, is_short, is_choice_in_range, is_witness_in_range, is_collision_in_range, is_in_range}
 use Rattle.cn_cert.specs.Reading.{reading}
-use Rattle.cn_cert.proofs.PrintedValues.{IsReadBack, HoldReadBack, null_back, number_back, string_back, array_back, no_more, one_more, list_back, no_key, one_key, read_back}
+use Rattle.cn_cert.proofs.PrintedValues.{IsReadBack, HoldReadBack, null_back, number_back, string_back, array_back, no_more, one_more, list_back, no_key, one_key, read_back, line_read_back}
 use Rattle.cn_cert.proofs.SpelledCertificates as spelled
 
 -- ---- the parts, each within its range
@@ -111,3 +111,10 @@ pub written_is_read_back : (c : Certificate) → is_version c.version ≡ true �
 written_is_read_back c version fits =
     let back = certificate c version fits in
     spells (certificate_text c) c back.utf8 (read_back 4 (certificate_data c) back (omega arith)) version fits
+
+-- the same with a line feed behind the text
+pub line_is_read_back : (c : Certificate) → is_version c.version ≡ true → is_in_range c ≡ true → reading (certificate_text c ++ 10 ∷ []) ≡ Ok c
+line_is_read_back c version fits =
+    let back = certificate c version fits in
+    let utf8 = IsUtf8-append (certificate_text c) (10 ∷ []) back.utf8 (IsUtf8-are_ascii (10 ∷ []) refl) in
+    spells (certificate_text c ++ 10 ∷ []) c utf8 (line_read_back 4 (certificate_data c) back (omega arith)) version fits

@@ -1,13 +1,13 @@
 -- What a JSON value says where it has the shape of a certificate, before any number or name is looked at.
-use Rattle.std.specs.Prelude.{codes, ◌==◌, List, Option, Some, None, map, option_and_then, if◌then◌else◌}
+use Rattle.std.specs.Prelude.{codes, ◌==◌, List, Option, Some, None, option_and_then, if◌then◌else◌}
 use Rattle.serde_json.specs.Data.{Data, Members}
 use Rattle.serde_json.specs.Find.{as_str, as_object}
-use Rattle.cn_table.specs.Draft.{all_some, ◌>>=◌}
+use Rattle.cn_table.specs.Draft.{◌>>=◌}
 use Rattle.cn_choice.specs.Canonical.{Choice}
 use Rattle.cn_choice.specs.Collisions.{Collision}
 use Rattle.cn_cert.specs.Certificate.{Certificate}
 use Rattle.cn_cert.specs.Document.{members_len}
-use Rattle.cn_cert.specs.Values.{natural_of, items_of, items_of_len, natural_at, naturals_at, nullable, at_key}
+use Rattle.cn_cert.specs.Values.{natural_of, each_of, items_of_len, natural_at, naturals_at, nullable, at_key}
 
 -- a choice: an array `[state, a, b]`
 unfoldable pub choice_from : List Data → Option Choice
@@ -32,11 +32,8 @@ collision_from items = do
 abbrev pub collision_of : Data → Option Collision
 collision_of d = option_and_then collision_from (items_of_len 6 d)
 
-abbrev pub collisions_from : List Data → Option (List Collision)
-collisions_from items = all_some (map collision_of items)
-
 abbrev pub collisions_of : Data → Option (List Collision)
-collisions_of d = option_and_then collisions_from (items_of d)
+collisions_of d = each_of collision_of d
 
 -- a value of its kind at each of the six keys
 unfoldable pub draft_from : Members → Option Certificate

@@ -1,6 +1,7 @@
 -- What stands at the front of the tokens of a text, with the tokens behind it.
-use Rattle.std.specs.Prelude.{◌≡◌, ◌<◌, ◌-◌, map, bytes_eq, ℕ, List, length, Bool, true, false, Option, Some, None, option_map, codes, if◌then◌else◌}
-use Rattle.json.specs.Json.{items, members, value}
+use Rattle.std.specs.Prelude.{◌≡◌, ◌<◌, ◌-◌, map, bytes_eq, ℕ, List, length, Bool}
+use Rattle.std.specs.Prelude.{true, false, Option, Some, None, option_map, option_and_then, codes, if◌then◌else◌}
+use Rattle.json.specs.Json.{after_end_array, items, members, value}
 use Rattle.json.specs.Token.{Token}
 use Rattle.serde_json.specs.Data.{Data, null, array, Items, no_items, item, Members, no_members, member}
 use Rattle.serde_json.specs.Find.{as_str, as_array}
@@ -71,9 +72,13 @@ abbrev pub only_if : {X : Type 0} → Bool → Option X → Option X
 only_if true o = o
 only_if false o = None
 
--- a choice and nothing behind it
-abbrev pub choice_items : Items → Option Choice
-choice_items ds = only_if (is_over (next_choice ds).1) (next_choice ds).0
+-- such a thing and nothing behind it
+abbrev pub whole : {X : Type 0} → (Items → Option X × Items) → Items → Option X
+whole parts ds = only_if (is_over (parts ds).1) (parts ds).0
+
+-- what an array is by its items
+abbrev pub in_array : {X : Type 0} → (Items → Option X) → Data → Option X
+in_array by_items d = option_and_then by_items (as_array d)
 
 -- a collision has two such parts: a choice, and a process with two orders
 abbrev pub collision_parts : Option Choice → Option Choice → Option Collision
@@ -82,15 +87,27 @@ collision_parts choice orders = do
   o ← orders
   Some (record { choice = c; process = o.state; alpha = o.a; beta = o.b })
 
-abbrev pub collision_items : Items → Option Collision
-collision_items ds =
+abbrev pub next_collision : Items → Option Collision × Items
+next_collision ds =
     let choice = next_choice ds in
     let orders = next_choice choice.1 in
-    only_if (is_over orders.1) (collision_parts choice.0 orders.0)
+    (collision_parts choice.0 orders.0, orders.1)
 
 -- all of the items, where each is of a kind
 abbrev pub all_items : {X : Type 0} → (Data → Option X) → Items → Option (List X)
 all_items kind ds = all_some (map kind (list_of ds))
+
+-- an item is next in an array with more, and nothing was taken
+abbrev pub IsNext : Bool → List Token → List Token → Type 0
+IsNext more old new = (more ≡ true) × (after_end_array old ≡ None) × (new ≡ old)
+
+-- or no item is, and nothing is left of the array
+abbrev pub IsLast : Bool → List Token → List Token → Type 0
+IsLast more old new = (depth : ℕ) → rest_at more depth old ≡ Some (no_items, new)
+
+-- from the front of what is left of an array this was taken, and that is left
+abbrev pub Takes : {X : Type 0} → (Items → Option X × Items) → ℕ → Option X → Bool → List Token → Bool → List Token → Type 0
+Takes parts depth o more old more_after new = told parts (rest_at more depth old) ≡ told (λ ds. (o, ds)) (rest_at more_after depth new)
 
 -- an array was opened, or another value passed over
 abbrev pub Opens : Bool → ℕ → List Token → List Token → Type 0

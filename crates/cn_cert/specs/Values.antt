@@ -19,12 +19,12 @@ exactly len items = if length items == len then Some items else None
 abbrev pub items_of_len : ℕ → Data → Option (List Data)
 items_of_len len d = option_and_then (exactly len) (items_of d)
 
--- an array of unsigned integers
-abbrev pub naturals_from : List Data → Option (List ℕ)
-naturals_from items = all_some (map natural_of items)
+-- an array of values of a kind; of unsigned integers
+abbrev pub each_of : {X : Type 0} → (Data → Option X) → Data → Option (List X)
+each_of kind d = option_and_then (λ items. all_some (map kind items)) (items_of d)
 
 abbrev pub naturals_of : Data → Option (List ℕ)
-naturals_of d = option_and_then naturals_from (items_of d)
+naturals_of d = each_of natural_of d
 
 -- the same, at a place of an array
 abbrev pub natural_at : ℕ → List Data → Option ℕ

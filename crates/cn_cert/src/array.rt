@@ -1,33 +1,21 @@
 //! Arrays, an item after another.
-ghost use Rattle.std.specs.Prelude.{◌≡◌, ◌∷◌, false, true, IfOk, IfErr, Some, None, option_map, ℕ};
+ghost use Rattle.std.specs.Prelude.{◌≡◌, ◌∷◌, true, IfOk, IfErr, Some, None, option_map, ℕ};
 ghost use Rattle.std.specs.Bool.{MatchBool};
 ghost use Rattle.json.specs.Json.{after_end_array};
 ghost use Rattle.json.specs.Reads.{token_of};
 ghost use Rattle.serde_json.specs.Data.{no_items};
+ghost use Rattle.serde_json.specs.Find.{as_array};
 ghost use Rattle.cn_cert.specs.Reads.{Refuses};
-ghost use Rattle.cn_cert.specs.Tokens.{Opens, data_at, items_at, rest_at, told, next_item, next_choice, choice_parts, choice_items, collision_items, collision_parts, is_over, all_items};
-ghost use Rattle.cn_cert.specs.Values.{natural_of, naturals_of};
-ghost use Rattle.cn_cert.specs.Draft.{choice_of, collision_of, collisions_of};
+ghost use Rattle.cn_cert.specs.Tokens.{IsLast, IsNext, Opens, Takes, data_at, items_at, rest_at, told};
+ghost use Rattle.cn_cert.specs.Tokens.{next_item, choice_parts, collision_parts, is_over, all_items, in_array, whole};
+ghost use Rattle.cn_cert.specs.Values.{natural_of, naturals_of, each_of};
 
-use crate::draft::{DraftChoice, DraftCollision, Numbers};
+use crate::draft::{DraftChoice, DraftCollision};
 use crate::fault::CertFault;
-use crate::number;
+use crate::kind::{Kind, next};
 use crate::skip::{first, rest_of, rest_of_items};
 use json::{Reader, Token};
 use std::alloc::Global;
-
-/// The unsigned integer that a value is.
-pub(crate) fn natural(reader: &mut Reader<'_>, depth: usize) -> Result<Option<u64>, CertFault>
-    ensures ok { IfOk result (λ o. told natural_of (data_at depth reader.old) ≡ Some (o, reader.new)) }
-    ensures err { IfErr result (λ e. Refuses e (told natural_of (data_at depth reader.old))) }
-{
-    let token = first(reader)?;
-    if let Token::Number(text) = token {
-        return number::natural(text);
-    }
-    rest_of(reader, depth, token)?;
-    Ok(None)
-}
 
 /// Opens the array that begins with this token, or passes over the rest of another value.
 #[inline(always)]
@@ -45,18 +33,19 @@ fn opens(reader: &mut Reader<'_>, depth: usize, token: Token<'_>) -> Result<bool
     Ok(false)
 }
 
-fn natural_items(
+/// The items of an array that was opened.
+fn items<T: Kind>(
     alloc: Global,
     reader: &mut Reader<'_>,
     depth: usize,
-) -> Result<Option<Numbers>, CertFault>
-    ensures ok { IfOk result (λ o. told (all_items natural_of) (items_at depth reader.old) ≡ Some (option_map (λ v. v.items) o, reader.new)) }
-    ensures err { IfErr result (λ e. Refuses e (told (all_items natural_of) (items_at depth reader.old))) }
+) -> Result<Option<Vec<T>>, CertFault>
+    ensures ok { IfOk result (λ o. told (all_items T.kind) (items_at depth reader.old) ≡ Some (option_map (λ v. v.items) o, reader.new)) }
+    ensures err { IfErr result (λ e. Refuses e (told (all_items T.kind) (items_at depth reader.old))) }
 {
-    let mut found = Numbers::new(alloc);
+    let mut found = Vec::new(alloc);
     'items: while !reader.take_end_array() {
-        match natural(reader, depth)? {
-            Some(n) => found.push(n)?,
+        match next::<T>(alloc, reader, depth)? {
+            Some(item) => found.push(item)?,
             None => {
                 rest_of_items(reader, depth)?;
                 return Ok(None);
@@ -66,46 +55,47 @@ fn natural_items(
     Ok(Some(found))
 }
 
-/// The array of unsigned integers that a value is.
-fn naturals(
+/// The array of values of a kind that a value is.
+pub(crate) fn list<T: Kind>(
     alloc: Global,
     reader: &mut Reader<'_>,
     depth: usize,
-) -> Result<Option<Numbers>, CertFault>
-    ensures ok { IfOk result (λ o. told naturals_of (data_at depth reader.old) ≡ Some (option_map (λ v. v.items) o, reader.new)) }
-    ensures err { IfErr result (λ e. Refuses e (told naturals_of (data_at depth reader.old))) }
+) -> Result<Option<Vec<T>>, CertFault>
+    ensures ok { IfOk result (λ o. told (each_of T.kind) (data_at depth reader.old) ≡ Some (option_map (λ v. v.items) o, reader.new)) }
+    ensures err { IfErr result (λ e. Refuses e (told (each_of T.kind) (data_at depth reader.old))) }
 {
     let token = first(reader)?;
     if opens(reader, depth, token)? {
-        natural_items(alloc, reader, depth - 1)
+        items::<T>(alloc, reader, depth - 1)
     } else {
         Ok(None)
     }
 }
 
-/// Whether an item follows in the array, which is no longer open at its end.
+/// Whether an item follows in the array, which has no more at its end.
 #[inline(always)]
-fn has_next(reader: &mut Reader<'_>, open: &mut bool) -> bool
-    ensures value { result ≡ open.new }
-    ensures more { MatchBool result ((open.old ≡ true) × (after_end_array reader.old ≡ None) × (reader.new ≡ reader.old)) ((depth : ℕ) → rest_at open.old depth reader.old ≡ Some (no_items, reader.new)) }
+fn has_next(reader: &mut Reader<'_>, more: &mut bool) -> bool
+    ensures value { result ≡ more.new }
+    ensures more { MatchBool result (IsNext more.old reader.old reader.new) (IsLast more.old reader.old reader.new) }
 {
-    if *open && reader.take_end_array() {
-        *open = false;
+    if *more && reader.take_end_array() {
+        *more = false;
     }
-    *open
+    *more
 }
 
 #[inline(always)]
 fn next_natural(
+    alloc: Global,
     reader: &mut Reader<'_>,
     depth: usize,
-    open: &mut bool,
+    more: &mut bool,
 ) -> Result<Option<u64>, CertFault>
-    ensures ok { IfOk result (λ o. told (next_item natural_of) (rest_at open.old depth reader.old) ≡ told (λ ds. (o, ds)) (rest_at open.new depth reader.new)) }
-    ensures err { IfErr result (λ e. Refuses e (told (next_item natural_of) (rest_at open.old depth reader.old))) }
+    ensures ok { IfOk result (λ o. Takes (next_item natural_of) depth o more.old reader.old more.new reader.new) }
+    ensures err { IfErr result (λ e. Refuses e (told (next_item natural_of) (rest_at more.old depth reader.old))) }
 {
-    if has_next(reader, open) {
-        natural(reader, depth)
+    if has_next(reader, more) {
+        next::<u64>(alloc, reader, depth)
     } else {
         Ok(None)
     }
@@ -115,13 +105,81 @@ fn next_naturals(
     alloc: Global,
     reader: &mut Reader<'_>,
     depth: usize,
-    open: &mut bool,
-) -> Result<Option<Numbers>, CertFault>
-    ensures ok { IfOk result (λ o. told (next_item naturals_of) (rest_at open.old depth reader.old) ≡ told (λ ds. (option_map (λ v. v.items) o, ds)) (rest_at open.new depth reader.new)) }
-    ensures err { IfErr result (λ e. Refuses e (told (next_item naturals_of) (rest_at open.old depth reader.old))) }
+    more: &mut bool,
+) -> Result<Option<Vec<u64>>, CertFault>
+    ensures ok { IfOk result (λ o. Takes (next_item naturals_of) depth (option_map (λ v. v.items) o) more.old reader.old more.new reader.new) }
+    ensures err { IfErr result (λ e. Refuses e (told (next_item naturals_of) (rest_at more.old depth reader.old))) }
 {
-    if has_next(reader, open) {
-        naturals(alloc, reader, depth)
+    if has_next(reader, more) {
+        list::<u64>(alloc, reader, depth)
+    } else {
+        Ok(None)
+    }
+}
+
+/// Goes to the end of the array, and says whether no item stood before it.
+fn is_over(reader: &mut Reader<'_>, depth: usize, more: &mut bool) -> Result<bool, CertFault>
+    ensures ok { IfOk result (λ over. told is_over (rest_at more.old depth reader.old) ≡ Some (over, reader.new)) }
+    ensures err { IfErr result (λ e. Refuses e (told is_over (rest_at more.old depth reader.old))) }
+{
+    if has_next(reader, more) {
+        rest_of_items(reader, depth)?;
+        Ok(false)
+    } else {
+        Ok(true)
+    }
+}
+
+/// What an array is by a fixed number of items: a choice by three, a collision by six.
+trait Parts: Sized + Drop {
+    ghost use Rattle.std.specs.Prelude.{◌≡◌, Option, IfOk, IfErr};
+    ghost use Rattle.serde_json.specs.Data.{Items};
+    ghost use Rattle.cn_cert.specs.Reads.{Refuses};
+    ghost use Rattle.cn_cert.specs.Tokens.{Takes, rest_at, told};
+
+    ghost parts: { Items → Option Self × Items };
+
+    /// The next items as one such thing.
+    fn next(
+        alloc: Global,
+        reader: &mut Reader<'_>,
+        depth: usize,
+        more: &mut bool,
+    ) -> Result<Option<Self>, CertFault>
+        ensures ok { IfOk result (λ o. Takes parts depth o more.old reader.old more.new reader.new) }
+        ensures err { IfErr result (λ e. Refuses e (told parts (rest_at more.old depth reader.old))) };
+}
+
+/// The rest of an array as one such thing, with nothing behind it.
+fn rest_as<T: Parts>(
+    alloc: Global,
+    reader: &mut Reader<'_>,
+    depth: usize,
+) -> Result<Option<T>, CertFault>
+    ensures ok { IfOk result (λ o. told (whole T.parts) (items_at depth reader.old) ≡ Some (o, reader.new)) }
+    ensures err { IfErr result (λ e. Refuses e (told (whole T.parts) (items_at depth reader.old))) }
+{
+    let mut more = true;
+    let found = T::next(alloc, reader, depth, &mut more)?;
+    if is_over(reader, depth, &mut more)? {
+        Ok(found)
+    } else {
+        Ok(None)
+    }
+}
+
+/// The array that a value is as one such thing; the first token of the value was taken.
+fn array_as<T: Parts>(
+    alloc: Global,
+    reader: &mut Reader<'_>,
+    depth: usize,
+    token: Token<'_>,
+) -> Result<Option<T>, CertFault>
+    ensures ok { IfOk result (λ o. told (in_array (whole T.parts)) (data_at depth (token_of token.entry ∷ reader.old)) ≡ Some (o, reader.new)) }
+    ensures err { IfErr result (λ e. Refuses e (told (in_array (whole T.parts)) (data_at depth (token_of token.entry ∷ reader.old)))) }
+{
+    if opens(reader, depth, token)? {
+        rest_as::<T>(alloc, reader, depth - 1)
     } else {
         Ok(None)
     }
@@ -129,8 +187,8 @@ fn next_naturals(
 
 fn choice_of_parts(
     state: Option<u64>,
-    a: Option<Numbers>,
-    b: Option<Numbers>,
+    a: Option<Vec<u64>>,
+    b: Option<Vec<u64>>,
 ) -> Option<DraftChoice>
     ensures { result ≡ choice_parts state (option_map (λ v. v.items) a) (option_map (λ v. v.items) b) }
 {
@@ -141,66 +199,36 @@ fn choice_of_parts(
     })
 }
 
-/// The next three items as a choice.
-fn next_choice(
-    alloc: Global,
-    reader: &mut Reader<'_>,
-    depth: usize,
-    open: &mut bool,
-) -> Result<Option<DraftChoice>, CertFault>
-    ensures ok { IfOk result (λ o. told next_choice (rest_at open.old depth reader.old) ≡ told (λ ds. (o, ds)) (rest_at open.new depth reader.new)) }
-    ensures err { IfErr result (λ e. Refuses e (told next_choice (rest_at open.old depth reader.old))) }
-{
-    let state = next_natural(reader, depth, open)?;
-    let a = next_naturals(alloc, reader, depth, open)?;
-    let b = next_naturals(alloc, reader, depth, open)?;
-    Ok(choice_of_parts(state, a, b))
-}
+impl Parts for DraftChoice {
+    ghost use Rattle.cn_cert.specs.Tokens.{next_choice};
 
-/// Goes to the end of the array, and says whether no item stood before it.
-fn is_over(reader: &mut Reader<'_>, depth: usize, open: &mut bool) -> Result<bool, CertFault>
-    ensures ok { IfOk result (λ over. told is_over (rest_at open.old depth reader.old) ≡ Some (over, reader.new)) }
-    ensures err { IfErr result (λ e. Refuses e (told is_over (rest_at open.old depth reader.old))) }
-{
-    if has_next(reader, open) {
-        rest_of_items(reader, depth)?;
-        Ok(false)
-    } else {
-        Ok(true)
+    ghost parts = { next_choice };
+
+    fn next(
+        alloc: Global,
+        reader: &mut Reader<'_>,
+        depth: usize,
+        more: &mut bool,
+    ) -> Result<Option<DraftChoice>, CertFault> {
+        let state = next_natural(alloc, reader, depth, more)?;
+        let a = next_naturals(alloc, reader, depth, more)?;
+        let b = next_naturals(alloc, reader, depth, more)?;
+        Ok(choice_of_parts(state, a, b))
     }
 }
 
-fn choice_rest(
-    alloc: Global,
-    reader: &mut Reader<'_>,
-    depth: usize,
-) -> Result<Option<DraftChoice>, CertFault>
-    ensures ok { IfOk result (λ o. told choice_items (items_at depth reader.old) ≡ Some (o, reader.new)) }
-    ensures err { IfErr result (λ e. Refuses e (told choice_items (items_at depth reader.old))) }
-{
-    let mut open = true;
-    let choice = next_choice(alloc, reader, depth, &mut open)?;
-    if is_over(reader, depth, &mut open)? {
-        Ok(choice)
-    } else {
-        Ok(None)
-    }
-}
+impl Kind for DraftChoice {
+    ghost use Rattle.cn_cert.specs.Draft.{choice_of};
 
-/// The choice that a value is, of which the first token was taken.
-pub(crate) fn choice(
-    alloc: Global,
-    reader: &mut Reader<'_>,
-    depth: usize,
-    token: Token<'_>,
-) -> Result<Option<DraftChoice>, CertFault>
-    ensures ok { IfOk result (λ o. told choice_of (data_at depth (token_of token.entry ∷ reader.old)) ≡ Some (o, reader.new)) }
-    ensures err { IfErr result (λ e. Refuses e (told choice_of (data_at depth (token_of token.entry ∷ reader.old)))) }
-{
-    if opens(reader, depth, token)? {
-        choice_rest(alloc, reader, depth - 1)
-    } else {
-        Ok(None)
+    ghost kind = { choice_of };
+
+    fn of(
+        alloc: Global,
+        reader: &mut Reader<'_>,
+        depth: usize,
+        token: Token<'_>,
+    ) -> Result<Option<DraftChoice>, CertFault> {
+        array_as(alloc, reader, depth, token)
     }
 }
 
@@ -220,74 +248,34 @@ fn collision_of_parts(
     })
 }
 
-fn collision_rest(
-    alloc: Global,
-    reader: &mut Reader<'_>,
-    depth: usize,
-) -> Result<Option<DraftCollision>, CertFault>
-    ensures ok { IfOk result (λ o. told collision_items (items_at depth reader.old) ≡ Some (o, reader.new)) }
-    ensures err { IfErr result (λ e. Refuses e (told collision_items (items_at depth reader.old))) }
-{
-    let mut open = true;
-    let choice = next_choice(alloc, reader, depth, &mut open)?;
-    let orders = next_choice(alloc, reader, depth, &mut open)?;
-    if is_over(reader, depth, &mut open)? {
+impl Parts for DraftCollision {
+    ghost use Rattle.cn_cert.specs.Tokens.{next_collision};
+
+    ghost parts = { next_collision };
+
+    fn next(
+        alloc: Global,
+        reader: &mut Reader<'_>,
+        depth: usize,
+        more: &mut bool,
+    ) -> Result<Option<DraftCollision>, CertFault> {
+        let choice = DraftChoice::next(alloc, reader, depth, more)?;
+        let orders = DraftChoice::next(alloc, reader, depth, more)?;
         Ok(collision_of_parts(choice, orders))
-    } else {
-        Ok(None)
     }
 }
 
-fn collision(
-    alloc: Global,
-    reader: &mut Reader<'_>,
-    depth: usize,
-) -> Result<Option<DraftCollision>, CertFault>
-    ensures ok { IfOk result (λ o. told collision_of (data_at depth reader.old) ≡ Some (o, reader.new)) }
-    ensures err { IfErr result (λ e. Refuses e (told collision_of (data_at depth reader.old))) }
-{
-    let token = first(reader)?;
-    if opens(reader, depth, token)? {
-        collision_rest(alloc, reader, depth - 1)
-    } else {
-        Ok(None)
-    }
-}
+impl Kind for DraftCollision {
+    ghost use Rattle.cn_cert.specs.Draft.{collision_of};
 
-fn collision_list(
-    alloc: Global,
-    reader: &mut Reader<'_>,
-    depth: usize,
-) -> Result<Option<Vec<DraftCollision>>, CertFault>
-    ensures ok { IfOk result (λ o. told (all_items collision_of) (items_at depth reader.old) ≡ Some (option_map (λ v. v.items) o, reader.new)) }
-    ensures err { IfErr result (λ e. Refuses e (told (all_items collision_of) (items_at depth reader.old))) }
-{
-    let mut found = Vec::new(alloc);
-    'items: while !reader.take_end_array() {
-        match collision(alloc, reader, depth)? {
-            Some(entry) => found.push(entry)?,
-            None => {
-                rest_of_items(reader, depth)?;
-                return Ok(None);
-            }
-        }
-    }
-    Ok(Some(found))
-}
+    ghost kind = { collision_of };
 
-/// The collisions that a value lists.
-pub(crate) fn collisions(
-    alloc: Global,
-    reader: &mut Reader<'_>,
-    depth: usize,
-) -> Result<Option<Vec<DraftCollision>>, CertFault>
-    ensures ok { IfOk result (λ o. told collisions_of (data_at depth reader.old) ≡ Some (option_map (λ v. v.items) o, reader.new)) }
-    ensures err { IfErr result (λ e. Refuses e (told collisions_of (data_at depth reader.old))) }
-{
-    let token = first(reader)?;
-    if opens(reader, depth, token)? {
-        collision_list(alloc, reader, depth - 1)
-    } else {
-        Ok(None)
+    fn of(
+        alloc: Global,
+        reader: &mut Reader<'_>,
+        depth: usize,
+        token: Token<'_>,
+    ) -> Result<Option<DraftCollision>, CertFault> {
+        array_as(alloc, reader, depth, token)
     }
 }

@@ -38,7 +38,14 @@ impl Model for Certificate {
 
     ghost Value = { Certificate };
 
-    ghost view = { λ c. record { version = c.version; type_name = string_bytes c.type_name; limit = c.limit; number = c.number; witness = c.witness; collisions = c.collisions.items } };
+    ghost view = { λ c. record {
+      version = c.version;
+      type_name = string_bytes c.type_name;
+      limit = c.limit;
+      number = c.number;
+      witness = c.witness;
+      collisions = c.collisions.items;
+    } };
 }
 
 impl Certificate {

@@ -1,16 +1,12 @@
 //! What a text says, before any number is looked at.
-use smallvec::SmallVec;
 use std::marker::Model;
-
-/// A list of numbers, which is mostly short.
-pub(crate) type Numbers = SmallVec<u64, 4>;
 
 /// A choice before any number is looked at.
 #[derive(Drop)]
 pub(crate) struct DraftChoice {
     pub state: u64,
-    pub a: Numbers,
-    pub b: Numbers,
+    pub a: Vec<u64>,
+    pub b: Vec<u64>,
 }
 
 impl Model for DraftChoice {
@@ -26,8 +22,8 @@ impl Model for DraftChoice {
 pub(crate) struct DraftCollision {
     pub choice: DraftChoice,
     pub process: u64,
-    pub alpha: Numbers,
-    pub beta: Numbers,
+    pub alpha: Vec<u64>,
+    pub beta: Vec<u64>,
 }
 
 impl Model for DraftCollision {
@@ -55,5 +51,12 @@ impl Model for Draft {
 
     ghost Value = { Certificate };
 
-    ghost view = { λ c. record { version = c.version; type_name = string_bytes c.type_name; limit = c.limit; number = c.number; witness = c.witness; collisions = c.collisions.items } };
+    ghost view = { λ c. record {
+      version = c.version;
+      type_name = string_bytes c.type_name;
+      limit = c.limit;
+      number = c.number;
+      witness = c.witness;
+      collisions = c.collisions.items;
+    } };
 }

@@ -19,7 +19,8 @@ pub fn written_is_read_back()
 
 /// What a search finds for a table is in the ranges.
 pub fn finding_is_in_range()
-    ensures { (t : TypeTable) (limit : ℕ) (f : Finding) → IsTypeTable t → limit ≤ 8 → IsFindingFor t limit f → is_in_range (certificate_of t.name f) ≡ true }
+    ensures { (t : TypeTable) (limit : ℕ) (f : Finding) → IsTypeTable t → limit ≤ 8 → IsFindingFor t limit f
+        → is_in_range (certificate_of t.name f) ≡ true }
 {
     // The choices that were searched are choices of the table, and its processes are few.
     laws::live_list();

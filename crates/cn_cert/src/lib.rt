@@ -9,6 +9,8 @@ mod certificate;
 mod document;
 mod draft;
 mod fault;
+mod guess;
+mod kind;
 pub mod laws;
 mod number;
 mod object;

@@ -4,15 +4,14 @@ ghost use Rattle.serde_json.specs.Data.{no_members, object};
 ghost use Rattle.serde_json.specs.Find.{as_str};
 ghost use Rattle.serde_json.specs.View.{members_view};
 ghost use Rattle.cn_cert.specs.Document.{members_len};
-ghost use Rattle.cn_cert.specs.Draft.{choice_of, draft_of};
+ghost use Rattle.cn_cert.specs.Draft.{draft_of};
 ghost use Rattle.cn_cert.specs.Reads.{Refuses};
 ghost use Rattle.cn_cert.specs.Tokens.{data_at, members_at, told, nothing, slots_of, with_member, draft_parts};
-ghost use Rattle.cn_cert.specs.Values.{natural_of, nullable};
 
-use crate::array::{choice, collisions, natural};
+use crate::array::list;
 use crate::draft::{Draft, DraftChoice, DraftCollision};
 use crate::fault::CertFault;
-use crate::number;
+use crate::kind::{next, next_or_null};
 use crate::skip::{first, key, rest_of};
 use json::{Reader, Token};
 use serde_json::{Map, Value};
@@ -36,7 +35,14 @@ impl Model for Slots {
 
     ghost Value = { Slots };
 
-    ghost view = { λ s. record { collisions = option_map (λ v. v.items) s.collisions; limit = s.limit; number = s.number; type_name = option_map string_bytes s.type_name; version = s.version; witness = s.witness } };
+    ghost view = { λ s. record {
+      collisions = option_map (λ v. v.items) s.collisions;
+      limit = s.limit;
+      number = s.number;
+      type_name = option_map string_bytes s.type_name;
+      version = s.version;
+      witness = s.witness;
+    } };
 }
 
 fn no_slots() -> Slots
@@ -86,44 +92,6 @@ fn text(alloc: Global, reader: &mut Reader<'_>, depth: usize) -> Result<Option<S
     Ok(None)
 }
 
-/// The unsigned integer that a value is, or none for null.
-fn natural_or_null(reader: &mut Reader<'_>, depth: usize) -> Result<Option<Option<u64>>, CertFault>
-    ensures ok { IfOk result (λ o. told (nullable natural_of) (data_at depth reader.old) ≡ Some (o, reader.new)) }
-    ensures err { IfErr result (λ e. Refuses e (told (nullable natural_of) (data_at depth reader.old))) }
-{
-    let token = first(reader)?;
-    if let Token::Null = token {
-        return Ok(Some(None));
-    }
-    if let Token::Number(text) = token {
-        return match number::natural(text)? {
-            Some(n) => Ok(Some(Some(n))),
-            None => Ok(None),
-        };
-    }
-    rest_of(reader, depth, token)?;
-    Ok(None)
-}
-
-/// The choice that a value is, or none for null.
-fn choice_or_null(
-    alloc: Global,
-    reader: &mut Reader<'_>,
-    depth: usize,
-) -> Result<Option<Option<DraftChoice>>, CertFault>
-    ensures ok { IfOk result (λ o. told (nullable choice_of) (data_at depth reader.old) ≡ Some (o, reader.new)) }
-    ensures err { IfErr result (λ e. Refuses e (told (nullable choice_of) (data_at depth reader.old))) }
-{
-    let token = first(reader)?;
-    if let Token::Null = token {
-        return Ok(Some(None));
-    }
-    match choice(alloc, reader, depth, token)? {
-        Some(choice) => Ok(Some(Some(choice))),
-        None => Ok(None),
-    }
-}
-
 /// Reads the value at this key.
 fn read_member(
     alloc: Global,
@@ -136,17 +104,17 @@ fn read_member(
     ensures err { IfErr result (λ e. Refuses e (told nothing (data_at depth reader.old))) }
 {
     if key == "collisions" {
-        slots.collisions = collisions(alloc, reader, depth)?;
+        slots.collisions = list::<DraftCollision>(alloc, reader, depth)?;
     } else if key == "limit" {
-        slots.limit = natural(reader, depth)?;
+        slots.limit = next::<u64>(alloc, reader, depth)?;
     } else if key == "number" {
-        slots.number = natural_or_null(reader, depth)?;
+        slots.number = next_or_null::<u64>(alloc, reader, depth)?;
     } else if key == "type" {
         slots.type_name = text(alloc, reader, depth)?;
     } else if key == "version" {
-        slots.version = natural(reader, depth)?;
+        slots.version = next::<u64>(alloc, reader, depth)?;
     } else if key == "witness" {
-        slots.witness = choice_or_null(alloc, reader, depth)?;
+        slots.witness = next_or_null::<DraftChoice>(alloc, reader, depth)?;
     } else {
         let token = first(reader)?;
         rest_of(reader, depth, token)?;

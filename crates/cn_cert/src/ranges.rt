@@ -1,7 +1,8 @@
 //! From a draft to a certificate: numbers within their ranges, and a name.
 ghost use Rattle.std.specs.Prelude.{◌≡◌, true};
 ghost use Rattle.cn_cert.specs.Certificate.{is_version};
-ghost use Rattle.cn_cert.specs.Ranges.{within, is_byte, is_short, is_choice_in_range, collision_within, collisions_within, is_witness_in_range, is_number_in_range, certificate_within};
+ghost use Rattle.cn_cert.specs.Ranges.{within, is_byte, is_short, is_choice_in_range};
+ghost use Rattle.cn_cert.specs.Ranges.{collision_within, collisions_within, is_witness_in_range, is_number_in_range, certificate_within};
 ghost use Rattle.cn_cert.specs.Reads.{Reads};
 
 use crate::certificate::Certificate;
@@ -19,7 +20,7 @@ const GREATEST_STATE: u64 = 15;
 const GREATEST_NUMBER: u64 = 7;
 
 /// So many operations or processes stand in a list, and no more.
-const LONGEST_LIST: usize = 8;
+pub(crate) const LONGEST_LIST: usize = 8;
 
 fn byte(n: u64) -> Result<u8, CertFault>
     ensures { Reads CertFault.Range (λ n. n) result (within is_byte n) }

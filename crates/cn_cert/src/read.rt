@@ -7,6 +7,7 @@ ghost use Rattle.cn_cert.specs.declared.fault.CertFault.TheVariants.{NotJson, Ou
 use crate::certificate::Certificate;
 use crate::document::read_draft;
 use crate::fault::CertFault;
+use crate::guess::guessed;
 use crate::ranges;
 use std::alloc::Global;
 
@@ -35,6 +36,9 @@ pub fn read_certificate(alloc: Global, bytes: &[u8]) -> Result<Certificate, Cert
     ensures fault { IfErr result (λ e. (e ≡ OutOfMemory) ⊎ (reading bytes.now ≡ Err e)) }
     ensures told { ¬ IsUtf8 bytes.now → result ≡ Err NotJson }
 {
+    if let Some(certificate) = guessed(alloc, bytes) {
+        return Ok(certificate);
+    }
     let Some(draft) = read_draft(alloc, bytes)? else {
         return Err(CertFault::WrongShape);
     };

@@ -21,7 +21,8 @@ pub(crate) fn first<'a>(reader: &mut Reader<'a>) -> Result<Token<'a>, CertFault>
 
 /// The next key of an object, or none at its end.
 pub(crate) fn key<'a>(reader: &mut Reader<'a>) -> Result<Option<&'a str>, CertFault>
-    ensures { MatchResult result (λ k. read_key reader.old ≡ Some (option_map (λ s. s.now) k, reader.new)) (λ e. (e ≡ CertFault.NotJson) × (read_key reader.old ≡ None)) }
+    ensures { MatchResult result (λ k. read_key reader.old ≡ Some (option_map (λ s. s.now) k, reader.new))
+        (λ e. (e ≡ CertFault.NotJson) × (read_key reader.old ≡ None)) }
 {
     match reader.next_key() {
         Ok(key) => Ok(key),

@@ -3,7 +3,8 @@ ghost use Rattle.std.specs.Prelude.{◌≡◌, ◌++◌, true, false, decimal, s
 ghost use Rattle.serde_json.specs.Written.{compact_text, members_text};
 ghost use Rattle.serde_json.specs.Data.{string};
 ghost use Rattle.cn_cert.specs.Certificate.{is_version};
-ghost use Rattle.cn_cert.specs.CertificateText.{numbers_data, number_or_null, witness_data, collision_data, collisions_data, other_members, part_text, certificate_text};
+ghost use Rattle.cn_cert.specs.CertificateText.{numbers_data, number_or_null, witness_data, collision_data};
+ghost use Rattle.cn_cert.specs.CertificateText.{collisions_data, other_members, part_text, certificate_text};
 ghost use Rattle.cn_cert.specs.Ranges.{is_in_range};
 ghost use Rattle.cn_cert.specs.Reading.{reading};
 
@@ -148,7 +149,8 @@ fn push_rest(alloc: Global, out: &mut String, certificate: &Certificate) -> Resu
 pub fn write_certificate(alloc: Global, certificate: &Certificate) -> Result<String, CertFault>
     ensures text { IfOk result (λ s. string_bytes s ≡ certificate_text certificate.now) }
     // A certificate of version 1 or 2 whose parts are in their ranges is read back from its text.
-    ensures read_back { IfOk result (λ s. is_version certificate.now.version ≡ true → is_in_range certificate.now ≡ true → reading (string_bytes s) ≡ Ok certificate.now) }
+    ensures read_back { IfOk result (λ s. is_version certificate.now.version ≡ true → is_in_range certificate.now ≡ true
+        → reading (string_bytes s) ≡ Ok certificate.now) }
     ensures memory { IsOkUnless result CertFault.OutOfMemory }
 {
     laws::written_is_read_back();

@@ -6,7 +6,7 @@ use Rattle.cn_cert.proofs.array.is_over.Goals as goal
 
 pub returns-in_ok-rest_of_items-clause-ok : goal.returns-in_ok-rest_of_items-clause-ok
 returns-in_ok-rest_of_items-clause-ok c =
-    let more : (c.args.open.now ≡ true) × (after_end_array c.args.reader.now ≡ None) × (c.has_next.new.reader ≡ c.args.reader.now) = grind arith in
+    let more : (c.args.more.now ≡ true) × (after_end_array c.args.reader.now ≡ None) × (c.has_next.new.reader ≡ c.args.reader.now) = grind arith in
     let rest : told nothing (items_at c.args.depth c.has_next.new.reader) ≡ Some (tt, c.rest_of_items.new.reader) = grind arith in
     ap (λ b. told is_over (rest_at b c.args.depth c.args.reader.now)) more.0
     ∙ not_over c.args.depth c.args.reader.now c.rest_of_items.new.reader more.1 (ap (λ ts. told nothing (items_at c.args.depth ts)) (sym more.2) ∙ rest)

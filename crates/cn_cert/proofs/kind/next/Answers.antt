@@ -1,11 +1,11 @@
 use Rattle.std.proofs.Common.{◌≡◌, [], ap, ◌∙◌, arith}
-use Rattle.cn_cert.specs.Draft.{collisions_of}
 use Rattle.cn_cert.specs.Tokens.{data_at, told}
 use Rattle.cn_cert.proofs.Walks.{empty_told}
-use Rattle.cn_cert.proofs.array.collisions.Goals as goal
+use Rattle.cn_cert.proofs.kind.next.Goals as goal
 
 pub returns-in_err-token-clause-err : goal.returns-in_err-token-clause-err
-returns-in_err-token-clause-err c =
+returns-in_err-token-clause-err g c =
+    let kind = g.T.Kind.kind in
     let empty : c.args.reader.now ≡ [] = grind arith in
-    let none = ap (λ ts. told collisions_of (data_at c.args.depth ts)) empty ∙ empty_told collisions_of c.args.depth in
+    let none = ap (λ ts. told kind (data_at c.args.depth ts)) empty ∙ empty_told kind c.args.depth in
     grind (arith, none)

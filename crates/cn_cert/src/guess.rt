@@ -1,0 +1,258 @@
+//! Texts in the form in which certificates are written, by a way that is short and only guesses.
+//!
+//! What a text says is guessed from its digits, and the guess stands where its own text is that text.
+ghost use Rattle.std.specs.Prelude.{◌≡◌, ◌≤◌, ◌⊎◌, ◌++◌, ◌∷◌, [], IfSome, IsTrue, IsUtf8, None, Ok, true, string_bytes};
+ghost use Rattle.std.specs.List.{list_all};
+ghost use Rattle.cn_table.specs.Names.{is_name};
+ghost use Rattle.cn_cert.specs.Certificate.{is_version};
+ghost use Rattle.cn_cert.specs.CertificateText.{certificate_text};
+ghost use Rattle.cn_cert.specs.Ranges.{is_number_in_range, is_short, is_choice_in_range, is_collision_in_range, is_witness_in_range, is_in_range};
+ghost use Rattle.cn_cert.specs.Reading.{reading};
+
+use crate::certificate::Certificate;
+use crate::ranges::LONGEST_LIST;
+use crate::write::write_certificate;
+use arrayvec::ArrayVec;
+use cn_choice::{Choice, Collision};
+use cn_table::{State, is_name};
+use std::alloc::Global;
+
+/// The bytes of a text that are still to come.
+#[derive(Drop)]
+struct Bytes<'a> {
+    text: &'a [u8],
+    at: usize,
+}
+
+/// The digit that a byte is, if it is at most so great.
+#[inline(always)]
+fn digit(byte: u8, greatest: u8) -> Option<u8>
+    ensures { IfSome result (λ n. n ≤ greatest) }
+{
+    if byte >= b'0' && byte - b'0' <= greatest {
+        Some(byte - b'0')
+    } else {
+        None
+    }
+}
+
+impl<'a> Bytes<'a> {
+    /// Takes the next byte, or 0 at the end.
+    #[inline(always)]
+    fn next(&mut self) -> u8 {
+        if self.at < self.text.len() {
+            let byte = self.text[self.at];
+            self.at += 1;
+            byte
+        } else {
+            0
+        }
+    }
+
+    /// Passes this byte.
+    #[inline(always)]
+    fn pass(&mut self, byte: u8) -> Option<()> {
+        if self.next() == byte { Some(()) } else { None }
+    }
+
+    /// Passes these bytes.
+    fn pass_all(&mut self, bytes: &[u8]) -> Option<()> {
+        for byte in bytes {
+            self.pass(*byte)?;
+        }
+        Some(())
+    }
+
+    /// A list of digits from 0 to 7.
+    fn list(&mut self) -> Option<ArrayVec<u8, 8>>
+        ensures { IfSome result (λ v. is_short v.items ≡ true) }
+    {
+        let mut out = ArrayVec::new();
+        self.pass(b'[')?;
+        let mut byte = self.next();
+        if byte == b']' {
+            return Some(out);
+        }
+        for _ in 0..LONGEST_LIST {
+            out.push(digit(byte, 7)?);
+            match self.next() {
+                b',' => byte = self.next(),
+                b']' => return Some(out),
+                _ => return None,
+            }
+        }
+        None
+    }
+
+    /// The number of a state, and the comma behind it.
+    fn state(&mut self) -> Option<u8>
+        ensures { IfSome result (λ n. n ≤ 15) }
+    {
+        let first = digit(self.next(), 9)?;
+        let next = self.next();
+        if next == b',' {
+            return Some(first);
+        }
+        let second = digit(next, 5)?;
+        self.pass(b',')?;
+        if first == 1 { Some(10 + second) } else { None }
+    }
+
+    fn choice(&mut self) -> Option<Choice>
+        ensures { IfSome result (λ c. is_choice_in_range c ≡ true) }
+    {
+        let state = State(self.state()?);
+        let a = self.list()?;
+        self.pass(b',')?;
+        let b = self.list()?;
+        Some(Choice { state, a, b })
+    }
+
+    /// A collision, of which the first bracket was passed.
+    fn collision(&mut self) -> Option<Collision>
+        ensures { IfSome result (λ c. is_collision_in_range c ≡ true) }
+    {
+        let choice = self.choice()?;
+        self.pass(b',')?;
+        let process = digit(self.next(), 7)?;
+        self.pass(b',')?;
+        let alpha = self.list()?;
+        self.pass(b',')?;
+        let beta = self.list()?;
+        self.pass(b']')?;
+        Some(Collision {
+            choice,
+            process,
+            alpha,
+            beta,
+        })
+    }
+
+    /// The collisions of an array, of which the first bracket was passed.
+    fn collisions(&mut self, alloc: Global) -> Option<Vec<Collision>>
+        ensures { IfSome result (λ v. list_all is_collision_in_range v.items ≡ true) }
+    {
+        let mut found = Vec::new(alloc);
+        let mut byte = self.next();
+        for _ in 0..self.text.len() {
+            match byte {
+                b'[' => found.push(self.collision()?).ok()?,
+                b']' => return Some(found),
+                _ => return None,
+            }
+            byte = self.next();
+            if byte == b',' {
+                byte = self.next();
+            }
+        }
+        None
+    }
+
+    /// A digit, or null.
+    fn digit_or_null(&mut self) -> Option<Option<u8>>
+        ensures { IfSome result (λ o. is_number_in_range o ≡ true) }
+    {
+        let byte = self.next();
+        if byte == b'n' {
+            self.pass_all(b"ull")?;
+            return Some(None);
+        }
+        Some(Some(digit(byte, 9)?))
+    }
+
+    /// A name, and the quote behind it.
+    fn name(&mut self, alloc: Global) -> Option<String>
+        ensures { IfSome result (λ s. is_name (string_bytes s) ≡ true) }
+    {
+        let mut name = String::new(alloc);
+        for _ in 0..33 {
+            let byte = self.next();
+            if byte == b'"' {
+                return if is_name(name.as_str()) {
+                    Some(name)
+                } else {
+                    None
+                };
+            }
+            name.push(byte as char).ok()?;
+        }
+        None
+    }
+
+    fn choice_or_null(&mut self) -> Option<Option<Choice>>
+        ensures { IfSome result (λ o. is_witness_in_range o ≡ true) }
+    {
+        if self.next() == b'n' {
+            self.pass_all(b"ull")?;
+            return Some(None);
+        }
+        let choice = self.choice()?;
+        self.pass(b']')?;
+        Some(Some(choice))
+    }
+
+    fn certificate(&mut self, alloc: Global) -> Option<Certificate>
+        ensures { IfSome result (λ c. (is_version c.version ≡ true) × (is_in_range c ≡ true)) }
+    {
+        self.pass_all(b"{\"collisions\":[")?;
+        let collisions = self.collisions(alloc)?;
+        self.pass_all(b",\"limit\":")?;
+        let limit = digit(self.next(), 9)?;
+        self.pass_all(b",\"number\":")?;
+        let number = self.digit_or_null()?;
+        self.pass_all(b",\"type\":\"")?;
+        let type_name = self.name(alloc)?;
+        self.pass_all(b",\"version\":")?;
+        let version = digit(self.next(), 2)?;
+        self.pass_all(b",\"witness\":")?;
+        let witness = self.choice_or_null()?;
+        if version == 0 {
+            return None;
+        }
+        Some(Certificate {
+            version,
+            type_name,
+            limit,
+            number,
+            witness,
+            collisions,
+        })
+    }
+}
+
+/// A text without the line feed at its end, if it has one.
+fn without_line_feed(bytes: &[u8]) -> &[u8]
+    ensures { (bytes.now ≡ result.now) ⊎ (bytes.now ≡ result.now ++ 10 ∷ []) }
+{
+    match bytes.split_last() {
+        Some((b'\n', front)) => front,
+        _ => bytes,
+    }
+}
+
+/// Whether this is the text of the certificate; memory may be short for a yes.
+fn is_text_of(alloc: Global, certificate: &Certificate, bytes: &[u8]) -> bool
+    ensures { IsTrue result → bytes.now ≡ certificate_text certificate.now }
+{
+    match write_certificate(alloc, certificate) {
+        Ok(text) => bytes == text.as_bytes(),
+        Err(_) => false,
+    }
+}
+
+/// The certificate whose text this is, perhaps with a line feed behind it, where it was found so.
+pub(crate) fn guessed(alloc: Global, bytes: &[u8]) -> Option<Certificate>
+    ensures certificate { IfSome result (λ c. reading bytes.now ≡ Ok c) }
+    ensures told { ¬ IsUtf8 bytes.now → result ≡ None }
+{
+    if str::from_utf8(bytes).is_err() {
+        return None;
+    }
+    let line = without_line_feed(bytes);
+    let guess = Bytes { text: line, at: 0 }.certificate(alloc)?;
+    if is_text_of(alloc, &guess, line) {
+        Some(guess)
+    } else {
+        None
+    }
+}

@@ -1,0 +1,84 @@
+//! Values of a kind, by their tokens.
+ghost use Rattle.std.specs.Prelude.{◌≡◌, ◌∷◌, IfOk, IfErr, Some};
+ghost use Rattle.json.specs.Reads.{token_of};
+ghost use Rattle.cn_cert.specs.Reads.{Refuses};
+ghost use Rattle.cn_cert.specs.Tokens.{data_at, told};
+ghost use Rattle.cn_cert.specs.Values.{nullable};
+
+use crate::fault::CertFault;
+use crate::number;
+use crate::skip::{first, rest_of};
+use json::{Reader, Token};
+use std::alloc::Global;
+
+/// A kind of value in a certificate: numbers, choices and collisions.
+pub(crate) trait Kind: Sized + Drop {
+    ghost use Rattle.std.specs.Prelude.{◌≡◌, ◌∷◌, Option, IfOk, IfErr, Some};
+    ghost use Rattle.json.specs.Reads.{token_of};
+    ghost use Rattle.serde_json.specs.Data.{Data};
+    ghost use Rattle.cn_cert.specs.Reads.{Refuses};
+    ghost use Rattle.cn_cert.specs.Tokens.{data_at, told};
+
+    ghost kind: { Data → Option Self };
+
+    /// What the value is, of which the first token was taken, where it is of the kind.
+    fn of(
+        alloc: Global,
+        reader: &mut Reader<'_>,
+        depth: usize,
+        token: Token<'_>,
+    ) -> Result<Option<Self>, CertFault>
+        ensures ok { IfOk result (λ o. told kind (data_at depth (token_of token.entry ∷ reader.old)) ≡ Some (o, reader.new)) }
+        ensures err { IfErr result (λ e. Refuses e (told kind (data_at depth (token_of token.entry ∷ reader.old)))) };
+}
+
+impl Kind for u64 {
+    ghost use Rattle.cn_cert.specs.Values.{natural_of};
+
+    ghost kind = { natural_of };
+
+    fn of(
+        _alloc: Global,
+        reader: &mut Reader<'_>,
+        depth: usize,
+        token: Token<'_>,
+    ) -> Result<Option<u64>, CertFault> {
+        if let Token::Number(text) = token {
+            return number::natural(text);
+        }
+        rest_of(reader, depth, token)?;
+        Ok(None)
+    }
+}
+
+/// The next value, where it is of the kind.
+pub(crate) fn next<T: Kind>(
+    alloc: Global,
+    reader: &mut Reader<'_>,
+    depth: usize,
+) -> Result<Option<T>, CertFault>
+    ensures ok { IfOk result (λ o. told T.kind (data_at depth reader.old) ≡ Some (o, reader.new)) }
+    ensures err { IfErr result (λ e. Refuses e (told T.kind (data_at depth reader.old))) }
+{
+    let token = first(reader)?;
+    T::of(alloc, reader, depth, token)
+}
+
+/// The next value, where it is of the kind, or none for null.
+pub(crate) fn next_or_null<T: Kind>(
+    alloc: Global,
+    reader: &mut Reader<'_>,
+    depth: usize,
+) -> Result<Option<Option<T>>, CertFault>
+    ensures ok { IfOk result (λ o. told (nullable T.kind) (data_at depth reader.old) ≡ Some (o, reader.new)) }
+    ensures err { IfErr result (λ e. Refuses e (told (nullable T.kind) (data_at depth reader.old))) }
+{
+    let token = first(reader)?;
+    if let Token::Null = token {
+        return Ok(Some(None));
+    }
+    match T::of(alloc, reader, depth, token)? {
+        Some(value) => Ok(Some(Some(value))),
+        None => Ok(None),
+    }
+}
