@@ -1,5 +1,6 @@
 -- Commands that serve by threads, and fail in that, or cannot write what it came to.
 use Rattle.std.proofs.Common.{◌≡◌, ◌⊎◌, inl, inr, ℕ, List, Option, Some, MatchOption, IsSomeAnd, sym, subst}
+use Rattle.cn_log.specs.Opening.{Log}
 use Rattle.cn_proto.specs.Plan.{Plan}
 use Rattle.cn_app.specs.Calls.{calls_of}
 use Rattle.cn_app.specs.Events.{capacity_of}
@@ -34,9 +35,9 @@ module _ (capacity calls : List ℕ) (k : ℕ) (cs : List (List ℕ)) (capacity_
       (fails_for_more table certificate object start e (λ plan o _. AreNotServed plan o cs e) (λ plan o _. ThreadsFail plan o cs e) (λ plan o q m. inl m) h))
 
   -- all else went well
-  pub writing_fails : (e : AppFault) (lines : List ℕ) (outcome : Outcome) → e ≡ Write
-      → GivesObject table certificate object (λ t c o. (plan : Plan) × IsPlanOf t c plan × StartGives o start (λ q. IsServedByThreads plan o q k cs lines outcome))
+  pub writing_fails : (gates : Log → Type 0) (e : AppFault) (lines : List ℕ) (outcome : Outcome) → e ≡ Write
+      → GivesObject table certificate object (λ t c o. (plan : Plan) × IsPlanOf t c plan × StartGives o start (λ q. IsServedByThreads gates plan o q k cs lines outcome))
       → (e ≡ OutOfMemory) ⊎ CallsFail capacity calls e (λ n xs. FailsObject table certificate object e (λ t c o. PlanFails t c e (λ plan. StartFails o start e (λ _. ThreadsFail plan o xs e))))
-  writing_fails e lines outcome is h =
+  writing_fails gates e lines outcome is h =
       inr (calls_fail_later e (λ n xs. FailsObject table certificate object e (λ t c o. PlanFails t c e (λ plan. StartFails o start e (λ _. ThreadsFail plan o xs e))))
-      (fails_at_last table certificate object start e (λ plan o q. IsServedByThreads plan o q k cs lines outcome) (λ plan o _. ThreadsFail plan o cs e) (λ plan o q served. inr (served.fit, is)) h))
+      (fails_at_last table certificate object start e (λ plan o q. IsServedByThreads gates plan o q k cs lines outcome) (λ plan o _. ThreadsFail plan o cs e) (λ plan o q served. inr (served.fit, is)) h))

@@ -7,9 +7,7 @@ use Rattle.cn_choice.specs.Live.{IsLive, live_choices}
 use Rattle.cn_choice.specs.RawChoices.{IsRawChoice}
 use Rattle.cn_search.specs.Evidence.{IsFindingFor, IsFirstWitness, choices_for}
 use Rattle.cn_search.specs.Finding.{Finding}
-use Rattle.cn_proto.specs.Plan.{Plan, IsPlan, nodes_of, processes_of, protocol_of}
-use Rattle.cn_proto.specs.Sound.{IsSound}
-use Rattle.cn_proto.specs.Tournament.{team_of}
+use Rattle.cn_proto.specs.Plan.{Plan, IsPlan}
 use Rattle.cn_log.specs.Linearized.{IsLinearized}
 use Rattle.cn_log.specs.Log.{IsEventList}
 use Rattle.cn_log.specs.Opening.{IsOpening, Opening, opening_of, setting_of}
@@ -24,13 +22,9 @@ AreListed = (t : TypeTable) (n : ℕ) (c : Choice) → Contains (live_choices t 
 abbrev pub AreLinearized : Type 0
 AreLinearized = (o : Opening) (events : List Event) → IsOpening o → IsEventList (setting_of o) events → IsLinearized (setting_of o) events
 
--- every plan is sound
-abbrev pub AreSound : Type 0
-AreSound = (p : Plan) → IsPlan p → IsSound (protocol_of p) (processes_of p) (nodes_of p) (team_of (length p.choice.a))
-
-pub serves_objects : AreSound → AreLinearized → (plan : Plan) → IsPlan plan → ServesObjects plan
-serves_objects sound linearized plan is object start capacity events known some few may =
-    linearized (opening_of plan object start capacity) events (record { plan = is; sound = sound plan is; start = known; some = some; few = few }) may
+pub serves_objects : AreLinearized → (plan : Plan) → IsPlan plan → ServesObjects plan
+serves_objects linearized plan is object start capacity events known some few may =
+    linearized (opening_of plan object start capacity) events (record { plan = is; start = known; some = some; few = few }) may
 
 size_of : AreListed → (t : TypeTable) (n : ℕ) (w : Choice) → IsFirstWitness t (choices_for t n) w → n ≡ length w.a + length w.b
 size_of listed t n w first =

@@ -1,18 +1,18 @@
 -- From a hall that was opened to the log that was closed.
 use Rattle.std.proofs.Common.{◌≡◌, ◌≢◌, ℕ, zero, suc, ◌<◌, true, false, List, [], ◌∷◌, Some, Vec, All, length, get_or, refl, sym, ap, ◌∙◌, subst, arith}
-use Rattle.std.proofs.lemmas.List.Folds.{list_any_at}
 use Rattle.std.proofs.lemmas.Option.{get_or_from_slice_get, slice_get-get_or, slice_get_within}
 use Rattle.std.specs.Global.{Global}
-use Rattle.std.specs.List.{list_any, slice_get}
+use Rattle.std.specs.List.{slice_get}
 use Rattle.cn_log.specs.Callers.{BeginsWith}
-use Rattle.cn_log.specs.Log.{entries}
+use Rattle.cn_log.specs.Log.{batches}
 use Rattle.cn_log.specs.Opening.{Log, setting}
 use Rattle.cn_hall.specs.Answers.{own}
 use Rattle.cn_hall.specs.Rule.{Carries}
-use Rattle.cn_hall.specs.Seats.{HallId, IsSeatOf, SeatState, seat_state, seen}
+use Rattle.cn_hall.specs.declared.call.Go.{Go}
+use Rattle.cn_proto.specs.Plan.{processes_of}
+use Rattle.cn_hall.specs.Seats.{HallId, IsSeatOf, SeatState, seat_state, slots_seen}
 use Rattle.cn_app.specs.Serving.{HasServed, replies_in}
-use Rattle.cn_app.specs.Workers.{HasWorked, HaveAllWorked, MayAllWork, MayWork, is_out_of_memory}
-use Rattle.cn_app.specs.declared.workers.End.TheVariants.{OutOfMemory}
+use Rattle.cn_app.specs.Workers.{AllGatesWereAsked, EachHasOneGate, HasWorked, HaveAllWorked, MayAllWork, MayWork}
 use Rattle.cn_app.specs.declared.workers.Worked.{Worked}
 use Rattle.cn_app.proofs.ServingLemmas.{has_served_at}
 
@@ -26,13 +26,6 @@ all_at P xs h k d less = h k (get_or xs k d) (slice_get-get_or xs k d less)
 
 at_place : {A : Type 0} (P : A → Type 0) (xs : List A) → All P xs → (k : ℕ) (x : A) → slice_get xs k ≡ Some x → P x
 at_place P xs h k x at = subst P (get_or_from_slice_get xs k x x at) (h k x (slice_get_within xs k x at))
-
--- where no call found no memory
-pub none_out_of_memory : (worked : List Worked) → list_any (λ (w : Worked). is_out_of_memory w.end) worked ≡ false → All (λ (w : Worked). w.end ≢ OutOfMemory) worked
-none_out_of_memory worked none k d less is =
-    let found : list_any (λ (w : Worked). is_out_of_memory w.end) worked ≡ true = list_any_at (λ (w : Worked). is_out_of_memory w.end) worked k d less (ap is_out_of_memory is) in
-    let wrong : true ≡ false = sym found ∙ none in
-    absurd (cc)
 
 -- place p of the seats holds that of process p, over a core with a list of calls for each
 module _ (hall : HallId) (core : Log) (calls : List (Vec ℕ Global)) (before : List SeatState) (count : length before ≡ length calls) (opened : (p : ℕ) → p < length calls → slice_get before p ≡ Some (seat_state hall p core)) where
@@ -66,11 +59,29 @@ module _ (hall : HallId) (core : Log) (calls : List (Vec ℕ Global)) (before : 
           let h = worked_there 0 t.0 t.1 in
           (at_place (λ (u : SeatState). Carries u.process u.core closed) after carried 0 t.0 t.1).0 ∙ h.2.same.2
 
-      pub serve_all : All (λ (t : SeatState). BeginsWith (entries (setting closed) closed.schedule) (seen t)) after → All (λ (t : SeatState). BeginsWith (replies_in closed t.process) (own t)) after → All (λ (w : Worked). w.end ≢ OutOfMemory) worked
+      pub serve_all : All (λ (t : SeatState). BeginsWith (batches (setting closed) closed.schedule) (slots_seen t)) after → All (λ (t : SeatState). BeginsWith (replies_in closed t.process) (own t)) after
           → (p : ℕ) (c : Vec ℕ Global) (w : Worked) → slice_get calls p ≡ Some c → slice_get worked p ≡ Some w → HasServed closed p c.items w.replies.items w.end
-      serve_all begins answers memory p c w got at =
+      serve_all begins answers p c w got at =
           let t = some_at after p (omega (arith, slice_get_within worked p w at, also, more)) in
           let h = worked_at p c t.0 w got t.1 at in
           has_served_at closed c.items (seat_state hall p core) t.0 w.replies.items w.end h (at_place (λ (u : SeatState). Carries u.process u.core closed) after carried p t.0 t.1) p h.same.1
-          (at_place (λ (u : SeatState). BeginsWith (entries (setting closed) closed.schedule) (seen u)) after begins p t.0 t.1) (at_place (λ (u : SeatState). BeginsWith (replies_in closed u.process) (own u)) after answers p t.0 t.1)
-          (at_place (λ (v : Worked). v.end ≢ OutOfMemory) worked memory p w at)
+          (at_place (λ (u : SeatState). BeginsWith (batches (setting closed) closed.schedule) (slots_seen u)) after begins p t.0 t.1) (at_place (λ (u : SeatState). BeginsWith (replies_in closed u.process) (own u)) after answers p t.0 t.1)
+
+      -- and each process has had the gate at its place
+      pub one_gate_each : {G : Type 0} (asks : G → SeatState → ℕ → G → Type 0) (says : G → Go) (made : ℕ → G → Type 0) (gates : List G) → length gates ≡ length before → AllGatesWereAsked asks says before gates after
+          → ((p : ℕ) (g : G) → slice_get gates p ≡ Some g → made p g) → core.schedule ≡ [] → processes_of closed.opening.plan ≡ length calls → EachHasOneGate asks says made closed
+      one_gate_each asks says made gates many all made_for empty processes p less =
+          let t = some_at after p (omega (arith, less, processes, also, count)) in
+          let g = some_at gates p (omega (arith, less, processes, many, count)) in
+          let w = worked_there p t.0 t.1 in
+          let is : t.0.process ≡ p = w.2.same.1 in
+          record {
+            gate = g.0;
+            before = seat_state hall p core;
+            after = t.0;
+            made_for = made_for p g.0 g.1;
+            process = (refl, is);
+            first = empty;
+            carried = subst (λ q. Carries q t.0.core closed) is (at_place (λ (u : SeatState). Carries u.process u.core closed) after carried p t.0 t.1);
+            asked = all p (seat_state hall p core) t.0 g.0 (opened p (omega (arith, less, processes))) g.1 t.1;
+          }

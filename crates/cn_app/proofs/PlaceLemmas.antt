@@ -4,7 +4,8 @@ use Rattle.std.proofs.lemmas.Option.{slice_get_read, slice_get_within}
 use Rattle.std.specs.Global.{Global}
 use Rattle.std.specs.List.{slice_get}
 use Rattle.cn_hall.specs.Seats.{HallId, SeatState}
-use Rattle.cn_app.specs.Workers.{HasRoom, HasWorked, HaveAllWorked, HaveRoom, MayAllWork, MayWork}
+use Rattle.cn_hall.specs.declared.call.Go.{Go}
+use Rattle.cn_app.specs.Workers.{AllGatesWereAsked, GateWasAsked, HasRoom, HasWorked, HaveAllWorked, HaveRoom, MayAllWork, MayWork}
 use Rattle.cn_app.specs.declared.workers.Worked.{Worked}
 
 at_front : {A : Type 0} (xs ys : List A) (k : ℕ) (x : A) → slice_get xs k ≡ Some x → slice_get (xs ++ ys) k ≡ Some x
@@ -67,3 +68,18 @@ module _ (calls : List (Vec ℕ Global)) where
       by_place : (slice_get rooms p ≡ Some v) ⊎ ((p ≡ length rooms) × (w ≡ v)) → HasRoom c.items v
       by_place (inl h) = room p c v got h
       by_place (inr h) = let same : Some d ≡ Some c = sym there ∙ ap (slice_get calls) (sym h.0) ∙ got in let is : d ≡ c = cc in subst (λ (z : Vec ℕ Global × Worked). HasRoom z.0.items z.1) (λ i. (is i, h.1 i)) has
+
+-- the gate of one seat more was asked
+module _ {G : Type 0} (asks : G → SeatState → ℕ → G → Type 0) (says : G → Go) (before after : List SeatState) (gates : List G) (s t : SeatState) (g : G)
+    (count : length after ≡ length before) (also : length gates ≡ length before) where
+  pub one_more_asked : AllGatesWereAsked asks says before gates after → GateWasAsked asks says s g t → AllGatesWereAsked asks says (before ++ s ∷ []) (gates ++ g ∷ []) (after ++ t ∷ [])
+  one_more_asked all last p x y z at_x at_z at_y = by_place (at_pushed before s p x at_x) (at_pushed after t p y at_y) (at_pushed gates g p z at_z)
+    where
+      by_place : (slice_get before p ≡ Some x) ⊎ ((p ≡ length before) × (s ≡ x)) → (slice_get after p ≡ Some y) ⊎ ((p ≡ length after) × (t ≡ y)) → (slice_get gates p ≡ Some z) ⊎ ((p ≡ length gates) × (g ≡ z))
+          → GateWasAsked asks says x z y
+      by_place (inl a) (inl b) (inl d) = all p x y z a d b
+      by_place (inl a) (inr b) d = absurd (omega (arith, slice_get_within before p x a, b.0, count))
+      by_place (inl a) b (inr d) = absurd (omega (arith, slice_get_within before p x a, d.0, also))
+      by_place (inr a) (inl b) d = absurd (omega (arith, slice_get_within after p y b, a.0, count))
+      by_place (inr a) b (inl d) = absurd (omega (arith, slice_get_within gates p z d, a.0, also))
+      by_place (inr a) (inr b) (inr d) = subst (λ (u : SeatState × SeatState × G). GateWasAsked asks says u.0 u.2 u.1) (λ i. (a.1 i, b.1 i, d.1 i)) last

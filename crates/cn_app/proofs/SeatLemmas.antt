@@ -5,7 +5,7 @@ use Rattle.cn_log.specs.Callers.{BeginsWith}
 use Rattle.cn_hall.specs.Calls.{CallFails, Called, IsSameSeat}
 use Rattle.cn_hall.specs.Seats.{SeatState}
 use Rattle.cn_hall.specs.declared.call.CallFault.{CallFault}
-use Rattle.cn_hall.specs.declared.call.CallFault.TheVariants.{LogFull, Stopped, OutOfMemory}
+use Rattle.cn_hall.specs.declared.call.CallFault.TheVariants.{LogFull, Stopped}
 use Rattle.cn_hall.specs.declared.call.Reply.{Reply}
 use Rattle.cn_app.specs.Serving.{invoked}
 use Rattle.cn_app.specs.Workers.{EndsAt, end_by}
@@ -38,10 +38,8 @@ module _ (calls : List ℕ) (i operation : ℕ) (more : take (i + 1) calls ≡ t
   pub begins_left : (fault : CallFault) → CallFails operation fault s t → BeginsWith calls (invoked t.process t.core.schedule)
   begins_left LogFull h = begins_once (made_or_not h.2)
   begins_left Stopped h = begins_once (inr h.0)
-  begins_left OutOfMemory h = begins_once (made_or_not h)
 
   -- and ends them so
   pub ends_left : i < length calls → (replies : List Reply) → length replies ≡ i → (fault : CallFault) → CallFails operation fault s t → EndsAt calls t replies (end_by fault)
   ends_left less replies count LogFull h = (h.0.1, omega (arith, less, count))
   ends_left less replies count Stopped h = ap length (one_more h.0) ∙ length-take-le (i + 1) calls (omega (arith, less)) ∙ ap (λ n. n + 1) (sym count)
-  ends_left less replies count OutOfMemory h = tt

@@ -8,6 +8,7 @@ use Rattle.cn_log.specs.Bypass.{IsBypassBounded}
 use Rattle.cn_log.specs.Linearized.{IsLinearized}
 use Rattle.cn_log.specs.Log.{IsEventList}
 use Rattle.cn_log.specs.Opening.{Log, Opening, opening_of, setting}
+use Rattle.cn_log.specs.OwnSteps.{IsWaitFree}
 use Rattle.cn_app.specs.Calls.{calls_fit}
 use Rattle.cn_app.specs.Serve.{left_lines, log_after, outcome_of, EachHasResponses, HaveResponses, IsServedByThreads}
 use Rattle.cn_app.specs.Serving.{HasServed}
@@ -23,34 +24,38 @@ at_place {V} items calls p c there = by_option (slice_get calls p) refl (sym (sl
     by_option (Some v) is h = (v, is, cc)
 
 -- what is known of the log, in which each process has made its calls as far as they came
-pub record HasLeft (core : Log) (object : TypeTable) (start : ℕ) (calls : List (Vec ℕ Global)) (worked : List Worked) (lines : List ℕ) : Type 0 where
+pub record HasLeft (gates : Log → Type 0) (core : Log) (object : TypeTable) (start : ℕ) (calls : List (Vec ℕ Global)) (worked : List Worked) (lines : List ℕ) : Type 0 where
   pub may_come : IsEventList (setting core) core.schedule
   pub linearized : IsLinearized (setting core) core.schedule
   pub bypass : IsBypassBounded (setting core) core.schedule
+  pub wait_free : IsWaitFree (setting core) core.schedule
   pub served : (p : ℕ) (c : Vec ℕ Global) (w : Worked) → slice_get calls p ≡ Some c → slice_get worked p ≡ Some w → HasServed core p c.items w.replies.items w.end
+  pub gated : gates core
   pub written : lines ≡ left_lines object start worked core
 
 with_opening : (core : Log) (o : Opening) → core.opening ≡ o → core ≡ record { opening = o; schedule = core.schedule }
 with_opening core o is = ap (λ (x : Opening). let made : Log = record { opening = x; schedule = core.schedule } in made) is
 
-pub served_by_threads : (plan : Plan) (object : TypeTable) (start capacity : ℕ) (calls : List (Vec ℕ Global)) (core : Log) (worked : List Worked) (lines : List ℕ) (outcome : Outcome)
+pub served_by_threads : (gates : Log → Type 0) (plan : Plan) (object : TypeTable) (start capacity : ℕ) (calls : List (Vec ℕ Global)) (core : Log) (worked : List Worked) (lines : List ℕ) (outcome : Outcome)
     → core.opening ≡ opening_of plan object start capacity → calls_fit plan object (map (λ list. list.items) calls) ≡ true → length worked ≡ length calls
-    → HasLeft core object start calls worked lines → outcome ≡ outcome_of worked
-    → IsServedByThreads plan object start capacity (map (λ list. list.items) calls) lines outcome
-served_by_threads plan object start capacity calls core worked lines outcome opened fit many left ended =
-    let now : HasLeft (log_after plan object start capacity core.schedule) object start calls worked lines =
-    subst (λ (x : Log). HasLeft x object start calls worked lines) (with_opening core (opening_of plan object start capacity) opened) left in
+    → HasLeft gates core object start calls worked lines → outcome ≡ outcome_of worked
+    → IsServedByThreads gates plan object start capacity (map (λ list. list.items) calls) lines outcome
+served_by_threads gates plan object start capacity calls core worked lines outcome opened fit many left ended =
+    let now : HasLeft gates (log_after plan object start capacity core.schedule) object start calls worked lines =
+    subst (λ (x : Log). HasLeft gates x object start calls worked lines) (with_opening core (opening_of plan object start capacity) opened) left in
     record {
       fit = fit;
       events = core.schedule;
       may_come = now.may_come;
       linearized = now.linearized;
       bypass = now.bypass;
+      wait_free = now.wait_free;
       worked = worked;
       each = many ∙ sym (length-map calls (λ list. list.items));
       served = λ p c w there done.
           let at = at_place (λ (list : Vec ℕ Global). list.items) calls p c there in
           subst (λ (x : List ℕ). HasServed (log_after plan object start capacity core.schedule) p x w.replies.items w.end) at.2 (now.served p at.0 w at.1 done);
+      gated = now.gated;
       written = now.written;
       ended = ended;
     }

@@ -5,9 +5,10 @@ use Rattle.std.specs.List.{join_by, list_all}
 use Rattle.cn_table.specs.TypeTable.{TypeTable}
 use Rattle.cn_proto.specs.Plan.{Plan}
 use Rattle.cn_log.specs.Bypass.{IsBypassBounded}
-use Rattle.cn_log.specs.Linearized.{IsLinearized}
+use Rattle.cn_log.specs.Linearized.{IsLinearized, entry_slots}
 use Rattle.cn_log.specs.Log.{IsEventList, entries}
 use Rattle.cn_log.specs.Opening.{Log, opening_of, setting}
+use Rattle.cn_log.specs.OwnSteps.{IsWaitFree}
 use Rattle.cn_log.specs.declared.event.Event.{Event}
 use Rattle.cn_log.specs.declared.event.Event.TheVariants.{Invoke, Step}
 use Rattle.cn_log.specs.declared.event.StepAnswer.TheVariants as answer
@@ -25,7 +26,7 @@ use Rattle.cn_app.specs.declared.output.Outcome.TheVariants.{Cut, Whole as AllDo
 use Rattle.cn_app.specs.declared.serving.ServeFault.{ServeFault}
 use Rattle.cn_app.specs.declared.serving.ServeFault.TheVariants as serving
 use Rattle.cn_app.specs.declared.workers.End.{End}
-use Rattle.cn_app.specs.declared.workers.End.TheVariants.{Full, OutOfMemory, Stopped, Whole}
+use Rattle.cn_app.specs.declared.workers.End.TheVariants.{Full, Stopped, Whole}
 use Rattle.cn_app.specs.declared.workers.Worked.{Worked}
 
 -- the text of an event, as events are read
@@ -51,7 +52,6 @@ abbrev pub end_line : TypeTable → ℕ → End → List ℕ
 end_line object p Whole = []
 end_line object p Full = answer_line object p answer.Full
 end_line object p Stopped = codes "stopped " ++ decimal p ++ codes "\n"
-end_line object p OutOfMemory = []
 
 -- the lines of the calls of a process, in order
 abbrev pub call_lines : TypeTable → ℕ → List Reply → End → List ℕ
@@ -66,7 +66,6 @@ abbrev pub is_whole : End → Bool
 is_whole Whole = true
 is_whole Full = false
 is_whole Stopped = false
-is_whole OutOfMemory = false
 
 -- cut where some call has no reply
 abbrev pub outcome_of : List Worked → Outcome
@@ -74,7 +73,8 @@ outcome_of worked = if list_all (λ w. is_whole w.end) worked then AllDone else 
 
 -- the lines of what threads have left: process by process of their calls, then of the entries of the log, and last of its events
 abbrev pub left_lines : TypeTable → ℕ → List Worked → Log → List ℕ
-left_lines object start worked core = worked_lines object 0 worked ++ entry_lines object 0 start (entries (setting core) core.schedule) ++ events_line core.schedule
+left_lines object start worked core = worked_lines object 0 worked
+    ++ entry_lines object start (entries (setting core) core.schedule) (entry_slots (setting core) core.schedule) ++ events_line core.schedule
 
 -- each reply's response is one of the object's
 abbrev pub HaveResponses : TypeTable → List Reply → Type 0
@@ -87,16 +87,18 @@ EachHasResponses object worked = All (λ w. HaveResponses object w.replies.items
 abbrev pub log_after : Plan → TypeTable → ℕ → ℕ → List Event → Log
 log_after plan object start capacity events = record { opening = opening_of plan object start capacity; schedule = events }
 
--- the calls are ones of the plan's processes and the object's operations; there is one log, linearized and with no call passed by for long, in which each process has made its calls as far as they came; the lines are those of its replies, process by process, then of the entries of the log, and last of its events; and the command ends like this
-pub record IsServedByThreads (plan : Plan) (object : TypeTable) (start capacity : ℕ) (calls : List (List ℕ)) (lines : List ℕ) (outcome : Outcome) : Type 0 where
+-- the calls are ones of the plan's processes and the object's operations; there is one log, linearized, with no call passed by for long and each over within so many steps of its process, in which each process has made its calls as far as they came, and of which this holds; the lines are those of its replies, process by process, then of the entries of the log, and last of its events; and the command ends like this
+pub record IsServedByThreads (gates : Log → Type 0) (plan : Plan) (object : TypeTable) (start capacity : ℕ) (calls : List (List ℕ)) (lines : List ℕ) (outcome : Outcome) : Type 0 where
   pub fit : calls_fit plan object calls ≡ true
   pub events : List Event
   pub may_come : IsEventList (setting (log_after plan object start capacity events)) events
   pub linearized : IsLinearized (setting (log_after plan object start capacity events)) events
   pub bypass : IsBypassBounded (setting (log_after plan object start capacity events)) events
+  pub wait_free : IsWaitFree (setting (log_after plan object start capacity events)) events
   pub worked : List Worked
   pub each : length worked ≡ length calls
   pub served : (p : ℕ) (c : List ℕ) (w : Worked) → slice_get calls p ≡ Some c → slice_get worked p ≡ Some w → HasServed (log_after plan object start capacity events) p c w.replies.items w.end
+  pub gated : gates (log_after plan object start capacity events)
   pub written : lines ≡ left_lines object start worked (log_after plan object start capacity events)
   pub ended : outcome ≡ outcome_of worked
 

@@ -1,5 +1,5 @@
 //! What the steps among events answer, one event after the other.
-ghost use Rattle.std.specs.Prelude.{◌≡◌, ◌<◌, ◌≤◌, ◌++◌, ◌∷◌, [], length, IfOk, OnOk};
+ghost use Rattle.std.specs.Prelude.{◌≡◌, ◌<◌, ◌≤◌, ◌++◌, ◌∷◌, [], length, vec_capacity, vec_len, IfOk};
 ghost use Rattle.cn_log.specs.Log.{IsEventList, MayCome, state_of};
 ghost use Rattle.cn_log.specs.Opening.{opening_of, setting, setting_of};
 ghost use Rattle.cn_app.specs.Replay.{is_full, told_after, told_by, HaveResponses};
@@ -26,18 +26,19 @@ impl Told {
 }
 
 /// The event comes. If it is a step, its answer goes behind the others.
-fn tell(core: &mut LogCore, event: Event, told: &mut Vec<Told>) -> Result<(), AllocError>
-    requires { MayCome (setting core.old) (state_of (setting core.old) core.old.schedule) event }
-    ensures core { OnOk result (core.new ≡ record core.old { schedule = core.old.schedule ++ event ∷ [] }) }
-    ensures told { OnOk result (told.new.items ≡ told.old.items ++ told_by (setting core.old) core.old.schedule event) }
-    ensures responses { OnOk result (HaveResponses core.old.opening.object (told_by (setting core.old) core.old.schedule event)) }
+fn tell(core: &mut LogCore, event: Event, told: &mut Vec<Told>)
+    requires may_come { MayCome (setting core.old) (state_of (setting core.old) core.old.schedule) event }
+    requires room { vec_len told.old < vec_capacity told.old }
+    ensures core { core.new ≡ record core.old { schedule = core.old.schedule ++ event ∷ [] } }
+    ensures told { told.new.items ≡ told.old.items ++ told_by (setting core.old) core.old.schedule event }
+    ensures responses { HaveResponses core.old.opening.object (told_by (setting core.old) core.old.schedule event) }
+    ensures room { vec_capacity told.new ≡ vec_capacity told.old }
 {
     match event {
         Event::Invoke(process, operation) => core.invoke(process, Operation(operation)),
         Event::Step(process) => {
-            let answer = core.step(process)?;
-            told.push(Told { process, answer })?;
-            Ok(())
+            let answer = core.step(process);
+            told.push_reserved(Told { process, answer });
         }
     }
 }
@@ -59,9 +60,9 @@ pub(crate) fn answers_of(
     ensures responses { IfOk result (λ told. HaveResponses object.now told.items) }
 {
     let mut core = LogCore::new(alloc, plan, object, start, capacity)?;
-    let mut told = Vec::new(alloc);
+    let mut told = Vec::with_capacity(alloc, events.len())?;
     for event in events {
-        tell(&mut core, *event, &mut told)?;
+        tell(&mut core, *event, &mut told);
     }
     Ok(told)
 }

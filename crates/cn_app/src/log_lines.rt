@@ -1,10 +1,13 @@
 //! The lines of a log: of what its steps answered, and of its entries.
 ghost use Rattle.std.specs.Prelude.{◌≡◌, ◌<◌, length, string_bytes, All, IfOk};
 ghost use Rattle.cn_log.specs.Callers.{HasResponse};
+ghost use Rattle.cn_log.specs.Linearized.{entry_slots};
+ghost use Rattle.cn_log.specs.Log.{entries};
+ghost use Rattle.cn_log.specs.Opening.{setting};
 ghost use Rattle.cn_app.specs.Replay.{answer_line, answer_lines, entry_line, entry_lines, HaveResponses};
 
 use crate::answers::Told;
-use cn_log::{Entry, StepAnswer};
+use cn_log::{Entry, LogCore, StepAnswer};
 use cn_table::{Response, State, Table};
 use std::alloc::{AllocError, Global};
 
@@ -41,11 +44,11 @@ pub(crate) fn answer_lines(
     Ok(lines)
 }
 
-/// The line of the entry of a slot, with what the object answers there and its state afterwards.
+/// The line of an entry in a slot, with what the object answers there and its state afterwards.
 fn entry_line(
     alloc: Global,
     object: &Table,
-    slot: usize,
+    slot: u16,
     entry: Entry,
     given: (Response, State),
 ) -> Result<String, AllocError>
@@ -61,20 +64,21 @@ fn entry_line(
     format!(in alloc; "entry {slot} {process} {operation} {response} {state}\n")
 }
 
-/// The lines of the entries, in order: one sequential run of the object.
+/// The lines of the entries of a log, in order: one sequential run of the object.
 pub(crate) fn entry_lines(
     alloc: Global,
     object: &Table,
     start: State,
-    entries: &[Entry],
+    core: &LogCore,
 ) -> Result<String, AllocError>
     requires start { start.0 < length object.now.states }
-    requires known { All (λ e. e.operation.0 < length object.now.operations) entries.now }
-    ensures { IfOk result (λ lines. string_bytes lines ≡ entry_lines object.now 0 start.0 entries.now) }
+    requires known { All (λ e. e.operation.0 < length object.now.operations) (entries (setting core.now) core.now.schedule) }
+    ensures { IfOk result (λ lines. string_bytes lines ≡ entry_lines object.now start.0 (entries (setting core.now) core.now.schedule) (entry_slots (setting core.now) core.now.schedule)) }
 {
     let mut lines = String::new(alloc);
     let mut state = start;
-    for (slot, entry) in entries.iter().enumerate() {
+    for (place, entry) in core.entries().iter().enumerate() {
+        let slot = core.slot_at(place);
         let given = object.apply(entry.operation, state);
         let line = entry_line(alloc, object, slot, *entry, given)?;
         lines.push_str(&line)?;

@@ -116,7 +116,7 @@ fn serve(
         events,
     )?;
     let mut lines = answer_lines(alloc, &service.object, &told)?;
-    let entries = entry_lines(alloc, &service.object, start, core.entries())?;
+    let entries = entry_lines(alloc, &service.object, start, &core)?;
     lines.push_str(&entries)?;
     Ok(Served {
         lines,

@@ -15,6 +15,7 @@ ghost use Rattle.cn_app.specs.Events.{capacity_of};
 ghost use Rattle.cn_app.specs.Find.{IsFound, SearchFails};
 ghost use Rattle.cn_app.specs.Plans.{IsPlanOf, PlanFails};
 ghost use Rattle.cn_app.specs.Replay.{EventsFail, EventsGive, FailsObject, GivesObject, IsServed, ServingFails, StartFails, StartGives};
+ghost use Rattle.cn_app.specs.Workers.{EachHasOneGate};
 ghost use Rattle.cn_app.specs.Serve.{CallsFail, CallsGive, IsServedByThreads, ThreadsFail};
 ghost use Rattle.cn_app.specs.SourceBytes.{MayBeRead, WasRead};
 ghost use Rattle.cn_app.specs.Texts.{table_in, Fails, Gives};
@@ -234,7 +235,7 @@ where
     ensures written { IfOk result (λ outcome. WasRead Source.Table result R.remaining table.old table.new (λ x. WasRead Source.Certificate result C.remaining certificate.old certificate.new (λ y.
         WasRead Source.Object result O.remaining object.old object.new (λ z. WasWritten W.contents writer.old writer.new (λ lines.
         CallsGive capacity.now calls.now (λ k cs. GivesObject x y z (λ t c o. (plan : Plan)
-        × IsPlanOf t c plan × StartGives o start.now (λ q. IsServedByThreads plan o q k cs lines outcome)))))))) }
+        × IsPlanOf t c plan × StartGives o start.now (λ q. IsServedByThreads (EachHasOneGate G.asks G.says (λ p g. F.post make_gate p g)) plan o q k cs lines outcome)))))))) }
     ensures refused { IfErr result (λ e. MayBeRead Source.Table result R.remaining table.old table.new (λ x. MayBeRead Source.Certificate result C.remaining certificate.old certificate.new (λ y.
         MayBeRead Source.Object result O.remaining object.old object.new (λ z. (e ≡ AppFault.OutOfMemory) ⊎ CallsFail capacity.now calls.now e (λ k cs. FailsObject x y z e (λ t c o.
         PlanFails t c e (λ plan. StartFails o start.now e (λ _. ThreadsFail plan o cs e)))))))) }

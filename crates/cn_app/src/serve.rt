@@ -8,6 +8,7 @@ ghost use Rattle.cn_app.specs.FaultText.{text_of, IsOfWork};
 ghost use Rattle.cn_app.specs.Plans.{IsPlanOf, PlanFails};
 ghost use Rattle.cn_app.specs.Replay.{FailsObject, GivesObject, StartFails, StartGives};
 ghost use Rattle.cn_app.specs.Serve.{AreNotServed, CallsFail, CallsGive, IsServedByThreads, ThreadsFail, left_lines, EachHasResponses};
+ghost use Rattle.cn_app.specs.Workers.{EachHasOneGate};
 ghost use Rattle.cn_app.specs.SourceBytes.{HasRead, IsUnread, MayHaveRead};
 ghost use Rattle.cn_app.specs.Writing.{HasWritten, IfHandedOver, IsUnwritten};
 
@@ -44,7 +45,7 @@ fn left_lines(
 {
     left.core.is_linearized();
     let mut lines = worked_lines(alloc, object, &left.worked)?;
-    let entries = entry_lines(alloc, object, start, left.core.entries())?;
+    let entries = entry_lines(alloc, object, start, &left.core)?;
     lines.push_str(&entries)?;
     let events = events_line(alloc, left.core.schedule())?;
     lines.push_str(&events)?;
@@ -72,7 +73,7 @@ where
     requires fit { calls_fit service.now.plan service.now.object (map (λ list. list.items) calls.now) ≡ true }
     requires gates { F.IsAlwaysCallable make_gate }
     requires on { (p : ℕ) (g : _) → F.post make_gate p g → G.says g ≡ On }
-    ensures served { IfOk result (λ s. IsServedByThreads service.now.plan service.now.object start.0 capacity (map (λ list. list.items) calls.now) (string_bytes s.lines) s.outcome) }
+    ensures served { IfOk result (λ s. IsServedByThreads (EachHasOneGate G.asks G.says (λ p g. F.post make_gate p g)) service.now.plan service.now.object start.0 capacity (map (λ list. list.items) calls.now) (string_bytes s.lines) s.outcome) }
     ensures refused { IfErr result (λ e. (e ≡ AppFault.OutOfMemory) ⊎ (e ≡ AppFault.Thread)) }
 {
     let core = LogCore::new(alloc, &service.plan, &service.object, start, capacity)?;
@@ -102,7 +103,7 @@ where
     requires few { capacity ≤ 1024 }
     requires gates { F.IsAlwaysCallable make_gate }
     requires on { (p : ℕ) (g : _) → F.post make_gate p g → G.says g ≡ On }
-    ensures served { IfOk result (λ s. StartGives service.now.object start.now (λ q. IsServedByThreads service.now.plan service.now.object q capacity (map (λ list. list.items) calls.now) (string_bytes s.lines) s.outcome)) }
+    ensures served { IfOk result (λ s. StartGives service.now.object start.now (λ q. IsServedByThreads (EachHasOneGate G.asks G.says (λ p g. F.post make_gate p g)) service.now.plan service.now.object q capacity (map (λ list. list.items) calls.now) (string_bytes s.lines) s.outcome)) }
     ensures refused { IfErr result (λ e. (e ≡ AppFault.OutOfMemory)
         ⊎ StartFails service.now.object start.now e (λ _. AreNotServed service.now.plan service.now.object (map (λ list. list.items) calls.now) e)) }
     ensures work { IfErr result IsOfWork }
@@ -140,7 +141,7 @@ where
     requires certificate { IsUnread certificate.old }
     requires object { IsUnread object.old }
     ensures served { IfOk result (λ s. GivesObject table.new.bytes.items certificate.new.bytes.items object.new.bytes.items (λ t c o. (plan : PlanOf)
-        × IsPlanOf t c plan × StartGives o start.now (λ q. IsServedByThreads plan o q capacity (map (λ list. list.items) calls.now) (string_bytes s.lines) s.outcome))) }
+        × IsPlanOf t c plan × StartGives o start.now (λ q. IsServedByThreads (EachHasOneGate G.asks G.says (λ p g. F.post make_gate p g)) plan o q capacity (map (λ list. list.items) calls.now) (string_bytes s.lines) s.outcome))) }
     ensures refused { IfErr result (λ e. (e ≡ AppFault.OutOfMemory) ⊎ FailsObject table.new.bytes.items certificate.new.bytes.items object.new.bytes.items e (λ t c o.
         PlanFails t c e (λ plan. StartFails o start.now e (λ _. AreNotServed plan o (map (λ list. list.items) calls.now) e)))) }
     ensures unwritten { IfErr result (λ e. e ≢ AppFault.Write) }
@@ -199,7 +200,7 @@ where
     requires object { IsUnread object.old }
     requires output { IsUnwritten output.old }
     ensures served { IfHandedOver result (λ outcome. CallsGive capacity.now calls.now (λ k cs. GivesObject table.new.bytes.items certificate.new.bytes.items object.new.bytes.items (λ t c o. (plan : PlanOf)
-        × IsPlanOf t c plan × StartGives o start.now (λ q. IsServedByThreads plan o q k cs output.new.bytes.items outcome)))) }
+        × IsPlanOf t c plan × StartGives o start.now (λ q. IsServedByThreads (EachHasOneGate G.asks G.says (λ p g. F.post make_gate p g)) plan o q k cs output.new.bytes.items outcome)))) }
     ensures refused { IfErr result (λ e. (e ≡ AppFault.OutOfMemory) ⊎ CallsFail capacity.now calls.now e (λ k cs.
         FailsObject table.new.bytes.items certificate.new.bytes.items object.new.bytes.items e (λ t c o.
         PlanFails t c e (λ plan. StartFails o start.now e (λ _. ThreadsFail plan o cs e))))) }

@@ -73,7 +73,7 @@ fn end_line(alloc: Global, object: &Table, process: u8, end: End) -> Result<Stri
     ensures { IfOk result (λ line. string_bytes line ≡ end_line object.now process end) }
 {
     match end {
-        End::Whole | End::OutOfMemory => Ok(String::new(alloc)),
+        End::Whole => Ok(String::new(alloc)),
         End::Full => {
             let answer = StepAnswer::Full;
             answer_line(alloc, object, Told { process, answer })

@@ -1,10 +1,9 @@
 //! Calls of all processes, each made in a thread of its own.
 ghost use Rattle.std.specs.Prelude.{◌≡◌, ◌<◌, [], ℕ, All, IfOk, Some, length, slice_get};
-ghost use Rattle.std.specs.List.{list_any};
 ghost use Rattle.cn_proto.specs.Plan.{processes_of};
 ghost use Rattle.cn_hall.specs.declared.call.Go.TheVariants.{On};
 ghost use Rattle.cn_app.specs.Serving.{HasServed};
-ghost use Rattle.cn_app.specs.Workers.{HaveRoom, is_out_of_memory};
+ghost use Rattle.cn_app.specs.Workers.{EachHasOneGate, HaveRoom};
 ghost use Rattle.cn_app.specs.declared.serving.ServeFault.TheVariants.{OutOfMemory};
 
 use crate::workers::{End, Worked, answer_each};
@@ -55,7 +54,7 @@ fn make_rooms(alloc: Global, calls: &[Vec<u8>]) -> Result<Vec<Worked>, AllocErro
     Ok(rooms)
 }
 
-/// Makes a gate for each process.
+/// Makes a gate for each process: place `p` holds that of process `p`.
 fn make_gates<G: Gate + Drop, F: Fn(u8) -> G>(
     alloc: Global,
     processes: u8,
@@ -65,6 +64,7 @@ fn make_gates<G: Gate + Drop, F: Fn(u8) -> G>(
     requires on { (p : ℕ) (g : _) → F.post make_gate p g → G.says g ≡ On }
     ensures count { IfOk result (λ v. length v.items ≡ processes) }
     ensures on { IfOk result (λ v. All (λ g. G.says g ≡ On) v.items) }
+    ensures made { IfOk result (λ v. (p : ℕ) (g : _) → slice_get v.items p ≡ Some g → F.post make_gate p g) }
 {
     let mut gates = Vec::with_capacity(alloc, usize::from(processes))?;
     for process in 0..processes {
@@ -73,21 +73,14 @@ fn make_gates<G: Gate + Drop, F: Fn(u8) -> G>(
     Ok(gates)
 }
 
-/// Whether the calls of some process ended for want of memory.
-fn found_no_memory(worked: &[Worked]) -> bool
-    ensures { result ≡ list_any (λ one. is_out_of_memory one.end) worked.now }
-{
-    worked.iter().any(|one| one.end.is_out_of_memory())
-}
-
 /// Makes the calls of each process, one after the other, in a thread of its own, over a core in
 /// which nothing has happened. `calls` has a list for each process, of operations of the object.
-/// Returns once every thread has ended.
+/// Returns once every thread has ended. The gate that was made for a process is asked in its calls.
 ///
 /// # Errors
 ///
-/// `Thread` where a thread could not be started: those that run finish first. `OutOfMemory` also
-/// where a call found no memory.
+/// `Thread` where a thread could not be started: those that run finish first. `OutOfMemory` only
+/// before the first thread starts: no call takes memory.
 pub(crate) fn serve_calls<R, G, F>(
     rt: &R,
     alloc: Global,
@@ -107,6 +100,7 @@ where
     ensures opening { IfOk result (λ served. served.core.opening ≡ core.opening) }
     ensures count { IfOk result (λ served. length served.worked.items ≡ length calls.now) }
     ensures served { IfOk result (λ served. (p : ℕ) (c w : _) → slice_get calls.now p ≡ Some c → slice_get served.worked.items p ≡ Some w → HasServed served.core p c.items w.replies.items w.end) }
+    ensures gates { IfOk result (λ served. EachHasOneGate G.asks G.says (λ p g. F.post make_gate p g) served.core) }
 {
     let rooms = make_rooms(alloc, calls)?;
     let gates = make_gates(alloc, core.processes(), make_gate)?;
@@ -117,8 +111,5 @@ where
         return Err(ServeFault::Thread);
     };
     let core = hall.close(rt, seats);
-    if found_no_memory(&worked) {
-        return Err(ServeFault::OutOfMemory);
-    }
     Ok(Served { worked, core })
 }

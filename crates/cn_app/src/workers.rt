@@ -2,7 +2,7 @@
 ghost use Rattle.std.specs.Prelude.{◌≡◌, ◌≤◌, ◌<◌, All, IfSome, length, vec_capacity};
 ghost use Rattle.std.specs.Thread.{IsSync};
 ghost use Rattle.cn_hall.specs.declared.call.Go.TheVariants.{On};
-ghost use Rattle.cn_app.specs.Workers.{HasRoom, HasWorked, HaveAllWorked, HaveRoom, MayAllWork, MayWork, end_by, is_out_of_memory};
+ghost use Rattle.cn_app.specs.Workers.{AllGatesWereAsked, GateWasAsked, HasRoom, HasWorked, HaveAllWorked, HaveRoom, MayAllWork, MayWork, end_by};
 
 use cn_hall::{CallFault, Gate, Hall, Reply, Seat};
 use cn_table::Operation;
@@ -20,8 +20,6 @@ pub(crate) enum End {
     Full,
     /// The gate stopped one.
     Stopped,
-    /// One found no memory.
-    OutOfMemory,
 }
 
 impl End {
@@ -32,15 +30,7 @@ impl End {
         match fault {
             CallFault::LogFull => End::Full,
             CallFault::Stopped => End::Stopped,
-            CallFault::OutOfMemory => End::OutOfMemory,
         }
-    }
-
-    /// Whether a call found no memory.
-    pub fn is_out_of_memory(self) -> bool
-        ensures { result ≡ is_out_of_memory self }
-    {
-        matches!(self, End::OutOfMemory)
     }
 }
 
@@ -63,7 +53,8 @@ fn answer<R: Wait, G: Gate + Drop>(
     requires seat { MayWork hall.now operations.now seat }
     requires room { HasRoom operations.now room }
     requires gate { G.says gate ≡ On }
-    ensures { HasWorked operations.now seat result.0 result.1.replies.items result.1.end }
+    ensures worked { HasWorked operations.now seat result.0 result.1.replies.items result.1.end }
+    ensures asked { GateWasAsked G.asks G.says seat gate result.0 }
 {
     let mut seat = seat;
     let mut gate = gate;
@@ -83,15 +74,16 @@ fn answer<R: Wait, G: Gate + Drop>(
 
 /// What the thread of a seat owes.
 #[derive(Drop)]
-struct AnswerOf {
+struct AnswerOf<G> {
     seat: Snapshot<Seat>,
+    gate: Snapshot<G>,
     operations: Snapshot<Vec<u8>>,
 }
 
-impl Promise<(Seat, Worked)> for AnswerOf {
-    ghost use Rattle.cn_app.specs.Workers.{HasWorked};
+impl<G: Gate> Promise<(Seat, Worked)> for AnswerOf<G> {
+    ghost use Rattle.cn_app.specs.Workers.{GateWasAsked, HasWorked};
 
-    ghost kept_by = { λ p r. HasWorked p.operations.value.items p.seat.value r.0 r.1.replies.items r.1.end };
+    ghost kept_by = { λ p r. HasWorked p.operations.value.items p.seat.value r.0 r.1.replies.items r.1.end × GateWasAsked G.asks G.says p.seat.value p.gate.value r.0 };
 }
 
 /// Makes the calls of all seats, each in a thread of a scope, and joins them. Each thread takes
@@ -111,6 +103,7 @@ pub(crate) fn answer_each<R: Threads + Wait + Sync, G: Gate + Send + Drop>(
     ensures seats { IfSome result (λ r. (length r.0.items ≡ length seats.items) × (vec_capacity r.0 ≡ vec_capacity seats)) }
     ensures rooms { IfSome result (λ r. (length r.1.items ≡ length seats.items) × (vec_capacity r.1 ≡ vec_capacity rooms)) }
     ensures worked { IfSome result (λ r. HaveAllWorked calls.now seats.items r.0.items r.1.items) }
+    ensures asked { IfSome result (λ r. AllGatesWereAsked G.asks G.says seats.items gates.items r.0.items) }
 {
     let mut seats = seats;
     let mut rooms = rooms;
@@ -134,17 +127,21 @@ pub(crate) fn answer_each<R: Threads + Wait + Sync, G: Gate + Send + Drop>(
             ensures seats { IfSome result (λ r. (length r.0.0.items ≡ length seats.items) × (vec_capacity r.0.0 ≡ vec_capacity seats)) }
             ensures rooms { IfSome result (λ r. (length r.0.1.items ≡ length seats.items) × (vec_capacity r.0.1 ≡ vec_capacity rooms)) }
             ensures worked { IfSome result (λ r. HaveAllWorked calls.entry.now seats.items r.0.0.items r.0.1.items) }
+            ensures asked { IfSome result (λ r. AllGatesWereAsked G.asks G.says seats.items gates.items r.0.0.items) }
             ensures last { IfSome result (λ r. HasWorked operations.entry.now.items seat r.1.0 r.1.1.replies.items r.1.1.end) }
+            ensures last_asked { IfSome result (λ r. GateWasAsked G.asks G.says seat gate r.1.0) }
         {
             let promise = AnswerOf {
                 seat: Snapshot::of(&seat),
+                gate: Snapshot::of(&gate),
                 operations: Snapshot::of(operations),
             };
             let child = scope.spawn_with(
                 promise,
                 move || -> (Seat, Worked)
                     requires { MayWork hall.now operations.now.items seat × HasRoom operations.now.items room × (G.says gate ≡ On) }
-                    ensures { HasWorked operations.entry.now.items seat result.0 result.1.replies.items result.1.end }
+                    ensures worked { HasWorked operations.entry.now.items seat result.0 result.1.replies.items result.1.end }
+                    ensures asked { GateWasAsked G.asks G.says seat gate result.0 }
                 { answer(rt, hall, seat, room, gate, operations) },
             );
             let Ok(child) = child else {

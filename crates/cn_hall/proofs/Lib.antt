@@ -9,3 +9,4 @@ pub mod Opened
 pub mod Meeting
 pub mod Owning
 pub mod Numbering
+pub mod Asking

@@ -1,13 +1,16 @@
 -- The next call of a process is none that it has seen.
-use Rattle.std.proofs.Common.{◌≡◌, ℕ, zero, suc, ◌+◌, ◌<◌, ◌==◌, if◌then◌else◌, Bool, true, false, List, [], ◌∷◌, ◌++◌, length, slice_get, Some, refl, ap, ◌∙◌, arith}
+use Rattle.std.proofs.Common.{◌≡◌, ℕ, zero, suc, ◌+◌, ◌<◌, ◌==◌, if◌then◌else◌, Bool, true, false, List, [], ◌∷◌, ◌++◌, length, take, slice_get, Some, refl, ap, ◌∙◌, arith}
 use Rattle.std.proofs.lemmas.Bool.Decides.{nat_tests}
 use Rattle.cn_log.specs.Callers.{call_of, calls_by, calls_from, entries_by}
 use Rattle.cn_log.specs.declared.entry.Entry.{Entry}
 use Rattle.cn_log.specs.declared.event.Event.{Event}
 use Rattle.cn_log.specs.declared.event.Event.TheVariants.{Invoke, Step}
 use Rattle.cn_table.proofs.Lists.{get_low, get_push_new}
+use Rattle.cn_proto.specs.Plan.{processes_of}
+use Rattle.cn_log.specs.Batches.{entries_in, members}
+use Rattle.cn_log.proofs.Places.{in_entries}
 use Rattle.cn_hall.specs.Calls.{IsUnseen, next_call}
-use Rattle.cn_hall.specs.Seats.{SeatState, IsLog, caller, placed, seen}
+use Rattle.cn_hall.specs.Seats.{SeatState, IsLog, caller, placed, seen, slots_seen}
 use Rattle.cn_hall.proofs.LogLaws.{Called, Owned}
 
 -- calls are numbered in order
@@ -36,13 +39,15 @@ get_front [] ys k x h = absurd cc
 get_front (z ∷ xs) ys zero x h = h
 get_front (z ∷ xs) ys (suc k) x h = get_front xs ys k x h
 
-pub next_unseen : Owned → Called → (s : SeatState) (operation : ℕ) → IsLog s.core → IsUnseen (next_call s operation) s
-next_unseen owned called s operation log k at =
+pub next_unseen : Owned → Called → (s : SeatState) (operation : ℕ) → IsLog s.core → s.process < processes_of s.core.opening.plan → IsUnseen (next_call s operation) s
+next_unseen owned called s operation log lt k b at has =
     let p = s.process in
     let events = s.core.schedule in
     let next : Entry = next_call s operation in
     let calls : List Entry = calls_by p events in
-    let there = filtered p (seen s) k next refl at in
+    let n : ℕ = processes_of s.core.opening.plan in
+    let place : ℕ = length (entries_in n (take k (slots_seen s))) + length (members p 0 b) in
+    let there = filtered p (seen s) place next refl (in_entries n (slots_seen s) k b p next at lt has) in
     let h = owned s.core.opening events p log.opening log.events in
     let standing : slice_get calls there.0 ≡ Some next = ap (λ l. slice_get l there.0) h.1 ∙ get_front (placed s) h.0 there.0 next there.1 in
     let low : there.0 < length calls = get_low calls there.0 next standing in

@@ -1,11 +1,10 @@
 -- Which of the pushes of the rule it was.
-use Rattle.std.proofs.Common.{◌≡◌, ℕ, ◌+◌, List, [], ◌∷◌, ◌++◌, length, Option, Some, None, sym, ap, ◌∙◌, length-append, arith}
+use Rattle.std.proofs.Common.{◌≡◌, [], ◌∷◌, length, Some, None, sym, ap, ◌∙◌, length-append, arith}
 use Rattle.cn_log.specs.Opening.{Log}
-use Rattle.cn_log.specs.declared.event.Event.{Event}
 use Rattle.cn_hall.specs.declared.rule.Item.{Item}
 use Rattle.cn_hall.specs.declared.rule.Stage.TheVariants.{First, Live}
 use Rattle.cn_hall.specs.declared.rule.View.{View}
-use Rattle.cn_hall.specs.Rule.{later_core, item_of, first_view, bare, later, opened, seated, IsOneEventLater, IsOneSeatMore, MayPut, FirstPut, AsItWas, OneEvent, OneSeat}
+use Rattle.cn_hall.specs.Rule.{item_of, first_view, bare, later, opened, seated, IsOneEventLater, IsOneSeatMore, MayPut, FirstPut, AsItWas, OneEvent, OneSeat}
 
 not_first : (v : View) → v.stage ≡ Live → v ≡ first_view → ⊥
 not_first v live is = let e : First ≡ Live = sym (ap (λ (u : View). u.stage) is) ∙ live in cc

@@ -1,14 +1,17 @@
 -- What a call does to a seat.
-use Rattle.std.specs.Prelude.{◌≡◌, ◌≢◌, ℕ, ◌⊎◌, List, [], ◌∷◌, ◌++◌, length, slice_get, Some, None, Result, Ok, Err}
-use Rattle.cn_log.specs.Log.{response_after}
+use Rattle.std.specs.Prelude.{◌≡◌, ℕ, ◌⊎◌, List, [], ◌∷◌, ◌++◌, length, Some, None, Result, Ok, Err}
+use Rattle.cn_log.specs.Batches.{entry_at}
+use Rattle.cn_log.specs.Log.{response_in}
+use Rattle.cn_log.specs.declared.batch.Batch.{Batch}
 use Rattle.cn_log.specs.Opening.{Log, setting}
 use Rattle.cn_log.specs.declared.entry.Entry.{Entry}
 use Rattle.cn_log.specs.declared.event.Event.{Event}
 use Rattle.cn_log.specs.declared.event.Event.TheVariants.{Invoke, Step}
 use Rattle.cn_log.specs.Callers.{BeginsWith, Without, entries_by}
-use Rattle.cn_hall.specs.Seats.{SeatState, IsInvoke, caller, made, pending, placed, seen}
+use Rattle.cn_log.specs.Callers.{IsUnseen as IsIn}
+use Rattle.cn_hall.specs.Seats.{SeatState, IsInvoke, caller, made, pending, placed, seen, slots_seen}
 use Rattle.cn_hall.specs.declared.call.CallFault.{CallFault}
-use Rattle.cn_hall.specs.declared.call.CallFault.TheVariants.{LogFull, Stopped, OutOfMemory}
+use Rattle.cn_hall.specs.declared.call.CallFault.TheVariants.{LogFull, Stopped}
 use Rattle.cn_hall.specs.declared.call.Go.{Go}
 use Rattle.cn_hall.specs.declared.call.Go.TheVariants.{On, Stop}
 use Rattle.cn_hall.specs.declared.call.Reply.{Reply}
@@ -35,9 +38,11 @@ Called p operation before now = (mid : Log) × IsInvoke p operation before mid �
 abbrev pub next_call : SeatState → ℕ → Entry
 next_call s operation = record { process = s.process; operation = record { 0 = operation }; call = (caller s).calls }
 
--- the last entry seen is this call, in the slot replied, no call is pending, and the response is that of one sequential run of the entries there. The entries of the seat's process that it has seen are the calls that it has made
+-- the last slot seen is the slot replied and holds this call, no call is pending, and the response is that of one sequential run at its place there. The entries of the seat's process that it has seen are the calls that it has made
 abbrev pub IsReply : Entry → SeatState → Reply → Type 0
-IsReply mine s r = (pending s ≡ None) × (front : List Entry) × (seen s ≡ front ++ mine ∷ []) × (r.slot ≡ length front) × (r.response.0 ≡ response_after (setting s.core) front mine.operation.0) × (made s ≡ placed s)
+IsReply mine s r = (pending s ≡ None) × (front : List Batch) × (batch : Batch) × (slots_seen s ≡ front ++ batch ∷ [])
+    × (entry_at batch s.process ≡ Some mine) × (r.slot ≡ length front) × (r.response.0 ≡ response_in (setting s.core) front batch mine)
+    × (made s ≡ placed s)
 
 -- the entries of the seat's process that it has seen are the calls that it has made, but the last, which is this one
 abbrev pub AllButLast : Entry → SeatState → Type 0
@@ -45,23 +50,22 @@ AllButLast mine s = made s ≡ placed s ++ mine ∷ []
 
 -- the seat has not seen the call in any slot
 abbrev pub IsUnseen : Entry → SeatState → Type 0
-IsUnseen mine s = (k : ℕ) → slice_get (seen s) k ≢ Some mine
+IsUnseen mine s = IsIn (slots_seen s) mine
 
 -- no call is pending, and every slot has been seen
 abbrev pub IsFull : SeatState → Type 0
-IsFull s = (pending s ≡ None) × (length (seen s) ≡ s.core.opening.capacity)
+IsFull s = (pending s ≡ None) × (length (slots_seen s) ≡ s.core.opening.capacity)
 
 -- how a call that was begun has ended
 abbrev pub EndsBy : Entry → CallFault → SeatState → Type 0
 EndsBy mine LogFull s = IsFull s × IsUnseen mine s × AllButLast mine s
 EndsBy mine Stopped s = (pending s ≡ Some mine) × AllButLast mine s
-EndsBy mine OutOfMemory s = (pending s ≡ Some mine) × AllButLast mine s
 
--- how a call that answered a fault has left the seat: where the log is full, every slot has been seen and the call in none of them, and it was made unless the seat had seen every slot before; where memory ran out before it was made, the seat is as it was; else it was made, and has ended so
+-- how a call that answered a fault has left the seat: where the log is full, every slot has been seen and the call in none of them, and it was made unless the seat had seen every slot before; else it was made, and has ended so
 abbrev pub CallFails : ℕ → CallFault → SeatState → SeatState → Type 0
-CallFails operation LogFull old new = IsFull new × IsUnseen (next_call old operation) new × ((new ≡ old) ⊎ (Called old.process operation old.core new.core × AllButLast (next_call old operation) new))
+CallFails operation LogFull old new = IsFull new × IsUnseen (next_call old operation) new
+    × ((new ≡ old) ⊎ (Called old.process operation old.core new.core × AllButLast (next_call old operation) new))
 CallFails operation Stopped old new = Called old.process operation old.core new.core × EndsBy (next_call old operation) Stopped new
-CallFails operation OutOfMemory old new = (new ≡ old) ⊎ (Called old.process operation old.core new.core × EndsBy (next_call old operation) OutOfMemory new)
 
 -- after a call with this answer, the entries of the seat's process that it has seen are the calls that it has made, each once and in order; where there was no reply, perhaps without the last
 abbrev pub HasPlaced : SeatState → Result Reply CallFault → Type 0
@@ -73,11 +77,11 @@ abbrev pub said_after : Result Reply CallFault → Go
 said_after (Ok r) = On
 said_after (Err LogFull) = On
 said_after (Err Stopped) = Stop
-said_after (Err OutOfMemory) = On
 
 -- one core is the other, or has come further, with no event since of the process of the seat that saw less
 abbrev pub HaveMet : SeatState → SeatState → Type 0
-HaveMet a b = ((rest : List Event) × (b.core.schedule ≡ a.core.schedule ++ rest) × Without a.process rest) ⊎ ((rest : List Event) × (a.core.schedule ≡ b.core.schedule ++ rest) × Without b.process rest)
+HaveMet a b = ((rest : List Event) × (b.core.schedule ≡ a.core.schedule ++ rest) × Without a.process rest) ⊎ ((rest : List Event)
+    × (a.core.schedule ≡ b.core.schedule ++ rest) × Without b.process rest)
 
 -- of the process of the second seat, the first has seen only calls that it has made, the first of them, in order
 abbrev pub HasOnlyMade : SeatState → SeatState → Type 0

@@ -4,17 +4,15 @@ use Rattle.std.specs.Fmt.{decimal}
 use Rattle.cn_hall.specs.declared.call.CallFault.{CallFault}
 use Rattle.cn_hall.specs.declared.opening.OpenFault.{OpenFault}
 use Rattle.cn_hall.specs.declared.opening.OpenFault.TheVariants.{OutOfMemory as OutOfCore}
-use Rattle.cn_hall.specs.declared.call.CallFault.TheVariants.{LogFull, Stopped, OutOfMemory}
+use Rattle.cn_hall.specs.declared.call.CallFault.TheVariants.{LogFull, Stopped}
 
 abbrev pub number_of : CallFault → ℕ
 number_of LogFull = 1
 number_of Stopped = 2
-number_of OutOfMemory = 3
 
 abbrev pub name_of : CallFault → List ℕ
 name_of LogFull = codes "LogFull"
 name_of Stopped = codes "Stopped"
-name_of OutOfMemory = codes "OutOfMemory"
 
 abbrev pub call_fault_text : CallFault → List ℕ
 call_fault_text fault = decimal (number_of fault) ++ codes " " ++ name_of fault

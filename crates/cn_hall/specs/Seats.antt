@@ -3,7 +3,8 @@ use Rattle.std.specs.Prelude.{◌≡◌, ◌≤◌, ℕ, Bool, true, false, List
 use Rattle.atomic_table.specs.Seated.{TableId}
 use Rattle.cn_table.specs.TypeTable.{TypeTable}
 use Rattle.cn_proto.specs.Plan.{Plan}
-use Rattle.cn_log.specs.Callers.{caller_of, calls_by, entries_by, pending_in}
+use Rattle.cn_log.specs.Callers.{caller_of, calls_by, entries_by, pending_in, seen_of}
+use Rattle.cn_log.specs.declared.batch.Batch.{Batch}
 use Rattle.cn_log.specs.Log.{Caller, IsEventList, answer}
 use Rattle.cn_log.specs.Opening.{IsOpening, Log, opening_of, setting}
 use Rattle.cn_log.specs.declared.entry.Entry.{Entry}
@@ -43,15 +44,19 @@ caller_at core p = caller_of (setting core) core.schedule p
 
 abbrev pub is_in_call : Phase → Bool
 is_in_call Idle = false
-is_in_call (Looks mine) = true
+is_in_call (Looks mine q batch) = true
 is_in_call (Runs mine) = true
 
 abbrev pub caller : SeatState → Caller
 caller s = caller_at s.core s.process
 
--- the entries that the seat has seen: its process has replayed them
+-- the batches of the slots that the seat has seen: its process has replayed them
+abbrev pub slots_seen : SeatState → List Batch
+slots_seen s = (caller s).seen
+
+-- the entries of these slots, in log order
 abbrev pub seen : SeatState → List Entry
-seen s = (caller s).seen
+seen s = seen_of (setting s.core) s.core.schedule s.process
 
 -- the calls that the seat's process has made, in order
 abbrev pub made : SeatState → List Entry
@@ -101,7 +106,8 @@ SitsAs v p core = v ≡ view_of Live (pair p core ∷ []) v.notes None
 
 -- how far a process has come in the core
 abbrev pub IsStanding : Log → ℕ → Standing → Type 0
-IsStanding core p x = (x.seen ≡ length (caller_at core p).seen) × (x.seen ≤ core.opening.capacity) × (x.in_call ≡ is_in_call (caller_at core p).phase)
+IsStanding core p x = (x.seen ≡ length (seen_of (setting core) core.schedule p)) × (x.slots ≡ length (caller_at core p).seen)
+    × (x.slots ≤ core.opening.capacity) × (x.in_call ≡ is_in_call (caller_at core p).phase)
 
 -- the process took a step in a later core, before which it had done nothing since
 abbrev pub IsStep : ℕ → Log → StepAnswer → Log → Type 0

@@ -1,12 +1,10 @@
 //! What is asked before each step of a call, and what a call answers.
 ghost use Rattle.std.specs.Prelude.{◌≡◌};
 ghost use Rattle.cn_hall.specs.FaultText.{name_of, number_of};
-ghost use Rattle.cn_hall.specs.declared.call.CallFault.TheVariants.{OutOfMemory};
 ghost use Rattle.cn_hall.specs.declared.call.Go.{Go as GoOf};
 
 use crate::seat::Seat;
 use cn_table::Response;
-use std::alloc::AllocError;
 use std::error::Error;
 use std::fmt;
 
@@ -20,14 +18,20 @@ pub enum Go {
 /// What is asked before each step of a call, while the seat does not hold the core.
 pub trait Gate {
     ghost use Rattle.cn_hall.specs.declared.call.Go.{Go};
-    ghost use Rattle.std.specs.Prelude.{◌≡◌, false};
+    ghost use Rattle.cn_hall.specs.Seats.{SeatState};
+    ghost use Rattle.std.specs.Prelude.{◌≡◌, ℕ, false};
 
     ghost says: { Self → Go };
+
+    /// What a question makes of a gate: the gate before, the seat, the number of the step, and the
+    /// gate after. Each gate has a relation of its own.
+    ghost asks: { Self → SeatState → ℕ → Self → Type 0 };
 
     /// Whether the call takes its step of this number, from 1 on, of those that it takes now.
     fn before(&mut self, seat: &Seat, step: u32) -> Go
         requires free { seat.now.held ≡ false }
-        ensures { result ≡ says self.new };
+        ensures said { result ≡ says self.new }
+        ensures asked { asks self.old seat.now step self.new };
 
     /// What was answered last, or `On`.
     fn said(&self) -> Go
@@ -48,17 +52,6 @@ pub enum CallFault {
     LogFull,
     /// The gate stopped it. The seat is in its call, and `resume` goes on with it.
     Stopped,
-    /// Memory ran out. Where the call was refused the seat is in no call; where a step was refused
-    /// it is in its call, and `resume` goes on with it.
-    OutOfMemory,
-}
-
-impl From<AllocError> for CallFault {
-    ghost from_gives = { λ _ e. e ≡ OutOfMemory };
-
-    fn from(_e: AllocError) -> CallFault {
-        CallFault::OutOfMemory
-    }
 }
 
 impl CallFault {
@@ -69,7 +62,6 @@ impl CallFault {
         match self {
             CallFault::LogFull => 1,
             CallFault::Stopped => 2,
-            CallFault::OutOfMemory => 3,
         }
     }
 
@@ -80,7 +72,6 @@ impl CallFault {
         match self {
             CallFault::LogFull => "LogFull",
             CallFault::Stopped => "Stopped",
-            CallFault::OutOfMemory => "OutOfMemory",
         }
     }
 }

@@ -1,12 +1,16 @@
 //! The hall: threads hand one core on.
-ghost use Rattle.std.specs.Prelude.{◌≡◌, ◌≢◌, ◌<◌, ◌⊎◌, [], Some, None, All, Err, IfErr, IfOk, OnErr, length};
+ghost use Rattle.std.specs.Prelude.{◌≡◌, ◌≢◌, ◌<◌, ◌⊎◌, [], false, Some, None, All, Err, IfErr, IfOk, length};
 ghost use Rattle.cn_log.specs.declared.entry.Entry.{Entry};
 ghost use Rattle.cn_hall.specs.Answers.{Adds, own, replies_from};
 ghost use Rattle.cn_hall.specs.Calls.{CallFails, Called, EndsBy, GoesOn, HasOnlyMade, HasPlaced, HaveMet, IsReply, IsSameSeat, next_call, said_after};
 ghost use Rattle.cn_log.specs.Callers.{BeginsWith, HasResponse};
+ghost use Rattle.cn_hall.specs.Gates.{IsAsked, asked_times, steps_since};
 ghost use Rattle.cn_hall.specs.Rule.{Carries};
-ghost use Rattle.cn_hall.specs.Seats.{IsInvoke, IsSeatOf, IsStep, caller, caller_at, pending, seen};
-ghost use Rattle.cn_log.specs.Log.{entries};
+ghost use Rattle.cn_hall.specs.Seats.{IsInvoke, IsSeatOf, IsStep, caller, caller_at, pending, seen, slots_seen};
+ghost use Rattle.cn_log.specs.Bypass.{IsBypassBounded};
+ghost use Rattle.cn_log.specs.Linearized.{IsLinearized};
+ghost use Rattle.cn_log.specs.Log.{batches, entries};
+ghost use Rattle.cn_log.specs.OwnSteps.{IsWaitFree};
 ghost use Rattle.cn_log.specs.Opening.{setting};
 ghost use Rattle.std.specs.Ordering.{nat_cmp};
 ghost use Rattle.cn_hall.specs.declared.call.CallFault.TheVariants.{LogFull};
@@ -15,11 +19,10 @@ ghost use Rattle.cn_hall.specs.declared.call.Go.TheVariants.{On};
 use crate::call::{CallFault, Gate, Go, Reply};
 use crate::rule::{Item, Joins, Queue};
 use crate::seat::Seat;
-use crate::{events, hands, laws};
-use cn_log::laws::{every_call, every_caller};
+use crate::{events, hands};
+use cn_log::laws::{every_call, every_caller, every_log};
 use cn_log::{LogCore, StepAnswer};
 use cn_table::Operation;
-use std::alloc::AllocError;
 use std::cmp::Ordering;
 use std::marker::Model;
 use std::sync::Wait;
@@ -44,41 +47,30 @@ impl Model for Hall {
 
 impl Hall {
     /// One step of the seat's process, which is in a call.
-    fn step<R: Wait>(&self, rt: &R, seat: &mut Seat) -> Result<StepAnswer, AllocError>
+    fn step<R: Wait>(&self, rt: &R, seat: &mut Seat) -> StepAnswer
         requires of { IsSeatOf self.now seat.old }
         requires in_call { pending seat.old ≢ None }
         ensures same { IsSameSeat seat.old seat.new }
-        ensures step { IfOk result (λ given. IsStep seat.old.process seat.old.core given seat.new.core) }
-        ensures range { IfOk result (λ given. HasResponse seat.old.core.opening.object given) }
-        ensures err { OnErr result (seat.new ≡ seat.old) }
+        ensures step { IsStep seat.old.process seat.old.core result seat.new.core }
+        ensures range { HasResponse seat.old.core.opening.object result }
     {
         let process = seat.process;
-        let (answer, standing) = events::step(rt, &self.queue, &mut seat.pass, process)?;
-        seat.seen = standing.seen;
-        seat.in_call = standing.in_call;
-        Ok(answer)
+        let (answer, standing) = events::step(rt, &self.queue, &mut seat.pass, process);
+        seat.standing = standing;
+        answer
     }
 
     /// The seat's process, which is in no call and has not seen every slot, makes a call.
-    fn invoke<R: Wait>(
-        &self,
-        rt: &R,
-        seat: &mut Seat,
-        operation: Operation,
-    ) -> Result<(), AllocError>
+    fn invoke<R: Wait>(&self, rt: &R, seat: &mut Seat, operation: Operation)
         requires of { IsSeatOf self.now seat.old }
         requires idle { pending seat.old ≡ None }
         requires operation { operation.0 < length seat.old.core.opening.object.operations }
-        requires room { length (seen seat.old) < seat.old.core.opening.capacity }
+        requires room { length (slots_seen seat.old) < seat.old.core.opening.capacity }
         ensures same { IsSameSeat seat.old seat.new }
-        ensures invoked { IfOk result (λ _. IsInvoke seat.old.process operation.0 seat.old.core seat.new.core) }
-        ensures err { OnErr result (seat.new ≡ seat.old) }
+        ensures invoked { IsInvoke seat.old.process operation.0 seat.old.core seat.new.core }
     {
         let process = seat.process;
-        let standing = events::invoke(rt, &self.queue, &mut seat.pass, process, operation)?;
-        seat.seen = standing.seen;
-        seat.in_call = standing.in_call;
-        Ok(())
+        seat.standing = events::invoke(rt, &self.queue, &mut seat.pass, process, operation);
     }
 
     /// Goes on with the call that the seat is in.
@@ -86,8 +78,7 @@ impl Hall {
     /// # Errors
     ///
     /// `LogFull` where every slot is fixed and none to the call, which is then over; `Stopped`
-    /// where the gate said so, and `OutOfMemory` where a step found no memory: the seat stays in
-    /// its call.
+    /// where the gate said so: the seat stays in its call. The gate is asked before each step.
     pub fn resume<R: Wait, G: Gate>(
         &self,
         rt: &R,
@@ -106,23 +97,25 @@ impl Hall {
         ensures calls { HasPlaced seat.new result }
         ensures range { IfOk result (λ r. r.response.0 < length seat.old.core.opening.object.responses) }
         ensures said { G.says gate.new ≡ said_after result }
+        ensures asked { (mine : Entry) → pending seat.old ≡ Some mine
+            → IsAsked G.asks G.says mine seat.old (asked_times result (steps_since seat.old.process seat.old.core seat.new.core)) gate.old gate.new }
     {
         seat.has_its_calls();
+        every_log();
         every_caller();
         every_call();
         let mut step: u32 = 0;
         for _ in rt.forever() {
-            step = step.saturating_add(1);
-            if let Go::Stop = gate.before(seat, step) {
+            step += 1;
+            if let Go::Stop = ask(gate, seat, step) {
                 return Err(CallFault::Stopped);
             }
             match self.step(rt, seat) {
-                Err(_) => return Err(CallFault::OutOfMemory),
-                Ok(StepAnswer::Working) => (),
-                Ok(StepAnswer::Answered { slot, response }) => {
+                StepAnswer::Working => (),
+                StepAnswer::Answered { slot, response } => {
                     return Ok(Reply { slot, response });
                 }
-                Ok(StepAnswer::Full) => return Err(CallFault::LogFull),
+                StepAnswer::Full => return Err(CallFault::LogFull),
             }
         }
         unreachable!()
@@ -132,9 +125,8 @@ impl Hall {
     ///
     /// # Errors
     ///
-    /// `LogFull` at once where the seat has seen every slot, with no event, the gate not asked and no
-    /// memory taken, and else as `resume`; `OutOfMemory` also where the call itself found no memory,
-    /// and then the seat is as it was.
+    /// `LogFull` at once where the seat has seen every slot, with no event and the gate not asked, and
+    /// else as `resume`.
     pub fn call<R: Wait, G: Gate>(
         &self,
         rt: &R,
@@ -148,24 +140,24 @@ impl Hall {
         requires gate { G.says gate.old ≡ On }
         ensures same { IsSameSeat seat.old seat.new }
         ensures seen { BeginsWith (seen seat.new) (seen seat.old) }
-        ensures reply { IfOk result (λ r. Called seat.old.process operation.0 seat.old.core seat.new.core × IsReply (next_call seat.old operation.0) seat.new r) }
+        ensures reply { IfOk result (λ r. Called seat.old.process operation.0 seat.old.core seat.new.core
+            × IsReply (next_call seat.old operation.0) seat.new r) }
         ensures fault { IfErr result (λ e. CallFails operation.0 e seat.old seat.new) }
-        ensures told { length (seen seat.old) ≡ seat.old.core.opening.capacity → (result ≡ Err LogFull) × (seat.new ≡ seat.old) × (gate.new ≡ gate.old) }
+        ensures told { length (slots_seen seat.old) ≡ seat.old.core.opening.capacity → (result ≡ Err LogFull) × (seat.new ≡ seat.old) × (gate.new ≡ gate.old) }
         ensures own { Adds (own seat.old) (own seat.new) result }
         ensures calls { HasPlaced seat.new result }
         ensures range { IfOk result (λ r. r.response.0 < length seat.old.core.opening.object.responses) }
         ensures said { G.says gate.new ≡ said_after result }
+        ensures asked { IsAsked G.asks G.says (next_call seat.old operation.0) seat.old (asked_times result (steps_since seat.old.process seat.old.core seat.new.core)) gate.old gate.new }
     {
         seat.has_its_calls();
         every_caller();
         every_call();
-        if seat.seen == seat.capacity {
+        if seat.standing.slots == seat.capacity {
             return Err(CallFault::LogFull);
         }
-        match self.invoke(rt, seat, operation) {
-            Ok(()) => self.resume(rt, seat, gate),
-            Err(_) => Err(CallFault::OutOfMemory),
-        }
+        self.invoke(rt, seat, operation);
+        self.resume(rt, seat, gate)
     }
 
     /// Compares how much two seats have seen. One has seen what the other has, and perhaps more.
@@ -183,19 +175,24 @@ impl Hall {
         events::look(rt, &self.queue, &mut second.pass, &mut first.pass, two);
         every_caller();
         every_call();
-        first.seen.cmp(&second.seen)
+        first.standing.seen.cmp(&second.standing.seen)
     }
 
     /// Takes the core out for good. It carries each seat's core further, with no event since of the
     /// seat's process; so the process has replayed there what the seat has seen, and that stands
-    /// first among its entries.
+    /// first among its entries. What all threads did is linearized, no call was passed by for long,
+    /// and each was over within so many steps of its process.
     pub fn close<R: Wait>(self, rt: &R, seats: Vec<Seat>) -> LogCore
         requires of { All (IsSeatOf self) seats.items }
         requires some { 0 < length seats.items }
         ensures carries { All (λ s. Carries s.process s.core result) seats.items }
         ensures replayed { All (λ s. caller_at result s.process ≡ caller s) seats.items }
+        ensures linearized { IsLinearized (setting result) result.schedule }
+        ensures bypass { IsBypassBounded (setting result) result.schedule }
+        ensures wait_free { IsWaitFree (setting result) result.schedule }
+        ensures slots { All (λ s. BeginsWith (batches (setting result) result.schedule) (slots_seen s)) seats.items }
         ensures entries { All (λ s. BeginsWith (entries (setting result) result.schedule) (seen s)) seats.items }
-        ensures answers { All (λ s. BeginsWith (replies_from (setting result) s.process [] (entries (setting result) result.schedule)) (own s)) seats.items }
+        ensures answers { All (λ s. BeginsWith (replies_from (setting result) s.process [] (batches (setting result) result.schedule)) (own s)) seats.items }
     {
         let Hall { queue } = self;
         let mut seats = seats;
@@ -208,8 +205,17 @@ impl Hall {
             queue.absorb::<Joins>(&mut pass, other);
         }
         let Item { core, .. } = hands::take(rt, &queue, &mut pass);
-        laws::is_log(&core);
+        core.is_linearized();
         every_caller();
         core
     }
+}
+
+/// Asks the gate about the step of this number.
+fn ask<G: Gate>(gate: &mut G, seat: &Seat, step: u32) -> Go
+    requires free { seat.now.held ≡ false }
+    ensures said { result ≡ G.says gate.new }
+    ensures asked { G.asks gate.old seat.now step gate.new }
+{
+    gate.before(seat, step)
 }

@@ -12,10 +12,12 @@ use cn_log::LogCore;
 use std::sync::Wait;
 use std::thread;
 
-/// How far a process has come in the core: how much it has seen, and whether it is in a call.
+/// How far a process has come in the core: how many entries and how many slots it has seen, and
+/// whether it is in a call.
 #[derive(Clone, Copy)]
 pub(crate) struct Standing {
     pub seen: u16,
+    pub slots: u16,
     pub in_call: bool,
 }
 
@@ -28,7 +30,8 @@ impl Standing {
     {
         laws::is_log(core);
         Standing {
-            seen: core.replayed(process),
+            seen: core.seen(process),
+            slots: core.replayed(process),
             in_call: !core.is_idle(process),
         }
     }

@@ -112,14 +112,13 @@ fn seat_each<R: Wait>(
     let processes = core.processes();
     let events = core.schedule().len();
     let capacity = core.capacity();
-    let Standing { seen, in_call } = Standing::of(&core, 0);
+    let standing = Standing::of(&core, 0);
     hands::put_first(rt, queue, &mut pass, Item { core, seated: 1 });
     let mut root = queue.another::<Knows>(&mut pass);
     seats.push_reserved(Seat {
         process: 0,
-        in_call,
-        seen,
         capacity,
+        standing,
         pass,
     });
     for process in 1..processes {
@@ -144,7 +143,7 @@ fn sit<R: Wait>(rt: &R, queue: &Queue, pass: Pass, process: u8, events: usize) -
         let item = hands::take(rt, queue, &mut pass);
         if item.seated == process && item.core.schedule().len() == events {
             let capacity = item.core.capacity();
-            let Standing { seen, in_call } = Standing::of(&item.core, process);
+            let standing = Standing::of(&item.core, process);
             let Item { core, seated } = item;
             let item = Item {
                 core,
@@ -153,9 +152,8 @@ fn sit<R: Wait>(rt: &R, queue: &Queue, pass: Pass, process: u8, events: usize) -
             hands::put_seat(rt, queue, &mut pass, item);
             return Seat {
                 process,
-                in_call,
-                seen,
                 capacity,
+                standing,
                 pass,
             };
         }

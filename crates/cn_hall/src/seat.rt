@@ -2,33 +2,34 @@
 ghost use Rattle.std.specs.Prelude.{◌≡◌, ◌≢◌, ◌≤◌, ◌↔◌, IsFalse, IsTrue, None, length};
 ghost use Rattle.cn_log.specs.Callers.{HasReplayedItsOwn};
 ghost use Rattle.cn_log.specs.Opening.{setting};
-ghost use Rattle.cn_hall.specs.Seats.{IsLog, pending, seen};
+ghost use Rattle.cn_hall.specs.Seats.{IsLog, pending, seen, slots_seen};
 
+use crate::hands::Standing;
 use crate::rule::Pass;
 use std::marker::Model;
 
-/// What a thread has of a hall: a process, what this has seen, and the core as it was when the seat
+/// What a thread has of a hall: a process, how far it has come, and the core as it was when the seat
 /// last put an event in. A seat can be given to any thread.
 #[derive(Drop)]
 pub struct Seat {
     pub(crate) process: u8,
-    pub(crate) in_call: bool,
-    pub(crate) seen: u16,
     pub(crate) capacity: u16,
+    pub(crate) standing: Standing,
     pub(crate) pass: Pass,
 }
 
 impl Model for Seat {
-    ghost use Rattle.std.specs.Prelude.{◌≡◌, ◌<◌, ◌≤◌, [], length};
+    ghost use Rattle.std.specs.Prelude.{◌≡◌, ◌<◌, []};
     ghost use Rattle.cn_proto.specs.Plan.{processes_of};
-    ghost use Rattle.cn_hall.specs.Seats.{IsLog, IsOfSeat, SeatState, caller_at, core_of, is_held, is_in_call};
+    ghost use Rattle.cn_hall.specs.Seats.{IsLog, IsOfSeat, IsStanding, SeatState, core_of, is_held};
     ghost use Rattle.crossbeam_queue.specs.Passes.{view as known};
 
     ghost Value = { SeatState };
 
     ghost view = { λ s. record { hall = s.pass.table_id; process = s.process; core = core_of (known s.pass); held = is_held (known s.pass).held } };
 
-    ghost invariant = { λ s. let core = core_of (known s.pass) in (s.pass.me.1 ≡ []) × IsOfSeat (known s.pass) s.process core × (s.process < processes_of core.opening.plan) × (s.capacity ≡ core.opening.capacity) × (s.seen ≡ length (caller_at core s.process).seen) × (s.seen ≤ s.capacity) × (s.in_call ≡ is_in_call (caller_at core s.process).phase) × IsLog core };
+    ghost invariant = { λ s. let core = core_of (known s.pass) in (s.pass.me.1 ≡ []) × IsOfSeat (known s.pass) s.process core
+        × (s.process < processes_of core.opening.plan) × (s.capacity ≡ core.opening.capacity) × IsStanding core s.process s.standing × IsLog core };
 }
 
 impl Seat {
@@ -55,14 +56,21 @@ impl Seat {
         ensures call { IsTrue result ↔ (pending self.now ≢ None) }
         ensures idle { IsFalse result ↔ (pending self.now ≡ None) }
     {
-        self.in_call
+        self.standing.in_call
     }
 
-    /// How many entries the seat has seen.
+    /// How many entries the seat has seen, in the slots that its process has replayed.
     pub fn seen_len(&self) -> u16
         ensures number { result ≡ length (seen self.now) }
+    {
+        self.standing.seen
+    }
+
+    /// How many slots the seat has seen: its process has replayed them.
+    pub fn seen_slots(&self) -> u16
+        ensures number { result ≡ length (slots_seen self.now) }
         ensures range { result ≤ self.now.core.opening.capacity }
     {
-        self.seen
+        self.standing.slots
     }
 }

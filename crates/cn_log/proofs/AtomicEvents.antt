@@ -1,5 +1,5 @@
 -- An event of a log is atomic.
-use Rattle.std.proofs.Common.{ℕ, ◌≡◌, ◌≢◌, inl, inr, ◌+◌, ◌*◌, ◌%◌, ◌<◌, ◌≤◌, List, [], ◌∷◌, ◌++◌, length, min, Option, Some, None, IsSome, refl, sym, ap, ◌∙◌, subst, arith, get_or-set_same, get_or-set_other}
+use Rattle.std.proofs.Common.{ℕ, ◌≡◌, ◌≢◌, inl, inr, Bool, true, false, ◌+◌, ◌*◌, ◌==◌, ◌<◌, ◌≤◌, List, [], ◌∷◌, ◌++◌, length, min, Option, Some, None, IsSome, refl, sym, ap, ◌∙◌, subst, arith, get_or-set_same, get_or-set_other}
 use Rattle.std.proofs.lemmas.Bool.{cases_eq}
 use Rattle.cn_proto.specs.Plan.{protocol_of, processes_of, nodes_of}
 use Rattle.cn_proto.specs.Protocol.{Protocol, place_of}
@@ -12,7 +12,7 @@ use Rattle.cn_agree.specs.World.{World as RoundWorld, node_at, local_at, input_a
 use Rattle.cn_agree.specs.declared.local.Local.{Local}
 use Rattle.cn_agree.specs.declared.local.Local.TheVariants.{NotBegun, Active, Decided}
 use Rattle.cn_agree.specs.declared.local.Stage.{Stage}
-use Rattle.cn_agree.specs.declared.local.Stage.TheVariants.{Write}
+use Rattle.cn_log.specs.declared.batch.Batch.{Batch}
 use Rattle.cn_log.specs.declared.entry.Entry.{Entry}
 use Rattle.cn_log.specs.declared.event.Event.{Event}
 use Rattle.cn_log.specs.declared.event.Event.TheVariants.{Invoke, Step}
@@ -20,9 +20,9 @@ use Rattle.cn_log.specs.declared.event.StepAnswer.{StepAnswer}
 use Rattle.cn_log.specs.declared.progress.Phase.{Phase}
 use Rattle.cn_log.specs.declared.progress.Phase.TheVariants.{Idle, Looks, Runs}
 use Rattle.cn_log.specs.Agreement.{Agrees}
-use Rattle.cn_log.specs.AtomicEvent.{LogWorld, LogPart, Announcement, InRound, LogContent, Announced, AtNode, IsSameLocally, log_content, touched_in, touched_by_step, touched_by, LooksOnce, ActsInRound, Steps, Happens, answer_to, LogsLookAlike, IsAtomicEvent}
+use Rattle.cn_log.specs.AtomicEvent.{LogWorld, LogPart, Announcement, InRound, LogContent, Announced, AtNode, IsSameLocally, log_content, touched_in, touched_by_step, touched_by, LooksOn, LooksOnce, ActsInRound, Steps, Happens, answer_to, LogsLookAlike, IsAtomicEvent}
 use Rattle.cn_log.specs.Callers.{call_of, process_of}
-use Rattle.cn_log.specs.Log.{Setting, Caller, put, proposed, after_look, after_decision, after_run, after_step, after_event, first_world, state_of, answer_with, answer_from, MayCome, MayStep, IsEventList}
+use Rattle.cn_log.specs.Log.{Setting, Caller, put, gathered, entries_of_batches, first_look, after_gathering, after_look, after_decision, after_run, after_step, after_event, first_world, state_of, answer_with, answer_from, MayCome, MayStep, IsEventList}
 use Rattle.cn_log.specs.Opening.{Opening, IsOpening, setting_of}
 use Rattle.cn_log.proofs.EventLists.{may_left, may_right}
 use Rattle.cn_log.proofs.Fitting.{state_push, may_push}
@@ -45,78 +45,78 @@ put_alike f h k j r s g same there = elim (cases_eq j k) [
   | inr ne ↦ ap g (put_other f k r j ne) ∙ there ∙ sym (ap g (put_other h k s j ne))
 ]
 
-module _ (law : RoundLaw) (atomic : (P : Protocol) (p : ℕ) → IsAtomic Entry P p) (o : Opening) (opening : IsOpening o) where
+module _ (law : RoundLaw) (atomic : (P : Protocol) (p : ℕ) → IsAtomic Batch P p) (o : Opening) (opening : IsOpening o) where
   abbrev P : Protocol
   P = protocol_of o.plan
 
   abbrev n : ℕ
   n = processes_of o.plan
 
-  abbrev L : Setting (RoundWorld Entry)
+  abbrev L : Setting (RoundWorld Batch)
   L = setting_of o
 
-  abbrev Good : RoundWorld Entry → Type 0
+  abbrev Good : RoundWorld Batch → Type 0
   Good r = RunsBy o.plan r
 
   abbrev IsSafe : LogWorld → Type 0
   IsSafe w = Holds L Good w
 
   agrees : Agrees L Good
-  agrees = agrees_of law o opening.plan opening.sound
+  agrees = agrees_of law o opening.plan
 
   -- who has begun in a round and not decided stands at a place of its path
-  pub record IsActive (r : RoundWorld Entry) (p : ℕ) : Type 0 where
+  pub record IsActive (r : RoundWorld Batch) (p : ℕ) : Type 0 where
     pub place : ℕ
-    pub value : Entry
+    pub value : Batch
     pub stage : Stage
     pub is : local_at r p ≡ Active place value stage
     pub within : place < length (P.path p)
 
-  keeps : (r : RoundWorld Entry) (good : Good r) → KeepsConsensus P n good.0 r
-  keeps r good = law.consensus P n (nodes_of o.plan) (team_of (length o.plan.choice.a)) good.0 r opening.sound good.1.reached
+  keeps : (r : RoundWorld Batch) (good : Good r) → KeepsConsensus P n good.0 r
+  keeps r good = law.consensus P n (nodes_of o.plan) (team_of (length o.plan.choice.a)) good.0 r (law.sound_plans o.plan opening.plan) good.1.reached
 
-  pub active_of : (r : RoundWorld Entry) → Good r → (p : ℕ) → p < n → (v : Entry) → input_at r p ≡ Some v → decision_at r p ≡ None → IsActive r p
+  pub active_of : (r : RoundWorld Batch) → Good r → (p : ℕ) → p < n → (v : Batch) → input_at r p ≡ Some v → decision_at r p ≡ None → IsActive r p
   active_of r good p lt v began undecided = go (local_at r p) refl
     where
-      go : (l : Local Entry) → local_at r p ≡ l → IsActive r p
-      go NotBegun e = absurd (has_begun law o opening.plan opening.sound r good p lt v began e)
+      go : (l : Local Batch) → local_at r p ≡ l → IsActive r p
+      go NotBegun e = absurd (has_begun law o opening.plan r good p lt v began e)
       go (Decided y) e = absurd (let f : Some y ≡ None = sym (ap decided e) ∙ undecided in cc)
       go (Active i x stage) e =
           let k = keeps r good in
-          let taken : 4 * i + actions_done stage ≡ min (occurrences good.0 p) (4 * length (P.path p)) = ap (λ (l : Local Entry). steps_taken P p l) (sym e) ∙ k.steps p lt in
-          let few : 4 * length (P.path p) ≤ occurrences good.0 p → ⊥ = λ many. (let there : IsSome (let none : Option Entry = None in none) = subst IsSome undecided ((k.in_time p lt).1 many) in cc) in
+          let taken : 4 * i + actions_done stage ≡ min (occurrences good.0 p) (4 * length (P.path p)) = ap (λ (l : Local Batch). steps_taken P p l) (sym e) ∙ k.steps p lt in
+          let few : 4 * length (P.path p) ≤ occurrences good.0 p → ⊥ = λ many. (let there : IsSome (let none : Option Batch = None in none) = subst IsSome undecided ((k.in_time p lt).1 many) in cc) in
           record { place = i; value = x; stage = stage; is = e; within = omega arith }
 
-  many : (r : RoundWorld Entry) → Good r → (length r.nodes ≡ nodes_of o.plan) × (length r.locals ≡ n) × (length r.inputs ≡ n)
-  many r good = sizes_of law o opening.plan opening.sound r good
+  many : (r : RoundWorld Batch) → Good r → (length r.nodes ≡ nodes_of o.plan) × (length r.locals ≡ n) × (length r.inputs ≡ n)
+  many r good = sizes_of law o opening.plan r good
 
   -- both rounds have the node of a place where a process stands
-  has_place : (r s : RoundWorld Entry) → Good r → Good s → (p i : ℕ) → p < n → i < length (P.path p) → HasPlace P p i r s
+  has_place : (r s : RoundWorld Batch) → Good r → Good s → (p i : ℕ) → p < n → i < length (P.path p) → HasPlace P p i r s
   has_place r s good good' p i lt within =
-      let below : (place_of P p i).node < nodes_of o.plan = opening.sound.nodes_below p i (lt, within) in
+      let below : (place_of P p i).node < nodes_of o.plan = (law.sound_plans o.plan opening.plan).nodes_below p i (lt, within) in
       let a = (many r good).0 in
       let b = (many s good').0 in
       record { here = omega arith; there = omega arith }
 
   -- a decision changes neither rounds nor announcements
-  rounds_kept : (v : LogWorld) (p : ℕ) (here : Caller) (mine : Entry) (d : Option Entry) (k : ℕ) → (after_decision L v p here mine d).round k ≡ v.round k
+  rounds_kept : (v : LogWorld) (p : ℕ) (here : Caller) (mine : Entry) (d : Option Batch) (k : ℕ) → (after_decision L v p here mine d).round k ≡ v.round k
   rounds_kept v p here mine None k = refl
   rounds_kept v p here mine (Some x) k = refl
 
-  announced_kept : (v : LogWorld) (p : ℕ) (here : Caller) (mine : Entry) (d : Option Entry) (q : ℕ) → (after_decision L v p here mine d).announced q ≡ v.announced q
+  announced_kept : (v : LogWorld) (p : ℕ) (here : Caller) (mine : Entry) (d : Option Batch) (q : ℕ) → (after_decision L v p here mine d).announced q ≡ v.announced q
   announced_kept v p here mine None q = refl
   announced_kept v p here mine (Some x) q = refl
 
-  other_kept : (v : LogWorld) (p : ℕ) (here : Caller) (mine : Entry) (d : Option Entry) (q : ℕ) → q ≢ p → (after_decision L v p here mine d).caller q ≡ v.caller q
+  other_kept : (v : LogWorld) (p : ℕ) (here : Caller) (mine : Entry) (d : Option Batch) (q : ℕ) → q ≢ p → (after_decision L v p here mine d).caller q ≡ v.caller q
   other_kept v p here mine None q ne = refl
   other_kept v p here mine (Some x) q ne = put_other v.caller p _ q ne
 
-  undecided_kept : (v : LogWorld) (p : ℕ) (here : Caller) (mine : Entry) (d : Option Entry) → d ≡ None → (after_decision L v p here mine d).caller p ≡ v.caller p
+  undecided_kept : (v : LogWorld) (p : ℕ) (here : Caller) (mine : Entry) (d : Option Batch) → d ≡ None → (after_decision L v p here mine d).caller p ≡ v.caller p
   undecided_kept v p here mine None e = refl
   undecided_kept v p here mine (Some x) e = absurd (cc)
 
   -- and leads to the same in two worlds
-  caller_alike : (v u : LogWorld) (p : ℕ) (here : Caller) (mine : Entry) (d : Option Entry) → v.caller p ≡ u.caller p → (after_decision L v p here mine d).caller p ≡ (after_decision L u p here mine d).caller p
+  caller_alike : (v u : LogWorld) (p : ℕ) (here : Caller) (mine : Entry) (d : Option Batch) → v.caller p ≡ u.caller p → (after_decision L v p here mine d).caller p ≡ (after_decision L u p here mine d).caller p
   caller_alike v u p here mine None e = e
   caller_alike v u p here mine (Some x) e = put_same v.caller p _ ∙ sym (put_same u.caller p _)
 
@@ -124,7 +124,7 @@ module _ (law : RoundLaw) (atomic : (P : Protocol) (p : ℕ) → IsAtomic Entry 
   abbrev ran : LogWorld → ℕ → Caller → LogWorld
   ran w p here = record w { round = put w.round (length here.seen) (round_step P p (w.round (length here.seen))) }
 
-  abbrev decision : LogWorld → ℕ → Caller → Option Entry
+  abbrev decision : LogWorld → ℕ → Caller → Option Batch
   decision w p here = decision_at (round_step P p (w.round (length here.seen))) p
 
   ran_round : (w : LogWorld) (p : ℕ) (here : Caller) (mine : Entry) → (after_run L w p here mine).round (length here.seen) ≡ round_step P p (w.round (length here.seen))
@@ -135,21 +135,32 @@ module _ (law : RoundLaw) (atomic : (P : Protocol) (p : ℕ) → IsAtomic Entry 
     -- who runs in the round of its slot is active there
     runs_at : (p : ℕ) → p < n → (here : Caller) (mine : Entry) → w.caller p ≡ here → here.phase ≡ Runs mine → IsActive (w.round (length here.seen)) p
     runs_at p lt here mine is phase =
-        let Began : Caller → Type 0 = λ c. IsRuns c.phase → (v : Entry) × (input_at (w.round (length c.seen)) p ≡ Some v) × (decision_at (w.round (length c.seen)) p ≡ None) in
+        let Began : Caller → Type 0 = λ c. IsRuns c.phase → (v : Batch) × (input_at (w.round (length c.seen)) p ≡ Some v) × (decision_at (w.round (length c.seen)) p ≡ None) in
         let began = subst Began is (safe.running p) (subst IsRuns (sym phase) tt) in
         active_of (w.round (length here.seen)) (safe.good (length here.seen)) p lt began.0 began.1 began.2
 
-    look_shared : (p : ℕ) (here : Caller) (mine : Entry) (part : LogPart) → log_content o (after_look L w p here mine) part ≡ log_content o w part
-    look_shared p here mine (Announcement q) = refl
-    look_shared p here mine (InRound j v part) = at_put w.round (length here.seen) j _ (λ (r : RoundWorld Entry). AtNode (content (node_at P r v) part)) refl
+    look_shared : (p : ℕ) (here : Caller) (mine : Entry) (q : ℕ) (batch : Batch) (last : Bool) (part : LogPart) → log_content o (after_gathering L w p here mine q batch last) part ≡ log_content o w part
+    look_shared p here mine q batch false (Announcement r) = refl
+    look_shared p here mine q batch false (InRound j v part) = refl
+    look_shared p here mine q batch true (Announcement r) = refl
+    look_shared p here mine q batch true (InRound j v part) = at_put w.round (length here.seen) j _ (λ (r : RoundWorld Batch). AtNode (content (node_at P r v) part)) refl
 
-    looks_once : (p : ℕ) (here : Caller) (mine : Entry) → LooksOnce o w p here mine (after_look L w p here mine)
-    looks_once p here mine = record {
-      shared = look_shared p here mine;
-      begins = put_same w.round (length here.seen) _;
-      other_rounds = λ k ne. put_other w.round (length here.seen) _ k ne;
-      caller = put_same w.caller p _;
-    }
+    looks_on : (p : ℕ) (here : Caller) (mine : Entry) (q : ℕ) (batch : Batch) (last : Bool) → LooksOn o w p here mine q batch last (after_gathering L w p here mine q batch last)
+    looks_on p here mine q batch false = (refl, put_same w.caller p _)
+    looks_on p here mine q batch true = (put_same w.round (length here.seen) _, put_same w.caller p _)
+
+    look_rounds : (p : ℕ) (here : Caller) (mine : Entry) (q : ℕ) (batch : Batch) (last : Bool) (k : ℕ) → k ≢ length here.seen → (after_gathering L w p here mine q batch last).round k ≡ w.round k
+    look_rounds p here mine q batch false k ne = refl
+    look_rounds p here mine q batch true k ne = put_other w.round (length here.seen) _ k ne
+
+    looks_once : (p : ℕ) (here : Caller) (mine : Entry) (q : ℕ) (batch : Batch) → LooksOnce o w p here mine q batch (after_look L w p here mine q batch)
+    looks_once p here mine q batch =
+        let more : Batch = gathered (w.announced q) (entries_of_batches L here.seen) q batch in
+        record {
+          shared = look_shared p here mine q more (q + 1 == n);
+          other_rounds = look_rounds p here mine q more (q + 1 == n);
+          goes_on = looks_on p here mine q more (q + 1 == n);
+        }
 
     acts : (p : ℕ) (here : Caller) (mine : Entry) (at : IsActive (w.round (length here.seen)) p) → ActsOnce P p at.place at.value at.stage (w.round (length here.seen)) (round_step P p (w.round (length here.seen)))
     acts p here mine at = (atomic P p).one_action (w.round (length here.seen)) at.place at.value at.stage at.is
@@ -162,16 +173,16 @@ module _ (law : RoundLaw) (atomic : (P : Protocol) (p : ℕ) → IsAtomic Entry 
       is = at.is;
       action = subst (λ r. ActsOnce P p at.place at.value at.stage (w.round (length here.seen)) r) (sym (ran_round w p here mine)) (acts p here mine at);
       other_rounds = λ k ne. rounds_kept (ran w p here) p here mine (decision w p here) k ∙ put_other w.round (length here.seen) _ k ne;
-      undecided = λ none. undecided_kept (ran w p here) p here mine (decision w p here) (ap (λ (r : RoundWorld Entry). decision_at r p) (sym (ran_round w p here mine)) ∙ none) ∙ is;
+      undecided = λ none. undecided_kept (ran w p here) p here mine (decision w p here) (ap (λ (r : RoundWorld Batch). decision_at r p) (sym (ran_round w p here mine)) ∙ none) ∙ is;
     }
 
     run_shared : (p : ℕ) (here : Caller) (mine : Entry) (at : IsActive (w.round (length here.seen)) p) (part : LogPart) → touched_in o p (length here.seen) (local_at (w.round (length here.seen)) p) ≢ Some part
         → log_content o (after_run L w p here mine) part ≡ log_content o w part
     run_shared p here mine at (Announcement q) ne = ap (λ a. Announced a) (announced_kept (ran w p here) p here mine (decision w p here) q)
     run_shared p here mine at (InRound j v part) ne = elim (cases_eq j (length here.seen)) [
-      | inl e ↦ ap (λ i. AtNode (content (node_at P ((after_run L w p here mine).round i) v) part)) e ∙ ap (λ (r : RoundWorld Entry). AtNode (content (node_at P r v) part)) (ran_round w p here mine)
+      | inl e ↦ ap (λ i. AtNode (content (node_at P ((after_run L w p here mine).round i) v) part)) e ∙ ap (λ (r : RoundWorld Batch). AtNode (content (node_at P r v) part)) (ran_round w p here mine)
           ∙ ap (λ c. AtNode c) (here_same e) ∙ ap (λ i. AtNode (content (node_at P (w.round i) v) part)) (sym e)
-      | inr apart ↦ ap (λ (r : RoundWorld Entry). AtNode (content (node_at P r v) part)) (rounds_kept (ran w p here) p here mine (decision w p here) j ∙ put_other w.round (length here.seen) _ j apart)
+      | inr apart ↦ ap (λ (r : RoundWorld Batch). AtNode (content (node_at P r v) part)) (rounds_kept (ran w p here) p here mine (decision w p here) j ∙ put_other w.round (length here.seen) _ j apart)
     ]
       where
         here_same : j ≡ length here.seen → content (node_at P (round_step P p (w.round (length here.seen))) v) part ≡ content (node_at P (w.round (length here.seen)) v) part
@@ -183,14 +194,15 @@ module _ (law : RoundLaw) (atomic : (P : Protocol) (p : ℕ) → IsAtomic Entry 
     run_others : (p : ℕ) (here : Caller) (mine : Entry) → IsActive (w.round (length here.seen)) p → (q : ℕ) → q ≢ p → IsSameLocally q (after_run L w p here mine) w
     run_others p here mine at q ne = record {
       caller = other_kept (ran w p here) p here mine (decision w p here) q ne;
-      rounds = λ k. ap (λ (r : RoundWorld Entry). local_at r q) (rounds_kept (ran w p here) p here mine (decision w p here) k)
-          ∙ at_put w.round (length here.seen) k _ (λ (r : RoundWorld Entry). local_at r q) ((acts p here mine at).other_processes q ne);
+      rounds = λ k. ap (λ (r : RoundWorld Batch). local_at r q) (rounds_kept (ran w p here) p here mine (decision w p here) k)
+          ∙ at_put w.round (length here.seen) k _ (λ (r : RoundWorld Batch). local_at r q) ((acts p here mine at).other_processes q ne);
     }
 
-    look_others : (p : ℕ) (here : Caller) (mine : Entry) → (q : ℕ) → q ≢ p → IsSameLocally q (after_look L w p here mine) w
-    look_others p here mine q ne = record {
-      caller = put_other w.caller p _ q ne;
-      rounds = λ k. at_put w.round (length here.seen) k _ (λ (r : RoundWorld Entry). local_at r q) (get_or-set_other (w.round (length here.seen)).locals p q _ NotBegun ne);
+    look_others : (p : ℕ) (here : Caller) (mine : Entry) (q : ℕ) (batch : Batch) (last : Bool) → (r : ℕ) → r ≢ p → IsSameLocally r (after_gathering L w p here mine q batch last) w
+    look_others p here mine q batch false r ne = record { caller = put_other w.caller p _ r ne; rounds = λ k. refl }
+    look_others p here mine q batch true r ne = record {
+      caller = put_other w.caller p _ r ne;
+      rounds = λ k. at_put w.round (length here.seen) k _ (λ (v : RoundWorld Batch). local_at v r) (get_or-set_other (w.round (length here.seen)).locals p r _ NotBegun ne);
     }
 
     -- the parts of the law that speak of one world, for a step
@@ -203,13 +215,15 @@ module _ (law : RoundLaw) (atomic : (P : Protocol) (p : ℕ) → IsAtomic Entry 
 
     one_step : (p : ℕ) → p < n → (here : Caller) (ph : Phase) → w.caller p ≡ here → here.phase ≡ ph → ph ≢ Idle → IsOneStep p here ph
     one_step p lt here Idle is phase busy = absurd (busy refl)
-    one_step p lt here (Looks mine) is phase busy = record {
-      part = Announcement (length here.seen % n);
-      touches = refl;
-      other_parts = λ other ne. look_shared p here mine other;
-      other_processes = look_others p here mine;
-      steps = looks_once p here mine;
-    }
+    one_step p lt here (Looks mine q batch) is phase busy =
+        let more : Batch = gathered (w.announced q) (entries_of_batches L here.seen) q batch in
+        record {
+          part = Announcement q;
+          touches = refl;
+          other_parts = λ other ne. look_shared p here mine q more (q + 1 == n) other;
+          other_processes = look_others p here mine q more (q + 1 == n);
+          steps = looks_once p here mine q batch;
+        }
     one_step p lt here (Runs mine) is phase busy =
         let at = runs_at p lt here mine is phase in
         record {
@@ -251,21 +265,29 @@ module _ (law : RoundLaw) (atomic : (P : Protocol) (p : ℕ) → IsAtomic Entry 
       pub shared : (part : LogPart) → touches ≡ Some part → log_content o w' part ≡ log_content o u' part
       pub answer : given ≡ given'
 
-    looks_alike : (p : ℕ) → p < n → (here : Caller) (mine : Entry) → IsSameLocally p w u
-        → ((part : LogPart) → Some (Announcement (length here.seen % n)) ≡ Some part → log_content o w part ≡ log_content o u part)
-        → IsSameLocally p (after_look L w p here mine) (after_look L u p here mine)
-    looks_alike p lt here mine local shared =
+    -- a look with what it has gathered leads to the same in both
+    gathers_alike : (p : ℕ) → p < n → (here : Caller) (mine : Entry) (q : ℕ) (batch : Batch) (last : Bool) → IsSameLocally p w u
+        → IsSameLocally p (after_gathering L w p here mine q batch last) (after_gathering L u p here mine q batch last)
+    gathers_alike p lt here mine q batch false local = record { caller = put_same w.caller p _ ∙ sym (put_same u.caller p _); rounds = local.rounds }
+    gathers_alike p lt here mine q batch true local =
         let k : ℕ = length here.seen in
-        let found : Announced (w.announced (k % n)) ≡ Announced (u.announced (k % n)) = shared (Announcement (k % n)) refl in
-        let same : w.announced (k % n) ≡ u.announced (k % n) = cc in
         let a = (many (w.round k) (safe.good k)).1 in
         let b = (many (u.round k) (safe'.good k)).1 in
         record {
           caller = put_same w.caller p _ ∙ sym (put_same u.caller p _);
-          rounds = λ j. put_alike w.round u.round k j _ _ (λ (r : RoundWorld Entry). local_at r p)
-              (get_or-set_same (w.round k).locals p _ NotBegun (omega arith) ∙ ap (λ x. Active 0 (proposed x here.seen mine) Write) same ∙ sym (get_or-set_same (u.round k).locals p _ NotBegun (omega arith)))
+          rounds = λ j. put_alike w.round u.round k j _ _ (λ (r : RoundWorld Batch). local_at r p)
+              (get_or-set_same (w.round k).locals p _ NotBegun (omega arith) ∙ sym (get_or-set_same (u.round k).locals p _ NotBegun (omega arith)))
               (local.rounds j);
         }
+
+    looks_alike : (p : ℕ) → p < n → (here : Caller) (mine : Entry) (q : ℕ) (batch : Batch) → IsSameLocally p w u
+        → ((part : LogPart) → Some (Announcement q) ≡ Some part → log_content o w part ≡ log_content o u part)
+        → IsSameLocally p (after_look L w p here mine q batch) (after_look L u p here mine q batch)
+    looks_alike p lt here mine q batch local shared =
+        let found : Announced (w.announced q) ≡ Announced (u.announced q) = shared (Announcement q) refl in
+        let same : w.announced q ≡ u.announced q = cc in
+        subst (λ a. IsSameLocally p (after_look L w p here mine q batch) (after_gathering L u p here mine q (gathered a (entries_of_batches L here.seen) q batch) (q + 1 == n))) same
+        (gathers_alike p lt here mine q (gathered (w.announced q) (entries_of_batches L here.seen) q batch) (q + 1 == n) local)
 
     module _ (p : ℕ) (lt : p < n) (here : Caller) (mine : Entry) (is : w.caller p ≡ u.caller p) (at : IsActive (w.round (length here.seen)) p) (local : IsSameLocally p w u)
         (shared : (part : LogPart) → touched_in o p (length here.seen) (local_at (w.round (length here.seen)) p) ≡ Some part → log_content o w part ≡ log_content o u part) where
@@ -285,19 +307,19 @@ module _ (law : RoundLaw) (atomic : (P : Protocol) (p : ℕ) → IsAtomic Entry 
       local_then = (atomic P p).local (w.round k) (u.round k) at.place at.value at.stage alike_here
 
       run_answer : answer_with L here.seen mine (decision w p here) ≡ answer_with L here.seen mine (decision u p here)
-      run_answer = ap (λ (l : Local Entry). answer_with L here.seen mine (decided l)) local_then
+      run_answer = ap (λ (l : Local Batch). answer_with L here.seen mine (decided l)) local_then
 
       run_local : IsSameLocally p (after_run L w p here mine) (after_run L u p here mine)
       run_local = record {
-        caller = caller_alike (ran w p here) (ran u p here) p here mine (decision w p here) is ∙ ap (λ (l : Local Entry). (after_decision L (ran u p here) p here mine (decided l)).caller p) local_then;
-        rounds = λ j. ap (λ (r : RoundWorld Entry). local_at r p) (rounds_kept (ran w p here) p here mine (decision w p here) j)
-            ∙ put_alike w.round u.round k j _ _ (λ (r : RoundWorld Entry). local_at r p) local_then (local.rounds j)
-            ∙ ap (λ (r : RoundWorld Entry). local_at r p) (sym (rounds_kept (ran u p here) p here mine (decision u p here) j));
+        caller = caller_alike (ran w p here) (ran u p here) p here mine (decision w p here) is ∙ ap (λ (l : Local Batch). (after_decision L (ran u p here) p here mine (decided l)).caller p) local_then;
+        rounds = λ j. ap (λ (r : RoundWorld Batch). local_at r p) (rounds_kept (ran w p here) p here mine (decision w p here) j)
+            ∙ put_alike w.round u.round k j _ _ (λ (r : RoundWorld Batch). local_at r p) local_then (local.rounds j)
+            ∙ ap (λ (r : RoundWorld Batch). local_at r p) (sym (rounds_kept (ran u p here) p here mine (decision u p here) j));
       }
 
       part_then : log_content o (after_run L w p here mine) part_here ≡ log_content o (after_run L u p here mine) part_here
       part_then =
-          let f : RoundWorld Entry → LogContent = λ r. AtNode (content (node_at P r (place_of P p at.place).node) (touched P (place_of P p at.place) at.stage)) in
+          let f : RoundWorld Batch → LogContent = λ r. AtNode (content (node_at P r (place_of P p at.place).node) (touched P (place_of P p at.place) at.stage)) in
           ap f (ran_round w p here mine)
           ∙ ap (λ c. AtNode c) ((atomic P p).shared (w.round k) (u.round k) at.place at.value at.stage (has_place (w.round k) (u.round k) (safe.good k) (safe'.good k) p at.place lt at.within) alike_here)
           ∙ ap f (sym (ran_round u p here mine))
@@ -315,11 +337,14 @@ module _ (law : RoundLaw) (atomic : (P : Protocol) (p : ℕ) → IsAtomic Entry 
         → ((part : LogPart) → touched_by_step o w p here ph ≡ Some part → log_content o w part ≡ log_content o u part)
         → GoesAlike p (touched_by_step o w p here ph) (after_step L w p here ph) (after_step L u p here ph) (answer_from L w p here ph) (answer_from L u p here ph)
     step_alike p lt here Idle is phase busy local shared = absurd (busy refl)
-    step_alike p lt here (Looks mine) is phase busy local shared = record {
-      local = looks_alike p lt here mine local shared;
-      shared = λ part h. look_shared w safe p here mine part ∙ shared part h ∙ sym (look_shared u safe' p here mine part);
-      answer = refl;
-    }
+    step_alike p lt here (Looks mine q batch) is phase busy local shared =
+        let more_w : Batch = gathered (w.announced q) (entries_of_batches L here.seen) q batch in
+        let more_u : Batch = gathered (u.announced q) (entries_of_batches L here.seen) q batch in
+        record {
+          local = looks_alike p lt here mine q batch local shared;
+          shared = λ part h. look_shared w safe p here mine q more_w (q + 1 == n) part ∙ shared part h ∙ sym (look_shared u safe' p here mine q more_u (q + 1 == n) part);
+          answer = refl;
+        }
     step_alike p lt here (Runs mine) is phase busy local shared = goes_on p lt here mine local.caller (runs_at w safe p lt here mine is phase) local shared
 
     -- the same for a step by what the process knows in each of the worlds
@@ -341,7 +366,7 @@ module _ (law : RoundLaw) (atomic : (P : Protocol) (p : ℕ) → IsAtomic Entry 
 
     call_caller : (p operation : ℕ) → IsSameLocally p w u → (after_event L w (Invoke p operation)).caller p ≡ (after_event L u (Invoke p operation)).caller p
     call_caller p operation local =
-        put_same w.caller p _ ∙ ap (λ (c : Caller). let now : Caller = record { seen = c.seen; calls = c.calls + 1; phase = Looks (call_of p operation c.calls) } in now) local.caller ∙ sym (put_same u.caller p _)
+        put_same w.caller p _ ∙ ap (λ (c : Caller). let now : Caller = record { seen = c.seen; calls = c.calls + 1; phase = first_look (call_of p operation c.calls) } in now) local.caller ∙ sym (put_same u.caller p _)
 
     call_content : (p operation : ℕ) → IsSameLocally p w u → log_content o (after_event L w (Invoke p operation)) (Announcement p) ≡ log_content o (after_event L u (Invoke p operation)) (Announcement p)
     call_content p operation local =

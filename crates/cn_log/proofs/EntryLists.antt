@@ -1,28 +1,28 @@
 -- The entries of the fixed slots.
-use Rattle.std.proofs.Common.{ℕ, zero, suc, ◌≡◌, ◌≢◌, ◌⊎◌, inl, inr, ◌+◌, ◌<◌, ◌≤◌, List, [], ◌∷◌, ◌++◌, length, slice_get, Option, Some, None, refl, ap, ◌∙◌, arith}
+use Rattle.std.proofs.Common.{ℕ, zero, suc, ◌≡◌, ◌≢◌, ◌⊎◌, inl, inr, ◌+◌, ◌<◌, ◌≤◌, List, [], ◌∷◌, ◌++◌, length, slice_get, Option, Some, None, refl, ap, ◌∙◌, arith, if◌then◌else◌}
 use Rattle.cn_log.specs.declared.entry.Entry.{Entry}
+use Rattle.cn_log.specs.declared.batch.Batch.{Batch}
 use Rattle.std.proofs.Common.{true, false, ◌==◌, length-append}
 use Rattle.std.proofs.lemmas.Bool.{cases_eq}
 use Rattle.std.proofs.lemmas.Bool.Decides.{nat_tests}
 use Rattle.cn_log.specs.Log.{Setting, put, operations_of, up_to_open, fixed_from}
-use Rattle.cn_log.specs.Fields.{entered}
 use Rattle.cn_log.proofs.ListLemmas.{put_same, put_other, get_push_cases}
 use Rattle.cn_table.specs.TypeTable.{TypeTable, transition}
 use Rattle.cn_table.specs.Run.{responses_along, state_after}
 
 module _ {R : Type 0} (L : Setting R) (round : ℕ → R) where
-  pub entry_fixed : (fuel base k : ℕ) (e : Entry) → slice_get (fixed_from L fuel base round) k ≡ Some e → (k < fuel) × (L.consensus.fixed (round (base + k)) ≡ Some e)
+  pub entry_fixed : (fuel base k : ℕ) (e : Batch) → slice_get (fixed_from L fuel base round) k ≡ Some e → (k < fuel) × (L.consensus.fixed (round (base + k)) ≡ Some e)
   entry_fixed zero base k e h = absurd cc
   entry_fixed (suc fuel) base k e h = go (L.consensus.fixed (round base)) refl k h (λ j g. entry_fixed fuel (suc base) j e g)
     where
-      go : (o : Option Entry) → L.consensus.fixed (round base) ≡ o → (k : ℕ) → slice_get (up_to_open o (fixed_from L fuel (suc base) round)) k ≡ Some e
+      go : (o : Option Batch) → L.consensus.fixed (round base) ≡ o → (k : ℕ) → slice_get (up_to_open o (fixed_from L fuel (suc base) round)) k ≡ Some e
           → ((j : ℕ) → slice_get (fixed_from L fuel (suc base) round) j ≡ Some e → (j < fuel) × (L.consensus.fixed (round (suc base + j)) ≡ Some e))
           → (k < suc fuel) × (L.consensus.fixed (round (base + k)) ≡ Some e)
       go None is k h rest = absurd cc
       go (Some x) is zero h rest = (omega arith, (let b : base + 0 ≡ base = omega arith in rw b (is ∙ h)))
       go (Some x) is (suc k) h rest = let r = rest k h in ((let l = r.0 in omega arith), (let b : base + suc k ≡ suc base + k = omega arith in rw b r.1))
 
-  pub fixed_entry : (fuel base k : ℕ) (e : Entry) → k < fuel → ((j : ℕ) → j < k → (x : Entry) × (L.consensus.fixed (round (base + j)) ≡ Some x)) → L.consensus.fixed (round (base + k)) ≡ Some e → slice_get (fixed_from L fuel base round) k ≡ Some e
+  pub fixed_entry : (fuel base k : ℕ) (e : Batch) → k < fuel → ((j : ℕ) → j < k → (x : Batch) × (L.consensus.fixed (round (base + j)) ≡ Some x)) → L.consensus.fixed (round (base + k)) ≡ Some e → slice_get (fixed_from L fuel base round) k ≡ Some e
   fixed_entry zero base k e less below h = absurd (omega arith)
   fixed_entry (suc fuel) base zero e less below h = let b : base + 0 ≡ base = omega arith in let g : L.consensus.fixed (round base) ≡ Some e = rw b at h in rw g refl
   fixed_entry (suc fuel) base (suc k) e less below h =
@@ -32,7 +32,7 @@ module _ {R : Type 0} (L : Setting R) (round : ℕ → R) where
       let c : base + suc k ≡ suc base + k = omega arith in
       rw g (fixed_entry fuel (suc base) k e (omega arith) (λ j l. (let y = below (suc j) (omega arith) in let d : base + suc j ≡ suc base + j = omega arith in (y.0, rw d at y.1))) (rw c at h))
 
-  pub all_fixed : (fuel base : ℕ) → ((j : ℕ) → j < fuel → (x : Entry) × (L.consensus.fixed (round (base + j)) ≡ Some x)) → length (fixed_from L fuel base round) ≡ fuel
+  pub all_fixed : (fuel base : ℕ) → ((j : ℕ) → j < fuel → (x : Batch) × (L.consensus.fixed (round (base + j)) ≡ Some x)) → length (fixed_from L fuel base round) ≡ fuel
   all_fixed zero base all = refl
   all_fixed (suc fuel) base all =
       let b : base + 0 ≡ base = omega arith in
@@ -44,17 +44,17 @@ pub entries_few : {R : Type 0} (L : Setting R) (round : ℕ → R) (slots base :
 entries_few L round zero base = omega arith
 entries_few L round (suc slots) base = go (L.consensus.fixed (round base)) (entries_few L round slots (suc base))
   where
-    go : (o : Option Entry) → length (fixed_from L slots (suc base) round) ≤ slots → length (up_to_open o (fixed_from L slots (suc base) round)) ≤ suc slots
+    go : (o : Option Batch) → length (fixed_from L slots (suc base) round) ≤ slots → length (up_to_open o (fixed_from L slots (suc base) round)) ≤ suc slots
     go None few = omega arith
     go (Some e) few = omega arith
 
 -- where fixed slots stay, entries stay
-pub entries_stay : {R : Type 0} (L : Setting R) (round after : ℕ → R) → ((k : ℕ) (e : Entry) → L.consensus.fixed (round k) ≡ Some e → L.consensus.fixed (after k) ≡ Some e) → (fuel base : ℕ) → (rest : List Entry) × (fixed_from L fuel base after ≡ fixed_from L fuel base round ++ rest)
+pub entries_stay : {R : Type 0} (L : Setting R) (round after : ℕ → R) → ((k : ℕ) (e : Batch) → L.consensus.fixed (round k) ≡ Some e → L.consensus.fixed (after k) ≡ Some e) → (fuel base : ℕ) → (rest : List Batch) × (fixed_from L fuel base after ≡ fixed_from L fuel base round ++ rest)
 entries_stay L round after stay zero base = ([], refl)
 entries_stay L round after stay (suc fuel) base = go (L.consensus.fixed (round base)) refl (entries_stay L round after stay fuel (suc base))
   where
-    go : (o : Option Entry) → L.consensus.fixed (round base) ≡ o → (rest : List Entry) × (fixed_from L fuel (suc base) after ≡ fixed_from L fuel (suc base) round ++ rest)
-        → (rest : List Entry) × (fixed_from L (suc fuel) base after ≡ up_to_open o (fixed_from L fuel (suc base) round) ++ rest)
+    go : (o : Option Batch) → L.consensus.fixed (round base) ≡ o → (rest : List Batch) × (fixed_from L fuel (suc base) after ≡ fixed_from L fuel (suc base) round ++ rest)
+        → (rest : List Batch) × (fixed_from L (suc fuel) base after ≡ up_to_open o (fixed_from L fuel (suc base) round) ++ rest)
     go None is more = (fixed_from L (suc fuel) base after, refl)
     go (Some e) is more = (more.0, rw (stay base e is) (ap (λ es. e ∷ es) more.1))
 
@@ -72,8 +72,8 @@ response_there t (y ∷ before) (x ∷ es) state (suc k) e len are h =
     rest ∙ ap (λ (z : Entry). Some (transition t e.operation.0 (state_after t (transition t z.operation.0 state).1 (operations_of before))).0) same
 
 -- the entries are told by the slots: fixed to them, and then the end or an open slot
-pub fixed_from_is : {R : Type 0} (L : Setting R) (round : ℕ → R) (slots base : ℕ) (es : List Entry) → length es ≤ slots
-    → ((j : ℕ) (x : Entry) → slice_get es j ≡ Some x → L.consensus.fixed (round (base + j)) ≡ Some x)
+pub fixed_from_is : {R : Type 0} (L : Setting R) (round : ℕ → R) (slots base : ℕ) (es : List Batch) → length es ≤ slots
+    → ((j : ℕ) (x : Batch) → slice_get es j ≡ Some x → L.consensus.fixed (round (base + j)) ≡ Some x)
     → (length es ≡ slots) ⊎ (L.consensus.fixed (round (base + length es)) ≡ None) → fixed_from L slots base round ≡ es
 fixed_from_is L round zero base [] few are end = refl
 fixed_from_is L round zero base (e ∷ es) few are end = absurd (omega arith)
@@ -94,13 +94,18 @@ pub fixed_from_same : {R : Type 0} (L : Setting R) (round after : ℕ → R) →
 fixed_from_same L round after same zero base = refl
 fixed_from_same L round after same (suc slots) base = rw (same base, fixed_from_same L round after same slots (suc base)) refl
 
+-- the batches, and behind them that of slot k where it is the next one and fixed
+abbrev pub entered : List Batch → ℕ → Option Batch → List Batch
+entered batches k None = batches
+entered batches k (Some b) = if length batches == k then batches ++ b ∷ [] else batches
+
 -- the entries where one slot has come to another round that keeps what is fixed
-module _ {R : Type 0} (L : Setting R) (round : ℕ → R) (k : ℕ) (r : R) (es : List Entry) (low : k ≤ length es) (room : k < L.capacity)
-    (are : (j : ℕ) (x : Entry) → slice_get es j ≡ Some x → L.consensus.fixed (round j) ≡ Some x)
+module _ {R : Type 0} (L : Setting R) (round : ℕ → R) (k : ℕ) (r : R) (es : List Batch) (low : k ≤ length es) (room : k < L.capacity)
+    (are : (j : ℕ) (x : Batch) → slice_get es j ≡ Some x → L.consensus.fixed (round j) ≡ Some x)
     (end : (length es ≡ L.capacity) ⊎ (L.consensus.fixed (round (length es)) ≡ None))
     (few : length es ≤ L.capacity)
-    (in_order : (j i : ℕ) (y : Entry) → j < i → L.consensus.fixed (round i) ≡ Some y → (x : Entry) × (L.consensus.fixed (round j) ≡ Some x))
-    (keeps : (y : Entry) → L.consensus.fixed (round k) ≡ Some y → L.consensus.fixed r ≡ Some y) where
+    (in_order : (j i : ℕ) (y : Batch) → j < i → L.consensus.fixed (round i) ≡ Some y → (x : Batch) × (L.consensus.fixed (round j) ≡ Some x))
+    (keeps : (y : Batch) → L.consensus.fixed (round k) ≡ Some y → L.consensus.fixed r ≡ Some y) where
   abbrev after : ℕ → R
   after = put round k r
 
@@ -110,7 +115,7 @@ module _ {R : Type 0} (L : Setting R) (round : ℕ → R) (k : ℕ) (r : R) (es 
   there : (j : ℕ) → j ≢ k → L.consensus.fixed (after j) ≡ L.consensus.fixed (round j)
   there j ne = ap L.consensus.fixed (put_other round k r j ne)
 
-  stays : (j : ℕ) (x : Entry) → slice_get es j ≡ Some x → L.consensus.fixed (after (0 + j)) ≡ Some x
+  stays : (j : ℕ) (x : Batch) → slice_get es j ≡ Some x → L.consensus.fixed (after (0 + j)) ≡ Some x
   stays j x h = let z : 0 + j ≡ j = omega arith in rw z (elim (cases_eq j k) [
     | inl e ↦ rw e (here ∙ keeps x (rw e at (are j x h)))
     | inr ne ↦ there j ne ∙ are j x h
@@ -131,11 +136,11 @@ module _ {R : Type 0} (L : Setting R) (round : ℕ → R) (k : ℕ) (r : R) (es 
   next_open : length es ≡ k → L.consensus.fixed (round (k + 1)) ≡ None
   next_open e = go (L.consensus.fixed (round (k + 1))) refl
     where
-      go : (o : Option Entry) → L.consensus.fixed (round (k + 1)) ≡ o → o ≡ None
+      go : (o : Option Batch) → L.consensus.fixed (round (k + 1)) ≡ o → o ≡ None
       go None h = refl
       go (Some y) h = let x = in_order k (k + 1) y (omega arith) h in let f = x.1 in let n = not_fixed e in absurd (cc (f, n))
 
-  now_fixed : length es ≡ k → (y : Entry) → L.consensus.fixed r ≡ Some y → fixed_from L L.capacity 0 after ≡ es ++ y ∷ []
+  now_fixed : length es ≡ k → (y : Batch) → L.consensus.fixed r ≡ Some y → fixed_from L L.capacity 0 after ≡ es ++ y ∷ []
   now_fixed e y h =
       let len : length (es ++ y ∷ []) ≡ length es + 1 = length-append es (y ∷ []) in
       fixed_from_is L after L.capacity 0 (es ++ y ∷ []) (omega arith)
@@ -151,7 +156,7 @@ module _ {R : Type 0} (L : Setting R) (round : ℕ → R) (k : ℕ) (r : R) (es 
   pub entered_is : fixed_from L L.capacity 0 (put round k r) ≡ entered es k (L.consensus.fixed r)
   entered_is = go (L.consensus.fixed r) refl (cases_eq (length es) k)
     where
-      go : (o : Option Entry) → L.consensus.fixed r ≡ o → (length es ≡ k) ⊎ (length es ≢ k) → fixed_from L L.capacity 0 after ≡ entered es k o
+      go : (o : Option Batch) → L.consensus.fixed r ≡ o → (length es ≡ k) ⊎ (length es ≢ k) → fixed_from L L.capacity 0 after ≡ entered es k o
       go None h (inl e) = still_open e h
       go None h (inr ne) = further (grind arith)
       go (Some y) h (inl e) = let t : (length es == k) ≡ true = grind (arith, nat_tests) in rw t (now_fixed e y h)

@@ -29,22 +29,22 @@ invoke_none capacity i here Idle h = (refl, go (nat_lt (length here.seen) capaci
     go : (b : Bool) → nat_lt (length here.seen) capacity ≡ b → (if b then None else Some (AtEnd i)) ≡ None → length here.seen < capacity
     go true t h = grind (arith, nat_tests)
     go false t h = absurd cc
-invoke_none capacity i here (Looks e) h = absurd cc
+invoke_none capacity i here (Looks e q batch) h = absurd cc
 invoke_none capacity i here (Runs e) h = absurd cc
 
 none_invoke : (capacity i : ℕ) (here : Caller) (ph : Phase) → ph ≡ Idle → length here.seen < capacity → invoke_fault capacity i here ph ≡ None
 none_invoke capacity i here Idle is less = let t : nat_lt (length here.seen) capacity ≡ true = grind (arith, nat_tests) in rw t refl
-none_invoke capacity i here (Looks e) is less = absurd (cc is)
+none_invoke capacity i here (Looks e q batch) is less = absurd (cc is)
 none_invoke capacity i here (Runs e) is less = absurd (cc is)
 
 step_none : (i : ℕ) (ph : Phase) → step_fault i ph ≡ None → ph ≢ Idle
 step_none i Idle h = absurd cc
-step_none i (Looks e) h = λ is. cc is
+step_none i (Looks e q batch) h = λ is. cc is
 step_none i (Runs e) h = λ is. cc is
 
 none_step : (i : ℕ) (ph : Phase) → ph ≢ Idle → step_fault i ph ≡ None
 none_step i Idle ne = absurd (ne refl)
-none_step i (Looks e) ne = refl
+none_step i (Looks e q batch) ne = refl
 none_step i (Runs e) ne = refl
 
 module _ {R : Type 0} (L : Setting R) (w : World R) (i : ℕ) where

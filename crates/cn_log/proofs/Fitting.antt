@@ -1,17 +1,19 @@
 -- The fields of a core: at its opening, and after a call.
-use Rattle.std.proofs.Common.{ℕ, zero, suc, ◌≡◌, inl, inr, ◌+◌, ◌<◌, ◌≤◌, List, [], ◌∷◌, ◌++◌, length, replicate, Option, Some, None, refl, sym, ap, ◌∙◌, arith, slice_index_or, slice_set, get_or, length-set, get_or-set_same, get_or-set_other, length-append}
+use Rattle.std.proofs.Common.{ℕ, zero, suc, ◌≡◌, inl, inr, Bool, true, false, ◌==◌, ◌+◌, ◌<◌, ◌≤◌, List, [], ◌∷◌, ◌++◌, length, replicate, Option, Some, None, refl, sym, ap, ◌∙◌, arith, slice_index_or, slice_set, get_or, length-set, get_or-set_same, get_or-set_other, length-append}
 use Rattle.std.proofs.lemmas.Bool.{cases_eq}
 use Rattle.std.proofs.lemmas.List.{get_or_default, length-replicate}
 use Rattle.cn_table.specs.declared.elements.State.{State}
+use Rattle.cn_log.specs.declared.batch.Batch.{Batch}
 use Rattle.cn_log.specs.declared.entry.Entry.{Entry}
+use Rattle.cn_log.specs.Batches.{entries_in, slots_from}
 use Rattle.cn_log.specs.declared.event.Event.{Event}
 use Rattle.cn_log.specs.declared.event.Event.TheVariants.{Invoke, Step}
 use Rattle.cn_log.specs.declared.progress.Phase.{Phase}
 use Rattle.cn_log.specs.declared.progress.Phase.TheVariants.{Idle, Looks, Runs}
 use Rattle.cn_log.specs.declared.progress.Progress.{Progress}
 use Rattle.cn_log.specs.Agreement.{Agrees}
-use Rattle.cn_log.specs.Fields.{no_progress, IsProgressOf, Fits, Keeps}
-use Rattle.cn_log.specs.Log.{Setting, World, Caller, put, after_events, after_event, after_step, after_decision, phase_after, first_world, state_of, MayCome, MayAllCome, IsEventList, MayInvoke}
+use Rattle.cn_log.specs.Fields.{no_calls, no_progress, IsProgressOf, Fits, Keeps}
+use Rattle.cn_log.specs.Log.{Setting, World, Caller, put, gathered, first_look, batches_of, after_events, after_event, after_gathering, after_step, after_decision, phase_after, first_world, state_of, MayCome, MayAllCome, IsEventList, MayInvoke}
 use Rattle.cn_log.proofs.ListLemmas.{put_same, put_other}
 use Rattle.cn_log.proofs.Invariant.{PhaseHolds, Holds}
 use Rattle.cn_log.proofs.Invoking.{keeps_event}
@@ -21,7 +23,7 @@ use Rattle.cn_log.proofs.EntryLists.{fixed_from_is}
 
 abbrev busy : Phase → ℕ
 busy Idle = 0
-busy (Looks e) = 1
+busy (Looks e q batch) = 1
 busy (Runs e) = 1
 
 -- a process has replayed a slot for each of its calls but the pending one
@@ -45,19 +47,27 @@ module _ {R : Type 0} (L : Setting R) where
     | inr ne ↦ rw (put_other w.caller p s q ne) (low q)
   ]
 
-  low_step : (w : World R) → ((q : ℕ) → IsLow L.capacity (w.caller q)) → (p : ℕ) (here : Caller) → w.caller p ≡ here → (ph : Phase) → here.phase ≡ ph → PhaseHolds L w p ph → (q : ℕ) → IsLow L.capacity ((after_step L w p here ph).caller q)
-  low_step w low p here is Idle ph holds q = low q
-  low_step w low p here is (Looks mine) ph holds q =
+  low_gathering : (w : World R) → ((q : ℕ) → IsLow L.capacity (w.caller q)) → (p : ℕ) (here : Caller) → w.caller p ≡ here → (mine : Entry) (i : ℕ) (batch v : Batch) (b : Bool) → here.phase ≡ Looks mine i batch → (q : ℕ) → IsLow L.capacity ((after_gathering L w p here mine i v b).caller q)
+  low_gathering w low p here is mine i batch v false ph q =
+      let was : IsLow L.capacity here = rw is at (low p) in
+      let b : busy here.phase ≡ 1 = ap busy ph in
+      let a = was.0 in
+      put_low w low p (record here { phase = Looks mine (i + 1) v }) (omega arith, was.1) q
+  low_gathering w low p here is mine i batch v true ph q =
       let was : IsLow L.capacity here = rw is at (low p) in
       let b : busy here.phase ≡ 1 = ap busy ph in
       let a = was.0 in
       put_low w low p (record here { phase = Runs mine }) (omega arith, was.1) q
+
+  low_step : (w : World R) → ((q : ℕ) → IsLow L.capacity (w.caller q)) → (p : ℕ) (here : Caller) → w.caller p ≡ here → (ph : Phase) → here.phase ≡ ph → PhaseHolds L w p ph → (q : ℕ) → IsLow L.capacity ((after_step L w p here ph).caller q)
+  low_step w low p here is Idle ph holds q = low q
+  low_step w low p here is (Looks mine i batch) ph holds q = low_gathering w low p here is mine i batch (gathered (w.announced i) (entries_in L.processes here.seen) i batch) (i + 1 == L.processes) ph q
   low_step w low p here is (Runs mine) ph holds q = go (L.consensus.decided (L.consensus.step p (w.round (length here.seen))) p)
     where
       w1 : World R
       w1 = record w { round = put w.round (length here.seen) (L.consensus.step p (w.round (length here.seen))) }
 
-      go : (o : Option Entry) → IsLow L.capacity ((after_decision L w1 p here mine o).caller q)
+      go : (o : Option Batch) → IsLow L.capacity ((after_decision L w1 p here mine o).caller q)
       go None = low q
       go (Some x) =
           let was : IsLow L.capacity here = rw is at (low p) in
@@ -68,7 +78,7 @@ module _ {R : Type 0} (L : Setting R) where
           put_low w low p (record { seen = here.seen ++ x ∷ []; calls = here.calls; phase = phase_after L (length here.seen) mine x }) (omega arith, omega arith) q
 
   low_invoke : (w : World R) → ((q : ℕ) → IsLow L.capacity (w.caller q)) → (p operation : ℕ) → MayInvoke L w p operation
-      → ((w.caller p).calls < L.capacity) × IsLow L.capacity (record { seen = (w.caller p).seen; calls = (w.caller p).calls + 1; phase = Looks (record { process = p; operation = record { 0 = operation }; call = (w.caller p).calls }) })
+      → ((w.caller p).calls < L.capacity) × IsLow L.capacity (record { seen = (w.caller p).seen; calls = (w.caller p).calls + 1; phase = first_look (record { process = p; operation = record { 0 = operation }; call = (w.caller p).calls }) })
   low_invoke w low p operation may =
       let was = low p in
       let b : busy (w.caller p).phase ≡ 0 = ap busy may.idle in
@@ -76,15 +86,15 @@ module _ {R : Type 0} (L : Setting R) where
       let m = may.not_at_end in
       (omega arith, (omega arith, was.1))
 
-  pub progress_put : (w : World R) (rounds : List R) (announced : List (Option Entry)) (progress : List Progress) (entries : List Entry) → Fits L w rounds announced progress entries → (p : ℕ) → p < L.processes → (x : Progress) (s : Caller) → IsProgressOf L x s
+  pub progress_put : (w : World R) (rounds : List R) (announced : List (Option Entry)) (progress : List Progress) (entries : List Entry) (slots : List ℕ) (fixed : ℕ) → Fits L w rounds announced progress entries slots fixed → (p : ℕ) → p < L.processes → (x : Progress) (s : Caller) → IsProgressOf L x s
       → (q : ℕ) → q < L.processes → IsProgressOf L (slice_index_or (slice_set progress p x) q no_progress) (put w.caller p s q)
-  progress_put w rounds announced progress entries fits p lt x s is q less = elim (cases_eq q p) [
+  progress_put w rounds announced progress entries slots fixed fits p lt x s is q less = elim (cases_eq q p) [
     | inl f ↦ (let many = fits.progress_many in rw (f, put_same w.caller p s, get_or-set_same progress p x no_progress (omega arith)) is)
     | inr ne ↦ rw (put_other w.caller p s q ne, get_or-set_other progress p q x no_progress ne) (fits.caller q less)
   ]
 
-  pub progress_here : (s : List Event) (rounds : List R) (announced : List (Option Entry)) (progress : List Progress) (entries : List Entry) → Keeps L s rounds announced progress entries → (p : ℕ) → p < L.processes → (here : Progress) → here ≡ get_or progress p here → IsProgressOf L here ((state_of L s).caller p)
-  progress_here s rounds announced progress entries keeps p lt here read =
+  pub progress_here : (s : List Event) (rounds : List R) (announced : List (Option Entry)) (progress : List Progress) (entries : List Entry) (slots : List ℕ) (fixed : ℕ) → Keeps L s rounds announced progress entries slots fixed → (p : ℕ) → p < L.processes → (here : Progress) → here ≡ get_or progress p here → IsProgressOf L here ((state_of L s).caller p)
+  progress_here s rounds announced progress entries slots fixed keeps p lt here read =
       let many = keeps.fits.progress_many in
       let is : here ≡ get_or progress p no_progress = read ∙ get_or_default progress p here no_progress (omega arith) in
       rw is (keeps.fits.caller p lt)
@@ -106,18 +116,18 @@ module _ {R : Type 0} (L : Setting R) (Good : R → Type 0) (agrees : Agrees L G
   seen_few s may q = (low_after s may q).1
 
   -- a process makes no more calls than there are slots
-  pub calls_few : (s : List Event) (rounds : List R) (announced : List (Option Entry)) (progress : List Progress) (entries : List Entry) → Keeps L s rounds announced progress entries → (p operation : ℕ) → MayInvoke L (state_of L s) p operation → (here : Progress) → here ≡ get_or progress p here → here.calls < L.capacity
-  calls_few s rounds announced progress entries keeps p operation may here read =
+  pub calls_few : (s : List Event) (rounds : List R) (announced : List (Option Entry)) (progress : List Progress) (entries : List Entry) (slots : List ℕ) (fixed : ℕ) → Keeps L s rounds announced progress entries slots fixed → (p operation : ℕ) → MayInvoke L (state_of L s) p operation → (here : Progress) → here ≡ get_or progress p here → here.calls < L.capacity
+  calls_few s rounds announced progress entries slots fixed keeps p operation may here read =
       let low = (low_invoke L (state_of L s) (low_after s keeps.events) p operation may).0 in
-      let d = (progress_here L s rounds announced progress entries keeps p may.process here read).calls in
+      let d = (progress_here L s rounds announced progress entries slots fixed keeps p may.process here read).calls in
       omega arith
 
-  pub invoke_keeps : (s : List Event) (rounds : List R) (announced : List (Option Entry)) (progress : List Progress) (entries : List Entry) → Keeps L s rounds announced progress entries → (p operation : ℕ) → MayInvoke L (state_of L s) p operation → (here : Progress) → here ≡ get_or progress p here
+  pub invoke_keeps : (s : List Event) (rounds : List R) (announced : List (Option Entry)) (progress : List Progress) (entries : List Entry) (slots : List ℕ) (fixed : ℕ) → Keeps L s rounds announced progress entries slots fixed → (p operation : ℕ) → MayInvoke L (state_of L s) p operation → (here : Progress) → here ≡ get_or progress p here
       → Keeps L (s ++ Invoke p operation ∷ []) rounds (slice_set announced p (Some (record { process = p; operation = record { 0 = operation }; call = here.calls })))
-      (slice_set progress p (record { replayed = here.replayed; calls = here.calls + 1; phase = Looks (record { process = p; operation = record { 0 = operation }; call = here.calls }); state = here.state })) entries
-  invoke_keeps s rounds announced progress entries keeps p operation may here read =
+      (slice_set progress p (record { replayed = here.replayed; seen = here.seen; calls_seen = here.calls_seen; calls = here.calls + 1; phase = first_look (record { process = p; operation = record { 0 = operation }; call = here.calls }); state = here.state })) entries slots fixed
+  invoke_keeps s rounds announced progress entries slots fixed keeps p operation may here read =
       let w = state_of L s in
-      let d = progress_here L s rounds announced progress entries keeps p may.process here read in
+      let d = progress_here L s rounds announced progress entries slots fixed keeps p may.process here read in
       let fits = keeps.fits in
       let many = fits.announced_many in
       let lt = may.process in
@@ -133,8 +143,10 @@ module _ {R : Type 0} (L : Setting R) (Good : R → Type 0) (agrees : Agrees L G
             | inr ne ↦ rw (put_other w.announced p (Some (entry (w.caller p).calls)) q ne, get_or-set_other announced p q (Some (entry (w.caller p).calls)) None ne) (fits.announcement q less)
           ];
           progress_many = length-set progress p _ ∙ fits.progress_many;
-          caller = progress_put L w rounds announced progress entries fits p may.process _ _ (record { replayed = d.replayed; calls = refl; phase = refl; state = d.state; known = d.known });
+          caller = progress_put L w rounds announced progress entries slots fixed fits p may.process _ _ (record { replayed = d.replayed; seen = d.seen; calls_places = d.calls_places; calls_seen = d.calls_seen; calls = refl; phase = refl; state = d.state; known = d.known });
           entries_are = fits.entries_are;
+          slots_are = fits.slots_are;
+          fixed_is = fits.fixed_is;
         });
       })
 
@@ -144,7 +156,7 @@ module _ {R : Type 0} (L : Setting R) (Good : R → Type 0) (agrees : Agrees L G
   get_replicate (suc n) (suc k) x d less = get_replicate n k x d (omega arith)
 
   pub new_keeps : (start : State) → start.0 ≡ L.start → start.0 < length L.object.states
-      → Keeps L [] (replicate L.capacity L.untouched) (replicate L.processes None) (replicate L.processes (record { replayed = 0; calls = 0; phase = Idle; state = start })) []
+      → Keeps L [] (replicate L.capacity L.untouched) (replicate L.processes None) (replicate L.processes (record { replayed = 0; seen = 0; calls_seen = no_calls; calls = 0; phase = Idle; state = start })) [] [] 0
   new_keeps start is known = record {
     events = tt;
     fits = record {
@@ -153,10 +165,15 @@ module _ {R : Type 0} (L : Setting R) (Good : R → Type 0) (agrees : Agrees L G
       announced_many = length-replicate L.processes _;
       announcement = λ p less. get_replicate L.processes p _ _ less;
       progress_many = length-replicate L.processes _;
-      caller = λ p less. rw (get_replicate L.processes p none no_progress less) (record { replayed = refl; calls = refl; phase = refl; state = is; known = known });
-      entries_are = sym (fixed_from_is L (first_world L).round L.capacity 0 [] (omega arith) (λ j x h. absurd cc) (inr agrees.unfixed));
+      caller = λ p less. rw (get_replicate L.processes p none no_progress less) (record { replayed = refl; seen = refl; calls_places = refl; calls_seen = λ q low. get_replicate 8 q 0 0 (let few = agrees.few in omega (arith, low, few)); calls = refl; phase = refl; state = is; known = known });
+      entries_are = ap (entries_in L.processes) (sym nothing);
+      slots_are = ap (slots_from L.processes 0) (sym nothing);
+      fixed_is = ap length (sym nothing);
     };
   }
     where
+      nothing : batches_of L (first_world L) ≡ []
+      nothing = fixed_from_is L (first_world L).round L.capacity 0 [] (omega arith) (λ j x h. absurd cc) (inr agrees.unfixed)
+
       none : Progress
-      none = record { replayed = 0; calls = 0; phase = Idle; state = start }
+      none = record { replayed = 0; seen = 0; calls_seen = no_calls; calls = 0; phase = Idle; state = start }

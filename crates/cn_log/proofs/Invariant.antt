@@ -1,10 +1,13 @@
 -- What every event of the log keeps.
-use Rattle.std.proofs.Common.{ℕ, ◌≡◌, ◌≢◌, ◌⊎◌, inl, inr, ◌+◌, ◌%◌, ◌<◌, ◌≤◌, List, [], ◌∷◌, length, slice_get, Some, None, arith}
+use Rattle.std.proofs.Common.{ℕ, ◌≡◌, ◌⊎◌, inl, inr, ◌+◌, ◌<◌, ◌≤◌, List, [], ◌∷◌, length, slice_get, Some, None, subst, arith}
+use Rattle.cn_log.specs.declared.batch.Batch.{Batch}
 use Rattle.cn_log.specs.declared.entry.Entry.{Entry}
-use Rattle.cn_log.specs.Log.{Setting, World, Note, Called, Replied, Refused, response_after}
 use Rattle.cn_log.specs.declared.progress.Phase.{Phase}
 use Rattle.cn_log.specs.declared.progress.Phase.TheVariants.{Idle, Looks, Runs}
 use Rattle.cn_log.specs.Agreement.{Agrees}
+use Rattle.cn_log.specs.Batches.{Has, entry_at}
+use Rattle.cn_log.specs.Callers.{IsUnseen}
+use Rattle.cn_log.specs.Log.{Setting, World, Note, Called, Replied, Refused, response_in}
 
 pub record IsNoted (note : Note) (notes : List Note) : Type 0 where
   pub place : ℕ
@@ -17,57 +20,90 @@ pub record IsCalled (e : Entry) (notes : List Note) : Type 0 where
 
 abbrev pub IsRuns : Phase → Type 0
 IsRuns Idle = ⊥
-IsRuns (Looks e) = ⊥
+IsRuns (Looks e q batch) = ⊥
 IsRuns (Runs e) = Unit {0}
 
 -- a pending entry is the process's last call, announced, and in no slot that the process has replayed
 pub record IsPending {R : Type 0} (L : Setting R) (w : World R) (p : ℕ) (mine : Entry) : Type 0 where
-  pub not_seen : (k : ℕ) → slice_get (w.caller p).seen k ≢ Some mine
+  pub unseen : IsUnseen (w.caller p).seen mine
   pub called : IsCalled mine w.history
   pub announced : w.announced p ≡ Some mine
   pub process : mine.process ≡ p
   pub call : mine.call + 1 ≡ (w.caller p).calls
   pub room : length (w.caller p).seen < L.capacity
 
+-- each entry of the batch stands at the place of its process
+abbrev pub IsShaped : Batch → Type 0
+IsShaped b = (q : ℕ) (e : Entry) → entry_at b q ≡ Some e → e.process ≡ q
+
+-- a batch that a process gathers for its next slot: calls, none of them in a slot that the process has replayed
+pub record IsGathered (seen : List Batch) (history : List Note) (batch : Batch) : Type 0 where
+  pub places : length batch.entries ≡ 8
+  pub shaped : IsShaped batch
+  pub called : (e : Entry) → Has batch e → IsCalled e history
+  pub unseen : (e : Entry) → Has batch e → IsUnseen seen e
+
+pub record IsLooking {R : Type 0} (L : Setting R) (w : World R) (p : ℕ) (mine : Entry) (q : ℕ) (batch : Batch) : Type 0 where
+  pub pending : IsPending L w p mine
+  pub next : q < L.processes
+  pub gathered : IsGathered (w.caller p).seen w.history batch
+
 abbrev pub PhaseHolds : {R : Type 0} → Setting R → World R → ℕ → Phase → Type 0
 PhaseHolds L w p Idle = Unit {0}
-PhaseHolds L w p (Looks mine) = IsPending L w p mine
+PhaseHolds L w p (Looks mine q batch) = IsLooking L w p mine q batch
 PhaseHolds L w p (Runs mine) = IsPending L w p mine
 
--- the slot holds an entry other than v
+-- the slot is fixed to a batch without v
 pub record IsOther {R : Type 0} (L : Setting R) (r : R) (v : Entry) : Type 0 where
-  pub entry : Entry
-  pub fixed : L.consensus.fixed r ≡ Some entry
-  pub other : entry ≢ v
+  pub batch : Batch
+  pub fixed : L.consensus.fixed r ≡ Some batch
+  pub other : Has batch v → ⊥
+
+-- what a process begins with in slot k: every slot before is fixed, its entries were called and stand in none of these
+pub record IsBegun {R : Type 0} (L : Setting R) (w : World R) (k : ℕ) (v : Batch) : Type 0 where
+  pub shaped : IsShaped v
+  pub called : (e : Entry) → Has v e → IsCalled e w.history
+  pub other : (e : Entry) → Has v e → (j : ℕ) → j < k → IsOther L (w.round j) e
+  pub turn : (j : ℕ) → j < k → (x : Batch) × (L.consensus.fixed (w.round j) ≡ Some x)
 
 pub record Holds {R : Type 0} (L : Setting R) (Good : R → Type 0) (w : World R) : Type 0 where
   pub good : (k : ℕ) → Good (w.round k)
   -- what a process has replayed is what is fixed
-  pub seen : (p k : ℕ) (x : Entry) → slice_get (w.caller p).seen k ≡ Some x → L.consensus.fixed (w.round k) ≡ Some x
+  pub seen : (p k : ℕ) (x : Batch) → slice_get (w.caller p).seen k ≡ Some x → L.consensus.fixed (w.round k) ≡ Some x
   -- a process has begun in the slots that it has replayed, and in the one that it runs
-  pub entered : (k q : ℕ) (v : Entry) → L.consensus.input (w.round k) q ≡ Some v → (k < length (w.caller q).seen) ⊎ ((k ≡ length (w.caller q).seen) × IsRuns (w.caller q).phase)
+  pub entered : (k q : ℕ) (v : Batch) → L.consensus.input (w.round k) q ≡ Some v → (k < length (w.caller q).seen) ⊎ ((k ≡ length (w.caller q).seen) × IsRuns (w.caller q).phase)
   -- who runs in a slot has begun there and not decided
-  pub running : (q : ℕ) → IsRuns (w.caller q).phase → (v : Entry) × (L.consensus.input (w.round (length (w.caller q).seen)) q ≡ Some v) × (L.consensus.decided (w.round (length (w.caller q).seen)) q ≡ None)
-  -- what is begun in a slot was called, and every slot before is fixed to something else
-  pub begun : (k q : ℕ) (v : Entry) → L.consensus.input (w.round k) q ≡ Some v → IsCalled v w.history × ((j : ℕ) → j < k → IsOther L (w.round j) v)
+  pub running : (q : ℕ) → IsRuns (w.caller q).phase → (v : Batch) × (L.consensus.input (w.round (length (w.caller q).seen)) q ≡ Some v) × (L.consensus.decided (w.round (length (w.caller q).seen)) q ≡ None)
+  pub begun : (k q : ℕ) (v : Batch) → L.consensus.input (w.round k) q ≡ Some v → IsBegun L w k v
   pub phases : (p : ℕ) → PhaseHolds L w p (w.caller p).phase
-  pub announced : (p : ℕ) (a : Entry) → w.announced p ≡ Some a → IsCalled a w.history
+  pub announced : (p : ℕ) (a : Entry) → w.announced p ≡ Some a → IsCalled a w.history × (a.process ≡ p)
   pub numbered : (e : Entry) → IsCalled e w.history → e.call < (w.caller e.process).calls
 
+-- the entry stands in the batch of the slot
+pub record Stands {R : Type 0} (L : Setting R) (w : World R) (e : Entry) (k : ℕ) : Type 0 where
+  pub batch : Batch
+  pub fixed : L.consensus.fixed (w.round k) ≡ Some batch
+  pub has : Has batch e
+
 module _ {R : Type 0} (L : Setting R) (Good : R → Type 0) (agrees : Agrees L Good) (w : World R) (holds : Holds L Good w) where
-  -- a fixed entry was called, and each slot before is fixed to something else
-  pub fixed_begun : (k : ℕ) (y : Entry) → L.consensus.fixed (w.round k) ≡ Some y → IsCalled y w.history × ((j : ℕ) → j < k → IsOther L (w.round j) y)
+  -- what is fixed was begun
+  pub fixed_begun : (k : ℕ) (y : Batch) → L.consensus.fixed (w.round k) ≡ Some y → IsBegun L w k y
   fixed_begun k y h = let b = agrees.valid (w.round k) y (holds.good k) h in holds.begun k b.0 y b.1
 
-  -- no entry stands twice
-  pub stands_once : (j k : ℕ) (y : Entry) → L.consensus.fixed (w.round j) ≡ Some y → L.consensus.fixed (w.round k) ≡ Some y → j ≡ k
-  stands_once j k y hj hk = go (cases j k)
+  -- no entry stands in two slots
+  pub stands_once : (j k : ℕ) (e : Entry) → Stands L w e j → Stands L w e k → j ≡ k
+  stands_once j k e hj hk = go (cases j k)
     where
       cases : (j k : ℕ) → (j < k) ⊎ ((k < j) ⊎ (j ≡ k))
       cases j k = grind arith
 
-      apart : (a b : ℕ) → a < b → L.consensus.fixed (w.round a) ≡ Some y → L.consensus.fixed (w.round b) ≡ Some y → ⊥
-      apart a b lt ha hb = let o = (fixed_begun b y hb).1 a lt in let f = o.fixed in let e : o.entry ≡ y = cc in o.other e
+      apart : (a b : ℕ) → a < b → Stands L w e a → Stands L w e b → ⊥
+      apart a b lt ha hb =
+          let o = (fixed_begun b hb.batch hb.fixed).other e hb.has a lt in
+          let f = o.fixed in
+          let g = ha.fixed in
+          let same : ha.batch ≡ o.batch = cc (f, g) in
+          o.other (subst (λ (z : Batch). Has z e) same ha.has)
 
       go : (j < k) ⊎ ((k < j) ⊎ (j ≡ k)) → j ≡ k
       go (inl lt) = absurd (apart j k lt hj hk)
@@ -75,26 +111,29 @@ module _ {R : Type 0} (L : Setting R) (Good : R → Type 0) (agrees : Agrees L G
       go (inr (inr e)) = e
 
   -- slots are fixed in order
-  pub in_order : (j k : ℕ) (y : Entry) → j < k → L.consensus.fixed (w.round k) ≡ Some y → (x : Entry) × (L.consensus.fixed (w.round j) ≡ Some x)
-  in_order j k y lt h = let o = (fixed_begun k y h).1 j lt in (o.entry, o.fixed)
+  pub in_order : (j k : ℕ) (y : Batch) → j < k → L.consensus.fixed (w.round k) ≡ Some y → (x : Batch) × (L.consensus.fixed (w.round j) ≡ Some x)
+  in_order j k y lt h = (fixed_begun k y h).turn j lt
 
 abbrev pub IsMine : Phase → Entry → Type 0
 IsMine Idle e = ⊥
-IsMine (Looks mine) e = mine ≡ e
+IsMine (Looks mine q batch) e = mine ≡ e
 IsMine (Runs mine) e = mine ≡ e
 
--- the entry stands in the slot
-abbrev pub Stands : {R : Type 0} → Setting R → World R → Entry → ℕ → Type 0
-Stands L w e k = L.consensus.fixed (w.round k) ≡ Some e
+-- the entry is in a batch that was replayed
+pub record IsSeen (seen : List Batch) (e : Entry) : Type 0 where
+  pub slot : ℕ
+  pub batch : Batch
+  pub there : slice_get seen slot ≡ Some batch
+  pub has : Has batch e
 
 -- what was answered is the reply of the slot: of one sequential run of the entries before
 pub record IsReply {R : Type 0} (L : Setting R) (w : World R) (e : Entry) (k : ℕ) (response : ℕ) : Type 0 where
   pub stands : Stands L w e k
   pub within : k < L.capacity
-  pub before : List Entry
+  pub before : List Batch
   pub many : length before ≡ k
-  pub are : (j : ℕ) (x : Entry) → slice_get before j ≡ Some x → Stands L w x j
-  pub reply : response ≡ response_after L before e.operation.0
+  pub are : (j : ℕ) (x : Batch) → slice_get before j ≡ Some x → L.consensus.fixed (w.round j) ≡ Some x
+  pub reply : response ≡ response_in L before stands.batch e
 
 -- a call comes after the slots of all answers before it
 abbrev pub IsOrdered : List Note → Type 0
@@ -102,6 +141,18 @@ IsOrdered [] = Unit {0}
 IsOrdered (Called e since ∷ notes) = ((f : Entry) (k r : ℕ) → IsNoted (Replied f k r) notes → k < since) × IsOrdered notes
 IsOrdered (Replied e k r ∷ notes) = IsOrdered notes
 IsOrdered (Refused e ∷ notes) = IsOrdered notes
+
+-- it stands in one of the slots up to k
+pub record StandsBy {R : Type 0} (L : Setting R) (w : World R) (e : Entry) (k : ℕ) : Type 0 where
+  pub slot : ℕ
+  pub low : slot ≤ k
+  pub stands : Stands L w e slot
+
+-- who looks has gathered each call of the processes that it has looked at, made before its slot was the next one, unless that stands by now
+abbrev pub HasGathered : {R : Type 0} → Setting R → World R → List Batch → Phase → Type 0
+HasGathered L w seen Idle = Unit {0}
+HasGathered L w seen (Looks mine q batch) = (e : Entry) (since : ℕ) → IsNoted (Called e since) w.history → since < length seen → e.process < q → Has batch e ⊎ StandsBy L w e (length seen)
+HasGathered L w seen (Runs mine) = Unit {0}
 
 pub record Facts {R : Type 0} (L : Setting R) (w : World R) : Type 0 where
   -- fewer slots were fixed at a call than are now
@@ -113,10 +164,10 @@ pub record Facts {R : Type 0} (L : Setting R) (w : World R) : Type 0 where
   pub ended : (e : Entry) → IsNoted (Refused e) w.history → (k : ℕ) → k < L.capacity → IsOther L (w.round k) e
   pub ordered : IsOrdered w.history
   -- a call is pending, or its process has replayed it, or has replayed every slot
-  pub done : (e : Entry) → IsCalled e w.history → IsMine (w.caller e.process).phase e ⊎ (((j : ℕ) × (slice_get (w.caller e.process).seen j ≡ Some e)) ⊎ (L.capacity ≤ length (w.caller e.process).seen))
-  -- in a slot whose turn it is to help e's process, all begin with e, once it is called, or e stands by then
-  pub helps : (e : Entry) (since : ℕ) → IsNoted (Called e since) w.history → (k q : ℕ) (v : Entry) → since < k → k < L.capacity → k % L.processes ≡ e.process → L.consensus.input (w.round k) q ≡ Some v
-      → (v ≡ e) ⊎ ((j : ℕ) × (j ≤ k) × Stands L w e j)
+  pub done : (e : Entry) → IsCalled e w.history → IsMine (w.caller e.process).phase e ⊎ (IsSeen (w.caller e.process).seen e ⊎ (L.capacity ≤ length (w.caller e.process).seen))
+  pub gathers : (p : ℕ) → HasGathered L w (w.caller p).seen (w.caller p).phase
+  -- in a slot behind the next one, all begin with e, once it is called, or e stands by then
+  pub helps : (e : Entry) (since : ℕ) → IsNoted (Called e since) w.history → e.process < L.processes → (k q : ℕ) (v : Batch) → since < k → k < L.capacity → L.consensus.input (w.round k) q ≡ Some v → Has v e ⊎ StandsBy L w e k
   -- when a call is made, every call of the process before it stands
   pub earlier : (e : Entry) (since : ℕ) → IsNoted (Called e since) w.history → (f : Entry) → IsCalled f w.history → f.process ≡ e.process → f.call < e.call → (j : ℕ) × (j < since) × Stands L w f j
   -- calls are numbered with no gap

@@ -3,7 +3,8 @@ use Rattle.std.proofs.Common.{ℕ, zero, suc, ◌≡◌, ◌≢◌, ◌⊎◌, i
 use Rattle.std.proofs.lemmas.Bool.Decides.{nat_tests}
 pub use Rattle.cn_table.proofs.Lists.{get_push_old, get_push_new, get_low}
 use Rattle.cn_log.specs.declared.entry.Entry.{Entry}
-use Rattle.cn_log.specs.Log.{same_entry, has_entry, put}
+use Rattle.cn_log.specs.Batches.{same_entry}
+use Rattle.cn_log.specs.Log.{has_entry, put}
 
 pub put_same : {A : Type 0} (f : ℕ → A) (i : ℕ) (x : A) → put f i x i ≡ x
 put_same f i x = go i refl

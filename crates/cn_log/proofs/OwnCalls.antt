@@ -1,9 +1,11 @@
 -- What has become of the calls of a process.
-use Rattle.std.proofs.Common.{ℕ, suc, ◌≡◌, ◌≢◌, ◌⊎◌, inl, inr, Bool, true, false, ◌+◌, ◌<◌, ◌≤◌, ◌==◌, List, [], ◌∷◌, ◌++◌, length, slice_get, Option, Some, None, refl, sym, ap, ◌∙◌, subst, arith, append-nil, append_assoc}
+use Rattle.std.proofs.Common.{ℕ, suc, ◌≡◌, ◌≢◌, ◌⊎◌, inl, inr, Bool, true, false, ◌+◌, ◌<◌, ◌≤◌, ◌==◌, List, [], ◌∷◌, ◌++◌, length, take, slice_get, Option, Some, None, refl, sym, ap, ◌∙◌, subst, arith, append-nil, append_assoc, length-append}
 use Rattle.std.proofs.lemmas.Bool.{cases_eq}
 use Rattle.std.proofs.lemmas.Bool.Decides.{nat_tests}
 use Rattle.std.proofs.lemmas.List.Elements.{filter-append}
+use Rattle.cn_log.specs.declared.batch.Batch.{Batch}
 use Rattle.cn_log.specs.declared.entry.Entry.{Entry}
+use Rattle.cn_log.specs.Batches.{Has, members, entries_in}
 use Rattle.cn_log.specs.declared.event.Event.{Event}
 use Rattle.cn_log.specs.declared.event.Event.TheVariants.{Invoke, Step}
 use Rattle.cn_log.specs.declared.event.StepAnswer.{StepAnswer}
@@ -11,14 +13,15 @@ use Rattle.cn_log.specs.declared.event.StepAnswer.TheVariants.{Working, Answered
 use Rattle.cn_log.specs.declared.progress.Phase.{Phase}
 use Rattle.cn_log.specs.declared.progress.Phase.TheVariants.{Idle, Looks, Runs}
 use Rattle.cn_log.specs.Agreement.{Agrees}
-use Rattle.cn_log.specs.Callers.{BeginsWith, Without, pending_in, call_of, calls_from, calls_by, entries_by, caller_of, SeesOther, IsStepped, IsUnanswered, HasReplayedItsOwn, HasReplayedBy}
+use Rattle.cn_log.specs.Callers.{BeginsWith, seen_of, Without, pending_in, call_of, calls_from, calls_by, entries_by, caller_of, SeesOther, IsStepped, IsUnanswered, HasReplayedItsOwn, HasReplayedBy}
 use Rattle.cn_log.specs.Linearized.{calls_of}
-use Rattle.cn_log.specs.Log.{Setting, World, Caller, IsEventList, MayInvoke, MayStep, MayAllCome, entries, answer, first_world, state_of}
+use Rattle.cn_log.specs.Log.{Setting, World, Caller, IsEventList, MayInvoke, MayStep, MayAllCome, batches, entries, answer, first_world, state_of}
 use Rattle.cn_log.proofs.EntryLists.{entries_few}
 use Rattle.cn_log.proofs.EventLists.{calls_cons, may_right}
-use Rattle.cn_log.proofs.Invariant.{IsMine, Holds, fixed_begun, stands_once}
-use Rattle.cn_log.proofs.Knowing.{stays, invoked, number, replayed, pending, stepped}
-use Rattle.cn_log.proofs.Linearizing.{facts_after, holds_after, prefix_may, fixed_of}
+use Rattle.cn_log.proofs.Invariant.{IsMine, IsBegun, fixed_begun}
+use Rattle.cn_log.proofs.Knowing.{stays, invoked, number, replayed, replayed_batches, stepped}
+use Rattle.cn_log.proofs.Linearizing.{facts_after, holds_after, prefix_may, there_of, stands_there, one_place}
+use Rattle.cn_log.proofs.Places.{entries_put, in_entries, get_left}
 use Rattle.cn_log.proofs.ListLemmas.{get_low}
 
 get_behind : {A : Type 0} (xs ys : List A) (k : ℕ) → slice_get (xs ++ ys) (length xs + k) ≡ slice_get ys k
@@ -59,21 +62,12 @@ step_calls p events = calls_join p 0 events (Step p ∷ []) ∙ append-nil (call
 one_call : (p k operation : ℕ) → calls_from p k (Invoke p operation ∷ []) ≡ call_of p operation k ∷ []
 one_call p k operation = let t : (p == p) ≡ true = grind (arith, nat_tests) in rw t refl
 
--- the entries of a process in a longer list
-alone_other : (p : ℕ) (x : Entry) → x.process ≢ p → entries_by p (x ∷ []) ≡ []
-alone_other p x ne = let t : (x.process == p) ≡ false = grind (arith, nat_tests) in rw t refl
-
-alone_own : (p : ℕ) (x : Entry) → x.process ≡ p → entries_by p (x ∷ []) ≡ x ∷ []
-alone_own p x is = let t : (x.process == p) ≡ true = grind (arith, nat_tests) in rw t refl
-
 pub by_append : (p : ℕ) (xs ys : List Entry) → entries_by p (xs ++ ys) ≡ entries_by p xs ++ entries_by p ys
 by_append p xs ys = filter-append (λ (e : Entry). e.process == p) xs ys
 
-push_other : (p : ℕ) (xs : List Entry) (x : Entry) → x.process ≢ p → entries_by p (xs ++ x ∷ []) ≡ entries_by p xs
-push_other p xs x ne = by_append p xs (x ∷ []) ∙ ap (λ l. entries_by p xs ++ l) (alone_other p x ne) ∙ append-nil (entries_by p xs)
-
-push_own : (p : ℕ) (xs : List Entry) (x : Entry) → x.process ≡ p → entries_by p (xs ++ x ∷ []) ≡ entries_by p xs ++ x ∷ []
-push_own p xs x is = by_append p xs (x ∷ []) ∙ ap (λ l. entries_by p xs ++ l) (alone_own p x is)
+-- the entries of a process in one batch more
+pub push_batch : (n p : ℕ) (seen : List Batch) (x : Batch) → entries_by p (entries_in n (seen ++ x ∷ [])) ≡ entries_by p (entries_in n seen) ++ entries_by p (members n 0 x)
+push_batch n p seen x = ap (entries_by p) (entries_put n seen (x ∷ []) ∙ ap (λ l. entries_in n seen ++ l) (append-nil (members n 0 x))) ∙ by_append p (entries_in n seen) (members n 0 x)
 
 none_by : (p : ℕ) (xs : List Entry) → ((k : ℕ) (x : Entry) → slice_get xs k ≡ Some x → x.process ≢ p) → entries_by p xs ≡ []
 none_by p [] h = refl
@@ -96,7 +90,7 @@ one_by p mine (x ∷ xs) h once = go (x.process == p) refl (one_by p mine xs (λ
 
 in_call : (ph : Phase) → ph ≢ Idle → (mine : Entry) × (pending_in ph ≡ Some mine)
 in_call Idle h = absurd (h refl)
-in_call (Looks mine) h = (mine, refl)
+in_call (Looks mine i batch) h = (mine, refl)
 in_call (Runs mine) h = (mine, refl)
 
 module _ {R : Type 0} (L : Setting R) where
@@ -107,18 +101,18 @@ module _ {R : Type 0} (L : Setting R) where
 
   unanswered_one : (here : Caller) (ph : Phase) (mine : Entry) (rest : List Entry) → pending_in ph ≡ Some mine → IsUnanswered L here ph rest → rest ≡ mine ∷ []
   unanswered_one here Idle mine rest is h = absurd (cc)
-  unanswered_one here (Looks m) mine rest is h = let same : m ≡ mine = cc in h ∙ ap (λ (z : Entry). z ∷ []) same
+  unanswered_one here (Looks m i batch) mine rest is h = let same : m ≡ mine = cc in h ∙ ap (λ (z : Entry). z ∷ []) same
   unanswered_one here (Runs m) mine rest is h = let same : m ≡ mine = cc in h ∙ ap (λ (z : Entry). z ∷ []) same
 
   one_unanswered : (here : Caller) (ph : Phase) (mine : Entry) → pending_in ph ≡ Some mine → IsUnanswered L here ph (mine ∷ [])
   one_unanswered here Idle mine is = absurd (cc)
-  one_unanswered here (Looks m) mine is = let same : m ≡ mine = cc in ap (λ (z : Entry). z ∷ []) (sym same)
+  one_unanswered here (Looks m i batch) mine is = let same : m ≡ mine = cc in ap (λ (z : Entry). z ∷ []) (sym same)
   one_unanswered here (Runs m) mine is = let same : m ≡ mine = cc in ap (λ (z : Entry). z ∷ []) (sym same)
 
   unanswered_none : (here : Caller) (ph : Phase) (rest : List Entry) → ph ≡ Idle → length here.seen < L.capacity → IsUnanswered L here ph rest → rest ≡ []
   unanswered_none here Idle rest is room (inl none) = none
   unanswered_none here Idle rest is room (inr one) = let all = one.0 in absurd (omega (arith, all, room))
-  unanswered_none here (Looks m) rest is room h = absurd (cc)
+  unanswered_none here (Looks m i batch) rest is room h = absurd (cc)
   unanswered_none here (Runs m) rest is room h = absurd (cc)
 
   idle_unanswered : (here : Caller) (ph : Phase) (rest : List Entry) → ph ≡ Idle → IsUnanswered L here Idle rest → IsUnanswered L here ph rest
@@ -132,7 +126,7 @@ module _ {R : Type 0} (L : Setting R) (Good : R → Type 0) (agrees : Agrees L G
   own_other events rest h own =
       let same = stays L events rest p h in
       let calls = calls_stay p events rest h in
-      (own.0, calls ∙ own.1 ∙ ap (λ (c : Caller). entries_by p c.seen ++ own.0) (sym same), subst (λ (c : Caller). IsUnanswered L c c.phase own.0) (sym same) own.2)
+      (own.0, calls ∙ own.1 ∙ ap (λ (c : Caller). entries_by p (entries_in L.processes c.seen) ++ own.0) (sym same), subst (λ (c : Caller). IsUnanswered L c c.phase own.0) (sym same) own.2)
 
   own_invoke : (events : List Event) (operation : ℕ) → MayInvoke L (state_of L events) p operation → Own events → Own (events ++ Invoke p operation ∷ [])
   own_invoke events operation may own =
@@ -140,32 +134,32 @@ module _ {R : Type 0} (L : Setting R) (Good : R → Type 0) (agrees : Agrees L G
       let mine : Entry = call_of p operation here.calls in
       let now = invoked L events p operation in
       let none = unanswered_none L here here.phase own.0 may.idle may.not_at_end own.2 in
-      let before : calls_by p events ≡ entries_by p here.seen = own.1 ∙ ap (λ l. entries_by p here.seen ++ l) none ∙ append-nil (entries_by p here.seen) in
-      (mine ∷ [], called L events p operation ∙ ap (λ l. l ++ mine ∷ []) before ∙ ap (λ (c : Caller). entries_by p c.seen ++ mine ∷ []) (sym now), subst (λ (c : Caller). IsUnanswered L c c.phase (mine ∷ [])) (sym now) refl)
+      let before : calls_by p events ≡ entries_by p (entries_in L.processes here.seen) = own.1 ∙ ap (λ l. entries_by p (entries_in L.processes here.seen) ++ l) none ∙ append-nil (entries_by p (entries_in L.processes here.seen)) in
+      (mine ∷ [], called L events p operation ∙ ap (λ l. l ++ mine ∷ []) before ∙ ap (λ (c : Caller). entries_by p (entries_in L.processes c.seen) ++ mine ∷ []) (sym now), subst (λ (c : Caller). IsUnanswered L c c.phase (mine ∷ [])) (sym now) refl)
 
-  sees_other : (events : List Event) (here now : Caller) (mine : Entry) → calls_by p (events ++ Step p ∷ []) ≡ entries_by p here.seen ++ mine ∷ [] → SeesOther p here now → calls_by p (events ++ Step p ∷ []) ≡ entries_by p now.seen ++ mine ∷ []
-  sees_other events here now mine calls s = calls ∙ ap (λ l. l ++ mine ∷ []) (sym (ap (λ l. entries_by p l) s.1 ∙ push_other p here.seen s.0 s.2))
+  sees_other : (events : List Event) (here now : Caller) (mine : Entry) → calls_by p (events ++ Step p ∷ []) ≡ entries_by p (entries_in L.processes here.seen) ++ mine ∷ [] → SeesOther L p here now → calls_by p (events ++ Step p ∷ []) ≡ entries_by p (entries_in L.processes now.seen) ++ mine ∷ []
+  sees_other events here now mine calls s = calls ∙ ap (λ l. l ++ mine ∷ []) (sym (ap (λ l. entries_by p (entries_in L.processes l)) s.seen ∙ push_batch L.processes p here.seen s.batch ∙ ap (λ l. entries_by p (entries_in L.processes here.seen) ++ l) s.own ∙ append-nil (entries_by p (entries_in L.processes here.seen))))
 
   -- by the answer of a step
-  by_answer : (events : List Event) (here : Caller) (mine : Entry) (given : StepAnswer) → mine.process ≡ p → calls_by p events ≡ entries_by p here.seen ++ mine ∷ []
+  by_answer : (events : List Event) (here : Caller) (mine : Entry) (given : StepAnswer) → calls_by p events ≡ entries_by p (entries_in L.processes here.seen) ++ mine ∷ []
       → IsStepped L p here mine (caller_of L (events ++ Step p ∷ []) p) given → HasReplayedBy L (events ++ Step p ∷ []) p mine given
-  by_answer events here mine Working own calls s = elim s.seen [
-    | inl same ↦ step_calls p events ∙ calls ∙ ap (λ l. entries_by p l ++ mine ∷ []) (sym same)
+  by_answer events here mine Working calls s = elim s.seen [
+    | inl same ↦ step_calls p events ∙ calls ∙ ap (λ l. entries_by p (entries_in L.processes l) ++ mine ∷ []) (sym same)
     | inr more ↦ sees_other events here (caller_of L (events ++ Step p ∷ []) p) mine (step_calls p events ∙ calls) more
   ]
-  by_answer events here mine (Answered slot response) own calls s = step_calls p events ∙ calls ∙ sym (ap (λ l. entries_by p l) s.seen ∙ push_own p here.seen mine own)
-  by_answer events here mine Full own calls s = sees_other events here (caller_of L (events ++ Step p ∷ []) p) mine (step_calls p events ∙ calls) s.seen
+  by_answer events here mine (Answered slot response) calls s = step_calls p events ∙ calls ∙ sym (ap (λ l. entries_by p (entries_in L.processes l)) s.seen ∙ push_batch L.processes p here.seen s.batch ∙ ap (λ l. entries_by p (entries_in L.processes here.seen) ++ l) s.own)
+  by_answer events here mine Full calls s = sees_other events here (caller_of L (events ++ Step p ∷ []) p) mine (step_calls p events ∙ calls) s.seen
 
-  pending_own : (events : List Event) (mine : Entry) → pending_in (caller_of L events p).phase ≡ Some mine → Own events → calls_by p events ≡ entries_by p (caller_of L events p).seen ++ mine ∷ []
-  pending_own events mine is own = own.1 ∙ ap (λ l. entries_by p (caller_of L events p).seen ++ l) (unanswered_one L (caller_of L events p) (caller_of L events p).phase mine own.0 is own.2)
+  pending_own : (events : List Event) (mine : Entry) → pending_in (caller_of L events p).phase ≡ Some mine → Own events → calls_by p events ≡ entries_by p (seen_of L events p) ++ mine ∷ []
+  pending_own events mine is own = own.1 ∙ ap (λ l. entries_by p (seen_of L events p) ++ l) (unanswered_one L (caller_of L events p) (caller_of L events p).phase mine own.0 is own.2)
 
   after_own : (events : List Event) (mine : Entry) → IsEventList L (events ++ Step p ∷ []) → pending_in (caller_of L events p).phase ≡ Some mine → Own events → HasReplayedBy L (events ++ Step p ∷ []) p mine (answer L events p)
   after_own events mine may is own =
-      by_answer events (caller_of L events p) mine (answer L events p) (pending L Good agrees events p (prefix_may L Good agrees events (Step p ∷ []) may) mine is).process (pending_own events mine is own) (stepped L Good agrees events p may mine is)
+      by_answer events (caller_of L events p) mine (answer L events p) (pending_own events mine is own) (stepped L Good agrees events p may mine is)
 
   own_answer : (events : List Event) (here : Caller) (mine : Entry) (given : StepAnswer) → IsStepped L p here mine (caller_of L events p) given → HasReplayedBy L events p mine given → Own events
   own_answer events here mine Working s h = (mine ∷ [], h, one_unanswered L (caller_of L events p) (caller_of L events p).phase mine s.pending)
-  own_answer events here mine (Answered slot response) s h = ([], h ∙ sym (append-nil (entries_by p (caller_of L events p).seen)), idle_unanswered L (caller_of L events p) (caller_of L events p).phase [] s.idle (inl refl))
+  own_answer events here mine (Answered slot response) s h = ([], h ∙ sym (append-nil (entries_by p (seen_of L events p))), idle_unanswered L (caller_of L events p) (caller_of L events p).phase [] s.idle (inl refl))
   own_answer events here mine Full s h = (mine ∷ [], h, idle_unanswered L (caller_of L events p) (caller_of L events p).phase (mine ∷ []) s.idle (inr (s.all, mine, refl, s.unseen)))
 
   own_step : (events : List Event) → IsEventList L (events ++ Step p ∷ []) → MayStep L (state_of L events) p → Own events → Own (events ++ Step p ∷ [])
@@ -207,46 +201,66 @@ module _ {R : Type 0} (L : Setting R) (Good : R → Type 0) (agrees : Agrees L G
     abbrev here : Caller
     here = caller_of L events p
 
-    abbrev behind : List Entry
-    behind = (replayed L Good agrees events p may).0
+    abbrev known : List Entry
+    known = seen_of L events p
 
-    there : (k : ℕ) (x : Entry) → slice_get behind k ≡ Some x → slice_get (entries L events) (length here.seen + k) ≡ Some x
-    there k x at = ap (λ l. slice_get l (length here.seen + k)) (replayed L Good agrees events p may).1 ∙ get_behind here.seen behind k ∙ at
+    abbrev behind : List Entry
+    behind = entries_in L.processes (replayed_batches L Good agrees events p may).0
+
+    parts : entries L events ≡ known ++ behind
+    parts = let r = replayed_batches L Good agrees events p may in ap (entries_in L.processes) r.1 ∙ entries_put L.processes here.seen r.0
+
+    there : (k : ℕ) (x : Entry) → slice_get behind k ≡ Some x → slice_get (entries L events) (length known + k) ≡ Some x
+    there k x at = ap (λ l. slice_get l (length known + k)) parts ∙ get_behind known behind k ∙ at
+
+    -- an entry stands once
+    once : (j k : ℕ) (x : Entry) → slice_get (entries L events) j ≡ Some x → slice_get (entries L events) k ≡ Some x → j ≡ k
+    once j k x a b = one_place L Good agrees events may j k x (there_of L Good agrees events may j x a) (there_of L Good agrees events may k x b)
 
     -- behind what the process has replayed stands no call of its own but the pending one
     is_pending : (k : ℕ) (x : Entry) → slice_get behind k ≡ Some x → x.process ≡ p → IsMine here.phase x
-    is_pending k x at own = go (holds_after L Good agrees events may) (fixed_of L Good agrees events may (length here.seen + k) x (there k x at)) (get_low (entries L events) (length here.seen + k) x (there k x at))
+    is_pending k x at own = go (there_of L Good agrees events may (length known + k) x (there k x at)).low (stands_there L Good agrees events may (length known + k) x (there_of L Good agrees events may (length known + k) x (there k x at))).batch
+        (fixed_begun L Good agrees w (holds_after L Good agrees events may) (there_of L Good agrees events may (length known + k) x (there k x at)).slot _ (stands_there L Good agrees events may (length known + k) x (there_of L Good agrees events may (length known + k) x (there k x at))).fixed)
+        (stands_there L Good agrees events may (length known + k) x (there_of L Good agrees events may (length known + k) x (there k x at))).has
       where
-        go : Holds L Good w → L.consensus.fixed (w.round (length here.seen + k)) ≡ Some x → length here.seen + k < length (entries L events) → IsMine here.phase x
-        go holds fixed low = elim ((facts_after L Good agrees events may).done x (fixed_begun L Good agrees w holds (length here.seen + k) x fixed).0) [
+        nothing : (bs : List Batch) (k : ℕ) (x : Entry) → length bs ≡ 0 → slice_get (entries_in L.processes bs) k ≡ Some x → ⊥
+        nothing [] k x none h = cc h
+        nothing (b ∷ bs) k x none h = omega (arith, none)
+
+        go : x.process < L.processes → (b : Batch) → IsBegun L w (there_of L Good agrees events may (length known + k) x (there k x at)).slot b → Has b x → IsMine here.phase x
+        go lt b begun has = elim ((facts_after L Good agrees events may).done x (begun.called x has)) [
           | inl mine ↦ subst (λ q. IsMine (w.caller q).phase x) own mine
-          | inr (inl seen) ↦ (
-              let was : slice_get here.seen seen.0 ≡ Some x = ap (λ q. slice_get (w.caller q).seen seen.0) (sym own) ∙ seen.1 in
-              let same : seen.0 ≡ length here.seen + k = stands_once L Good agrees w holds seen.0 (length here.seen + k) x (holds.seen p seen.0 x was) fixed in
-              let less = get_low here.seen seen.0 x was in
+          | inr (inl s) ↦ (
+              let was : slice_get here.seen s.slot ≡ Some s.batch = ap (λ q. slice_get (w.caller q).seen s.slot) (sym own) ∙ s.there in
+              let place : ℕ = length (entries_in L.processes (take s.slot here.seen)) + length (members x.process 0 s.batch) in
+              let at' = in_entries L.processes here.seen s.slot s.batch x.process x was lt s.has in
+              let now : slice_get (entries L events) place ≡ Some x = ap (λ l. slice_get l place) parts ∙ get_left known behind place x at' in
+              let same = once place (length known + k) x now (there k x at) in
+              let less = get_low known place x at' in
               absurd (omega (arith, same, less))
               )
           | inr (inr full) ↦ (
               let whole : L.capacity ≤ length here.seen = subst (λ q. L.capacity ≤ length (w.caller q).seen) own full in
               let few = entries_few L w.round L.capacity 0 in
-              absurd (omega (arith, whole, few, low))
+              let split = replayed_batches L Good agrees events p may in
+              let len : length (batches L events) ≡ length here.seen + length split.0 = ap length split.1 ∙ length-append here.seen split.0 in
+              absurd (nothing split.0 k x (omega (arith, whole, few, len)) at)
               )
         ]
 
     no_mine : (ph : Phase) (x : Entry) → pending_in ph ≡ None → IsMine ph x → ⊥
     no_mine Idle x is h = h
-    no_mine (Looks m) x is h = absurd (cc)
+    no_mine (Looks m i batch) x is h = absurd (cc)
     no_mine (Runs m) x is h = absurd (cc)
 
     the_mine : (ph : Phase) (mine x : Entry) → pending_in ph ≡ Some mine → IsMine ph x → x ≡ mine
     the_mine Idle mine x is h = absurd h
-    the_mine (Looks m) mine x is h = cc
+    the_mine (Looks m i batch) mine x is h = cc
     the_mine (Runs m) mine x is h = cc
 
     twice : (mine : Entry) (j k : ℕ) → slice_get behind j ≡ Some mine → slice_get behind k ≡ Some mine → j ≡ k
     twice mine j k a b =
-        let holds = holds_after L Good agrees events may in
-        let same = stands_once L Good agrees w holds (length here.seen + j) (length here.seen + k) mine (fixed_of L Good agrees events may (length here.seen + j) mine (there j mine a)) (fixed_of L Good agrees events may (length here.seen + k) mine (there k mine b)) in
+        let same = once (length known + j) (length known + k) mine (there j mine a) (there k mine b) in
         omega (arith, same)
 
     -- what stands behind what the process has replayed of its own begins what it has no answer to
@@ -261,13 +275,13 @@ module _ {R : Type 0} (L : Setting R) (Good : R → Type 0) (agrees : Agrees L G
     made =
         let mine = own events may in
         let more = begins (pending_in here.phase) mine.0 refl mine.2 in
-        let log : entries_by p (entries L events) ≡ entries_by p here.seen ++ entries_by p behind = ap (λ l. entries_by p l) (replayed L Good agrees events p may).1 ∙ by_append p here.seen behind in
-        (more.0, mine.1 ∙ ap (λ l. entries_by p here.seen ++ l) more.1 ∙ sym (append_assoc (entries_by p here.seen) (entries_by p behind) more.0) ∙ ap (λ l. l ++ more.0) (sym log))
+        let log : entries_by p (entries L events) ≡ entries_by p known ++ entries_by p behind = ap (λ l. entries_by p l) parts ∙ by_append p known behind in
+        (more.0, mine.1 ∙ ap (λ l. entries_by p known ++ l) more.1 ∙ sym (append_assoc (entries_by p known) (entries_by p behind) more.0) ∙ ap (λ l. l ++ more.0) (sym log))
 
     -- and so in what any process has replayed
-    pub seen_made : (q : ℕ) → BeginsWith (calls_by p events) (entries_by p (caller_of L events q).seen)
+    pub seen_made : (q : ℕ) → BeginsWith (calls_by p events) (entries_by p (seen_of L events q))
     seen_made q =
         let his = replayed L Good agrees events q may in
         let all = made in
-        let log : entries_by p (entries L events) ≡ entries_by p (caller_of L events q).seen ++ entries_by p his.0 = ap (λ l. entries_by p l) his.1 ∙ by_append p (caller_of L events q).seen his.0 in
-        (entries_by p his.0 ++ all.0, all.1 ∙ ap (λ l. l ++ all.0) log ∙ append_assoc (entries_by p (caller_of L events q).seen) (entries_by p his.0) all.0)
+        let log : entries_by p (entries L events) ≡ entries_by p (seen_of L events q) ++ entries_by p his.0 = ap (λ l. entries_by p l) his.1 ∙ by_append p (seen_of L events q) his.0 in
+        (entries_by p his.0 ++ all.0, all.1 ∙ ap (λ l. l ++ all.0) log ∙ append_assoc (entries_by p (seen_of L events q)) (entries_by p his.0) all.0)

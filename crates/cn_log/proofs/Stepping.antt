@@ -1,33 +1,61 @@
 -- A step keeps the fields in step with the schedule.
-use Rattle.std.proofs.Common.{ℕ, zero, suc, ◌≡◌, ◌≢◌, inl, inr, Bool, true, false, ◌+◌, ◌%◌, ◌<◌, ◌≤◌, ◌==◌, List, [], ◌∷◌, ◌++◌, length, take, slice_get, Option, Some, None, refl, sym, ap, ◌∙◌, arith, if◌then◌else◌, slice_index_or, slice_set, get_or, mod-lt, subst, length-set, get_or-set_same, get_or-set_other, length-append}
+use Rattle.std.proofs.Common.{ℕ, ◌≡◌, ◌≢◌, inl, inr, Bool, true, false, ◌+◌, ◌*◌, ◌<◌, ◌≤◌, ◌==◌, List, [], ◌∷◌, ◌++◌, length, Option, Some, None, refl, sym, ap, ◌∙◌, arith, if◌then◌else◌, slice_index_or, slice_set, get_or, subst, length-set, get_or-set_same, get_or-set_other, length-append, append-nil}
 use Rattle.std.proofs.lemmas.Bool.{cases_eq}
+use Rattle.std.proofs.lemmas.Bool.Decides.{nat_tests}
 use Rattle.std.proofs.lemmas.List.{get_or_default}
+use Rattle.std.proofs.Math.Nat.{add-mul, mul-le-mul_right, mul_comm}
 use Rattle.cn_table.specs.TypeTable.{TypeTable, transition}
 use Rattle.cn_table.specs.Run.{state_after}
+use Rattle.cn_log.specs.declared.batch.Batch.{Batch}
 use Rattle.cn_log.specs.declared.entry.Entry.{Entry}
+use Rattle.cn_log.specs.Batches.{has, and_entry, entry_at, members, entries_in, slots_from}
+use Rattle.cn_log.proofs.Places.{entries_few_in, entries_put, slots_as_many, slots_put}
 use Rattle.cn_log.specs.declared.event.Event.{Event}
 use Rattle.cn_log.specs.declared.event.Event.TheVariants.{Step}
 use Rattle.cn_log.specs.declared.event.StepAnswer.{StepAnswer}
 use Rattle.cn_log.specs.declared.event.StepAnswer.TheVariants.{Working, Answered, Full}
+use Rattle.cn_log.specs.declared.progress.Phase.{Phase}
 use Rattle.cn_log.specs.declared.progress.Phase.TheVariants.{Idle, Looks, Runs}
 use Rattle.cn_log.specs.declared.progress.Progress.{Progress}
 use Rattle.cn_log.specs.Agreement.{Agrees}
-use Rattle.cn_log.specs.Fields.{entered, reply, IsProgressOf, Fits, Keeps, IsAt}
-use Rattle.cn_log.specs.Log.{Setting, World, Caller, put, same_entry, operations_of, proposed, object_after, after_step, after_decision, phase_after, state_of, fixed_from, entries_of, MayStep, IsEventList, answer, answer_from, answer_with}
-use Rattle.cn_log.proofs.ListLemmas.{put_same, put_other, same_is, get_within, get_low, take_front}
-use Rattle.cn_log.proofs.Invariant.{IsRuns, IsPending, PhaseHolds, Holds, in_order}
+use Rattle.cn_log.specs.Fields.{count_at, gathered_by, next_batch, reply, IsProgressOf, Fits, Keeps, IsAt}
+use Rattle.cn_log.specs.Log.{Setting, World, Caller, put, gathered, operations_of, object_after, after_step, after_gathering, after_decision, phase_after, state_of, fixed_from, batches_of, entries_of, MayStep, IsEventList, answer, answer_from, answer_with}
+use Rattle.cn_log.proofs.ListLemmas.{put_same, put_other}
+use Rattle.cn_log.proofs.Invariant.{IsRuns, IsPending, IsLooking, IsBegun, PhaseHolds, Holds, in_order, fixed_begun}
 use Rattle.cn_log.proofs.Looking.{not_begun}
 use Rattle.cn_log.proofs.Invoking.{open_at}
-use Rattle.cn_log.proofs.EntryLists.{entries_few, entered_is, fixed_from_same}
-use Rattle.cn_log.proofs.Linearizing.{holds_after, fixed_of, stands_of, known_operation}
+use Rattle.cn_log.proofs.EntryLists.{entered, entries_few, entered_is, fixed_from_same}
+use Rattle.cn_log.proofs.Linearizing.{holds_after, fixed_of, known_operation}
+use Rattle.cn_log.proofs.Knowing.{replayed_batches}
+use Rattle.cn_log.specs.Callers.{BeginsWith, entries_by}
+use Rattle.cn_log.proofs.Counting.{gathered_by_number, own_at, own_few}
+use Rattle.cn_log.proofs.OwnCalls.{push_batch}
 use Rattle.cn_log.proofs.Fitting.{state_push, may_push, progress_put, progress_here}
 
-state_push_one : (t : TypeTable) (state : ℕ) (seen : List Entry) (x : Entry) → state_after t state (operations_of (seen ++ x ∷ [])) ≡ (transition t x.operation.0 (state_after t state (operations_of seen))).1
-state_push_one t state [] x = refl
-state_push_one t state (y ∷ seen) x = state_push_one t (transition t y.operation.0 state).1 seen x
+-- a run over more entries goes on from where it was
+run_join : (t : TypeTable) (state : ℕ) (xs ys : List Entry) → state_after t state (operations_of (xs ++ ys)) ≡ state_after t (state_after t state (operations_of xs)) (operations_of ys)
+run_join t state [] ys = refl
+run_join t state (x ∷ xs) ys = run_join t (transition t x.operation.0 state).1 xs ys
+
+-- the next batch behind so many
+next_is : (bs : List Batch) (k : ℕ) (o : Option Batch) → entered bs k o ≡ bs ++ next_batch (length bs) k o
+next_is bs k None = sym (append-nil bs)
+next_is bs k (Some b) = go (length bs == k)
+  where
+    go : (c : Bool) → (if c then bs ++ b ∷ [] else bs) ≡ bs ++ (if c then b ∷ [] else [])
+    go true = refl
+    go false = sym (append-nil bs)
+
+-- it is that of slot k, where there is one
+next_slot : (n many k : ℕ) (o : Option Batch) → slots_from n many (next_batch many k o) ≡ slots_from n k (next_batch many k o)
+next_slot n many k None = refl
+next_slot n many k (Some b) = elim (cases_eq many k) [
+  | inl e ↦ ap (λ i. slots_from n i (next_batch many k (Some b))) e
+  | inr ne ↦ (let t : (many == k) ≡ false = grind (arith, nat_tests) in rw t refl)
+]
 
 module _ {R : Type 0} (L : Setting R) (Good : R → Type 0) (agrees : Agrees L Good)
-    (s : List Event) (rounds : List R) (announced : List (Option Entry)) (progress : List Progress) (entries : List Entry) (p : ℕ) where
+    (s : List Event) (rounds : List R) (announced : List (Option Entry)) (progress : List Progress) (entries : List Entry) (slots : List ℕ) (fixed : ℕ) (p : ℕ) where
   abbrev w : World R
   w = state_of L s
 
@@ -38,12 +66,12 @@ module _ {R : Type 0} (L : Setting R) (Good : R → Type 0) (agrees : Agrees L G
   k0 = length caller.seen
 
   -- what holds in either phase of a call
-  module _ (keeps : Keeps L s rounds announced progress entries) (lt : p < L.processes) (mine : Entry) (pending : IsPending L w p mine) (here : Progress) (read : here ≡ get_or progress p here) where
+  module _ (keeps : Keeps L s rounds announced progress entries slots fixed) (lt : p < L.processes) (mine : Entry) (pending : IsPending L w p mine) (here : Progress) (read : here ≡ get_or progress p here) where
     holds : Holds L Good w
     holds = holds_after L Good agrees s keeps.events
 
     pub progress_is : IsProgressOf L here caller
-    progress_is = progress_here L s rounds announced progress entries keeps p lt here read
+    progress_is = progress_here L s rounds announced progress entries slots fixed keeps p lt here read
 
     pub room : here.replayed < L.capacity
     room = let a = progress_is.replayed in let b = pending.room in omega arith
@@ -57,22 +85,11 @@ module _ {R : Type 0} (L : Setting R) (Good : R → Type 0) (agrees : Agrees L G
     pub round_good : (r : R) → r ≡ get_or rounds here.replayed r → Good r
     round_good r e = subst Good (sym (round_is r e)) (holds.good k0)
 
-    pub seen_stands : (j : ℕ) (x : Entry) → slice_get caller.seen j ≡ Some x → slice_get (entries_of L w) j ≡ Some x
-    seen_stands j x h = stands_of L Good agrees s keeps.events j x (let l = get_low caller.seen j x h in let b = pending.room in omega arith) (holds.seen p j x h)
+    pub fixed_front : BeginsWith (batches_of L w) caller.seen
+    fixed_front = replayed_batches L Good agrees s p keeps.events
 
-    pub seen_few : k0 ≤ length (entries_of L w)
-    seen_few = go k0 refl
-      where
-        go : (k : ℕ) → k0 ≡ k → k ≤ length (entries_of L w)
-        go zero e = omega arith
-        go (suc k) e = let x = get_within caller.seen k (omega arith) in let l = get_low (entries_of L w) k x.0 (seen_stands k x.0 x.1) in omega arith
-
-    pub slot_in_entries : here.replayed ≤ length entries
-    slot_in_entries = let a = progress_is.replayed in let b = seen_few in let c : length entries ≡ length (entries_of L w) = ap length keeps.fits.entries_are in omega arith
-
-    -- the first so many entries are what the process has replayed
-    pub seen_is : take here.replayed entries ≡ caller.seen
-    seen_is = rw (keeps.fits.entries_are, progress_is.replayed) (take_front caller.seen (entries_of L w) seen_stands)
+    pub slots_low : k0 ≤ length (batches_of L w)
+    slots_low = let f = fixed_front in let e : length (batches_of L w) ≡ k0 + length f.0 = ap length f.1 ∙ length-append caller.seen f.0 in omega (arith, e)
 
     round_put : (r' : R) (k : ℕ) → k < L.capacity → slice_index_or (slice_set rounds here.replayed r') k L.untouched ≡ put w.round k0 r' k
     round_put r' k less = elim (cases_eq k k0) [
@@ -82,18 +99,20 @@ module _ {R : Type 0} (L : Setting R) (Good : R → Type 0) (agrees : Agrees L G
 
     -- the fields after a step that changes the round of the slot and where the process stands
     pub fits_put : (r' : R) (x : Progress) (c : Caller) → IsProgressOf L x c → (w' : World R) → w'.round ≡ put w.round k0 r' → w'.announced ≡ w.announced → w'.caller ≡ put w.caller p c
-        → (entries' : List Entry) → entries' ≡ entries_of L w' → Fits L w' (slice_set rounds here.replayed r') announced (slice_set progress p x) entries'
-    fits_put r' x c is w' a b d entries' e = record {
+        → (entries' : List Entry) (slots' : List ℕ) (fixed' : ℕ) → entries' ≡ entries_of L w' → slots' ≡ slots_from L.processes 0 (batches_of L w') → fixed' ≡ length (batches_of L w') → Fits L w' (slice_set rounds here.replayed r') announced (slice_set progress p x) entries' slots' fixed'
+    fits_put r' x c is w' a b d entries' slots' fixed' e f g = record {
       rounds_many = length-set rounds here.replayed r' ∙ keeps.fits.rounds_many;
       round = λ k less. round_put r' k less ∙ ap (λ (f : ℕ → R). f k) (sym a);
       announced_many = keeps.fits.announced_many;
       announcement = λ q less. keeps.fits.announcement q less ∙ ap (λ (f : ℕ → Option Entry). f q) (sym b);
       progress_many = length-set progress p x ∙ keeps.fits.progress_many;
-      caller = λ q less. rw d (progress_put L w rounds announced progress entries keeps.fits p lt x c is q less);
+      caller = λ q less. rw d (progress_put L w rounds announced progress entries slots fixed keeps.fits p lt x c is q less);
       entries_are = e;
+      slots_are = f;
+      fixed_is = g;
     }
 
-  module _ (mine : Entry) (at : IsAt L s rounds announced progress entries p (Runs mine)) (here : Progress) (read : here ≡ get_or progress p here) where
+  module _ (mine : Entry) (at : IsAt L s rounds announced progress entries slots fixed p (Runs mine)) (here : Progress) (read : here ≡ get_or progress p here) where
     runs_holds : Holds L Good w
     runs_holds = holds_after L Good agrees s at.keeps.events
 
@@ -112,11 +131,56 @@ module _ {R : Type 0} (L : Setting R) (Good : R → Type 0) (agrees : Agrees L G
     pub runs_good : (r : R) → r ≡ get_or rounds here.replayed r → Good r
     runs_good r e = round_good at.keeps at.process mine runs_pending here read r e
 
-    has_begun : (v : Entry) × (L.consensus.input (w.round k0) p ≡ Some v) × (L.consensus.decided (w.round k0) p ≡ None)
+    has_begun : (v : Batch) × (L.consensus.input (w.round k0) p ≡ Some v) × (L.consensus.decided (w.round k0) p ≡ None)
     has_begun = runs_holds.running p (subst IsRuns (sym at.phase_is) tt)
 
-    pub runs_begun : (r : R) → r ≡ get_or rounds here.replayed r → (v : Entry) × (L.consensus.input r p ≡ Some v) × (L.consensus.decided r p ≡ None)
-    runs_begun r e = subst (λ (z : R). (v : Entry) × (L.consensus.input z p ≡ Some v) × (L.consensus.decided z p ≡ None)) (sym (round_is at.keeps at.process mine runs_pending here read r e)) has_begun
+    pub runs_begun : (r : R) → r ≡ get_or rounds here.replayed r → (v : Batch) × (L.consensus.input r p ≡ Some v) × (L.consensus.decided r p ≡ None)
+    runs_begun r e = subst (λ (z : R). (v : Batch) × (L.consensus.input z p ≡ Some v) × (L.consensus.decided z p ≡ None)) (sym (round_is at.keeps at.process mine runs_pending here read r e)) has_begun
+
+    -- no more entries have been seen than so many slots can take
+    pub seen_most : L.capacity ≤ 1024 → here.seen ≤ 8192
+    seen_most few =
+        let e = entries_few_in L.processes caller.seen in
+        let m : L.processes * length caller.seen ≤ 8 * length caller.seen = mul-le-mul_right (length caller.seen) agrees.few in
+        let r = runs_pending.room in
+        let a = runs_is.seen in
+        omega (arith, e, m, r, a, few)
+
+    pub calls_places : length here.calls_seen.calls ≡ 8
+    calls_places = runs_is.calls_places
+
+    -- and no more calls of one process
+    pub calls_most : L.capacity ≤ 1024 → (q : ℕ) → q < L.processes → count_at here.calls_seen q ≤ 8192
+    calls_most few q low =
+        let m = seen_most few in
+        let a = runs_is.seen in
+        let c = runs_is.calls_seen q low in
+        let o = own_few q (entries_in L.processes caller.seen) in
+        omega (arith, m, a, c, o)
+
+    pub mine_low : mine.process < L.processes
+    mine_low = let e = runs_pending.process in let lt = at.process in omega (arith, e, lt)
+
+    pub mine_operation : mine.operation.0 < length L.object.operations
+    mine_operation = known_operation L Good agrees s at.keeps.events mine runs_pending.called
+
+    -- where slot k is the next one to be fixed, there is room for its entries
+    room_for : (many : ℕ) → many ≤ L.processes * length (batches_of L w) → fixed ≡ here.replayed → many + L.processes ≤ L.processes * L.capacity
+    room_for many few next =
+        let f = at.keeps.fits.fixed_is in
+        let r = runs_room in
+        let g : length (batches_of L w) + 1 ≤ L.capacity = omega (arith, f, r, next) in
+        let m = mul-le-mul_right L.processes g in
+        let a = add-mul (length (batches_of L w)) 1 L.processes in
+        let b = mul_comm L.processes (length (batches_of L w)) in
+        let d = mul_comm L.processes L.capacity in
+        omega (arith, few, m, a, b, d)
+
+    pub entries_room : fixed ≡ here.replayed → length entries + L.processes ≤ L.processes * L.capacity
+    entries_room next = let e = ap length at.keeps.fits.entries_are in let f = entries_few_in L.processes (batches_of L w) in room_for (length entries) (omega (arith, e, f)) next
+
+    pub slots_room : fixed ≡ here.replayed → length slots + L.processes ≤ L.processes * L.capacity
+    slots_room next = let e = ap length at.keeps.fits.slots_are in let m = slots_as_many L.processes 0 (batches_of L w) in let f = entries_few_in L.processes (batches_of L w) in room_for (length slots) (omega (arith, e, f, m)) next
 
     may_step : MayStep L w p
     may_step = record { process = at.process; in_call = λ idle. (let f : Runs mine ≡ Idle = sym at.phase_is ∙ idle in cc f) }
@@ -128,31 +192,46 @@ module _ {R : Type 0} (L : Setting R) (Good : R → Type 0) (agrees : Agrees L G
       stepped_is : r' ≡ L.consensus.step p (w.round k0)
       stepped_is = e' ∙ ap (L.consensus.step p) (round_is at.keeps at.process mine runs_pending here read r e)
 
-      abbrev after_with : Option Entry → World R
+      abbrev after_with : Option Batch → World R
       after_with o = after_decision L (record w { round = put w.round k0 (L.consensus.step p (w.round k0)) }) p caller mine o
 
-      after_is : (o : Option Entry) → L.consensus.decided r' p ≡ o → state_of L (s ++ Step p ∷ []) ≡ after_with o
+      after_is : (o : Option Batch) → L.consensus.decided r' p ≡ o → state_of L (s ++ Step p ∷ []) ≡ after_with o
       after_is o is = state_push L s (Step p) ∙ ap (λ ph. after_step L w p caller ph) at.phase_is ∙ ap after_with (ap (λ z. L.consensus.decided z p) (sym stepped_is) ∙ is)
 
-      answer_is : (o : Option Entry) → L.consensus.decided r' p ≡ o → answer L s p ≡ answer_with L caller.seen mine o
+      answer_is : (o : Option Batch) → L.consensus.decided r' p ≡ o → answer L s p ≡ answer_with L caller.seen mine o
       answer_is o is = ap (answer_from L w p caller) at.phase_is ∙ ap (answer_with L caller.seen mine) (ap (λ z. L.consensus.decided z p) (sym stepped_is) ∙ is)
 
-      -- the entries go on with the slot that has just been fixed
-      entries_then : (w' : World R) → w'.round ≡ put w.round k0 r' → entered entries here.replayed (L.consensus.fixed r') ≡ entries_of L w'
-      entries_then w' is =
-          let es = entries_of L w in
-          let now = entered_is L w.round k0 r' es (seen_few at.keeps at.process mine runs_pending here read) runs_pending.room
+      abbrev more : List Batch
+      more = next_batch fixed here.replayed (L.consensus.fixed r')
+
+      -- the batches go on with that of the slot that has just been fixed
+      batches_then : (w' : World R) → w'.round ≡ put w.round k0 r' → batches_of L w' ≡ batches_of L w ++ more
+      batches_then w' is =
+          let bs = batches_of L w in
+          let now = entered_is L w.round k0 r' bs (slots_low at.keeps at.process mine runs_pending here read) runs_pending.room
           (λ j x h. fixed_of L Good agrees s at.keeps.events j x h)
-          (elim (open_at L w.round L.capacity 0) [ inl full ↦ inl full | inr none ↦ inr (let z : 0 + length es ≡ length es = omega arith in rw z at none) ])
+          (elim (open_at L w.round L.capacity 0) [ inl full ↦ inl full | inr none ↦ inr (let z : 0 + length bs ≡ length bs = omega arith in rw z at none) ])
           (entries_few L w.round L.capacity 0)
           (λ j i y less h. in_order L Good agrees w runs_holds j i y less h)
           (λ y h. ap L.consensus.fixed stepped_is ∙ agrees.keeps (w.round k0) p y at.process (runs_holds.good k0) h) in
-          ap (λ z. entered z here.replayed (L.consensus.fixed r')) at.keeps.fits.entries_are ∙ ap (λ k. entered es k (L.consensus.fixed r')) runs_is.replayed ∙ sym now ∙ ap (fixed_from L L.capacity 0) (sym is)
+          ap (fixed_from L L.capacity 0) is ∙ now ∙ next_is bs k0 (L.consensus.fixed r') ∙ ap (λ m. bs ++ next_batch m k0 (L.consensus.fixed r')) (sym at.keeps.fits.fixed_is) ∙ ap (λ k. bs ++ next_batch fixed k (L.consensus.fixed r')) (sym runs_is.replayed)
 
-      pub none_keeps : L.consensus.decided r' p ≡ None → Keeps L (s ++ Step p ∷ []) (slice_set rounds here.replayed r') announced progress (entered entries here.replayed (L.consensus.fixed r'))
+      entries_then : (w' : World R) → w'.round ≡ put w.round k0 r' → entries ++ entries_in L.processes more ≡ entries_of L w'
+      entries_then w' is = ap (λ l. l ++ entries_in L.processes more) at.keeps.fits.entries_are ∙ sym (ap (entries_in L.processes) (batches_then w' is) ∙ entries_put L.processes (batches_of L w) more)
+
+      slots_then : (w' : World R) → w'.round ≡ put w.round k0 r' → slots ++ slots_from L.processes here.replayed more ≡ slots_from L.processes 0 (batches_of L w')
+      slots_then w' is =
+          let z : 0 + length (batches_of L w) ≡ fixed = (let f = at.keeps.fits.fixed_is in omega (arith, f)) in
+          ap (λ l. l ++ slots_from L.processes here.replayed more) at.keeps.fits.slots_are ∙ ap (λ l. slots_from L.processes 0 (batches_of L w) ++ l) (sym (next_slot L.processes fixed here.replayed (L.consensus.fixed r')))
+          ∙ sym (ap (slots_from L.processes 0) (batches_then w' is) ∙ slots_put L.processes 0 (batches_of L w) more ∙ ap (λ i. slots_from L.processes 0 (batches_of L w) ++ slots_from L.processes i more) z)
+
+      fixed_then : (w' : World R) → w'.round ≡ put w.round k0 r' → fixed + length more ≡ length (batches_of L w')
+      fixed_then w' is = let e : length (batches_of L w') ≡ length (batches_of L w) + length more = ap length (batches_then w' is) ∙ length-append (batches_of L w) more in let f = at.keeps.fits.fixed_is in omega (arith, e, f)
+
+      pub none_keeps : L.consensus.decided r' p ≡ None → Keeps L (s ++ Step p ∷ []) (slice_set rounds here.replayed r') announced progress (entries ++ entries_in L.processes more) (slots ++ slots_from L.processes here.replayed more) (fixed + length more)
       none_keeps is = let fits = at.keeps.fits in record {
         events = events_then;
-        fits = subst (λ v. Fits L v (slice_set rounds here.replayed r') announced progress (entered entries here.replayed (L.consensus.fixed r'))) (sym (after_is None is)) (record {
+        fits = subst (λ v. Fits L v (slice_set rounds here.replayed r') announced progress (entries ++ entries_in L.processes more) (slots ++ slots_from L.processes here.replayed more) (fixed + length more)) (sym (after_is None is)) (record {
           rounds_many = length-set rounds here.replayed r' ∙ fits.rounds_many;
           round = λ k less. round_put at.keeps at.process mine runs_pending here read r' k less ∙ ap (λ z. put w.round k0 z k) stepped_is;
           announced_many = fits.announced_many;
@@ -160,96 +239,146 @@ module _ {R : Type 0} (L : Setting R) (Good : R → Type 0) (agrees : Agrees L G
           progress_many = fits.progress_many;
           caller = fits.caller;
           entries_are = entries_then (after_with None) (ap (put w.round k0) (sym stepped_is));
+          slots_are = slots_then (after_with None) (ap (put w.round k0) (sym stepped_is));
+          fixed_is = fixed_then (after_with None) (ap (put w.round k0) (sym stepped_is));
         });
       }
 
       pub none_answer : L.consensus.decided r' p ≡ None → Working ≡ answer L s p
       none_answer is = sym (answer_is None is)
 
-      module _ (x : Entry) (is : L.consensus.decided r' p ≡ Some x) where
-        -- what is decided is a call of the list, so its operation is known
-        pub some_operation : x.operation.0 < length L.object.operations
-        some_operation =
+      module _ (x : Batch) (is : L.consensus.decided r' p ≡ Some x) where
+        -- what is decided was begun
+        some_begun : IsBegun L (state_of L (s ++ Step p ∷ [])) k0 x
+        some_begun =
             let v = has_begun.0 in
+            let w' = state_of L (s ++ Step p ∷ []) in
             let f : L.consensus.fixed (L.consensus.step p (w.round k0)) ≡ Some x = agrees.decides (L.consensus.step p (w.round k0)) p x at.process (agrees.good_step (w.round k0) p v at.process (runs_holds.good k0) has_begun.1) (ap (λ z. L.consensus.decided z p) (sym stepped_is) ∙ is) in
-            let there : L.consensus.fixed ((state_of L (s ++ Step p ∷ [])).round k0) ≡ Some x = ap (λ (v : World R). L.consensus.fixed (v.round k0)) (after_is (Some x) is) ∙ ap L.consensus.fixed (put_same w.round k0 (L.consensus.step p (w.round k0))) ∙ f in
-            known_operation L Good agrees (s ++ Step p ∷ []) events_then k0 x there
+            let fixed' : L.consensus.fixed (w'.round k0) ≡ Some x = ap (λ (v : World R). L.consensus.fixed (v.round k0)) (after_is (Some x) is) ∙ ap L.consensus.fixed (put_same w.round k0 (L.consensus.step p (w.round k0))) ∙ f in
+            fixed_begun L Good agrees w' (holds_after L Good agrees (s ++ Step p ∷ []) events_then) k0 x fixed'
 
-        pub some_keeps : (here' : Progress) → here'.replayed ≡ here.replayed + 1 → here'.calls ≡ here.calls → here'.phase ≡ phase_after L here.replayed mine x → here'.state.0 ≡ (transition L.object x.operation.0 here.state.0).1 → here'.state.0 < length L.object.states
-            → Keeps L (s ++ Step p ∷ []) (slice_set rounds here.replayed r') announced (slice_set progress p here') (entered entries here.replayed (L.consensus.fixed r'))
-        some_keeps here' replayed calls phase state known =
+        -- so these are calls of the list, with operations that are known
+        pub some_operation : (q : ℕ) (e : Entry) → entry_at x q ≡ Some e → e.operation.0 < length L.object.operations
+        some_operation q e there =
+            let b = some_begun in
+            known_operation L Good agrees (s ++ Step p ∷ []) events_then e (b.called e (subst (λ i. entry_at x i ≡ Some e) (sym (b.shaped q e there)) there))
+
+        pub some_keeps : (here' : Progress) → here'.replayed ≡ here.replayed + 1 → here'.seen ≡ here.seen + length (members L.processes 0 x) → length here'.calls_seen.calls ≡ 8 → ((q : ℕ) → q < L.processes → count_at here'.calls_seen q ≡ count_at here.calls_seen q + length (and_entry (entry_at x q) [])) → here'.calls ≡ here.calls → here'.phase ≡ phase_after L here.replayed mine x
+            → here'.state.0 ≡ state_after L.object here.state.0 (operations_of (members L.processes 0 x)) → here'.state.0 < length L.object.states
+            → Keeps L (s ++ Step p ∷ []) (slice_set rounds here.replayed r') announced (slice_set progress p here') (entries ++ entries_in L.processes more) (slots ++ slots_from L.processes here.replayed more) (fixed + length more)
+        some_keeps here' replayed seen places calls_seen calls phase state known =
             let c : Caller = record { seen = caller.seen ++ x ∷ []; calls = caller.calls; phase = phase_after L k0 mine x } in
+            let all : entries_in L.processes (caller.seen ++ x ∷ []) ≡ entries_in L.processes caller.seen ++ members L.processes 0 x = entries_put L.processes caller.seen (x ∷ []) ∙ ap (λ l. entries_in L.processes caller.seen ++ l) (append-nil (members L.processes 0 x)) in
             let now : IsProgressOf L here' c = record {
               replayed = (let n : length (caller.seen ++ x ∷ []) ≡ length caller.seen + 1 = length-append caller.seen (x ∷ []) in let a = runs_is.replayed in omega arith);
+              seen = (let n = ap length all ∙ length-append (entries_in L.processes caller.seen) (members L.processes 0 x) in let a = runs_is.seen in omega (arith, seen, n, a));
+              calls_places = places;
+              calls_seen = λ q low. (
+                  let a = calls_seen q low in
+                  let b = runs_is.calls_seen q low in
+                  let one = ap length (own_at L.processes q x some_begun.shaped low) in
+                  let n = ap length (push_batch L.processes q caller.seen x) ∙ length-append (entries_by q (entries_in L.processes caller.seen)) (entries_by q (members L.processes 0 x)) in
+                  omega (arith, a, b, one, n)
+                  );
               calls = calls ∙ runs_is.calls;
               phase = phase ∙ ap (λ k. phase_after L k mine x) runs_is.replayed;
-              state = state ∙ ap (λ z. (transition L.object x.operation.0 z).1) runs_is.state ∙ sym (state_push_one L.object L.start caller.seen x);
+              state = state ∙ ap (λ z. state_after L.object z (operations_of (members L.processes 0 x))) runs_is.state ∙ sym (run_join L.object L.start (entries_in L.processes caller.seen) (members L.processes 0 x)) ∙ ap (λ l. state_after L.object L.start (operations_of l)) (sym all);
               known = known;
             } in
             record {
               events = events_then;
-              fits = subst (λ v. Fits L v (slice_set rounds here.replayed r') announced (slice_set progress p here') (entered entries here.replayed (L.consensus.fixed r'))) (sym (after_is (Some x) is))
-                  (fits_put at.keeps at.process mine runs_pending here read r' here' c now (after_with (Some x)) (ap (put w.round k0) (sym stepped_is)) refl refl (entered entries here.replayed (L.consensus.fixed r')) (entries_then (after_with (Some x)) (ap (put w.round k0) (sym stepped_is))));
+              fits = subst (λ v. Fits L v (slice_set rounds here.replayed r') announced (slice_set progress p here') (entries ++ entries_in L.processes more) (slots ++ slots_from L.processes here.replayed more) (fixed + length more)) (sym (after_is (Some x) is))
+                  (fits_put at.keeps at.process mine runs_pending here read r' here' c now (after_with (Some x)) (ap (put w.round k0) (sym stepped_is)) refl refl _ _ _
+                  (entries_then (after_with (Some x)) (ap (put w.round k0) (sym stepped_is))) (slots_then (after_with (Some x)) (ap (put w.round k0) (sym stepped_is))) (fixed_then (after_with (Some x)) (ap (put w.round k0) (sym stepped_is))));
             }
 
-        reply_is : (b d : Bool) → same_entry x mine ≡ b
-            → (if b then Answered k0 (record { 0 = (transition L.object x.operation.0 (object_after L caller.seen)).0 }) else (if d then Full else Working)) ≡ (if b then Answered k0 (record { 0 = (transition L.object mine.operation.0 (object_after L caller.seen)).0 }) else (if d then Full else Working))
-        reply_is true d h = ap (λ (z : Entry). Answered k0 (record { 0 = (transition L.object z.operation.0 (object_after L caller.seen)).0 })) (same_is x mine h)
-        reply_is false d h = refl
+        -- what is answered is the response at its place in the batch
+        reply_at : transition L.object mine.operation.0 (state_after L.object (object_after L (entries_in L.processes caller.seen)) (operations_of (members mine.process 0 x))) ≡ transition L.object mine.operation.0 (object_after L (entries_in L.processes caller.seen ++ members mine.process 0 x))
+        reply_at = ap (transition L.object mine.operation.0) (sym (run_join L.object L.start (entries_in L.processes caller.seen) (members mine.process 0 x)))
 
         pub some_answer : (a : StepAnswer) → a ≡ reply L here.replayed here.state.0 mine x → a ≡ answer L s p
-        some_answer a h = h ∙ ap (λ k. reply L k here.state.0 mine x) runs_is.replayed ∙ ap (λ z. reply L k0 z mine x) runs_is.state ∙ reply_is (same_entry x mine) (k0 + 1 == L.capacity) refl ∙ sym (answer_is (Some x) is)
+        some_answer a h = h ∙ ap (λ k. reply L k here.state.0 mine x) runs_is.replayed ∙ ap (λ z. reply L k0 z mine x) runs_is.state
+            ∙ ap (λ (z : ℕ × ℕ). if has x mine then Answered k0 (record { 0 = z.0 }) else (if k0 + 1 == L.capacity then Full else Working)) reply_at ∙ sym (answer_is (Some x) is)
 
-  module _ (mine : Entry) (at : IsAt L s rounds announced progress entries p (Looks mine)) (here : Progress) (read : here ≡ get_or progress p here) where
+  module _ (mine : Entry) (q : ℕ) (batch : Batch) (at : IsAt L s rounds announced progress entries slots fixed p (Looks mine q batch)) (here : Progress) (read : here ≡ get_or progress p here) where
     looks_holds : Holds L Good w
     looks_holds = holds_after L Good agrees s at.keeps.events
 
-    looks_pending : IsPending L w p mine
-    looks_pending = let h : PhaseHolds L w p (Looks mine) = subst (PhaseHolds L w p) at.phase_is (looks_holds.phases p) in h
+    looking : IsLooking L w p mine q batch
+    looking = let h : PhaseHolds L w p (Looks mine q batch) = subst (PhaseHolds L w p) at.phase_is (looks_holds.phases p) in h
 
     looks_is : IsProgressOf L here caller
-    looks_is = progress_is at.keeps at.process mine looks_pending here read
+    looks_is = progress_is at.keeps at.process mine looking.pending here read
 
-    pub looks_room : here.replayed < L.capacity
-    looks_room = room at.keeps at.process mine looks_pending here read
+    pub looks_next : q < L.processes
+    looks_next = looking.next
+
+    pub looks_in_announced : q < length announced
+    looks_in_announced = let a = looking.next in let b = at.keeps.fits.announced_many in omega (arith, a, b)
 
     pub looks_in_rounds : here.replayed < length rounds
-    looks_in_rounds = in_rounds at.keeps at.process mine looks_pending here read
-
-    pub looks_in_entries : here.replayed ≤ length entries
-    looks_in_entries = slot_in_entries at.keeps at.process mine looks_pending here read
+    looks_in_rounds = in_rounds at.keeps at.process mine looking.pending here read
 
     pub looks_good : (r : R) → r ≡ get_or rounds here.replayed r → Good r
-    looks_good r e = round_good at.keeps at.process mine looks_pending here read r e
-
-    pub looks_not_begun : (r : R) → r ≡ get_or rounds here.replayed r → L.consensus.input r p ≡ None
-    looks_not_begun r e = ap (λ z. L.consensus.input z p) (round_is at.keeps at.process mine looks_pending here read r e) ∙ not_begun L Good agrees w looks_holds p at.process mine at.phase_is
-
-    pub turn_in : here.replayed % L.processes < length announced
-    turn_in = let m = at.keeps.fits.announced_many in let c = at.process in let b : here.replayed % L.processes < L.processes = mod-lt here.replayed (omega arith) in omega arith
+    looks_good r e = round_good at.keeps at.process mine looking.pending here read r e
 
     looks_may_step : MayStep L w p
-    looks_may_step = record { process = at.process; in_call = λ idle. (let f : Looks mine ≡ Idle = sym at.phase_is ∙ idle in cc f) }
+    looks_may_step = record { process = at.process; in_call = λ idle. (let f : Looks mine q batch ≡ Idle = sym at.phase_is ∙ idle in cc f) }
 
-    pub look_keeps : (r r' : R) → r ≡ get_or rounds here.replayed r → (chosen : Entry) → chosen ≡ proposed (get_or announced (here.replayed % L.processes) None) (take here.replayed entries) mine → r' ≡ L.consensus.begin p chosen r
-        → Keeps L (s ++ Step p ∷ []) (slice_set rounds here.replayed r') announced (slice_set progress p (record { replayed = here.replayed; calls = here.calls; phase = Runs mine; state = here.state })) entries
-    look_keeps r r' e chosen chosen_is e' =
-        let process = at.process in
-        let o : get_or announced (here.replayed % L.processes) None ≡ w.announced (k0 % L.processes) = at.keeps.fits.announcement (here.replayed % L.processes) (mod-lt here.replayed (omega arith)) ∙ ap (λ k. w.announced (k % L.processes)) looks_is.replayed in
-        let x : Entry = proposed (w.announced (k0 % L.processes)) caller.seen mine in
-        let chose : chosen ≡ x = chosen_is ∙ ap (λ z. proposed (get_or announced (here.replayed % L.processes) None) z mine) (seen_is at.keeps at.process mine looks_pending here read) ∙ ap (λ z. proposed z caller.seen mine) o in
-        let b : R = L.consensus.begin p x (w.round k0) in
-        let r'_is : r' ≡ b = e' ∙ ap (λ c. L.consensus.begin p c r) chose ∙ ap (L.consensus.begin p x) (round_is at.keeps at.process mine looks_pending here read r e) in
-        let now : state_of L (s ++ Step p ∷ []) ≡ after_step L w p caller (Looks mine) = state_push L s (Step p) ∙ ap (λ ph. after_step L w p caller ph) at.phase_is in
-        let c : Caller = record { seen = caller.seen; calls = caller.calls; phase = Runs mine } in
-        let here' : Progress = record { replayed = here.replayed; calls = here.calls; phase = Runs mine; state = here.state } in
-        let same : (k : ℕ) → L.consensus.fixed (put w.round k0 b k) ≡ L.consensus.fixed (w.round k) = λ k. elim (cases_eq k k0) [
-          | inl f ↦ rw (f, put_same w.round k0 b) (agrees.quiet (w.round k0) p x)
-          | inr ne ↦ ap L.consensus.fixed (put_other w.round k0 b k ne)
-        ] in
+    -- the batch that the process has after the look
+    abbrev v : Batch
+    v = gathered (w.announced q) (entries_in L.processes caller.seen) q batch
+
+    pub gathered_is : (b : Batch) → b ≡ gathered_by (get_or announced q None) (count_at here.calls_seen q) q batch → b ≡ v
+    gathered_is b e = e ∙ ap (λ o. gathered_by o (count_at here.calls_seen q) q batch) (at.keeps.fits.announcement q looking.next) ∙ ap (λ c. gathered_by (w.announced q) c q batch) (looks_is.calls_seen q looking.next)
+        ∙ gathered_by_number L Good agrees s at.keeps.events p q batch
+
+    now_is : (last : Bool) → (q + 1 == L.processes) ≡ last → state_of L (s ++ Step p ∷ []) ≡ after_gathering L w p caller mine q v last
+    now_is last e = state_push L s (Step p) ∙ ap (λ ph. after_step L w p caller ph) at.phase_is ∙ ap (after_gathering L w p caller mine q v) e
+
+    progress_now : (phase : Phase) → IsProgressOf L (record { replayed = here.replayed; seen = here.seen; calls_seen = here.calls_seen; calls = here.calls; phase = phase; state = here.state }) (record { seen = caller.seen; calls = caller.calls; phase = phase })
+    progress_now phase = record { replayed = looks_is.replayed; seen = looks_is.seen; calls_places = looks_is.calls_places; calls_seen = looks_is.calls_seen; calls = looks_is.calls; phase = refl; state = looks_is.state; known = looks_is.known }
+
+    pub gather_keeps : (b : Batch) → b ≡ v → (q + 1 == L.processes) ≡ false
+        → Keeps L (s ++ Step p ∷ []) rounds announced (slice_set progress p (record { replayed = here.replayed; seen = here.seen; calls_seen = here.calls_seen; calls = here.calls; phase = Looks mine (q + 1) b; state = here.state })) entries slots fixed
+    gather_keeps b same last =
+        let c : Caller = record { seen = caller.seen; calls = caller.calls; phase = Looks mine (q + 1) b } in
+        let x : Progress = record { replayed = here.replayed; seen = here.seen; calls_seen = here.calls_seen; calls = here.calls; phase = Looks mine (q + 1) b; state = here.state } in
+        let fits = at.keeps.fits in
+        let now : state_of L (s ++ Step p ∷ []) ≡ record w { caller = put w.caller p c } = now_is false last ∙ ap (λ (z : Batch). record w { caller = put w.caller p (record { seen = caller.seen; calls = caller.calls; phase = Looks mine (q + 1) z }) }) (sym same) in
         record {
           events = may_push L s (Step p) at.keeps.events looks_may_step;
-          fits = subst (λ v. Fits L v (slice_set rounds here.replayed r') announced (slice_set progress p here') entries) (sym now)
-              (fits_put at.keeps at.process mine looks_pending here read r' here' c (record { replayed = looks_is.replayed; calls = looks_is.calls; phase = refl; state = looks_is.state; known = looks_is.known }) (after_step L w p caller (Looks mine)) (ap (put w.round k0) (sym r'_is)) refl refl entries
-              (at.keeps.fits.entries_are ∙ sym (fixed_from_same L w.round (put w.round k0 b) same L.capacity 0)));
+          fits = subst (λ z. Fits L z rounds announced (slice_set progress p x) entries slots fixed) (sym now) (record {
+            rounds_many = fits.rounds_many;
+            round = fits.round;
+            announced_many = fits.announced_many;
+            announcement = fits.announcement;
+            progress_many = length-set progress p x ∙ fits.progress_many;
+            caller = λ i less. progress_put L w rounds announced progress entries slots fixed fits p at.process x c (progress_now (Looks mine (q + 1) b)) i less;
+            entries_are = fits.entries_are;
+            slots_are = fits.slots_are;
+            fixed_is = fits.fixed_is;
+          });
+        }
+
+    pub looks_not_begun : (q + 1 == L.processes) ≡ true → (r : R) → r ≡ get_or rounds here.replayed r → L.consensus.input r p ≡ None
+    looks_not_begun last r e = ap (λ z. L.consensus.input z p) (round_is at.keeps at.process mine looking.pending here read r e) ∙ not_begun L Good agrees w looks_holds p at.process mine q batch at.phase_is last
+
+    pub begin_keeps : (r r' : R) → r ≡ get_or rounds here.replayed r → (b : Batch) → b ≡ v → r' ≡ L.consensus.begin p b r → (q + 1 == L.processes) ≡ true
+        → Keeps L (s ++ Step p ∷ []) (slice_set rounds here.replayed r') announced (slice_set progress p (record { replayed = here.replayed; seen = here.seen; calls_seen = here.calls_seen; calls = here.calls; phase = Runs mine; state = here.state })) entries slots fixed
+    begin_keeps r r' e b chose e' last =
+        let begun : R = L.consensus.begin p v (w.round k0) in
+        let r'_is : r' ≡ begun = e' ∙ ap (λ c. L.consensus.begin p c r) chose ∙ ap (L.consensus.begin p v) (round_is at.keeps at.process mine looking.pending here read r e) in
+        let c : Caller = record { seen = caller.seen; calls = caller.calls; phase = Runs mine } in
+        let x : Progress = record { replayed = here.replayed; seen = here.seen; calls_seen = here.calls_seen; calls = here.calls; phase = Runs mine; state = here.state } in
+        let same : (k : ℕ) → L.consensus.fixed (put w.round k0 begun k) ≡ L.consensus.fixed (w.round k) = λ k. elim (cases_eq k k0) [
+          | inl f ↦ rw (f, put_same w.round k0 begun) (agrees.quiet (w.round k0) p v)
+          | inr ne ↦ ap L.consensus.fixed (put_other w.round k0 begun k ne)
+        ] in
+        let bs : batches_of L (after_gathering L w p caller mine q v true) ≡ batches_of L w = fixed_from_same L w.round (put w.round k0 begun) same L.capacity 0 in
+        record {
+          events = may_push L s (Step p) at.keeps.events looks_may_step;
+          fits = subst (λ z. Fits L z (slice_set rounds here.replayed r') announced (slice_set progress p x) entries slots fixed) (sym (now_is true last))
+              (fits_put at.keeps at.process mine looking.pending here read r' x c (progress_now (Runs mine)) (after_gathering L w p caller mine q v true) (ap (put w.round k0) (sym r'_is)) refl refl entries slots fixed
+              (at.keeps.fits.entries_are ∙ ap (entries_in L.processes) (sym bs)) (at.keeps.fits.slots_are ∙ ap (slots_from L.processes 0) (sym bs)) (at.keeps.fits.fixed_is ∙ ap length (sym bs)));
         }

@@ -1,5 +1,5 @@
 -- What makes an event of a log atomic: it touches one announcement, or one object or one register in the round of one slot, and what its process does next rests on nothing else that is shared.
-use Rattle.std.specs.Prelude.{ℕ, ◌≡◌, ◌≢◌, ◌+◌, ◌%◌, List, [], ◌∷◌, ◌++◌, length, Option, Some, None}
+use Rattle.std.specs.Prelude.{ℕ, ◌≡◌, ◌≢◌, ◌+◌, ◌==◌, Bool, true, false, List, [], ◌∷◌, ◌++◌, length, Option, Some, None}
 use Rattle.cn_proto.specs.Plan.{protocol_of, processes_of}
 use Rattle.cn_proto.specs.Protocol.{place_of}
 use Rattle.cn_agree.specs.AtomicStep.{Part, Content, content, touched, ActsOnce}
@@ -9,6 +9,7 @@ use Rattle.cn_agree.specs.World.{World as RoundWorld, node_at, local_at}
 use Rattle.cn_agree.specs.declared.local.Local.{Local}
 use Rattle.cn_agree.specs.declared.local.Local.TheVariants.{NotBegun, Active, Decided}
 use Rattle.cn_agree.specs.declared.local.Stage.{Stage}
+use Rattle.cn_log.specs.declared.batch.Batch.{Batch}
 use Rattle.cn_log.specs.declared.entry.Entry.{Entry}
 use Rattle.cn_log.specs.declared.event.Event.{Event}
 use Rattle.cn_log.specs.declared.event.Event.TheVariants.{Invoke, Step}
@@ -16,12 +17,12 @@ use Rattle.cn_log.specs.declared.event.StepAnswer.{StepAnswer}
 use Rattle.cn_log.specs.declared.progress.Phase.{Phase}
 use Rattle.cn_log.specs.declared.progress.Phase.TheVariants.{Idle, Looks, Runs}
 use Rattle.cn_log.specs.Callers.{call_of, process_of}
-use Rattle.cn_log.specs.Log.{World, Caller, proposed, state_of, answer, IsEventList}
+use Rattle.cn_log.specs.Log.{World, Caller, entries_of_batches, first_look, gathered, state_of, answer, IsEventList}
 use Rattle.cn_log.specs.Opening.{Opening, setting_of}
 
 -- what happens in a log
 abbrev pub LogWorld : Type 0
-LogWorld = World (RoundWorld Entry)
+LogWorld = World (RoundWorld Batch)
 
 -- what is shared in a log: the announcement of each process, and in the round of each slot what is shared at each of its nodes
 pub data LogPart : Type 0 where
@@ -31,7 +32,7 @@ pub data LogPart : Type 0 where
 -- what stands there: the call that is announced, or what stands at the node
 pub data LogContent : Type 0 where
   Announced : Option Entry → LogContent
-  AtNode : Content Entry → LogContent
+  AtNode : Content Batch → LogContent
 
 -- the local state of process p is the same: what it knows of the log, and where it stands in each round
 pub record IsSameLocally (p : ℕ) (w u : LogWorld) : Type 0 where
@@ -44,15 +45,15 @@ module _ (o : Opening) where
   log_content w (InRound k v part) = AtNode (content (node_at (protocol_of o.plan) (w.round k) v) part)
 
   -- what process p touches in the round of slot k, by its local state there: what its next action touches
-  abbrev pub touched_in : ℕ → ℕ → Local Entry → Option LogPart
+  abbrev pub touched_in : ℕ → ℕ → Local Batch → Option LogPart
   touched_in p k NotBegun = None
   touched_in p k (Active i x stage) = Some (InRound k (place_of (protocol_of o.plan) p i).node (touched (protocol_of o.plan) (place_of (protocol_of o.plan) p i) stage))
   touched_in p k (Decided y) = None
 
-  -- what a step touches: a look the announcement of the process whose turn it is to be helped in the slot, and else what the next action in the round of the slot touches
+  -- what a step touches: a look the announcement that it reads, and else what the next action in the round of the slot touches
   abbrev pub touched_by_step : LogWorld → ℕ → Caller → Phase → Option LogPart
   touched_by_step w p here Idle = None
-  touched_by_step w p here (Looks mine) = Some (Announcement (length here.seen % processes_of o.plan))
+  touched_by_step w p here (Looks mine q batch) = Some (Announcement q)
   touched_by_step w p here (Runs mine) = touched_in p (length here.seen) (local_at (w.round (length here.seen)) p)
 
   -- what an event touches; a call the announcement of its own process
@@ -64,19 +65,25 @@ module _ (o : Opening) where
   pub record Announces (w : LogWorld) (p operation : ℕ) (w' : LogWorld) : Type 0 where
     pub written : w'.announced p ≡ Some (call_of p operation (w.caller p).calls)
     pub rounds : (k : ℕ) → w'.round k ≡ w.round k
-    pub caller : w'.caller p ≡ record { seen = (w.caller p).seen; calls = (w.caller p).calls + 1; phase = Looks (call_of p operation (w.caller p).calls) }
+    pub caller : w'.caller p ≡ record { seen = (w.caller p).seen; calls = (w.caller p).calls + 1; phase = first_look (call_of p operation (w.caller p).calls) }
 
-  -- process p, with this call pending, looks: nothing that is shared changes; it begins in the round of its slot with the call that it finds or with its own, which is no step of the round, and runs there from now on
-  pub record LooksOnce (w : LogWorld) (p : ℕ) (here : Caller) (mine : Entry) (w' : LogWorld) : Type 0 where
+  -- after a look, by whether it was the last: process p looks on with what it has gathered, and no round changes; or it begins with that in the round of its slot, which is no step of the round, and runs there from now on
+  abbrev pub LooksOn : LogWorld → ℕ → Caller → Entry → ℕ → Batch → Bool → LogWorld → Type 0
+  LooksOn w p here mine q batch false w' = (w'.round (length here.seen) ≡ w.round (length here.seen))
+      × (w'.caller p ≡ record here { phase = Looks mine (q + 1) batch })
+  LooksOn w p here mine q batch true w' = (w'.round (length here.seen) ≡ begun p batch (w.round (length here.seen)))
+      × (w'.caller p ≡ record here { phase = Runs mine })
+
+  -- process p, with this call pending, looks at the announcement of process q: nothing that is shared changes
+  pub record LooksOnce (w : LogWorld) (p : ℕ) (here : Caller) (mine : Entry) (q : ℕ) (batch : Batch) (w' : LogWorld) : Type 0 where
     pub shared : (part : LogPart) → log_content w' part ≡ log_content w part
-    pub begins : w'.round (length here.seen) ≡ begun p (proposed (w.announced (length here.seen % processes_of o.plan)) here.seen mine) (w.round (length here.seen))
     pub other_rounds : (k : ℕ) → k ≢ length here.seen → w'.round k ≡ w.round k
-    pub caller : w'.caller p ≡ record here { phase = Runs mine }
+    pub goes_on : LooksOn w p here mine q (gathered (w.announced q) (entries_of_batches (setting_of o) here.seen) q batch) (q + 1 == processes_of o.plan) w'
 
   -- process p runs in the round of its slot: it does one action there, and what it knows of the log changes only where it decides by that
   pub record ActsInRound (w : LogWorld) (p : ℕ) (here : Caller) (w' : LogWorld) : Type 0 where
     pub place : ℕ
-    pub value : Entry
+    pub value : Batch
     pub stage : Stage
     pub is : local_at (w.round (length here.seen)) p ≡ Active place value stage
     pub action : ActsOnce (protocol_of o.plan) p place value stage (w.round (length here.seen)) (w'.round (length here.seen))
@@ -85,7 +92,7 @@ module _ (o : Opening) where
 
   abbrev pub Steps : LogWorld → ℕ → Caller → Phase → LogWorld → Type 0
   Steps w p here Idle w' = ⊥
-  Steps w p here (Looks mine) w' = LooksOnce w p here mine w'
+  Steps w p here (Looks mine q batch) w' = LooksOnce w p here mine q batch w'
   Steps w p here (Runs mine) w' = ActsInRound w p here w'
 
   -- what an event does
@@ -115,7 +122,8 @@ module _ (o : Opening) where
     pub happens : Happens (after events) e (after (events ++ e ∷ []))
     -- it can come in every log that looks alike to its process, and there it leads the process to the same local state, leaves the same in what it touches and answers the same
     pub comes : (others : List Event) → IsEventList (setting_of o) others → LogsLookAlike events others e → IsEventList (setting_of o) (others ++ e ∷ [])
-    pub local : (others : List Event) → IsEventList (setting_of o) others → LogsLookAlike events others e → IsSameLocally (process_of e) (after (events ++ e ∷ [])) (after (others ++ e ∷ []))
+    pub local : (others : List Event) → IsEventList (setting_of o) others → LogsLookAlike events others e
+        → IsSameLocally (process_of e) (after (events ++ e ∷ [])) (after (others ++ e ∷ []))
     pub shared : (others : List Event) → IsEventList (setting_of o) others → LogsLookAlike events others e
         → (part : LogPart) → touched_by (after events) e ≡ Some part → log_content (after (events ++ e ∷ [])) part ≡ log_content (after (others ++ e ∷ [])) part
     pub answers : (others : List Event) → IsEventList (setting_of o) others → LogsLookAlike events others e → answer_to events e ≡ answer_to others e

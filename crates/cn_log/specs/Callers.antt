@@ -3,14 +3,16 @@ use Rattle.std.specs.Prelude.{ℕ, ◌≡◌, ◌≢◌, ◌⊎◌, ◌+◌, ◌
 use Rattle.std.specs.List.{filter}
 use Rattle.cn_table.specs.TypeTable.{TypeTable}
 use Rattle.cn_log.specs.declared.entry.Entry.{Entry}
+use Rattle.cn_log.specs.declared.batch.Batch.{Batch}
 use Rattle.cn_log.specs.declared.event.Event.{Event}
 use Rattle.cn_log.specs.declared.event.Event.TheVariants.{Invoke, Step}
 use Rattle.cn_log.specs.declared.event.StepAnswer.{StepAnswer}
 use Rattle.cn_log.specs.declared.event.StepAnswer.TheVariants.{Working, Answered, Full}
 use Rattle.cn_log.specs.declared.progress.Phase.{Phase}
 use Rattle.cn_log.specs.declared.progress.Phase.TheVariants.{Idle, Looks, Runs}
+use Rattle.cn_log.specs.Batches.{Has, entry_at, members}
 use Rattle.cn_log.specs.Linearized.{calls_of}
-use Rattle.cn_log.specs.Log.{Setting, Caller, state_of, response_after}
+use Rattle.cn_log.specs.Log.{Setting, Caller, state_of, response_in, entries_of_batches}
 
 -- the list begins with that one
 abbrev pub BeginsWith : {A : Type 0} → List A → List A → Type 0
@@ -39,7 +41,7 @@ HasResponse t Full = Unit {0}
 -- the call that is pending in a phase
 abbrev pub pending_in : Phase → Option Entry
 pending_in Idle = None
-pending_in (Looks mine) = Some mine
+pending_in (Looks mine q batch) = Some mine
 pending_in (Runs mine) = Some mine
 
 -- call number k of process p, of this operation
@@ -60,35 +62,49 @@ calls_by p events = calls_from p 0 events
 abbrev pub entries_by : ℕ → List Entry → List Entry
 entries_by p entries = filter (λ (e : Entry). e.process == p) entries
 
--- the process sees one entry more, of another process
-abbrev pub SeesOther : ℕ → Caller → Caller → Type 0
-SeesOther p before after = (x : Entry) × (after.seen ≡ before.seen ++ x ∷ []) × (x.process ≢ p)
-
--- a step of process p after which its call goes on
-pub record CallGoesOn (p : ℕ) (before : Caller) (mine : Entry) (after : Caller) : Type 0 where
-  pub pending : pending_in after.phase ≡ Some mine
-  pub calls : after.calls ≡ before.calls
-  pub seen : (after.seen ≡ before.seen) ⊎ SeesOther p before after
+-- the entry is in none of the batches
+abbrev pub IsUnseen : List Batch → Entry → Type 0
+IsUnseen batches e = (k : ℕ) (b : Batch) → slice_get batches k ≡ Some b → Has b e → ⊥
 
 module _ {R : Type 0} (L : Setting R) where
+  -- the process sees one batch more, with no entry of its own
+  pub record SeesOther (p : ℕ) (before after : Caller) : Type 0 where
+    pub batch : Batch
+    pub seen : after.seen ≡ before.seen ++ batch ∷ []
+    pub none : entry_at batch p ≡ None
+    pub own : entries_by p (members L.processes 0 batch) ≡ []
+
+  -- a step of process p after which its call goes on
+  pub record CallGoesOn (p : ℕ) (before : Caller) (mine : Entry) (after : Caller) : Type 0 where
+    pub pending : pending_in after.phase ≡ Some mine
+    pub calls : after.calls ≡ before.calls
+    pub seen : (after.seen ≡ before.seen) ⊎ SeesOther p before after
+
   -- what process p knows after these events
   abbrev pub caller_of : List Event → ℕ → Caller
   caller_of events p = (state_of L events).caller p
+
+  -- the entries that process p has replayed, in log order
+  abbrev pub seen_of : List Event → ℕ → List Entry
+  seen_of events p = entries_of_batches L (caller_of events p).seen
 
   -- the pending call of process p: the last that it has made. The process has replayed neither this call nor every slot
   pub record IsPendingCall (events : List Event) (p : ℕ) (mine : Entry) : Type 0 where
     pub process : mine.process ≡ p
     pub last : mine.call + 1 ≡ calls_of p events
-    pub unseen : (k : ℕ) → slice_get (caller_of events p).seen k ≢ Some mine
+    pub unseen : IsUnseen (caller_of events p).seen mine
     pub room : length (caller_of events p).seen < L.capacity
 
-  -- a step that answers the pending call: the process replays it, in the next slot, with the response of one sequential run there
-  pub record EndsAnswered (before : Caller) (mine : Entry) (after : Caller) (k given : ℕ) : Type 0 where
+  -- a step that answers the pending call: the process replays it in the batch of the next slot, with the response of one sequential run at its place there
+  pub record EndsAnswered (p : ℕ) (before : Caller) (mine : Entry) (after : Caller) (k given : ℕ) : Type 0 where
     pub idle : after.phase ≡ Idle
     pub calls : after.calls ≡ before.calls
-    pub seen : after.seen ≡ before.seen ++ mine ∷ []
+    pub batch : Batch
+    pub seen : after.seen ≡ before.seen ++ batch ∷ []
+    pub there : entry_at batch p ≡ Some mine
+    pub own : entries_by p (members L.processes 0 batch) ≡ mine ∷ []
     pub slot : k ≡ length before.seen
-    pub response : given ≡ response_after L before.seen mine.operation.0
+    pub response : given ≡ response_in L before.seen batch mine
 
   -- a step of process p that ends the pending call with no answer: the process has replayed every slot, and the call stands in none
   pub record EndsFull (p : ℕ) (before : Caller) (mine : Entry) (after : Caller) : Type 0 where
@@ -96,26 +112,27 @@ module _ {R : Type 0} (L : Setting R) where
     pub calls : after.calls ≡ before.calls
     pub seen : SeesOther p before after
     pub all : length after.seen ≡ L.capacity
-    pub unseen : (k : ℕ) → slice_get after.seen k ≢ Some mine
+    pub unseen : IsUnseen after.seen mine
 
   -- what a step of process p, with this call pending, makes of what it knew, by its answer
   abbrev pub IsStepped : ℕ → Caller → Entry → Caller → StepAnswer → Type 0
   IsStepped p before mine after Working = CallGoesOn p before mine after
-  IsStepped p before mine after (Answered slot response) = EndsAnswered before mine after slot response.0
+  IsStepped p before mine after (Answered slot response) = EndsAnswered p before mine after slot response.0
   IsStepped p before mine after Full = EndsFull p before mine after
 
   -- the calls that a process has no answer to: in a call, that one; else none, but perhaps one where it has replayed every slot and that stands in none
   abbrev pub IsUnanswered : Caller → Phase → List Entry → Type 0
-  IsUnanswered here Idle calls = (calls ≡ []) ⊎ ((length here.seen ≡ L.capacity) × (e : Entry) × (calls ≡ e ∷ []) × ((k : ℕ) → slice_get here.seen k ≢ Some e))
-  IsUnanswered here (Looks mine) calls = calls ≡ mine ∷ []
+  IsUnanswered here Idle calls = (calls ≡ []) ⊎ ((length here.seen ≡ L.capacity) × (e : Entry) × (calls ≡ e ∷ []) × IsUnseen here.seen e)
+  IsUnanswered here (Looks mine q batch) calls = calls ≡ mine ∷ []
   IsUnanswered here (Runs mine) calls = calls ≡ mine ∷ []
 
   -- the calls of process p are the entries of its own that it has replayed, and then what it has no answer to
   abbrev pub HasReplayedItsOwn : List Event → ℕ → Type 0
-  HasReplayedItsOwn events p = (rest : List Entry) × (calls_by p events ≡ entries_by p (caller_of events p).seen ++ rest) × IsUnanswered (caller_of events p) (caller_of events p).phase rest
+  HasReplayedItsOwn events p = (rest : List Entry) × (calls_by p events ≡ entries_by p (seen_of events p) ++ rest)
+      × IsUnanswered (caller_of events p) (caller_of events p).phase rest
 
   -- the same after a step of process p with this call pending, by its answer
   abbrev pub HasReplayedBy : List Event → ℕ → Entry → StepAnswer → Type 0
-  HasReplayedBy events p mine Working = calls_by p events ≡ entries_by p (caller_of events p).seen ++ mine ∷ []
-  HasReplayedBy events p mine (Answered slot response) = calls_by p events ≡ entries_by p (caller_of events p).seen
-  HasReplayedBy events p mine Full = calls_by p events ≡ entries_by p (caller_of events p).seen ++ mine ∷ []
+  HasReplayedBy events p mine Working = calls_by p events ≡ entries_by p (seen_of events p) ++ mine ∷ []
+  HasReplayedBy events p mine (Answered slot response) = calls_by p events ≡ entries_by p (seen_of events p)
+  HasReplayedBy events p mine Full = calls_by p events ≡ entries_by p (seen_of events p) ++ mine ∷ []

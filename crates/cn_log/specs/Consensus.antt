@@ -1,25 +1,27 @@
 -- What a log sees of the round of consensus in each of its slots.
 use Rattle.std.specs.Prelude.{ℕ, Option}
 use Rattle.cn_proto.specs.Protocol.{Protocol}
-use Rattle.cn_agree.specs.World.{World as RoundWorld, input_at}
+use Rattle.cn_agree.specs.World.{World as RoundWorld, input_at, local_at}
 use Rattle.cn_agree.specs.Steps.{begun, after_step}
-use Rattle.cn_agree.specs.Rounds.{decision_at, fixed_value}
-use Rattle.cn_log.specs.declared.entry.Entry.{Entry}
+use Rattle.cn_agree.specs.Rounds.{decision_at, fixed_value, steps_taken}
+use Rattle.cn_log.specs.declared.batch.Batch.{Batch}
 
--- consensus on an entry: a process begins with an entry, or takes a step; what it began with, what it has decided, and what the round has fixed
+-- consensus on a batch: a process begins with a batch, or takes a step; what it began with, what it has decided, what the round has fixed, and how many steps it has taken
 pub record Consensus (R : Type 0) : Type 0 where
-  pub begin : ℕ → Entry → R → R
+  pub begin : ℕ → Batch → R → R
   pub step : ℕ → R → R
-  pub input : R → ℕ → Option Entry
-  pub decided : R → ℕ → Option Entry
-  pub fixed : R → Option Entry
+  pub input : R → ℕ → Option Batch
+  pub decided : R → ℕ → Option Batch
+  pub fixed : R → Option Batch
+  pub taken : R → ℕ → ℕ
 
 -- the rounds of a protocol are such
-abbrev pub consensus_by : Protocol → Consensus (RoundWorld Entry)
+abbrev pub consensus_by : Protocol → Consensus (RoundWorld Batch)
 consensus_by P = record {
   begin = λ p x w. begun p x w;
   step = λ p w. after_step P p w;
   input = λ w p. input_at w p;
   decided = λ w p. decision_at w p;
   fixed = λ w. fixed_value w;
+  taken = λ w p. steps_taken P p (local_at w p);
 }

@@ -12,13 +12,13 @@ use Rattle.cn_log.specs.Log.{Setting, World, Caller, state_of, IsEventList}
 -- the fault of a call by a process that exists with an operation that exists: it is in a call already, or at the end of the log
 abbrev pub invoke_fault : ℕ → ℕ → Caller → Phase → Option ReplayFault
 invoke_fault capacity i here IsIdle = if nat_lt (length here.seen) capacity then None else Some (AtEnd i)
-invoke_fault capacity i here (Looks e) = Some (NotIdle i)
+invoke_fault capacity i here (Looks e q batch) = Some (NotIdle i)
 invoke_fault capacity i here (Runs e) = Some (NotIdle i)
 
 -- the fault of a step of a process that exists: it is in no call
 abbrev pub step_fault : ℕ → Phase → Option ReplayFault
 step_fault i IsIdle = Some (Idle i)
-step_fault i (Looks e) = None
+step_fault i (Looks e q batch) = None
 step_fault i (Runs e) = None
 
 -- why this event cannot come as event i, if it cannot: of two reasons, the one with the least number

@@ -1,41 +1,65 @@
 -- What a core keeps in its fields: the state after its schedule.
-use Rattle.std.specs.Prelude.{ℕ, ◌≡◌, ◌<◌, ◌+◌, ◌==◌, List, [], ◌∷◌, ◌++◌, length, slice_index_or, if◌then◌else◌, Option, Some, None}
+use Rattle.std.specs.Prelude.{ℕ, ◌≡◌, ◌<◌, ◌+◌, ◌*◌, ◌≤◌, ◌==◌, nat_lt, List, [], ◌∷◌, length, replicate, slice_index_or, if◌then◌else◌, Option, Some, None}
 use Rattle.cn_table.specs.TypeTable.{transition}
+use Rattle.cn_table.specs.Run.{state_after}
+use Rattle.cn_log.specs.declared.batch.Batch.{Batch}
+use Rattle.cn_log.specs.declared.call_counts.CallCounts.{CallCounts}
 use Rattle.cn_log.specs.declared.entry.Entry.{Entry}
+use Rattle.cn_log.specs.Batches.{has, members, slots_from, with_entry}
+use Rattle.cn_log.specs.Callers.{entries_by}
 use Rattle.cn_log.specs.declared.event.Event.{Event}
 use Rattle.cn_log.specs.declared.event.StepAnswer.{StepAnswer}
 use Rattle.cn_log.specs.declared.event.StepAnswer.TheVariants.{Working, Answered, Full}
 use Rattle.cn_log.specs.declared.progress.Phase.{Phase}
 use Rattle.cn_log.specs.declared.progress.Phase.TheVariants.{Idle}
+use Rattle.cn_log.specs.declared.log_state.LogState.{LogState}
 use Rattle.cn_log.specs.declared.progress.Progress.{Progress}
-use Rattle.cn_log.specs.Log.{Setting, World, Caller, same_entry, object_after, entries_of, state_of, IsEventList}
+use Rattle.cn_log.specs.Opening.{Opening, setting_of}
+use Rattle.cn_proto.specs.Plan.{processes_of}
+use Rattle.std.specs.Vec.{vec_capacity}
+use Rattle.cn_log.specs.Log.{Setting, World, Caller, object_after, operations_of, batches_of, entries_of, entries_of_batches, state_of, IsEventList}
+
+abbrev pub no_calls : CallCounts
+no_calls = record { calls = replicate 8 0 }
+
+-- how many calls of process p
+abbrev pub count_at : CallCounts → ℕ → ℕ
+count_at counts p = slice_index_or counts.calls p 0
 
 abbrev pub no_progress : Progress
-no_progress = record { replayed = 0; calls = 0; phase = Idle; state = record { 0 = 0 } }
+no_progress = record { replayed = 0; seen = 0; calls_seen = no_calls; calls = 0; phase = Idle; state = record { 0 = 0 } }
 
--- the entries, and behind them that of slot k where it is the next one and fixed
-abbrev pub entered : List Entry → ℕ → Option Entry → List Entry
-entered entries k None = entries
-entered entries k (Some e) = if length entries == k then entries ++ e ∷ [] else entries
+-- what a process has gathered that has read the announcement of process q, where so many calls of process q stand in the slots that it has replayed
+abbrev pub gathered_by : Option Entry → ℕ → ℕ → Batch → Batch
+gathered_by None calls q batch = batch
+gathered_by (Some other) calls q batch = if nat_lt other.call calls then batch else with_entry batch q other
+
+-- what comes behind so many batches that are fixed: that of slot k, where it is the next one and fixed
+abbrev pub next_batch : ℕ → ℕ → Option Batch → List Batch
+next_batch many k None = []
+next_batch many k (Some b) = if many == k then b ∷ [] else []
 
 module _ {R : Type 0} (L : Setting R) where
-  -- what a process answers with this call pending that replays x in slot k, where its copy of the object is in this state
-  abbrev pub reply : ℕ → ℕ → Entry → Entry → StepAnswer
+  -- what a process answers with this call pending that replays batch x in slot k, where its copy of the object is in this state
+  abbrev pub reply : ℕ → ℕ → Entry → Batch → StepAnswer
   reply k state mine x =
-      if same_entry x mine
-      then Answered k (record { 0 = (transition L.object x.operation.0 state).0 })
+      if has x mine
+      then Answered k (record { 0 = (transition L.object mine.operation.0 (state_after L.object state (operations_of (members mine.process 0 x)))).0 })
       else (if k + 1 == L.capacity then Full else Working)
 
-  -- of what a caller has seen only the length is kept, and the state of its copy of the object
+  -- of what a caller has seen only the numbers of slots, of entries and of each process's calls are kept, and the state of its copy of the object
   pub record IsProgressOf (progress : Progress) (caller : Caller) : Type 0 where
     pub replayed : progress.replayed ≡ length caller.seen
+    pub seen : progress.seen ≡ length (entries_of_batches L caller.seen)
+    pub calls_places : length progress.calls_seen.calls ≡ 8
+    pub calls_seen : (q : ℕ) → q < L.processes → count_at progress.calls_seen q ≡ length (entries_by q (entries_of_batches L caller.seen))
     pub calls : progress.calls ≡ caller.calls
     pub phase : progress.phase ≡ caller.phase
-    pub state : progress.state.0 ≡ object_after L caller.seen
+    pub state : progress.state.0 ≡ object_after L (entries_of_batches L caller.seen)
     pub known : progress.state.0 < length L.object.states
 
   -- the fields are this state
-  pub record Fits (w : World R) (rounds : List R) (announced : List (Option Entry)) (progress : List Progress) (entries : List Entry) : Type 0 where
+  pub record Fits (w : World R) (rounds : List R) (announced : List (Option Entry)) (progress : List Progress) (entries : List Entry) (slots : List ℕ) (fixed : ℕ) : Type 0 where
     pub rounds_many : length rounds ≡ L.capacity
     pub round : (k : ℕ) → k < L.capacity → slice_index_or rounds k L.untouched ≡ w.round k
     pub announced_many : length announced ≡ L.processes
@@ -43,14 +67,34 @@ module _ {R : Type 0} (L : Setting R) where
     pub progress_many : length progress ≡ L.processes
     pub caller : (p : ℕ) → p < L.processes → IsProgressOf (slice_index_or progress p no_progress) (w.caller p)
     pub entries_are : entries ≡ entries_of L w
+    pub slots_are : slots ≡ slots_from L.processes 0 (batches_of L w)
+    pub fixed_is : fixed ≡ length (batches_of L w)
 
   -- the fields are the state after the schedule
-  pub record Keeps (schedule : List Event) (rounds : List R) (announced : List (Option Entry)) (progress : List Progress) (entries : List Entry) : Type 0 where
+  pub record Keeps (schedule : List Event) (rounds : List R) (announced : List (Option Entry)) (progress : List Progress) (entries : List Entry) (slots : List ℕ) (fixed : ℕ) : Type 0 where
     pub events : IsEventList L schedule
-    pub fits : Fits (state_of L schedule) rounds announced progress entries
+    pub fits : Fits (state_of L schedule) rounds announced progress entries slots fixed
 
   -- and process p is in this phase
-  pub record IsAt (schedule : List Event) (rounds : List R) (announced : List (Option Entry)) (progress : List Progress) (entries : List Entry) (p : ℕ) (phase : Phase) : Type 0 where
-    pub keeps : Keeps schedule rounds announced progress entries
+  pub record IsAt (schedule : List Event) (rounds : List R) (announced : List (Option Entry)) (progress : List Progress) (entries : List Entry) (slots : List ℕ) (fixed : ℕ) (p : ℕ) (phase : Phase) : Type 0 where
+    pub keeps : Keeps schedule rounds announced progress entries slots fixed
     pub process : p < L.processes
     pub phase_is : ((state_of L schedule).caller p).phase ≡ phase
+
+-- the state of a core is that after the schedule
+abbrev pub IsStateAfter : Opening → List Event → LogState → Type 0
+IsStateAfter o schedule state = Keeps (setting_of o) schedule state.rounds.items state.announced.items state.progress.items state.entries.items state.slots.items state.fixed
+
+-- and process p is in this phase
+abbrev pub IsStateAt : Opening → List Event → LogState → ℕ → Phase → Type 0
+IsStateAt o schedule state p phase = IsAt (setting_of o) schedule state.rounds.items state.announced.items state.progress.items state.entries.items state.slots.items state.fixed p phase
+
+-- the state has room for an entry of each process in each slot
+pub record HasRoom (o : Opening) (state : LogState) : Type 0 where
+  pub entries : processes_of o.plan * o.capacity ≤ vec_capacity state.entries
+  pub slots : processes_of o.plan * o.capacity ≤ vec_capacity state.slots
+
+-- and as much as before
+pub record HasSameRoom (old new : LogState) : Type 0 where
+  pub entries : vec_capacity new.entries ≡ vec_capacity old.entries
+  pub slots : vec_capacity new.slots ≡ vec_capacity old.slots

@@ -1,5 +1,6 @@
 pub mod Agreement
 pub mod AtomicEvent
+pub mod Batches
 pub mod Bypass
 pub mod Callers
 pub mod Consensus
@@ -9,3 +10,4 @@ pub mod Fields
 pub mod Linearized
 pub mod Log
 pub mod Opening
+pub mod OwnSteps

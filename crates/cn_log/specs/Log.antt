@@ -1,9 +1,11 @@
--- The universal log, event by event: processes agree slot by slot on the next call of an object, and each replays the calls on its own copy.
-use Rattle.std.specs.Prelude.{ℕ, zero, suc, ◌≡◌, ◌≢◌, ◌+◌, ◌%◌, ◌<◌, ◌==◌, ◌&&◌, Bool, List, [], ◌∷◌, ◌++◌, length, map, if◌then◌else◌, Option, Some, None}
+-- The universal log, event by event: processes agree slot by slot on the next calls of an object, and each replays the calls on its own copy.
+use Rattle.std.specs.Prelude.{ℕ, zero, suc, ◌≡◌, ◌≢◌, ◌+◌, ◌<◌, ◌==◌, Bool, true, false, List, [], ◌∷◌, ◌++◌, length, map, if◌then◌else◌, Option, Some, None}
 use Rattle.std.specs.List.{list_any}
 use Rattle.cn_table.specs.TypeTable.{TypeTable, transition}
 use Rattle.cn_table.specs.Run.{state_after}
+use Rattle.cn_log.specs.Batches.{same_entry, no_entries, with_entry, has, members, entries_in}
 use Rattle.cn_log.specs.Consensus.{Consensus}
+use Rattle.cn_log.specs.declared.batch.Batch.{Batch}
 use Rattle.cn_log.specs.declared.entry.Entry.{Entry}
 use Rattle.cn_log.specs.declared.event.Event.{Event}
 use Rattle.cn_log.specs.declared.event.Event.TheVariants.{Invoke, Step}
@@ -21,9 +23,9 @@ pub record Setting (R : Type 0) : Type 0 where
   pub object : TypeTable
   pub start : ℕ
 
--- what a process knows: the entries that it has replayed, how many calls it has made, and what it does next
+-- what a process knows: the batch of each slot that it has replayed, how many calls it has made, and what it does next
 pub record Caller : Type 0 where
-  pub seen : List Entry
+  pub seen : List Batch
   pub calls : ℕ
   pub phase : Phase
 
@@ -44,9 +46,6 @@ pub record World (R : Type 0) : Type 0 where
 abbrev pub put : {A : Type 0} → (ℕ → A) → ℕ → A → ℕ → A
 put f i x j = if j == i then x else f j
 
-abbrev pub same_entry : Entry → Entry → Bool
-same_entry e f = (e.process == f.process) && ((e.operation.0 == f.operation.0) && (e.call == f.call))
-
 -- the entry is listed
 abbrev pub has_entry : List Entry → Entry → Bool
 has_entry entries e = list_any (λ f. same_entry f e) entries
@@ -55,15 +54,19 @@ has_entry entries e = list_any (λ f. same_entry f e) entries
 abbrev pub operations_of : List Entry → List ℕ
 operations_of entries = map (λ e. e.operation.0) entries
 
--- what a process proposes for its slot: the call that it finds announced, unless that stands in the slots that it has replayed or nothing is announced, and else its own
-abbrev pub proposed : Option Entry → List Entry → Entry → Entry
-proposed None seen mine = mine
-proposed (Some other) seen mine = if has_entry seen other then mine else other
+-- what a process has gathered that has read the announcement of process q: also the call that it finds there, unless that stands in the slots that it has replayed
+abbrev pub gathered : Option Entry → List Entry → ℕ → Batch → Batch
+gathered None seen q batch = batch
+gathered (Some other) seen q batch = if has_entry seen other then batch else with_entry batch q other
 
--- the entry of a fixed slot and those behind it, or none from an open slot on
-abbrev pub up_to_open : Option Entry → List Entry → List Entry
+-- with this call pending, a process goes on to its next slot, where it looks at the announcements in order
+abbrev pub first_look : Entry → Phase
+first_look mine = Looks mine 0 no_entries
+
+-- the batch of a fixed slot and those behind it, or none from an open slot on
+abbrev pub up_to_open : Option Batch → List Batch → List Batch
 up_to_open None rest = []
-up_to_open (Some e) rest = e ∷ rest
+up_to_open (Some b) rest = b ∷ rest
 
 module _ {R : Type 0} (L : Setting R) where
   -- the object after the entries: one sequential run of their operations
@@ -74,14 +77,26 @@ module _ {R : Type 0} (L : Setting R) where
   abbrev pub response_after : List Entry → ℕ → ℕ
   response_after entries operation = (transition L.object operation (object_after entries)).0
 
-  -- of so many slots from slot k on, the entries of those before the first that is not fixed
-  abbrev pub fixed_from : ℕ → ℕ → (ℕ → R) → List Entry
+  -- the entries of the batches, by batch, then by process
+  abbrev pub entries_of_batches : List Batch → List Entry
+  entries_of_batches batches = entries_in L.processes batches
+
+  -- the response of the object to a call in this batch, behind these batches: that after the entries of the batches, and those of the processes before in its own batch
+  abbrev pub response_in : List Batch → Batch → Entry → ℕ
+  response_in batches batch e = response_after (entries_of_batches batches ++ members e.process 0 batch) e.operation.0
+
+  -- of so many slots from slot k on, the batches of those before the first that is not fixed
+  abbrev pub fixed_from : ℕ → ℕ → (ℕ → R) → List Batch
   fixed_from zero k round = []
   fixed_from (suc slots) k round = up_to_open (L.consensus.fixed (round k)) (fixed_from slots (suc k) round)
 
+  -- the batches of the fixed slots, in order
+  abbrev pub batches_of : World R → List Batch
+  batches_of w = fixed_from L.capacity 0 w.round
+
   -- the entries of the fixed slots, in order
   abbrev pub entries_of : World R → List Entry
-  entries_of w = fixed_from L.capacity 0 w.round
+  entries_of w = entries_of_batches (batches_of w)
 
   -- process p makes its next call: it writes it to its announcement register
   abbrev pub after_invoke : World R → ℕ → ℕ → Caller → World R
@@ -89,31 +104,36 @@ module _ {R : Type 0} (L : Setting R) where
       let e : Entry = record { process = p; operation = record { 0 = operation }; call = here.calls } in
       record w {
         announced = put w.announced p (Some e);
-        caller = put w.caller p (record { seen = here.seen; calls = here.calls + 1; phase = Looks e });
-        history = Called e (length (entries_of w)) ∷ w.history;
+        caller = put w.caller p (record { seen = here.seen; calls = here.calls + 1; phase = first_look e });
+        history = Called e (length (batches_of w)) ∷ w.history;
       }
 
-  -- process p, with this call pending, reads the announcement of the process whose turn it is to be helped in this slot, and begins in the round of the slot
-  abbrev pub after_look : World R → ℕ → Caller → Entry → World R
-  after_look w p here mine =
+  -- process p, with this call pending, has read the announcement of process q and gathered this batch; after the last it begins with the batch in the round of its slot
+  abbrev pub after_gathering : World R → ℕ → Caller → Entry → ℕ → Batch → Bool → World R
+  after_gathering w p here mine q batch false = record w { caller = put w.caller p (record here { phase = Looks mine (q + 1) batch }) }
+  after_gathering w p here mine q batch true =
       let k : ℕ = length here.seen in
       record w {
-        round = put w.round k (L.consensus.begin p (proposed (w.announced (k % L.processes)) here.seen mine) (w.round k));
+        round = put w.round k (L.consensus.begin p batch (w.round k));
         caller = put w.caller p (record here { phase = Runs mine });
       }
 
-  -- what a process does next that has decided x in slot k: its call is over where it is x, and where there is no slot more; else it looks at the next slot
-  abbrev pub phase_after : ℕ → Entry → Entry → Phase
-  phase_after k mine x = if same_entry x mine then Idle else (if k + 1 == L.capacity then Idle else Looks mine)
+  -- process p, with this call pending, reads the announcement of process q
+  abbrev pub after_look : World R → ℕ → Caller → Entry → ℕ → Batch → World R
+  after_look w p here mine q batch = after_gathering w p here mine q (gathered (w.announced q) (entries_of_batches here.seen) q batch) (q + 1 == L.processes)
 
-  abbrev pub record_after : List Entry → Entry → Entry → List Note → List Note
+  -- what a process does next that has decided x in slot k: its call is over where it is in x, and where there is no slot more; else it looks for the next slot
+  abbrev pub phase_after : ℕ → Entry → Batch → Phase
+  phase_after k mine x = if has x mine then Idle else (if k + 1 == L.capacity then Idle else first_look mine)
+
+  abbrev pub record_after : List Batch → Entry → Batch → List Note → List Note
   record_after seen mine x notes =
-      if same_entry x mine
-      then Replied mine (length seen) (response_after seen mine.operation.0) ∷ notes
+      if has x mine
+      then Replied mine (length seen) (response_in seen x mine) ∷ notes
       else (if length seen + 1 == L.capacity then Refused mine ∷ notes else notes)
 
-  -- after a step in its round, process p replays the entry that it has decided there, if it has
-  abbrev pub after_decision : World R → ℕ → Caller → Entry → Option Entry → World R
+  -- after a step in its round, process p replays the batch that it has decided there, if it has
+  abbrev pub after_decision : World R → ℕ → Caller → Entry → Option Batch → World R
   after_decision w p here mine None = w
   after_decision w p here mine (Some x) =
       record w {
@@ -130,7 +150,7 @@ module _ {R : Type 0} (L : Setting R) where
 
   abbrev pub after_step : World R → ℕ → Caller → Phase → World R
   after_step w p here Idle = w
-  after_step w p here (Looks mine) = after_look w p here mine
+  after_step w p here (Looks mine q batch) = after_look w p here mine q batch
   after_step w p here (Runs mine) = after_run w p here mine
 
   -- one event
@@ -181,21 +201,25 @@ module _ {R : Type 0} (L : Setting R) where
   abbrev pub IsEventList : List Event → Type 0
   IsEventList events = MayAllCome events first_world
 
+  -- the batches of the fixed slots after these events, in order
+  abbrev pub batches : List Event → List Batch
+  batches events = batches_of (state_of events)
+
   -- the entries of the fixed slots after these events, in order
   abbrev pub entries : List Event → List Entry
   entries events = entries_of (state_of events)
 
-  -- what a process that has replayed these entries answers, with this call pending, once it has decided: the call is answered with its slot and its response where it is what was decided
-  abbrev pub answer_with : List Entry → Entry → Option Entry → StepAnswer
+  -- what a process that has replayed these batches answers, with this call pending, once it has decided: the call is answered with its slot and its response where it is in what was decided
+  abbrev pub answer_with : List Batch → Entry → Option Batch → StepAnswer
   answer_with seen mine None = Working
   answer_with seen mine (Some x) =
-      if same_entry x mine
-      then Answered (length seen) (record { 0 = response_after seen mine.operation.0 })
+      if has x mine
+      then Answered (length seen) (record { 0 = response_in seen x mine })
       else (if length seen + 1 == L.capacity then Full else Working)
 
   abbrev pub answer_from : World R → ℕ → Caller → Phase → StepAnswer
   answer_from w p here Idle = Working
-  answer_from w p here (Looks mine) = Working
+  answer_from w p here (Looks mine q batch) = Working
   answer_from w p here (Runs mine) = answer_with here.seen mine (L.consensus.decided (L.consensus.step p (w.round (length here.seen))) p)
 
   -- what a step of process p answers after these events

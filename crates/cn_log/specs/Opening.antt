@@ -2,11 +2,9 @@
 use Rattle.std.specs.Prelude.{ℕ, ◌≤◌, ◌<◌, List, length}
 use Rattle.cn_table.specs.TypeTable.{TypeTable}
 use Rattle.cn_proto.specs.Plan.{Plan, IsPlan, protocol_of, processes_of, nodes_of}
-use Rattle.cn_proto.specs.Sound.{IsSound}
-use Rattle.cn_proto.specs.Tournament.{team_of}
 use Rattle.cn_agree.specs.World.{World as RoundWorld}
 use Rattle.cn_agree.specs.Reached.{first_world}
-use Rattle.cn_log.specs.declared.entry.Entry.{Entry}
+use Rattle.cn_log.specs.declared.batch.Batch.{Batch}
 use Rattle.cn_log.specs.declared.event.Event.{Event}
 use Rattle.cn_log.specs.Consensus.{consensus_by}
 use Rattle.cn_log.specs.Log.{Setting}
@@ -27,7 +25,7 @@ pub record Log : Type 0 where
   pub schedule : List Event
 
 -- a log of this opening runs by rounds of its plan
-abbrev pub setting_of : Opening → Setting (RoundWorld Entry)
+abbrev pub setting_of : Opening → Setting (RoundWorld Batch)
 setting_of o = record {
   consensus = consensus_by (protocol_of o.plan);
   untouched = first_world (protocol_of o.plan) (processes_of o.plan) (nodes_of o.plan);
@@ -37,13 +35,12 @@ setting_of o = record {
   start = o.start;
 }
 
-abbrev pub setting : Log → Setting (RoundWorld Entry)
+abbrev pub setting : Log → Setting (RoundWorld Batch)
 setting c = setting_of c.opening
 
--- the plan is one, so that its rounds agree, the start state is one of the object, and there are 1 to 1024 slots
+-- the plan is one, the start state is one of the object, and there are 1 to 1024 slots
 pub record IsOpening (o : Opening) : Type 0 where
   pub plan : IsPlan o.plan
-  pub sound : IsSound (protocol_of o.plan) (processes_of o.plan) (nodes_of o.plan) (team_of (length o.plan.choice.a))
   pub start : o.start < length o.object.states
   pub some : 1 ≤ o.capacity
   pub few : o.capacity ≤ 1024

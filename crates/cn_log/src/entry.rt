@@ -1,6 +1,6 @@
 //! Entries of the log.
 ghost use Rattle.std.specs.Prelude.{◌≡◌};
-ghost use Rattle.cn_log.specs.Log.{has_entry, same_entry};
+ghost use Rattle.cn_log.specs.Batches.{same_entry};
 
 use cn_table::Operation;
 
@@ -22,11 +22,4 @@ impl Entry {
             && self.operation.0 == other.operation.0
             && self.call == other.call
     }
-}
-
-/// Whether the entry is listed.
-pub(crate) fn has_entry(entries: &[Entry], entry: Entry) -> bool
-    ensures { result ≡ has_entry entries.now entry }
-{
-    entries.iter().any(|other| other.is(entry))
 }

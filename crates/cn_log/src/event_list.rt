@@ -7,13 +7,14 @@ ghost use Rattle.cn_log.specs.Faults.{IsFirstFault, event_fault};
 ghost use Rattle.cn_log.specs.Linearized.{BeginsInTurn, Grows, IsLinearized};
 ghost use Rattle.cn_log.specs.Log.{MayCome, IsEventList, state_of};
 ghost use Rattle.cn_log.specs.Opening.{opening_of, setting, setting_of};
+ghost use Rattle.cn_log.specs.OwnSteps.{IsWaitFree};
 
 use crate::event::Event;
 use crate::fault::ReplayFault;
 use crate::log_core::LogCore;
 use cn_proto::Plan;
 use cn_table::{Operation, State, Table};
-use std::alloc::{AllocError, Global};
+use std::alloc::Global;
 
 /// The core in which these events happened, one after the other.
 ///
@@ -41,16 +42,18 @@ pub fn replay(
     // Where there is no fault, these are events that can come, and the log is as it should be.
     ensures events { OnOk result (IsEventList (setting_of (opening_of plan.now object.now start.0 capacity)) events.now) }
     ensures linearized { OnOk result (IsLinearized (setting_of (opening_of plan.now object.now start.0 capacity)) events.now) }
-    ensures grows { OnOk result ((before after : List EventOf) → events.now ≡ before ++ after → Grows (setting_of (opening_of plan.now object.now start.0 capacity)) before after) }
+    ensures grows { OnOk result ((before after : List EventOf) → events.now ≡ before ++ after
+        → Grows (setting_of (opening_of plan.now object.now start.0 capacity)) before after) }
     ensures in_turn { OnOk result (BeginsInTurn (setting_of (opening_of plan.now object.now start.0 capacity)) events.now) }
     ensures bypass { OnOk result (IsBypassBounded (setting_of (opening_of plan.now object.now start.0 capacity)) events.now) }
+    ensures wait_free { OnOk result (IsWaitFree (setting_of (opening_of plan.now object.now start.0 capacity)) events.now) }
 {
     let mut core = LogCore::new(alloc, plan, object, start, capacity)?;
     for (place, event) in events.iter().enumerate() {
         if let Some(fault) = fault_of(&core, place as u64, *event) {
             return Err(fault);
         }
-        come(&mut core, *event)?;
+        come(&mut core, *event);
     }
     core.is_linearized();
     Ok(core)
@@ -89,16 +92,14 @@ fn fault_of(core: &LogCore, place: u64, event: Event) -> Option<ReplayFault>
 }
 
 /// The event comes.
-fn come(core: &mut LogCore, event: Event) -> Result<(), AllocError>
+fn come(core: &mut LogCore, event: Event)
     requires { MayCome (setting core.old) (state_of (setting core.old) core.old.schedule) event }
-    ensures ok { IfOk result (λ _. core.new ≡ record core.old { schedule = core.old.schedule ++ event ∷ [] }) }
-    ensures err { OnErr result (core.new ≡ core.old) }
+    ensures { core.new ≡ record core.old { schedule = core.old.schedule ++ event ∷ [] } }
 {
     match event {
         Event::Invoke(p, operation) => core.invoke(p, Operation(operation)),
         Event::Step(p) => {
-            core.step(p)?;
-            Ok(())
+            core.step(p);
         }
     }
 }

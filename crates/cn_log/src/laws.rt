@@ -1,51 +1,71 @@
 //! Laws of the log. A law is a function that does nothing: its contract is the law.
-ghost use Rattle.std.specs.Prelude.{◌≡◌, ◌↔◌, ◌+◌, ◌++◌, ◌∷◌, [], ℕ, List, None, Some};
+ghost use Rattle.std.specs.Prelude.{◌≡◌, ◌<◌, ◌↔◌, ◌+◌, ◌++◌, ◌∷◌, [], ℕ, List, length, None, Some};
+ghost use Rattle.cn_proto.specs.Plan.{processes_of};
 ghost use Rattle.cn_log.specs.AtomicEvent.{IsAtomicEvent};
 ghost use Rattle.cn_log.specs.Bypass.{IsBypassBounded};
-ghost use Rattle.cn_log.specs.Callers.{BeginsWith, HasReplayedBy, HasReplayedItsOwn, IsPendingCall, IsStepped, Without, call_of, caller_of, calls_by, entries_by, pending_in};
+ghost use Rattle.cn_log.specs.Callers.{BeginsWith, HasReplayedBy, HasReplayedItsOwn, IsPendingCall, IsStepped, Without, call_of, caller_of, calls_by, entries_by, pending_in, seen_of};
 ghost use Rattle.cn_log.specs.Linearized.{BeginsInTurn, Grows, IsLinearized};
 ghost use Rattle.cn_log.specs.Faults.{event_fault};
-ghost use Rattle.cn_log.specs.Log.{IsEventList, MayCome, answer, entries, state_of};
+ghost use Rattle.cn_log.specs.Log.{IsEventList, MayCome, answer, batches, entries, first_look, state_of};
 ghost use Rattle.cn_log.specs.Opening.{IsOpening, Opening as OpeningOf, setting_of};
+ghost use Rattle.cn_log.specs.OwnSteps.{IsWaitFree, event_room};
 ghost use Rattle.cn_log.specs.declared.entry.Entry.{Entry as EntryOf};
 ghost use Rattle.cn_log.specs.declared.event.Event.{Event as EventOf};
 ghost use Rattle.cn_log.specs.declared.event.Event.TheVariants.{Invoke, Step};
-ghost use Rattle.cn_log.specs.declared.progress.Phase.TheVariants.{Looks};
 
-use crate::Entry;
+use crate::batch::Batch;
+use cn_agree::laws::{atomic_steps, every_round};
+use cn_proto::laws::every_plan;
 
 /// The law of logs, for every plan, object, start state, number of slots and list of events:
 /// `linearized`, the answers are those of one sequential run of the calls in the order of the log;
 /// `grows`, entries stay, and new ones come behind them; `in_turn`, a slot begins only after those
-/// before it are fixed; `bypass`, no call is passed by for long.
+/// before it are fixed; `bypass`, a call stands in the slot after those fixed when it was made or in
+/// the next; `wait_free`, it is over within so many steps of its process; `room`, there are fewer
+/// events than a log has room for.
 pub fn every_log()
     ensures linearized { (o : OpeningOf) (events : List EventOf) → IsOpening o → IsEventList (setting_of o) events → IsLinearized (setting_of o) events }
-    ensures grows { (o : OpeningOf) (before after : List EventOf) → IsOpening o → IsEventList (setting_of o) (before ++ after) → Grows (setting_of o) before after }
+    ensures grows { (o : OpeningOf) (before after : List EventOf) → IsOpening o → IsEventList (setting_of o) (before ++ after)
+        → Grows (setting_of o) before after }
     ensures in_turn { (o : OpeningOf) (events : List EventOf) → IsOpening o → IsEventList (setting_of o) events → BeginsInTurn (setting_of o) events }
     ensures bypass { (o : OpeningOf) (events : List EventOf) → IsOpening o → IsEventList (setting_of o) events → IsBypassBounded (setting_of o) events }
+    ensures wait_free { (o : OpeningOf) (events : List EventOf) → IsOpening o → IsEventList (setting_of o) events → IsWaitFree (setting_of o) events }
+    ensures room { (o : OpeningOf) (events : List EventOf) → IsOpening o → IsEventList (setting_of o) events
+        → length events < event_room (processes_of o.plan) o.capacity }
 {
-    cn_agree::laws::every_round::<Entry>();
+    every_plan();
+    every_round::<Batch>();
 }
 
 /// The law of faults: after any list of events, an event has a fault exactly where it cannot come.
 pub fn every_fault()
-    ensures { (o : OpeningOf) (events : List EventOf) (place : ℕ) (event : EventOf) → (event_fault (setting_of o) (state_of (setting_of o) events) place event ≡ None) ↔ MayCome (setting_of o) (state_of (setting_of o) events) event }
+    ensures { (o : OpeningOf) (events : List EventOf) (place : ℕ) (event : EventOf)
+        → (event_fault (setting_of o) (state_of (setting_of o) events) place event ≡ None) ↔ MayCome (setting_of o) (state_of (setting_of o) events) event }
 {}
 
 /// The law of what a process knows: `front`, a beginning of a list of events is one; `stays`, events
 /// of others change nothing of it; `invoked`, a call adds itself, pending, and the process has seen
 /// what it had seen; `pending`, the pending call is the last that the process has made, and it has
 /// replayed neither that nor every slot; `stepped`, what a step makes of it, by its answer;
-/// `replayed`, the entries of the log begin with those that the process has replayed.
+/// `replayed`, the fixed slots begin with those that the process has replayed.
 pub fn every_caller()
     ensures front { (o : OpeningOf) (before rest : List EventOf) → IsEventList (setting_of o) (before ++ rest) → IsEventList (setting_of o) before }
-    ensures stays { (o : OpeningOf) (before rest : List EventOf) (p : ℕ) → Without p rest → caller_of (setting_of o) (before ++ rest) p ≡ caller_of (setting_of o) before p }
-    ensures invoked { (o : OpeningOf) (events : List EventOf) (p operation : ℕ) → caller_of (setting_of o) (events ++ Invoke p operation ∷ []) p ≡ record { seen = (caller_of (setting_of o) events p).seen; calls = (caller_of (setting_of o) events p).calls + 1; phase = Looks (call_of p operation (caller_of (setting_of o) events p).calls) } }
-    ensures pending { (o : OpeningOf) (events : List EventOf) (p : ℕ) (mine : EntryOf) → IsOpening o → IsEventList (setting_of o) events → pending_in (caller_of (setting_of o) events p).phase ≡ Some mine → IsPendingCall (setting_of o) events p mine }
-    ensures stepped { (o : OpeningOf) (events : List EventOf) (p : ℕ) (mine : EntryOf) → IsOpening o → IsEventList (setting_of o) (events ++ Step p ∷ []) → pending_in (caller_of (setting_of o) events p).phase ≡ Some mine → IsStepped (setting_of o) p (caller_of (setting_of o) events p) mine (caller_of (setting_of o) (events ++ Step p ∷ []) p) (answer (setting_of o) events p) }
-    ensures replayed { (o : OpeningOf) (events : List EventOf) (p : ℕ) → IsOpening o → IsEventList (setting_of o) events → BeginsWith (entries (setting_of o) events) (caller_of (setting_of o) events p).seen }
+    ensures stays { (o : OpeningOf) (before rest : List EventOf) (p : ℕ) → Without p rest
+        → caller_of (setting_of o) (before ++ rest) p ≡ caller_of (setting_of o) before p }
+    ensures invoked { (o : OpeningOf) (events : List EventOf) (p operation : ℕ) → let here = caller_of (setting_of o) events p in
+        caller_of (setting_of o) (events ++ Invoke p operation ∷ []) p
+        ≡ record { seen = here.seen; calls = here.calls + 1; phase = first_look (call_of p operation here.calls) } }
+    ensures pending { (o : OpeningOf) (events : List EventOf) (p : ℕ) (mine : EntryOf) → IsOpening o → IsEventList (setting_of o) events
+        → pending_in (caller_of (setting_of o) events p).phase ≡ Some mine → IsPendingCall (setting_of o) events p mine }
+    ensures stepped { (o : OpeningOf) (events : List EventOf) (p : ℕ) (mine : EntryOf) → IsOpening o → IsEventList (setting_of o) (events ++ Step p ∷ [])
+        → pending_in (caller_of (setting_of o) events p).phase ≡ Some mine
+        → IsStepped (setting_of o) p (caller_of (setting_of o) events p) mine
+        (caller_of (setting_of o) (events ++ Step p ∷ []) p) (answer (setting_of o) events p) }
+    ensures replayed { (o : OpeningOf) (events : List EventOf) (p : ℕ) → IsOpening o → IsEventList (setting_of o) events
+        → BeginsWith (batches (setting_of o) events) (caller_of (setting_of o) events p).seen }
 {
-    cn_agree::laws::every_round::<Entry>();
+    every_plan();
+    every_round::<Batch>();
 }
 
 /// The law of the calls of a process: `grow`, `stay`, `called`, a call is an event of its process,
@@ -56,23 +76,33 @@ pub fn every_caller()
 pub fn every_call()
     ensures grow { (before rest : List EventOf) (p : ℕ) → BeginsWith (calls_by p (before ++ rest)) (calls_by p before) }
     ensures stay { (before rest : List EventOf) (p : ℕ) → Without p rest → calls_by p (before ++ rest) ≡ calls_by p before }
-    ensures called { (o : OpeningOf) (events : List EventOf) (p operation : ℕ) → calls_by p (events ++ Invoke p operation ∷ []) ≡ calls_by p events ++ call_of p operation (caller_of (setting_of o) events p).calls ∷ [] }
-    ensures own { (o : OpeningOf) (events : List EventOf) (p : ℕ) → IsOpening o → IsEventList (setting_of o) events → HasReplayedItsOwn (setting_of o) events p }
-    ensures own_stepped { (o : OpeningOf) (events : List EventOf) (p : ℕ) (mine : EntryOf) → IsOpening o → IsEventList (setting_of o) (events ++ Step p ∷ []) → pending_in (caller_of (setting_of o) events p).phase ≡ Some mine → HasReplayedBy (setting_of o) (events ++ Step p ∷ []) p mine (answer (setting_of o) events p) }
-    ensures made { (o : OpeningOf) (events : List EventOf) (p : ℕ) → IsOpening o → IsEventList (setting_of o) events → BeginsWith (calls_by p events) (entries_by p (entries (setting_of o) events)) }
-    ensures seen_made { (o : OpeningOf) (events : List EventOf) (p q : ℕ) → IsOpening o → IsEventList (setting_of o) events → BeginsWith (calls_by p events) (entries_by p (caller_of (setting_of o) events q).seen) }
+    ensures called { (o : OpeningOf) (events : List EventOf) (p operation : ℕ)
+        → calls_by p (events ++ Invoke p operation ∷ []) ≡ calls_by p events ++ call_of p operation (caller_of (setting_of o) events p).calls ∷ [] }
+    ensures own { (o : OpeningOf) (events : List EventOf) (p : ℕ) → IsOpening o → IsEventList (setting_of o) events
+        → HasReplayedItsOwn (setting_of o) events p }
+    ensures own_stepped { (o : OpeningOf) (events : List EventOf) (p : ℕ) (mine : EntryOf) → IsOpening o
+        → IsEventList (setting_of o) (events ++ Step p ∷ []) → pending_in (caller_of (setting_of o) events p).phase ≡ Some mine
+        → HasReplayedBy (setting_of o) (events ++ Step p ∷ []) p mine (answer (setting_of o) events p) }
+    ensures made { (o : OpeningOf) (events : List EventOf) (p : ℕ) → IsOpening o → IsEventList (setting_of o) events
+        → BeginsWith (calls_by p events) (entries_by p (entries (setting_of o) events)) }
+    ensures seen_made { (o : OpeningOf) (events : List EventOf) (p q : ℕ) → IsOpening o → IsEventList (setting_of o) events
+        → BeginsWith (calls_by p events) (entries_by p (seen_of (setting_of o) events q)) }
 {
-    cn_agree::laws::every_round::<Entry>();
+    every_plan();
+    every_round::<Batch>();
 }
 
 /// Every event of a log is atomic. A call writes the announcement of its process, and nothing else
 /// that is shared changes. A look reads one announcement and changes nothing that is shared: its
-/// process begins in the round of its slot. Any other step is one action of that round. What the
-/// process knows afterwards, what the event answers and what then stands where it acted depend on
+/// process gathers the call there, if it does not stand in the log yet, and after the last look it
+/// begins in the round of its slot. Any other step is one action of that round. What the process
+/// knows afterwards, what the event answers and what then stands where it acted depend on
 /// the local state of the process and on what the event touched, and on nothing else.
 pub fn atomic_events()
-    ensures { (o : OpeningOf) (events : List EventOf) (event : EventOf) → IsOpening o → IsEventList (setting_of o) (events ++ event ∷ []) → IsAtomicEvent o events event }
+    ensures { (o : OpeningOf) (events : List EventOf) (event : EventOf) → IsOpening o → IsEventList (setting_of o) (events ++ event ∷ [])
+        → IsAtomicEvent o events event }
 {
-    cn_agree::laws::every_round::<Entry>();
-    cn_agree::laws::atomic_steps::<Entry>();
+    every_plan();
+    every_round::<Batch>();
+    atomic_steps::<Batch>();
 }

@@ -3,15 +3,18 @@
 //!
 //! A [`LogCore`] has so many slots, and a round of consensus for each. A process that makes a call
 //! announces it, and then goes through the slots, one after the other: it looks at the
-//! announcement of the process whose turn it is to be helped there, begins in the round of the
-//! slot with that call or with its own, and takes steps until it has decided. What it decides it
-//! replays on its own copy of the object. Its call is answered when it replays it.
+//! announcement of each process in turn, and gathers the calls that do not stand in the log yet,
+//! its own among them, in a [`Batch`]. With that it begins in the round of the slot, and takes steps
+//! until it has decided. The batch that it decides it replays on its own copy of the object, call
+//! by call in the order of processes. Its call is answered when it replays it.
 //!
 //! What happens is a list of [`Event`]s: a process makes a call, or takes one step. A core is what
 //! its own list of events makes of it, and [`replay`] makes a core of a list. For every list the
 //! answers are those of one sequential run of the calls, in the order of the log ([`laws`]).
 #![tactic(auto)]
 
+mod batch;
+mod call_counts;
 mod entry;
 mod event;
 mod event_list;
@@ -22,6 +25,7 @@ mod log_state;
 mod opening;
 mod progress;
 
+pub use batch::Batch;
 pub use entry::Entry;
 pub use event::{Event, StepAnswer};
 pub use event_list::replay;

@@ -1,14 +1,16 @@
 //! The core of a log.
-ghost use Rattle.std.specs.Prelude.{◌≡◌, ◌<◌, ◌≤◌, ◌↔◌, ◌++◌, ◌∷◌, [], ℕ, List, length, IfOk, OnErr, IsFalse, IsTrue};
+ghost use Rattle.std.specs.Prelude.{◌≡◌, ◌<◌, ◌≤◌, ◌↔◌, ◌++◌, ◌∷◌, [], ℕ, List, Some, length, slice_get, IfOk, OnErr, IsFalse, IsTrue};
+ghost use Rattle.std.specs.Vec.{vec_capacity};
 ghost use Rattle.cn_proto.specs.Plan.{processes_of};
 ghost use Rattle.cn_log.specs.declared.event.Event.{Event as EventOf};
 ghost use Rattle.cn_log.specs.declared.event.Event.TheVariants.{Invoke, Step};
 ghost use Rattle.cn_log.specs.declared.progress.Phase.TheVariants.{Idle};
 ghost use Rattle.cn_log.specs.Bypass.{IsBypassBounded};
-ghost use Rattle.cn_log.specs.Callers.{HasResponse};
-ghost use Rattle.cn_log.specs.Linearized.{BeginsInTurn, Grows, IsLinearized};
-ghost use Rattle.cn_log.specs.Log.{MayCome, IsEventList, answer, entries, state_of};
+ghost use Rattle.cn_log.specs.Callers.{HasResponse, seen_of};
+ghost use Rattle.cn_log.specs.Linearized.{BeginsInTurn, Grows, IsLinearized, entry_slots};
+ghost use Rattle.cn_log.specs.Log.{MayCome, IsEventList, answer, batches, entries, state_of};
 ghost use Rattle.cn_log.specs.Opening.{IsOpening, opening_of, setting, setting_of};
+ghost use Rattle.cn_log.specs.OwnSteps.{IsWaitFree, event_room};
 
 use crate::entry::Entry;
 use crate::event::{Event, StepAnswer};
@@ -23,8 +25,8 @@ use std::marker::Model;
 /// The universal log over the rounds of a plan, for one object.
 ///
 /// It is what its schedule, the list of all events so far, makes of its opening: plan, object,
-/// start state and number of slots. Each event goes to the end of the schedule. Only want of memory
-/// refuses one, and then the core is as it was.
+/// start state and number of slots. Each event goes to the end of the schedule. Rounds, log and
+/// schedule have room for all that can come from the first on, so that no event takes memory.
 #[derive(Drop)]
 pub struct LogCore {
     opening: Opening,
@@ -33,14 +35,19 @@ pub struct LogCore {
 }
 
 impl Model for LogCore {
-    ghost use Rattle.cn_log.specs.Fields.{Keeps};
-    ghost use Rattle.cn_log.specs.Opening.{Log, setting_of};
+    ghost use Rattle.std.specs.Prelude.{◌≤◌};
+    ghost use Rattle.std.specs.Vec.{vec_capacity};
+    ghost use Rattle.cn_proto.specs.Plan.{processes_of};
+    ghost use Rattle.cn_log.specs.Fields.{HasRoom, IsStateAfter};
+    ghost use Rattle.cn_log.specs.Opening.{Log};
+    ghost use Rattle.cn_log.specs.OwnSteps.{event_room};
 
     ghost Value = { Log };
 
     ghost view = { λ c. record { opening = c.opening; schedule = c.schedule.items } };
 
-    ghost invariant = { λ c. Keeps (setting_of c.opening) c.schedule.items c.state.rounds.items c.state.announced.items c.state.progress.items c.state.entries.items };
+    ghost invariant = { λ c. IsStateAfter c.opening c.schedule.items c.state × HasRoom c.opening c.state
+        × (event_room (processes_of c.opening.plan) c.opening.capacity ≤ vec_capacity c.schedule) };
 }
 
 impl LogCore {
@@ -65,19 +72,21 @@ impl LogCore {
     {
         let opening = Opening::new(alloc, plan, object, start, capacity)?;
         let state = LogState::new(alloc, &opening)?;
+        let schedule = empty_schedule(alloc, &opening)?;
         Ok(LogCore {
             opening,
             state,
-            schedule: Vec::new(alloc),
+            schedule,
         })
     }
 
-    /// The law of cores, however they came to be: `opening`, the plan's rounds agree, the start
-    /// state is one of the object, and there are 1 to 1024 slots; `events`, each event of the
-    /// schedule could come where it stands; `linearized`, the answers are those of one sequential
-    /// run of the calls in the order of the log; `grows`, entries stay, and new ones come behind
-    /// them; `in_turn`, a slot begins only after those before it are fixed; `bypass`, no call is
-    /// passed by for long.
+    /// The law of cores, however they came to be: `opening`, the plan is one, the start state is one
+    /// of the object, and there are 1 to 1024 slots; `events`, each event of the schedule could come
+    /// where it stands; `linearized`, the answers are those of one sequential run of the calls in
+    /// the order of the log; `grows`, entries stay, and new ones come behind them; `in_turn`, a slot
+    /// begins only after those before it are fixed; `bypass`, a call stands in the slot after those
+    /// fixed when it was made or in the next; `wait_free`, it is over within so many steps of its
+    /// process.
     pub fn is_linearized(&self)
         ensures opening { IsOpening self.now.opening }
         ensures events { IsEventList (setting self.now) self.now.schedule }
@@ -85,6 +94,7 @@ impl LogCore {
         ensures grows { (before after : List EventOf) → self.now.schedule ≡ before ++ after → Grows (setting self.now) before after }
         ensures in_turn { BeginsInTurn (setting self.now) self.now.schedule }
         ensures bypass { IsBypassBounded (setting self.now) self.now.schedule }
+        ensures wait_free { IsWaitFree (setting self.now) self.now.schedule }
     {
         self.opening.is_opening();
         crate::laws::every_log();
@@ -92,44 +102,48 @@ impl LogCore {
 
     /// Process `p` makes a call of an operation of the object. It is in no call, and has not
     /// replayed every slot.
-    ///
-    /// # Errors
-    ///
-    /// Fails only for want of memory, and then the core is as it was.
-    pub fn invoke(&mut self, p: u8, operation: Operation) -> Result<(), AllocError>
+    pub fn invoke(&mut self, p: u8, operation: Operation)
         requires { MayCome (setting self.old) (state_of (setting self.old) self.old.schedule) (Invoke p operation.0) }
-        ensures ok { IfOk result (λ _. self.new ≡ record self.old { schedule = self.old.schedule ++ Invoke p operation.0 ∷ [] }) }
-        ensures err { OnErr result (self.new ≡ self.old) }
+        ensures { self.new ≡ record self.old { schedule = self.old.schedule ++ Invoke p operation.0 ∷ [] } }
     {
-        self.schedule.push(Event::Invoke(p, operation.0))?;
+        let event = Event::Invoke(p, operation.0);
+        put_event(&mut self.schedule, &self.opening, event);
         self.state.invoke(&self.opening, p, operation);
-        Ok(())
     }
 
     /// Process `p`, which is in a call, takes one step. `Answered` is the answer to its call, with
-    /// its slot and a response of the object; `Full` ends the call with no answer, since every slot is fixed and
-    /// none to it.
-    ///
-    /// # Errors
-    ///
-    /// Fails only for want of memory, and then the core is as it was.
-    pub fn step(&mut self, p: u8) -> Result<StepAnswer, AllocError>
+    /// its slot and a response of the object; `Full` ends the call with no answer, since every slot
+    /// is fixed and it stands in none.
+    pub fn step(&mut self, p: u8) -> StepAnswer
         requires { MayCome (setting self.old) (state_of (setting self.old) self.old.schedule) (Step p) }
-        ensures ok { IfOk result (λ _. self.new ≡ record self.old { schedule = self.old.schedule ++ Step p ∷ [] }) }
-        ensures answer { IfOk result (λ given. given ≡ answer (setting self.old) self.old.schedule p) }
-        ensures range { IfOk result (λ given. HasResponse self.old.opening.object given) }
-        ensures err { OnErr result (self.new ≡ self.old) }
+        ensures core { self.new ≡ record self.old { schedule = self.old.schedule ++ Step p ∷ [] } }
+        ensures answer { result ≡ answer (setting self.old) self.old.schedule p }
+        ensures range { HasResponse self.old.opening.object result }
     {
-        self.state.entries.reserve(1)?;
-        self.schedule.push(Event::Step(p))?;
-        Ok(self.state.step(&self.opening, p))
+        put_event(&mut self.schedule, &self.opening, Event::Step(p));
+        self.state.step(&self.opening, p)
     }
 
-    /// The entries of the fixed slots, in order.
+    /// The entries of the fixed slots, by slot, then by process.
     pub fn entries(&self) -> &[Entry]
         ensures { result.now ≡ entries (setting self.now) self.now.schedule }
     {
         self.state.entries.as_slice()
+    }
+
+    /// How many slots are fixed.
+    pub fn fixed_slots(&self) -> u16
+        ensures { result ≡ length (batches (setting self.now) self.now.schedule) }
+    {
+        self.state.fixed
+    }
+
+    /// The slot of entry `i`, which is one of the log.
+    pub fn slot_at(&self, i: usize) -> u16
+        requires { i < length (entries (setting self.now) self.now.schedule) }
+        ensures { Some result ≡ slice_get (entry_slots (setting self.now) self.now.schedule) i }
+    {
+        self.state.slots[i]
     }
 
     /// All events so far.
@@ -173,6 +187,14 @@ impl LogCore {
         self.state.progress[usize::from(p)].replayed
     }
 
+    /// How many entries stand in the slots that process `p` has replayed.
+    pub fn seen(&self, p: u8) -> u16
+        requires { p < processes_of self.now.opening.plan }
+        ensures { result ≡ length (seen_of (setting self.now) self.now.schedule p) }
+    {
+        self.state.progress[usize::from(p)].seen
+    }
+
     /// Whether process `p` is in no call.
     pub fn is_idle(&self, p: u8) -> bool
         requires { p < processes_of self.now.opening.plan }
@@ -189,4 +211,28 @@ impl LogCore {
     {
         self.replayed(p) == self.opening.capacity
     }
+}
+
+/// No events, and room for all that can come.
+fn empty_schedule(alloc: Global, opening: &Opening) -> Result<Vec<Event>, AllocError>
+    ensures empty { IfOk result (λ schedule. schedule.items ≡ []) }
+    ensures room { IfOk result (λ schedule. event_room (processes_of opening.now.plan) opening.now.capacity ≤ vec_capacity schedule) }
+{
+    opening.is_opening();
+    let processes = usize::from(opening.plan.processes());
+    let slot_cost = 5 * processes - 4;
+    let slots = usize::from(opening.capacity);
+    Vec::with_capacity(alloc, processes * (slots * (slot_cost + 1) + 1))
+}
+
+/// One event more.
+fn put_event(schedule: &mut Vec<Event>, opening: &Opening, event: Event)
+    requires events { IsEventList (setting_of opening.now) schedule.old.items }
+    requires room { event_room (processes_of opening.now.plan) opening.now.capacity ≤ vec_capacity schedule.old }
+    ensures put { schedule.new.items ≡ schedule.old.items ++ event ∷ [] }
+    ensures room { vec_capacity schedule.new ≡ vec_capacity schedule.old }
+{
+    opening.is_opening();
+    crate::laws::every_log();
+    schedule.push_reserved(event);
 }

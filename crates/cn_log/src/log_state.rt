@@ -1,17 +1,22 @@
 //! The fields that events change, and the steps of a process.
-ghost use Rattle.std.specs.Prelude.{◌≡◌, ◌<◌, ◌≤◌, ◌+◌, [], ◌∷◌, ◌++◌, ℕ, length, slice_index_or, IfOk, None, List, replicate};
-ghost use Rattle.std.specs.Vec.{vec_len, vec_capacity};
-ghost use Rattle.cn_table.specs.TypeTable.{transition};
+ghost use Rattle.std.specs.Prelude.{◌≡◌, ◌<◌, ◌≤◌, ◌+◌, ◌*◌, Some, [], ◌∷◌, ◌++◌, ℕ, length, slice_index_or, IfOk, None, List, replicate};
+ghost use Rattle.std.specs.Vec.{vec_capacity};
+ghost use Rattle.std.specs.Vec.{vec_len};
+ghost use Rattle.cn_table.specs.Run.{state_after as run_of};
+ghost use Rattle.cn_proto.specs.Plan.{processes_of};
+ghost use Rattle.cn_log.specs.Batches.{and_entry, entry_at, members, entries_in, slots_from};
 ghost use Rattle.cn_log.specs.declared.entry.Entry.{Entry as EntryOf};
 ghost use Rattle.cn_log.specs.declared.event.Event.{Event as EventOf};
 ghost use Rattle.cn_log.specs.declared.event.Event.TheVariants.{Invoke, Step};
 ghost use Rattle.cn_log.specs.declared.progress.Phase.TheVariants.{Idle, Looks, Runs};
 ghost use Rattle.cn_log.specs.Callers.{HasResponse};
-ghost use Rattle.cn_log.specs.Fields.{no_progress, reply, entered, Keeps, IsAt};
-ghost use Rattle.cn_log.specs.Log.{MayInvoke, MayStep, answer, phase_after, proposed, state_of};
+ghost use Rattle.cn_log.specs.Fields.{count_at, gathered_by, next_batch, reply, HasRoom, HasSameRoom, IsStateAfter, IsStateAt};
+ghost use Rattle.cn_log.specs.Log.{MayInvoke, MayStep, answer, first_look, operations_of, phase_after, state_of};
 ghost use Rattle.cn_log.specs.Opening.{setting_of};
 
-use crate::entry::{Entry, has_entry};
+use crate::batch::{Batch, count, put_batch, state_after};
+use crate::call_counts::CallCounts;
+use crate::entry::Entry;
 use crate::event::StepAnswer;
 use crate::opening::Opening;
 use crate::progress::{Phase, Progress};
@@ -20,24 +25,29 @@ use cn_table::Operation;
 use std::alloc::{AllocError, Global};
 
 /// The round of each slot, the announcement register of each process, how far each process has
-/// come, and the entries of the fixed slots.
+/// come, and the entries of the fixed slots, each with its slot, and how many slots are fixed.
 #[derive(Drop)]
 pub(crate) struct LogState {
-    pub rounds: Vec<Round<Entry>>,
+    pub rounds: Vec<Round<Batch>>,
     pub announced: Vec<Option<Entry>>,
     pub progress: Vec<Progress>,
     pub entries: Vec<Entry>,
+    pub slots: Vec<u16>,
+    pub fixed: u16,
 }
 
 impl LogState {
     /// Nothing has happened.
     pub fn new(alloc: Global, opening: &Opening) -> Result<LogState, AllocError>
-        ensures { IfOk result (λ state. Keeps (setting_of opening.now) [] state.rounds.items state.announced.items state.progress.items state.entries.items) }
+        ensures keeps { IfOk result (λ state. IsStateAfter opening.now [] state) }
+        ensures room { IfOk result (λ state. HasRoom opening.now state) }
     {
         opening.is_opening();
         let processes = usize::from(opening.plan.processes());
         let none = Progress {
             replayed: 0,
+            seen: 0,
+            calls_seen: CallCounts::new(),
             calls: 0,
             phase: Phase::Idle,
             state: opening.start,
@@ -46,14 +56,20 @@ impl LogState {
             rounds: untouched_rounds(alloc, opening)?,
             announced: Vec::from_elem(alloc, None, processes)?,
             progress: Vec::from_elem(alloc, none, processes)?,
-            entries: Vec::new(alloc),
+            entries: Vec::with_capacity(alloc, processes * usize::from(opening.capacity))?,
+            slots: Vec::with_capacity(alloc, processes * usize::from(opening.capacity))?,
+            fixed: 0,
         })
     }
 
     /// Process p makes a call.
     pub fn invoke(&mut self, opening: &Opening, p: u8, operation: Operation)
-        requires { (s : List EventOf) × Keeps (setting_of opening.now) s self.old.rounds.items self.old.announced.items self.old.progress.items self.old.entries.items × MayInvoke (setting_of opening.now) (state_of (setting_of opening.now) s) p operation.0 }
-        ensures { (s : List EventOf) → Keeps (setting_of opening.now) s self.old.rounds.items self.old.announced.items self.old.progress.items self.old.entries.items → MayInvoke (setting_of opening.now) (state_of (setting_of opening.now) s) p operation.0 → Keeps (setting_of opening.now) (s ++ Invoke p operation.0 ∷ []) self.new.rounds.items self.new.announced.items self.new.progress.items self.new.entries.items }
+        requires { (s : List EventOf) × IsStateAfter opening.now s self.old
+            × MayInvoke (setting_of opening.now) (state_of (setting_of opening.now) s) p operation.0 }
+        ensures room { HasSameRoom self.old self.new }
+        ensures keeps { (s : List EventOf) → IsStateAfter opening.now s self.old
+            → MayInvoke (setting_of opening.now) (state_of (setting_of opening.now) s) p operation.0
+            → IsStateAfter opening.now (s ++ Invoke p operation.0 ∷ []) self.new }
     {
         opening.is_opening();
         let here = self.progress[usize::from(p)];
@@ -64,59 +80,61 @@ impl LogState {
         };
         self.announced[usize::from(p)] = Some(entry);
         self.progress[usize::from(p)] = Progress {
-            replayed: here.replayed,
             calls: here.calls + 1,
-            phase: Phase::Looks(entry),
-            state: here.state,
+            phase: first_look(entry),
+            ..here
         };
     }
 
     /// One step of process p, which is in a call.
     pub fn step(&mut self, opening: &Opening, p: u8) -> StepAnswer
-        requires room { vec_len self.old.entries < vec_capacity self.old.entries }
-        requires may { (s : List EventOf) × Keeps (setting_of opening.now) s self.old.rounds.items self.old.announced.items self.old.progress.items self.old.entries.items × MayStep (setting_of opening.now) (state_of (setting_of opening.now) s) p }
-        ensures keeps { (s : List EventOf) → Keeps (setting_of opening.now) s self.old.rounds.items self.old.announced.items self.old.progress.items self.old.entries.items → MayStep (setting_of opening.now) (state_of (setting_of opening.now) s) p → Keeps (setting_of opening.now) (s ++ Step p ∷ []) self.new.rounds.items self.new.announced.items self.new.progress.items self.new.entries.items }
-        ensures answer { (s : List EventOf) → Keeps (setting_of opening.now) s self.old.rounds.items self.old.announced.items self.old.progress.items self.old.entries.items → MayStep (setting_of opening.now) (state_of (setting_of opening.now) s) p → result ≡ answer (setting_of opening.now) s p }
+        requires room { HasRoom opening.now self.old }
+        requires may { (s : List EventOf) × IsStateAfter opening.now s self.old × MayStep (setting_of opening.now) (state_of (setting_of opening.now) s) p }
+        ensures room { HasSameRoom self.old self.new }
+        ensures keeps { (s : List EventOf) → IsStateAfter opening.now s self.old
+            → MayStep (setting_of opening.now) (state_of (setting_of opening.now) s) p → IsStateAfter opening.now (s ++ Step p ∷ []) self.new }
+        ensures answer { (s : List EventOf) → IsStateAfter opening.now s self.old
+            → MayStep (setting_of opening.now) (state_of (setting_of opening.now) s) p → result ≡ answer (setting_of opening.now) s p }
         ensures range { HasResponse opening.now.object result }
     {
         match self.progress[usize::from(p)].phase {
             Phase::Idle => unreachable!(),
-            Phase::Looks(mine) => {
-                self.look(opening, p, mine);
+            Phase::Looks(mine, q, batch) => {
+                self.look(opening, p, mine, q, batch);
                 StepAnswer::Working
             }
             Phase::Runs(mine) => self.run(opening, p, mine),
         }
     }
 
-    /// The process reads the announcement of the process whose turn it is to be helped in its next
-    /// slot, and begins in the round of that slot.
-    fn look(&mut self, opening: &Opening, p: u8, mine: Entry)
-        requires { (s : List EventOf) × IsAt (setting_of opening.now) s self.old.rounds.items self.old.announced.items self.old.progress.items self.old.entries.items p (Looks mine) }
-        ensures { (s : List EventOf) → IsAt (setting_of opening.now) s self.old.rounds.items self.old.announced.items self.old.progress.items self.old.entries.items p (Looks mine) → Keeps (setting_of opening.now) (s ++ Step p ∷ []) self.new.rounds.items self.new.announced.items self.new.progress.items self.new.entries.items }
+    /// The process reads the announcement of process q, and after that of the last process it begins
+    /// with what it has gathered in the round of its next slot.
+    fn look(&mut self, opening: &Opening, p: u8, mine: Entry, q: u8, batch: Batch)
+        requires { (s : List EventOf) × IsStateAt opening.now s self.old p (Looks mine q batch) }
+        ensures room { HasSameRoom self.old self.new }
+        ensures keeps { (s : List EventOf) → IsStateAt opening.now s self.old p (Looks mine q batch) → IsStateAfter opening.now (s ++ Step p ∷ []) self.new }
     {
         opening.is_opening();
         let here = self.progress[usize::from(p)];
-        let slot = usize::from(here.replayed);
-        let turn = slot % usize::from(opening.plan.processes());
-        let seen = &self.entries[..slot];
-        let proposal = proposed(self.announced[turn], seen, mine);
-        let round = &mut self.rounds[slot];
-        round.begin(p, proposal);
-        self.progress[usize::from(p)] = Progress {
-            replayed: here.replayed,
-            calls: here.calls,
-            phase: Phase::Runs(mine),
-            state: here.state,
+        let announced = self.announced[usize::from(q)];
+        let batch = gathered(announced, here.calls_seen.of(q), q, batch);
+        let phase = if q + 1 == opening.plan.processes() {
+            let round = &mut self.rounds[usize::from(here.replayed)];
+            round.begin(p, batch);
+            Phase::Runs(mine)
+        } else {
+            Phase::Looks(mine, q + 1, batch)
         };
+        self.progress[usize::from(p)] = Progress { phase, ..here };
     }
 
     /// The process takes one atomic step in the round of its next slot, and replays what it decides.
     fn run(&mut self, opening: &Opening, p: u8, mine: Entry) -> StepAnswer
-        requires room { vec_len self.old.entries < vec_capacity self.old.entries }
-        requires at { (s : List EventOf) × IsAt (setting_of opening.now) s self.old.rounds.items self.old.announced.items self.old.progress.items self.old.entries.items p (Runs mine) }
-        ensures keeps { (s : List EventOf) → IsAt (setting_of opening.now) s self.old.rounds.items self.old.announced.items self.old.progress.items self.old.entries.items p (Runs mine) → Keeps (setting_of opening.now) (s ++ Step p ∷ []) self.new.rounds.items self.new.announced.items self.new.progress.items self.new.entries.items }
-        ensures answer { (s : List EventOf) → IsAt (setting_of opening.now) s self.old.rounds.items self.old.announced.items self.old.progress.items self.old.entries.items p (Runs mine) → result ≡ answer (setting_of opening.now) s p }
+        requires room { HasRoom opening.now self.old }
+        requires at { (s : List EventOf) × IsStateAt opening.now s self.old p (Runs mine) }
+        ensures room { HasSameRoom self.old self.new }
+        ensures keeps { (s : List EventOf) → IsStateAt opening.now s self.old p (Runs mine) → IsStateAfter opening.now (s ++ Step p ∷ []) self.new }
+        ensures answer { (s : List EventOf) → IsStateAt opening.now s self.old p (Runs mine) → result ≡ answer (setting_of opening.now) s p }
         ensures range { HasResponse opening.now.object result }
     {
         opening.is_opening();
@@ -125,11 +143,19 @@ impl LogState {
         let round = &mut self.rounds[slot];
         let decision = round.step(&opening.plan, p);
         let fixed = round.fixed();
-        enter(&mut self.entries, slot, fixed);
+        let processes = opening.plan.processes();
+        enter(
+            &mut self.entries,
+            &mut self.slots,
+            &mut self.fixed,
+            processes,
+            here.replayed,
+            fixed,
+        );
         match decision {
             None => StepAnswer::Working,
-            Some(entry) => {
-                let outcome = replay_entry(opening, here, mine, entry);
+            Some(batch) => {
+                let outcome = replay_batch(opening, here, mine, batch);
                 self.progress[usize::from(p)] = outcome.progress;
                 outcome.answer
             }
@@ -138,7 +164,7 @@ impl LogState {
 }
 
 /// A round for each slot, in which nothing has happened.
-fn untouched_rounds(alloc: Global, opening: &Opening) -> Result<Vec<Round<Entry>>, AllocError>
+fn untouched_rounds(alloc: Global, opening: &Opening) -> Result<Vec<Round<Batch>>, AllocError>
     ensures { IfOk result (λ rounds. rounds.items ≡ replicate opening.now.capacity (setting_of opening.now).untouched) }
 {
     let mut rounds = Vec::new(alloc);
@@ -148,62 +174,106 @@ fn untouched_rounds(alloc: Global, opening: &Opening) -> Result<Vec<Round<Entry>
     Ok(rounds)
 }
 
-/// What a process proposes: the call that it finds announced, unless that stands in the slots that
-/// it has replayed or nothing is announced, and else its own.
-fn proposed(announced: Option<Entry>, seen: &[Entry], mine: Entry) -> Entry
-    ensures { result ≡ proposed announced seen.now mine }
+/// With this call pending, a process goes on to its next slot.
+fn first_look(mine: Entry) -> Phase
+    ensures { result ≡ first_look mine }
+{
+    Phase::Looks(mine, 0, Batch::new())
+}
+
+/// What a process has gathered that has read the announcement of process q: also the call that it
+/// finds there, unless that is one of the calls of process q in the slots that it has replayed,
+/// which are its first so many.
+fn gathered(announced: Option<Entry>, calls_seen: u16, q: u8, batch: Batch) -> Batch
+    requires { q < 8 }
+    ensures { result ≡ gathered_by announced calls_seen q batch }
 {
     match announced {
-        None => mine,
-        Some(other) => { if has_entry(seen, other) { mine } else { other } }
+        None => batch,
+        Some(other) => {
+            if other.call < calls_seen {
+                batch
+            } else {
+                batch.with(q, other)
+            }
+        }
     }
 }
 
-/// Where the slot after the entries has just been fixed, its entry goes behind them.
-fn enter(entries: &mut Vec<Entry>, slot: usize, fixed: Option<Entry>)
-    requires { vec_len entries.old < vec_capacity entries.old }
-    ensures { entries.new.items ≡ entered entries.old.items slot fixed }
+/// Where the next slot has just been fixed, its entries go behind the others.
+fn enter(
+    entries: &mut Vec<Entry>,
+    slots: &mut Vec<u16>,
+    fixed: &mut u16,
+    processes: u8,
+    slot: u16,
+    batch: Option<Batch>,
+)
+    requires processes { processes ≤ 8 }
+    requires slot { slot < 1024 }
+    requires room { fixed.old ≡ slot → vec_len entries.old + processes ≤ vec_capacity entries.old }
+    requires slots_room { fixed.old ≡ slot → vec_len slots.old + processes ≤ vec_capacity slots.old }
+    ensures entries { entries.new.items ≡ entries.old.items ++ entries_in processes (next_batch fixed.old slot batch) }
+    ensures slots { slots.new.items ≡ slots.old.items ++ slots_from processes slot (next_batch fixed.old slot batch) }
+    ensures fixed { fixed.new ≡ fixed.old + length (next_batch fixed.old slot batch) }
+    ensures room { vec_capacity entries.new ≡ vec_capacity entries.old }
+    ensures slots_room { vec_capacity slots.new ≡ vec_capacity slots.old }
 {
-    if let Some(entry) = fixed
-        && entries.len() == slot
+    if let Some(batch) = batch
+        && *fixed == slot
     {
-        entries.push_reserved(entry);
+        put_batch(entries, slots, processes, slot, batch);
+        *fixed += 1;
     }
 }
 
-/// How far a process has come by an entry, and what its step answers.
+/// How far a process has come by a batch, and what its step answers.
 #[derive(Clone, Copy)]
 struct Outcome {
     progress: Progress,
     answer: StepAnswer,
 }
 
-/// The process, with a call of its own pending, replays the entry of its next slot.
-fn replay_entry(opening: &Opening, here: Progress, mine: Entry, entry: Entry) -> Outcome
+/// The process, with a call of its own pending, replays the batch of its next slot.
+fn replay_batch(opening: &Opening, here: Progress, mine: Entry, batch: Batch) -> Outcome
     requires slot { here.replayed < opening.now.capacity }
     requires few { opening.now.capacity ≤ 1024 }
-    requires operation { entry.operation.0 < length opening.now.object.operations }
+    requires seen { here.seen ≤ 8192 }
+    requires calls_places { length here.calls_seen.calls ≡ 8 }
+    requires calls_seen { (q : ℕ) → q < processes_of opening.now.plan → count_at here.calls_seen q ≤ 8192 }
+    requires mine { mine.process < processes_of opening.now.plan }
+    requires operation { mine.operation.0 < length opening.now.object.operations }
+    requires operations { (q : ℕ) (e : EntryOf) → entry_at batch q ≡ Some e → e.operation.0 < length opening.now.object.operations }
     requires state { here.state.0 < length opening.now.object.states }
     ensures replayed { result.progress.replayed ≡ here.replayed + 1 }
+    ensures seen { result.progress.seen ≡ here.seen + length (members (processes_of opening.now.plan) 0 batch) }
+    ensures calls_places { length result.progress.calls_seen.calls ≡ 8 }
+    ensures calls_seen { (q : ℕ) → q < processes_of opening.now.plan →
+        count_at result.progress.calls_seen q ≡ count_at here.calls_seen q + length (and_entry (entry_at batch q) []) }
     ensures calls { result.progress.calls ≡ here.calls }
-    ensures phase { result.progress.phase ≡ phase_after (setting_of opening.now) here.replayed mine entry }
-    ensures state { result.progress.state.0 ≡ (transition opening.now.object entry.operation.0 here.state.0).1 }
+    ensures phase { result.progress.phase ≡ phase_after (setting_of opening.now) here.replayed mine batch }
+    ensures state { result.progress.state.0 ≡ run_of opening.now.object here.state.0 (operations_of (members (processes_of opening.now.plan) 0 batch)) }
     ensures known { result.progress.state.0 < length opening.now.object.states }
-    ensures answer { result.answer ≡ reply (setting_of opening.now) here.replayed here.state.0 mine entry }
+    ensures answer { result.answer ≡ reply (setting_of opening.now) here.replayed here.state.0 mine batch }
     ensures range { HasResponse opening.now.object result.answer }
 {
-    let (response, state) = opening.object.apply(entry.operation, here.state);
+    let processes = opening.plan.processes();
+    let state = state_after(&opening.object, processes, batch, here.state);
     let slot = here.replayed;
-    let (phase, answer) = if entry.is(mine) {
+    let (phase, answer) = if batch.has(mine) {
+        let before = state_after(&opening.object, mine.process, batch, here.state);
+        let (response, _) = opening.object.apply(mine.operation, before);
         (Phase::Idle, StepAnswer::Answered { slot, response })
     } else if slot + 1 == opening.capacity {
         (Phase::Idle, StepAnswer::Full)
     } else {
-        (Phase::Looks(mine), StepAnswer::Working)
+        (first_look(mine), StepAnswer::Working)
     };
     Outcome {
         progress: Progress {
             replayed: slot + 1,
+            seen: here.seen + count(processes, batch),
+            calls_seen: here.calls_seen.with_batch(processes, batch),
             calls: here.calls,
             phase,
             state,

@@ -3,13 +3,15 @@ ghost use Rattle.std.specs.Prelude.{◌≡◌, ◌<◌, ◌≤◌, ◌↔◌, �
 ghost use Rattle.cn_agree.specs.World.{World as RoundWorld, input_at, local_at};
 ghost use Rattle.cn_agree.specs.declared.local.Local.TheVariants.{NotBegun};
 ghost use Rattle.cn_proto.specs.Plan.{nodes_of, processes_of};
-ghost use Rattle.cn_log.specs.declared.entry.Entry.{Entry as EntryOf};
+ghost use Rattle.cn_log.specs.declared.batch.Batch.{Batch as BatchOf};
 ghost use Rattle.cn_agree.specs.Rounds.{RunsBy};
 ghost use Rattle.cn_log.specs.Agreement.{Agrees};
 ghost use Rattle.cn_log.specs.Opening.{IsOpening, setting_of};
 
-use crate::Entry;
+use crate::batch::Batch;
+use cn_agree::laws::every_round;
 use cn_proto::Plan;
+use cn_proto::laws::every_plan;
 use cn_table::{State, Table};
 use std::alloc::{AllocError, Global};
 use std::marker::Model;
@@ -57,16 +59,19 @@ impl Opening {
         })
     }
 
-    /// Every opening is one: `opening`, its plan's rounds agree, the start state is one of the
-    /// object, and there are 1 to 1024 slots; `agrees`, its rounds are what a log needs; `begun`
+    /// Every opening is one: `opening`, its plan is one, the start state is one of the object, and
+    /// there are 1 to 1024 slots; `agrees`, its rounds are what a log needs; `begun`
     /// and `sizes`, what stands in them for each process.
     pub fn is_opening(&self)
         ensures opening { IsOpening self.now }
         ensures agrees { Agrees (setting_of self.now) (RunsBy self.now.plan) }
-        ensures begun { (w : RoundWorld EntryOf) → RunsBy self.now.plan w → (p : ℕ) → p < processes_of self.now.plan → (local_at w p ≡ NotBegun) ↔ (input_at w p ≡ None) }
-        ensures sizes { (w : RoundWorld EntryOf) → RunsBy self.now.plan w → (length w.nodes ≡ nodes_of self.now.plan) × (length w.locals ≡ processes_of self.now.plan) × (length w.inputs ≡ processes_of self.now.plan) }
+        ensures begun { (w : RoundWorld BatchOf) → RunsBy self.now.plan w → (p : ℕ) → p < processes_of self.now.plan
+            → (local_at w p ≡ NotBegun) ↔ (input_at w p ≡ None) }
+        ensures sizes { (w : RoundWorld BatchOf) → RunsBy self.now.plan w → (length w.nodes ≡ nodes_of self.now.plan)
+            × (length w.locals ≡ processes_of self.now.plan) × (length w.inputs ≡ processes_of self.now.plan) }
     {
         self.plan.is_sound();
-        cn_agree::laws::every_round::<Entry>();
+        every_plan();
+        every_round::<Batch>();
     }
 }

@@ -15,6 +15,7 @@ use cn_app::{
     run_check, run_find, run_replay, run_serve,
 };
 use std::alloc::Global;
+use std::process::Abort;
 use std::test::Fail;
 
 /// What a command comes to: what it wrote, or the text of its fault, and then it wrote nothing.

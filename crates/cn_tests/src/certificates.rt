@@ -8,3 +8,11 @@ pub(crate) fn test_and_set_at_3() -> &'static str {
 pub(crate) fn found_test_and_set_at_3() -> &'static str {
     r#"{"collisions":[[0,[0],[0,0],1,[0,1],[2,1]]],"limit":3,"number":2,"type":"test_and_set","version":2,"witness":[0,[0],[0]]}"#
 }
+
+pub(crate) fn sticky_bit_at_3() -> &'static str {
+    r#"{"collisions":[],"limit":3,"number":3,"type":"sticky_bit","version":1,"witness":[0,[0],[1,1]]}"#
+}
+
+pub(crate) fn found_sticky_bit_at_8() -> &'static str {
+    r#"{"collisions":[],"limit":8,"number":8,"type":"sticky_bit","version":2,"witness":[0,[0],[1,1,1,1,1,1,1]]}"#
+}

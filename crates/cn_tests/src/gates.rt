@@ -1,8 +1,8 @@
-//! Gates, and flags by which calls wait for one another.
+//! Gates, and counts by which calls wait for one another.
 ghost use Rattle.cn_hall.specs.declared.call.Go.TheVariants.{On};
 
 use cn_hall::{Gate, Go, Seat};
-use std::sync::atomic::{AtomicBool, Ordering};
+use std::sync::atomic::{AtomicU32, Ordering};
 use std::thread;
 
 /// A gate that always says On.
@@ -13,6 +13,8 @@ impl Gate for AlwaysOn {
     ghost use Rattle.cn_hall.specs.declared.call.Go.TheVariants.{On};
 
     ghost says = { λ _. On };
+
+    ghost asks = { λ _ _ _ _. Unit {0} };
 
     fn before(&mut self, _seat: &Seat, _step: u32) -> Go {
         Go::On
@@ -33,6 +35,8 @@ pub(super) struct StopsAt {
 impl Gate for StopsAt {
     ghost says = { λ g. g.last };
 
+    ghost asks = { λ _ _ _ _. Unit {0} };
+
     fn before(&mut self, _seat: &Seat, step: u32) -> Go {
         self.last = if step == self.stop { Go::Stop } else { Go::On };
         self.last
@@ -43,19 +47,75 @@ impl Gate for StopsAt {
     }
 }
 
-/// Raises one flag, and waits for the other.
-pub(super) fn meet_flag(raised: &AtomicBool, awaited: &AtomicBool) -> bool {
-    raised.store(true, Ordering::SeqCst);
-    is_raised(awaited)
+/// A gate that counts up before one step, and holds a call before one until a count has come to a
+/// number. Where it does not come to it, the call is stopped.
+#[derive(Drop)]
+pub(super) struct Holds<'a> {
+    pub counted: &'a AtomicU32,
+    pub counts_at: u32,
+    pub awaited: &'a AtomicU32,
+    pub holds_at: u32,
+    pub number: u32,
+    pub last: Go,
 }
 
-/// Whether the flag goes up within 1,000,000 looks.
-pub(super) fn is_raised(awaited: &AtomicBool) -> bool {
+impl Gate for Holds<'_> {
+    ghost says = { λ g. g.last };
+
+    ghost asks = { λ _ _ _ _. Unit {0} };
+
+    fn before(&mut self, _seat: &Seat, step: u32) -> Go {
+        if step == self.counts_at {
+            self.counted.fetch_add(1, Ordering::SeqCst);
+        }
+        self.last = if step != self.holds_at || comes_to(self.awaited, self.number) {
+            Go::On
+        } else {
+            Go::Stop
+        };
+        self.last
+    }
+
+    fn said(&self) -> Go {
+        self.last
+    }
+}
+
+/// Whether the count comes to the number within 1,000,000 looks.
+pub(super) fn comes_to(count: &AtomicU32, number: u32) -> bool {
     for _look in 0..1_000_000u32 {
-        if awaited.load(Ordering::SeqCst) {
+        if count.load(Ordering::SeqCst) >= number {
             return true;
         }
         thread::yield_now();
     }
     false
+}
+
+/// A gate that writes down what it is asked, so far as it has room: each number, and how many slots
+/// the seat has seen.
+#[derive(Drop)]
+pub(super) struct WritesDown {
+    pub asked: [(u32, u16); 16],
+    pub times: usize,
+}
+
+impl Gate for WritesDown {
+    ghost use Rattle.cn_hall.specs.declared.call.Go.TheVariants.{On};
+
+    ghost says = { λ _. On };
+
+    ghost asks = { λ _ _ _ _. Unit {0} };
+
+    fn before(&mut self, seat: &Seat, step: u32) -> Go {
+        if let Some(place) = self.asked.get_mut(self.times) {
+            *place = (step, seat.seen_slots());
+        }
+        self.times = self.times.saturating_add(1);
+        Go::On
+    }
+
+    fn said(&self) -> Go {
+        Go::On
+    }
 }

@@ -1,13 +1,13 @@
 //! Calls on one thread, and calls that overlap on two.
-ghost use Rattle.std.specs.Prelude.{◌≡◌, ◌≤◌, ◌<◌, [], IfOk, None, length};
+ghost use Rattle.std.specs.Prelude.{◌≡◌, ◌≤◌, ◌<◌, [], IfOk, length};
 ghost use Rattle.cn_proto.specs.Plan.{processes_of};
 ghost use Rattle.std.specs.Thread.{IsSync};
 ghost use Rattle.std.specs.Vec.{vec_capacity};
-ghost use Rattle.cn_hall.specs.Seats.{IsSeatOf, pending};
+ghost use Rattle.cn_hall.specs.Seats.{IsSeatOf};
 ghost use Rattle.cn_hall.specs.declared.call.Go.TheVariants.{On};
 
 use crate::fixtures::{events_of, plan_for, table_of};
-use crate::gates::{AlwaysOn, StopsAt, is_raised, meet_flag};
+use crate::gates::{AlwaysOn, Holds, StopsAt, WritesDown, comes_to};
 use crate::types::*;
 use cn_hall::{CallFault, Gate, Go, Hall, OpenFault, Reply, Seat, open};
 use cn_log::{Event, LogCore, replay};
@@ -16,43 +16,9 @@ use std::alloc::{AllocError, Global};
 use std::cmp::Ordering as Order;
 use std::process::Abort;
 use std::sync::Wait;
-use std::sync::atomic::{AtomicBool, Ordering};
+use std::sync::atomic::{AtomicU32, Ordering};
 use std::test::Fail;
 use std::thread::{Threads, join};
-
-/// The schedule of the calls that overlap: each event so many times.
-const PARTS: [(Event, u8); 5] = [
-    (Event::Invoke(1, 0), 1),
-    (Event::Step(1), 2),
-    (Event::Invoke(0, 0), 1),
-    (Event::Step(0), 5),
-    (Event::Step(1), 8),
-];
-
-/// A gate that raises a flag before step 3 and holds until another is up.
-#[derive(Drop)]
-struct HoldsFor<'a> {
-    raised: &'a AtomicBool,
-    awaited: &'a AtomicBool,
-    last: Go,
-}
-
-impl Gate for HoldsFor<'_> {
-    ghost says = { λ g. g.last };
-
-    fn before(&mut self, _seat: &Seat, step: u32) -> Go {
-        self.last = if step != 3 || meet_flag(self.raised, self.awaited) {
-            Go::On
-        } else {
-            Go::Stop
-        };
-        self.last
-    }
-
-    fn said(&self) -> Go {
-        self.last
-    }
-}
 
 /// A core for two processes, in which the counter starts at 0, after these events.
 fn core_after(
@@ -63,7 +29,6 @@ fn core_after(
 ) -> Result<LogCore, Fail>
     requires some { 1 ≤ capacity }
     requires few { capacity ≤ 1024 }
-    ensures events { IfOk result (λ core. core.schedule ≡ events.now) }
     ensures two { IfOk result (λ core. processes_of core.opening.plan ≡ 2) }
     ensures operation { IfOk result (λ core. 0 < length core.opening.object.operations) }
 {
@@ -75,20 +40,21 @@ fn core_after(
     Ok(core)
 }
 
-/// A hall over a new core for two processes, its seats 0 and 1, and the vector that they came from.
+/// A hall over a core for two processes after these events, its seats 0 and 1, and the vector that
+/// they came from.
 fn opened<R: Wait + Abort>(
     rt: &R,
     alloc: Global,
     capacity: u16,
+    events: &[Event],
 ) -> Result<(Hall, Seat, Seat, Vec<Seat>), Fail>
     requires some { 1 ≤ capacity }
     requires few { capacity ≤ 1024 }
     ensures of { IfOk result (λ r. IsSeatOf r.0 r.1 × IsSeatOf r.0 r.2) }
-    ensures idle { IfOk result (λ r. (pending r.1 ≡ None) × (pending r.2 ≡ None)) }
     ensures operation { IfOk result (λ r. (0 < length r.1.core.opening.object.operations) × (0 < length r.2.core.opening.object.operations)) }
     ensures rest { IfOk result (λ r. (r.3.items ≡ []) × (2 ≤ vec_capacity r.3)) }
 {
-    let core = core_after(rt, alloc, capacity, &[])?;
+    let core = core_after(rt, alloc, capacity, events)?;
     let Ok((hall, mut seats)) = open(rt, alloc, core) else {
         panic!(rt; "no memory")
     };
@@ -99,6 +65,46 @@ fn opened<R: Wait + Abort>(
         unreachable!()
     };
     Ok((hall, zero, one, seats))
+}
+
+/// A call of the seat's process, which is in none.
+fn call<R: Wait + Abort, G: Gate>(
+    rt: &R,
+    hall: &Hall,
+    seat: &mut Seat,
+    gate: &mut G,
+) -> Result<Reply, CallFault>
+    requires of { IsSeatOf hall.now seat.old }
+    requires operation { 0 < length seat.old.core.opening.object.operations }
+    requires gate { G.says gate.old ≡ On }
+    ensures of { IsSeatOf hall.now seat.new }
+    ensures operation { 0 < length seat.new.core.opening.object.operations }
+{
+    assert!(rt; !seat.in_call());
+    hall.call(rt, seat, Operation(0), gate)
+}
+
+/// The rest of the call that the seat's process is in.
+fn resume<R: Wait + Abort, G: Gate>(
+    rt: &R,
+    hall: &Hall,
+    seat: &mut Seat,
+    gate: &mut G,
+) -> Result<Reply, CallFault>
+    requires of { IsSeatOf hall.now seat.old }
+    requires gate { G.says gate.old ≡ On }
+    ensures { IsSeatOf hall.now seat.new }
+{
+    assert!(rt; seat.in_call());
+    hall.resume(rt, seat, gate)
+}
+
+/// The slot of this number, and the response of this number.
+fn reply(slot: u16, response: u8) -> Result<Reply, CallFault> {
+    Ok(Reply {
+        slot,
+        response: Response(response),
+    })
 }
 
 /// Closes the hall, and sees that its schedule has each of these events so many times.
@@ -123,124 +129,198 @@ fn close<R: Wait + Abort>(
     Ok(())
 }
 
-#[test]
-fn resumes_a_stopped_call(rt: HostRuntime) -> Result<(), Fail> {
-    let alloc = rt.alloc();
-    let (hall, mut zero, mut one, seats) = opened(&rt, alloc, 4)?;
-    let mut stops = StopsAt {
-        stop: 3,
+/// Call 1 is stopped before this step, then comes call 0, and then the rest of call 1, where it was
+/// stopped. The replies of both, and how much they have seen, are these, and each slot costs call 0
+/// six steps.
+fn stops_at<R: Wait + Abort>(
+    rt: &R,
+    alloc: Global,
+    stop: u8,
+    slots: u8,
+    replies: (Result<Reply, CallFault>, Result<Reply, CallFault>),
+    order: Order,
+) -> Result<(), Fail> {
+    let (hall, mut zero, mut one, seats) = opened(rt, alloc, 4, &[])?;
+    let mut gate = StopsAt {
+        stop: u32::from(stop),
         last: Go::On,
     };
-    let Err(CallFault::Stopped) = hall.call(&rt, &mut one, Operation(0), &mut stops) else {
-        panic!(rt; "not stopped")
+    let begun = call(rt, &hall, &mut one, &mut gate);
+    assert!(rt; one.in_call() == (begun == Err(CallFault::Stopped)));
+    let first = call(rt, &hall, &mut zero, &mut AlwaysOn);
+    let second = if one.in_call() {
+        resume(rt, &hall, &mut one, &mut AlwaysOn)
+    } else {
+        begun
     };
-    assert!(rt; one.in_call() && one.seen_len() == 0);
-    assert!(rt; zero.process() == 0 && one.process() == 1);
-    let first = hall.call(&rt, &mut zero, Operation(0), &mut AlwaysOn);
-    assert!(rt;
-        first
-            == Ok(Reply {
-                slot: 0,
-                response: Response(0)
-            })
-    );
-    let second = hall.resume(&rt, &mut one, &mut AlwaysOn);
-    assert!(rt;
-        second
-            == Ok(Reply {
-                slot: 1,
-                response: Response(1)
-            })
-    );
-    close(&rt, alloc, hall, zero, one, seats, &PARTS)?;
+    assert!(rt; first == replies.0 && second == replies.1);
+    assert!(rt; hall.meet(rt, &mut zero, &mut one) == order);
+    let parts = [
+        (Event::Invoke(1, 0), 1),
+        (Event::Step(1), stop.saturating_sub(1)),
+        (Event::Invoke(0, 0), 1),
+        (Event::Step(0), slots.saturating_mul(6)),
+        (Event::Step(1), 7u8.saturating_sub(stop)),
+    ];
+    close(rt, alloc, hall, zero, one, seats, &parts)?;
     Ok(())
 }
 
-/// Call 1 holds at its gate until call 0 is answered, and call 0 is begun while it holds.
-fn overlap<R: Threads + Wait + Sync>(
+#[test]
+fn resumes_a_call_stopped_before_each_step(rt: HostRuntime) -> Result<(), Fail> {
+    for stop in 1..8u8 {
+        let (slots, replies, order) = if stop <= 4 {
+            (1, (reply(0, 0), reply(0, 1)), Order::Equal)
+        } else {
+            (2, (reply(1, 1), reply(0, 0)), Order::Greater)
+        };
+        stops_at(&rt, rt.alloc(), stop, slots, replies, order)?;
+    }
+    Ok(())
+}
+
+/// Call 1 holds at its gate before step 3 until call 0 is answered, and call 0 is begun while it
+/// holds.
+fn overlap<R: Threads + Wait + Sync + Abort>(
     rt: &R,
     hall: &Hall,
     zero: Seat,
     one: Seat,
-) -> (Seat, Option<Reply>, Seat, Option<Reply>)
+) -> (
+    (Seat, Result<Reply, CallFault>),
+    (Seat, Result<Reply, CallFault>),
+)
     requires of { IsSeatOf hall.now zero × IsSeatOf hall.now one }
-    requires idle { (pending zero ≡ None) × (pending one ≡ None) }
     requires operation { (0 < length zero.core.opening.object.operations) × (0 < length one.core.opening.object.operations) }
-    ensures { IsSeatOf hall.now result.0 × IsSeatOf hall.now result.2 }
+    ensures { IsSeatOf hall.now result.0.0 × IsSeatOf hall.now result.1.0 }
 {
-    let begun = AtomicBool::new(false);
-    let done = AtomicBool::new(false);
+    let begun = AtomicU32::new(0);
+    let done = AtomicU32::new(0);
     let (begun, done) = (&begun, &done);
-    let ((zero, first), (one, second)) = join(
+    join(
         rt,
-        move || -> (Seat, Option<Reply>)
-            requires { IsSeatOf hall.now zero × (pending zero ≡ None) × (0 < length zero.core.opening.object.operations) }
+        move || -> (Seat, Result<Reply, CallFault>)
+            requires { IsSeatOf hall.now zero × (0 < length zero.core.opening.object.operations) }
             ensures { IsSeatOf hall.entry.now result.0 }
         {
             let mut zero = zero;
-            let begins = is_raised(begun);
-            let reply = hall.call(rt, &mut zero, Operation(0), &mut AlwaysOn);
-            done.store(begins, Ordering::SeqCst);
-            (zero, reply.ok())
+            let begins = comes_to(begun, 1);
+            let reply = call(rt, hall, &mut zero, &mut AlwaysOn);
+            done.store(u32::from(begins), Ordering::SeqCst);
+            (zero, reply)
         },
-        move || -> (Seat, Option<Reply>)
-            requires { IsSeatOf hall.now one × (pending one ≡ None) × (0 < length one.core.opening.object.operations) }
+        move || -> (Seat, Result<Reply, CallFault>)
+            requires { IsSeatOf hall.now one × (0 < length one.core.opening.object.operations) }
             ensures { IsSeatOf hall.entry.now result.0 }
         {
             let mut one = one;
-            let mut gate = HoldsFor {
-                raised: begun,
+            let mut gate = Holds {
+                counted: begun,
+                counts_at: 3,
                 awaited: done,
+                holds_at: 3,
+                number: 1,
                 last: Go::On,
             };
-            let reply = hall.call(rt, &mut one, Operation(0), &mut gate);
-            (one, reply.ok())
+            let reply = call(rt, hall, &mut one, &mut gate);
+            (one, reply)
         },
-    );
-    (zero, first, one, second)
+    )
 }
 
 #[test]
 fn calls_overlap(rt: HostRuntime) -> Result<(), Fail> {
     let alloc = rt.alloc();
-    let (hall, zero, one, seats) = opened(&rt, alloc, 4)?;
-    let (mut zero, first, mut one, second) = overlap(&rt, &hall, zero, one);
-    assert!(rt;
-        first
-            == Some(Reply {
-                slot: 0,
-                response: Response(0)
-            })
-    );
-    assert!(rt;
-        second
-            == Some(Reply {
-                slot: 1,
-                response: Response(1)
-            })
-    );
-    assert!(rt; matches!(hall.meet(&rt, &mut zero, &mut one), Order::Less));
-    close(&rt, alloc, hall, zero, one, seats, &PARTS)?;
+    let (hall, zero, one, seats) = opened(&rt, alloc, 4, &[])?;
+    let ((mut zero, first), (mut one, second)) = overlap(&rt, &hall, zero, one);
+    assert!(rt; first == reply(0, 0) && second == reply(0, 1));
+    assert!(rt; zero.seen_len() == 2 && one.seen_len() == 2);
+    assert!(rt; hall.meet(&rt, &mut zero, &mut one) == Order::Equal);
+    let parts = [
+        (Event::Invoke(1, 0), 1),
+        (Event::Step(1), 2),
+        (Event::Invoke(0, 0), 1),
+        (Event::Step(0), 6),
+        (Event::Step(1), 4),
+    ];
+    close(&rt, alloc, hall, zero, one, seats, &parts)?;
     Ok(())
 }
 
 #[test]
-fn finds_the_log_full_at_once(rt: HostRuntime) -> Result<(), Fail> {
+fn finds_the_log_full(rt: HostRuntime) -> Result<(), Fail> {
     let alloc = rt.alloc();
-    let (hall, mut zero, one, seats) = opened(&rt, alloc, 1)?;
-    let first = hall.call(&rt, &mut zero, Operation(0), &mut AlwaysOn);
-    assert!(rt;
-        first
-            == Ok(Reply {
-                slot: 0,
-                response: Response(0)
-            })
-    );
-    assert!(rt; !zero.in_call() && zero.seen_len() == 1);
-    let second = hall.call(&rt, &mut zero, Operation(0), &mut AlwaysOn);
-    assert!(rt; second == Err(CallFault::LogFull));
-    let parts = [(Event::Invoke(0, 0), 1), (Event::Step(0), 5)];
+    let (hall, mut zero, mut one, seats) = opened(&rt, alloc, 1, &[])?;
+    assert!(rt; call(&rt, &hall, &mut one, &mut AlwaysOn) == reply(0, 0));
+    for _time in 0..2 {
+        let full = call(&rt, &hall, &mut zero, &mut AlwaysOn);
+        assert!(rt; full == Err(CallFault::LogFull));
+    }
+    let full = call(&rt, &hall, &mut one, &mut AlwaysOn);
+    assert!(rt; full == Err(CallFault::LogFull));
+    assert!(rt; zero.seen_slots() == 1 && zero.seen_len() == 1 && !zero.in_call());
+    let parts = [
+        (Event::Invoke(1, 0), 1),
+        (Event::Step(1), 6),
+        (Event::Invoke(0, 0), 1),
+        (Event::Step(0), 6),
+    ];
     close(&rt, alloc, hall, zero, one, seats, &parts)?;
+    Ok(())
+}
+
+#[test]
+fn opens_over_a_core_in_a_call(rt: HostRuntime) -> Result<(), Fail> {
+    let alloc = rt.alloc();
+    let before = [(Event::Invoke(0, 0), 1), (Event::Step(0), 3)];
+    let events = events_of(alloc, &before)?;
+    let (hall, mut zero, mut one, seats) = opened(&rt, alloc, 4, &events)?;
+    assert!(rt; zero.in_call() && zero.seen_slots() == 0 && !one.in_call());
+    assert!(rt; call(&rt, &hall, &mut one, &mut AlwaysOn) == reply(0, 1));
+    assert!(rt; resume(&rt, &hall, &mut zero, &mut AlwaysOn) == reply(0, 0));
+    let parts = [
+        (Event::Invoke(0, 0), 1),
+        (Event::Step(0), 3),
+        (Event::Invoke(1, 0), 1),
+        (Event::Step(1), 6),
+        (Event::Step(0), 3),
+    ];
+    close(&rt, alloc, hall, zero, one, seats, &parts)?;
+    Ok(())
+}
+
+/// The questions of a call that goes over two slots, with six steps in each, and room for four more.
+fn questions() -> [(u32, u16); 16] {
+    [
+        (1, 0),
+        (2, 0),
+        (3, 0),
+        (4, 0),
+        (5, 0),
+        (6, 0),
+        (7, 1),
+        (8, 1),
+        (9, 1),
+        (10, 1),
+        (11, 1),
+        (12, 1),
+        (0, 0),
+        (0, 0),
+        (0, 0),
+        (0, 0),
+    ]
+}
+
+#[test]
+fn asks_before_each_step_of_two_slots(rt: HostRuntime) -> Result<(), Fail> {
+    let (hall, mut zero, mut one, _) = opened(&rt, rt.alloc(), 4, &[])?;
+    assert!(rt; call(&rt, &hall, &mut zero, &mut AlwaysOn) == reply(0, 0));
+    let mut gate = WritesDown {
+        asked: [(0, 0); 16],
+        times: 0,
+    };
+    assert!(rt; call(&rt, &hall, &mut one, &mut gate) == reply(1, 1));
+    assert!(rt; gate.times == 12 && gate.asked.as_slice() == questions().as_slice());
     Ok(())
 }
 
@@ -263,11 +343,10 @@ fn opens_or_hands_the_core_back(rt: HostRuntime) -> Result<(), Fail> {
 }
 
 /// Each fault, and how it reads.
-fn fault_texts() -> [(CallFault, &'static str); 3] {
+fn fault_texts() -> [(CallFault, &'static str); 2] {
     [
         (CallFault::LogFull, "1 LogFull"),
         (CallFault::Stopped, "2 Stopped"),
-        (CallFault::from(AllocError), "3 OutOfMemory"),
     ]
 }
 
@@ -287,7 +366,6 @@ fn prints_every_fault(rt: HostRuntime) -> Result<(), Fail> {
 /// A new core of 1,024 slots for eight processes, by the witness `[0,[0],[1,1,1,1,1,1,1]]` of
 /// sticky_bit, in which the counter starts at 0.
 fn core_for_eight(rt: &impl Abort, alloc: Global) -> Result<LogCore, Fail>
-    ensures events { IfOk result (λ core. core.schedule ≡ []) }
     ensures eight { IfOk result (λ core. processes_of core.opening.plan ≡ 8) }
     ensures operation { IfOk result (λ core. 0 < length core.opening.object.operations) }
 {
@@ -302,7 +380,6 @@ fn core_for_eight(rt: &impl Abort, alloc: Global) -> Result<LogCore, Fail>
 /// A hall over a new core for eight processes, and its seats 6 and 7.
 fn opened_for_eight<R: Wait + Abort>(rt: &R, alloc: Global) -> Result<(Hall, Seat, Seat), Fail>
     ensures of { IfOk result (λ r. IsSeatOf r.0 r.1 × IsSeatOf r.0 r.2) }
-    ensures idle { IfOk result (λ r. (pending r.1 ≡ None) × (pending r.2 ≡ None)) }
     ensures operation { IfOk result (λ r. (0 < length r.1.core.opening.object.operations) × (0 < length r.2.core.opening.object.operations)) }
 {
     let core = core_for_eight(rt, alloc)?;
@@ -323,29 +400,15 @@ fn serves_eight_seats(rt: HostRuntime) -> Result<(), Fail> {
     let alloc = rt.alloc();
     let (hall, mut six, mut seven) = opened_for_eight(&rt, alloc)?;
     assert!(rt; six.process() == 6 && seven.process() == 7);
-    let first = hall.call(&rt, &mut seven, Operation(0), &mut AlwaysOn);
-    assert!(rt;
-        first
-            == Ok(Reply {
-                slot: 0,
-                response: Response(0)
-            })
-    );
-    let second = hall.call(&rt, &mut six, Operation(0), &mut AlwaysOn);
-    assert!(rt;
-        second
-            == Ok(Reply {
-                slot: 1,
-                response: Response(1)
-            })
-    );
-    assert!(rt; matches!(hall.meet(&rt, &mut six, &mut seven), Order::Greater));
-    // Each has seven places on its path, so 29 steps for each slot.
+    assert!(rt; call(&rt, &hall, &mut seven, &mut AlwaysOn) == reply(0, 0));
+    assert!(rt; call(&rt, &hall, &mut six, &mut AlwaysOn) == reply(1, 1));
+    assert!(rt; hall.meet(&rt, &mut six, &mut seven) == Order::Greater);
+    // Each has seven places on its path, so 8 looks and 28 steps for each slot.
     let parts = [
         (Event::Invoke(7, 0), 1),
-        (Event::Step(7), 29),
+        (Event::Step(7), 36),
         (Event::Invoke(6, 0), 1),
-        (Event::Step(6), 58),
+        (Event::Step(6), 72),
     ];
     let seats = Vec::with_capacity(alloc, 2)?;
     close(&rt, alloc, hall, six, seven, seats, &parts)?;

@@ -103,15 +103,16 @@ and no space between two, at most 65536 of them, or the word none.
 
 Writes answer P K R for each call of process P that is answered, with its slot K and its response
 R, and full P for each that finds no slot, in the order of the events. Then writes entry K P O R S
-for each fixed slot K: process P, operation O, response R and the state S of the object afterwards.
-Whatever the events, the answers are those of one sequential run, in the order of the slots.
+for each call in the log: its slot K, which others may share, process P, operation O, response R
+and the state S of the object afterwards. Whatever the events, the answers are those of one
+sequential run, in the order of these lines.
 
 Exit status: 0 done, 1 some call found no slot, the check refuses the certificate, or it has no
 witness, 2 the text of a table or of the certificate is refused, 3 the words, an argument or an
 event are refused, 4 reading or writing failed, 5 out of memory.
 
 Example:
-  cnum replay tests/cli/check_ok/cert.json types/counter_3.toml 0 4 i0:0,s0,s0,s0 < types/test_and_set.toml
+  cnum replay tests/cli/check_ok/cert.json types/counter_3.toml 0 4 i0:0,s0,s0,s0,s0 < types/test_and_set.toml
 writes entry 0 0 inc 0 1.";
 
 const SERVE_ABOUT: &str =
@@ -127,10 +128,10 @@ them, or the word none.
 
 Writes for each process P, from 0 on, answer P K R for each call that is answered, with its slot K
 and its response R, in order, and full P for one that finds no slot, after which the process makes
-no other. Then writes entry K P O R S for each fixed slot K: process P, operation O, response R and
-the state S of the object afterwards. Last writes events L, where L are the events as the threads
-came to make them, which replay reads. However they ran, the answers are those of one sequential
-run, in the order of the slots.
+no other. Then writes entry K P O R S for each call in the log: its slot K, which others may share,
+process P, operation O, response R and the state S of the object afterwards. Last writes events L,
+where L are the events as the threads came to make them, which replay reads. However they ran, the
+answers are those of one sequential run, in the order of the entry lines.
 
 Exit status: 0 done, 1 some call found no slot, the check refuses the certificate, or it has no
 witness, 2 the text of a table or of the certificate is refused, 3 the words or an argument are
@@ -138,7 +139,7 @@ refused, 4 reading or writing failed or a thread could not be started, 5 out of 
 
 Example:
   cnum serve tests/cli/check_ok/cert.json types/counter_3.toml 0 4 0/none < types/test_and_set.toml
-writes answer 0 0 0, entry 0 0 inc 0 1 and events i0:0,s0,s0,s0,s0,s0.";
+writes answer 0 0 0, entry 0 0 inc 0 1 and events i0:0,s0,s0,s0,s0,s0,s0.";
 
 fn find<'a>(alloc: Global) -> Result<Command<'a>, AllocError> {
     let limit = Arg::new(alloc, "limit")

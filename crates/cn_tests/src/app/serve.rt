@@ -4,63 +4,18 @@ ghost use Rattle.cn_hall.specs.declared.call.Go.TheVariants.{On};
 
 use super::*;
 use crate::certificates::*;
-use crate::gates::{AlwaysOn, StopsAt, meet_flag};
+use crate::gates::{AlwaysOn, Holds, StopsAt};
 use crate::types::*;
-use cn_hall::{Gate, Go, Seat};
+use cn_hall::{Gate, Go};
 use std::sync::Wait;
-use std::sync::atomic::AtomicBool;
+use std::sync::atomic::AtomicU32;
 use std::thread::Threads;
 
-/// A flag for each of two processes.
-#[derive(Drop)]
-struct Flags {
-    zero: AtomicBool,
-    one: AtomicBool,
-}
-
-impl Flags {
-    /// A process raises its flag. Whether that of the other goes up.
-    fn meet(&self, process: u8) -> bool {
-        if process == 0 {
-            meet_flag(&self.zero, &self.one)
-        } else {
-            meet_flag(&self.one, &self.zero)
-        }
-    }
-}
-
-/// A gate that waits for the other process before the first step of a call, and stops the call
-/// where it does not come.
-#[derive(Drop)]
-struct WaitsFor<'a> {
-    flags: &'a Flags,
-    process: u8,
-    last: Go,
-}
-
-impl Gate for WaitsFor<'_> {
-    ghost says = { λ g. g.last };
-
-    fn before(&mut self, _seat: &Seat, step: u32) -> Go {
-        self.last = if step != 1 || self.flags.meet(self.process) {
-            Go::On
-        } else {
-            Go::Stop
-        };
-        self.last
-    }
-
-    fn said(&self) -> Go {
-        self.last
-    }
-}
-
-/// How `serve` ends, with a certificate and the counter from a state, and what it writes.
+/// How `serve` ends, with a certificate and the counter from its first state, and what it writes.
 fn served<T, G, F>(
     rt: &T,
     alloc: Global,
     texts: (&str, &str),
-    start: &str,
     capacity: &str,
     calls: &str,
     make_gate: F,
@@ -80,7 +35,7 @@ where
         &mut texts.1.as_bytes(),
         &mut counter_3().as_bytes(),
         &mut written,
-        start,
+        "0",
         capacity,
         calls,
         make_gate,
@@ -100,7 +55,6 @@ fn tells_calls_that_are_stopped(rt: HostRuntime) -> Result<(), Fail> {
         &rt,
         rt.alloc(),
         two(),
-        "0",
         "4",
         "none/0",
         |_| StopsAt {
@@ -113,20 +67,41 @@ fn tells_calls_that_are_stopped(rt: HostRuntime) -> Result<(), Fail> {
     Ok(())
 }
 
-/// The lines of entries, in order, and those of answers, sorted.
+#[test]
+fn each_process_has_the_gate_made_for_it(rt: HostRuntime) -> Result<(), Fail> {
+    let (ended, text) = served(
+        &rt,
+        rt.alloc(),
+        two(),
+        "4",
+        "0/0",
+        |process| StopsAt {
+            stop: if process == 1 { 3 } else { 0 },
+            last: Go::On,
+        },
+    )?;
+    assert!(rt;
+        text.starts_with("answer 0 0 0\nstopped 1\nentry 0 0 inc 0 1\n"),
+        "{text}"
+    );
+    assert_eq!(rt; ended, Ok(Outcome::Cut));
+    Ok(())
+}
+
+/// The lines of entries, in order, and those of calls, sorted.
 fn sorted_lines(alloc: Global, text: &str) -> Result<(Vec<&str>, Vec<&str>), Fail> {
     let mut entries = Vec::new(alloc);
-    let mut answers = Vec::new(alloc);
+    let mut calls = Vec::new(alloc);
     for line in text.lines() {
         if line.starts_with("entry ") {
             entries.push(line)?;
         }
-        if line.starts_with("answer ") {
-            answers.push(line)?;
+        if line.starts_with("answer ") || line.starts_with("full ") {
+            calls.push(line)?;
         }
     }
-    answers.sort()?;
-    Ok((entries, answers))
+    calls.sort()?;
+    Ok((entries, calls))
 }
 
 /// What `replay` writes of these events.
@@ -146,51 +121,113 @@ fn replayed<T>(rt: &T, alloc: Global, capacity: &str, events: &str) -> Result<St
     told(alloc, outcome, written)
 }
 
+/// Busy threads make these calls, and the events replay to the same log. How many calls end, and
+/// whether each has an answer.
+fn served_and_replayed<T: Threads + Wait + Sync + Abort>(
+    rt: &T,
+    alloc: Global,
+    capacity: &str,
+    calls: &str,
+) -> Result<(usize, bool), Fail> {
+    let (ended, text) = served(rt, alloc, two(), capacity, calls, |_| AlwaysOn)?;
+    let (before, events) = text.as_str().split_once("events ").ok_or("no events")?;
+    let again = replayed(rt, alloc, capacity, events.trim_end())?;
+    let (entries, calls) = sorted_lines(alloc, before)?;
+    let (entries_again, calls_again) = sorted_lines(alloc, again.as_str())?;
+    assert_eq!(rt; entries.as_slice(), entries_again.as_slice(), "{text}");
+    assert_eq!(rt; calls.as_slice(), calls_again.as_slice(), "{text}");
+    Ok((calls.len(), ended == Ok(Outcome::Whole)))
+}
+
+/// Of two calls and one slot, the one that finds the log full was made.
 #[test]
 fn tells_events_that_replay_to_the_same_log(rt: HostRuntime) -> Result<(), Fail> {
-    let alloc = rt.alloc();
     for _time in 0..200u8 {
-        let (ended, text) = served(&rt, alloc, two(), "0", "8", "0,0/0,0", |_| AlwaysOn)?;
-        assert_eq!(rt; ended, Ok(Outcome::Whole));
-        let (before, events) = text.as_str().split_once("events ").ok_or("no events")?;
-        let again = replayed(&rt, alloc, "8", events.trim_end())?;
-        let (entries, answers) = sorted_lines(alloc, before)?;
-        let (entries_again, answers_again) = sorted_lines(alloc, again.as_str())?;
-        assert_eq!(rt; answers.len(), 4);
-        assert_eq!(rt; entries.as_slice(), entries_again.as_slice(), "{text}");
-        assert_eq!(rt; answers.as_slice(), answers_again.as_slice(), "{text}");
+        let many = served_and_replayed(&rt, rt.alloc(), "8", "0,0/0,0")?;
+        assert_eq!(rt; many, (4, true));
+        let few = served_and_replayed(&rt, rt.alloc(), "1", "0/0")?;
+        assert_eq!(rt; few.0, 2);
     }
     Ok(())
 }
 
-/// How two processes end that wait for one another before their first steps.
-fn meeting<T: Threads + Wait + Sync>(
+/// How processes end each of which makes a call and takes no step until all are in one.
+fn gathered<T: Threads + Wait + Sync>(
     rt: &T,
     alloc: Global,
-    flags: &Flags,
+    texts: (&str, &str),
+    calls: &str,
+    processes: u32,
 ) -> Result<(Result<Outcome, AppFault>, String), Fail> {
+    let begun = AtomicU32::new(0);
     served(
         rt,
         alloc,
-        two(),
-        "0",
+        texts,
         "4",
-        "0/0",
-        |process| WaitsFor {
-            flags,
-            process,
+        calls,
+        |_| Holds {
+            counted: &begun,
+            counts_at: 1,
+            awaited: &begun,
+            holds_at: 1,
+            number: processes,
             last: Go::On,
         },
     )
 }
 
 #[test]
-fn calls_of_two_processes_overlap(rt: HostRuntime) -> Result<(), Fail> {
-    let flags = Flags {
-        zero: AtomicBool::new(false),
-        one: AtomicBool::new(false),
-    };
-    let (ended, text) = meeting(&rt, rt.alloc(), &flags)?;
+fn all_processes_are_in_a_call_at_once(rt: HostRuntime) -> Result<(), Fail> {
+    for (texts, calls, processes) in [
+        (two(), "0/0", 2),
+        ((sticky_bit(), sticky_bit_at_3()), "0/0/0", 3),
+        (
+            (sticky_bit(), found_sticky_bit_at_8()),
+            "0/0/0/0/0/0/0/0",
+            8,
+        ),
+    ] {
+        let (ended, text) = gathered(&rt, rt.alloc(), texts, calls, processes)?;
+        assert_eq!(rt; ended, Ok(Outcome::Whole), "{text}");
+    }
+    Ok(())
+}
+
+/// Process 1 holds before the third step of its call until process 0 has begun its second call.
+#[test]
+fn no_call_waits_for_the_end_of_another(rt: HostRuntime) -> Result<(), Fail> {
+    let (begun, none) = (AtomicU32::new(0), AtomicU32::new(0));
+    let (ended, text) = served(
+        &rt,
+        rt.alloc(),
+        two(),
+        "4",
+        "0,0/0",
+        |process| Holds {
+            counted: if process == 0 { &begun } else { &none },
+            counts_at: 1,
+            awaited: &begun,
+            holds_at: if process == 0 { 0 } else { 3 },
+            number: 2,
+            last: Go::On,
+        },
+    )?;
     assert_eq!(rt; ended, Ok(Outcome::Whole), "{text}");
+    Ok(())
+}
+
+#[test]
+fn serves_eight_processes_in_the_greatest_log(rt: HostRuntime) -> Result<(), Fail> {
+    let alloc = rt.alloc();
+    let mut calls = String::from_str(alloc, "0")?;
+    for call in 1..1024u16 {
+        calls.push_str(if call % 128 == 0 { "/0" } else { ",0" })?;
+    }
+    let texts = (sticky_bit(), found_sticky_bit_at_8());
+    let (ended, text) = served(&rt, alloc, texts, "1024", &calls, |_| AlwaysOn)?;
+    let (entries, answers) = sorted_lines(alloc, &text)?;
+    assert_eq!(rt; ended, Ok(Outcome::Whole));
+    assert_eq!(rt; (entries.len(), answers.len()), (1024, 1024));
     Ok(())
 }

@@ -1,4 +1,4 @@
-use Rattle.std.proofs.Common.{◌≡◌, ◌++◌, [], drop, take}
+use Rattle.std.proofs.Common.{◌≡◌, ◌≤◌, ◌++◌, [], drop, length, take, vec_capacity}
 use Rattle.cn_log.specs.Opening.{opening_of, setting_of}
 use Rattle.cn_app.specs.Replay.{told_after, HaveResponses}
 use Rattle.cn_app.proofs.answers.answers_of.Given as goal
@@ -10,4 +10,6 @@ invariant-loop-event l = record {
   told : l.told.items ++ told_after (setting_of (opening_of l.plan l.object l.fn.start.0 l.capacity)) (take l.event-index l.events) (drop l.event-index l.events)
       ≡ told_after (setting_of (opening_of l.plan l.object l.fn.start.0 l.capacity)) [] l.events;
   responses : HaveResponses l.object l.told.items;
+  few : length l.told.items ≤ l.event-index;
+  room : length l.events ≤ vec_capacity l.told;
 }

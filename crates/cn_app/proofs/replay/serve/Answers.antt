@@ -6,7 +6,7 @@ use Rattle.cn_app.proofs.replay.serve.Goals as goal
 
 pub entry_lines-requires-clause-known : goal.entry_lines-requires-clause-known
 entry_lines-requires-clause-known c =
-    rw (c.entries.ensures, c.in_ok-core.ensures.opening, c.in_ok-core.ensures.schedule)
+    rw (c.in_ok-core.ensures.opening, c.in_ok-core.ensures.schedule)
     (known_entries (setting_of (opening_of c.args.service.now.plan c.args.service.now.object c.args.start.0 c.args.capacity)) c.args.events.now c.in_ok-core.ensures.events c.in_ok-core.ensures.linearized)
 
 pub returns-in_err-push_str-clause-refused : goal.returns-in_err-push_str-clause-refused

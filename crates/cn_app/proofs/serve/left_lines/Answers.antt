@@ -4,5 +4,5 @@ use Rattle.cn_app.proofs.serve.left_lines.Goals as goal
 
 pub entry_lines-requires-clause-known : goal.entry_lines-requires-clause-known
 entry_lines-requires-clause-known c =
-    rw (c.entries.ensures, ← c.requires.object)
+    rw (← c.requires.object)
     (known_entries (setting c.args.left.now.core) c.args.left.now.core.schedule c.is_linearized.ensures.events c.is_linearized.ensures.linearized)

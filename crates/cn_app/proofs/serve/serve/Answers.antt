@@ -4,6 +4,7 @@ use Rattle.cn_proto.specs.Plan.{Plan}
 use Rattle.cn_app.specs.Plans.{IsPlanOf}
 use Rattle.cn_app.specs.Replay.{GivesObject, StartGives}
 use Rattle.cn_app.specs.Serve.{IsServedByThreads}
+use Rattle.cn_app.specs.Workers.{EachHasOneGate}
 use Rattle.cn_app.proofs.FailingThreads.{calls_give, threads_fail}
 use Rattle.cn_app.proofs.serve.serve.Goals as goal
 
@@ -31,13 +32,13 @@ returns-in_err-write-clause-served g c =
     let object = c.serve_texts.new.object.bytes.items in
     let outcome = c.in_ok-served.served.outcome in
     let served = subst (λ (l : List ℕ). GivesObject table certificate object (λ t x o. (plan : Plan) × IsPlanOf t x plan
-    × StartGives o c.args.start.now (λ q. IsServedByThreads plan o q c.in_ok-capacity.capacity (lists_of c.deref.result.now) l outcome))) (sym c.write.ensures.kept) c.in_ok-served.ensures.served in
+    × StartGives o c.args.start.now (λ q. IsServedByThreads (EachHasOneGate g.G.Gate.asks g.G.Gate.says (λ p x. goal.F-post g c.args.make_gate p x)) plan o q c.in_ok-capacity.capacity (lists_of c.deref.result.now) l outcome))) (sym c.write.ensures.kept) c.in_ok-served.ensures.served in
     rw p.1
     (λ _. (
       outcome,
       calls_give c.args.capacity.now c.args.calls.now c.in_ok-capacity.capacity (lists_of c.deref.result.now) c.in_ok-capacity.ensures.capacity
           (c.in_ok-calls.ensures.calls ∙ ap (λ l. Some (lists_of l)) (sym c.deref.ensures.value))
-          (λ k cs. GivesObject table certificate object (λ t x o. (plan : Plan) × IsPlanOf t x plan × StartGives o c.args.start.now (λ q. IsServedByThreads plan o q k cs c.write.new.self.bytes.items outcome))) served,
+          (λ k cs. GivesObject table certificate object (λ t x o. (plan : Plan) × IsPlanOf t x plan × StartGives o c.args.start.now (λ q. IsServedByThreads (EachHasOneGate g.G.Gate.asks g.G.Gate.says (λ p x. goal.F-post g c.args.make_gate p x)) plan o q k cs c.write.new.self.bytes.items outcome))) served,
     ))
 
 pub returns-in_err-served-clause-untouched_certificate : goal.returns-in_err-served-clause-untouched_certificate

@@ -20,13 +20,15 @@ left_lines-requires-clause-range g c =
 
 pub returns-clause-served : goal.returns-clause-served
 returns-clause-served g c =
-    served_by_threads c.args.service.now.plan c.args.service.now.object c.args.start.0 c.args.capacity c.args.calls.now c.in_ok-left.left.core c.in_ok-left.left.worked.items
+    served_by_threads _ c.args.service.now.plan c.args.service.now.object c.args.start.0 c.args.capacity c.args.calls.now c.in_ok-left.left.core c.in_ok-left.left.worked.items
     (string_bytes c.in_ok-lines.lines) c.outcome_of-outcome.result (c.in_ok-left.ensures.opening ∙ c.in_ok-core.ensures.opening) c.requires.fit c.in_ok-left.ensures.count
     (record {
       may_come = c.is_linearized.ensures.events;
       linearized = c.is_linearized.ensures.linearized;
       bypass = c.is_linearized.ensures.bypass;
+      wait_free = c.is_linearized.ensures.wait_free;
       served = c.in_ok-left.ensures.served;
+      gated = c.in_ok-left.ensures.gates;
       written = c.in_ok-lines.ensures;
     })
     (c.outcome_of-outcome.ensures ∙ ap outcome_of c.deref.ensures.value)

@@ -4,6 +4,7 @@ use Rattle.cn_proto.specs.Plan.{Plan}
 use Rattle.cn_app.specs.Plans.{IsPlanOf, PlanFails}
 use Rattle.cn_app.specs.Replay.{FailsObject, GivesObject, StartFails, StartGives}
 use Rattle.cn_app.specs.Serve.{AreNotServed, IsServedByThreads}
+use Rattle.cn_app.specs.Workers.{EachHasOneGate}
 use Rattle.cn_app.specs.declared.fault.AppFault.TheVariants.{OutOfMemory, Write}
 use Rattle.cn_app.proofs.FailingObjects.{fails_before_object_plan, service_gives, service_refused}
 use Rattle.cn_app.specs.FaultText.{IsOfWork, text_of}
@@ -30,10 +31,10 @@ returns-clause-served g c =
     let plan = c.in_ok-service.service.plan in
     let o = c.in_ok-service.service.object in
     let calls = lists_of c.args.calls.now in
-    IfOk-weaker c.serve_from.result (λ s. StartGives o c.args.start.now (λ q. IsServedByThreads plan o q c.args.capacity calls (string_bytes s.lines) s.outcome))
-    (λ s. GivesObject table certificate object (λ t x z. (p : Plan) × IsPlanOf t x p × StartGives z c.args.start.now (λ q. IsServedByThreads p z q c.args.capacity calls (string_bytes s.lines) s.outcome)))
+    IfOk-weaker c.serve_from.result (λ s. StartGives o c.args.start.now (λ q. IsServedByThreads (EachHasOneGate g.G.Gate.asks g.G.Gate.says (λ p x. goal.F-post g c.args.make_gate p x)) plan o q c.args.capacity calls (string_bytes s.lines) s.outcome))
+    (λ s. GivesObject table certificate object (λ t x z. (p : Plan) × IsPlanOf t x p × StartGives z c.args.start.now (λ q. IsServedByThreads (EachHasOneGate g.G.Gate.asks g.G.Gate.says (λ p x. goal.F-post g c.args.make_gate p x)) p z q c.args.capacity calls (string_bytes s.lines) s.outcome)))
     (λ s h. service_gives table certificate object plan o c.in_ok-service.ensures.service
-    (λ p z. StartGives z c.args.start.now (λ q. IsServedByThreads p z q c.args.capacity calls (string_bytes s.lines) s.outcome)) h)
+    (λ p z. StartGives z c.args.start.now (λ q. IsServedByThreads (EachHasOneGate g.G.Gate.asks g.G.Gate.says (λ p x. goal.F-post g c.args.make_gate p x)) p z q c.args.capacity calls (string_bytes s.lines) s.outcome)) h)
     c.serve_from.ensures.served
 
 pub returns-clause-refused : goal.returns-clause-refused

@@ -1,8 +1,7 @@
-use Rattle.std.proofs.Common.{◌≡◌, false, List, length, sym, ◌∙◌, subst, arith}
-use Rattle.std.specs.List.{list_any}
-use Rattle.cn_app.specs.Workers.{is_out_of_memory}
-use Rattle.cn_app.specs.declared.workers.Worked.{Worked}
-use Rattle.cn_app.proofs.LeftLemmas.{left_of, none_out_of_memory, may_all_work, same_opening, serve_all}
+use Rattle.std.proofs.Common.{◌≡◌, false, List, length, sym, ap, ◌∙◌, arith}
+use Rattle.cn_proto.specs.Plan.{processes_of}
+use Rattle.cn_log.specs.Opening.{Opening}
+use Rattle.cn_app.proofs.LeftLemmas.{left_of, may_all_work, one_gate_each, same_opening, serve_all}
 use Rattle.cn_app.proofs.serving.serve_calls.Goals as goal
 
 -- src/serving.rt:113:33
@@ -33,7 +32,17 @@ returns-clause-opening g c =
 pub returns-clause-served : goal.returns-clause-served
 returns-clause-served g c =
     let count : length c.in-Ok.seats.items ≡ length c.args.calls.now = c.in-Ok.ensures.count ∙ sym c.requires.processes in
-    let none : list_any (λ (w : Worked). is_out_of_memory w.end) c.in-Some.worked.items ≡ false
-    = subst (λ (l : List Worked). list_any (λ (w : Worked). is_out_of_memory w.end) l ≡ false) c.deref.ensures.value (sym c.found_no_memory.ensures ∙ c.if-found_no_memory.false) in
     serve_all c.in-Ok.hall c.args.core c.args.calls.now c.in-Ok.seats.items count (λ p less. c.in-Ok.ensures.seats p (omega (arith, less, c.requires.processes))) c.in-Some.seats.items c.in-Some.worked.items c.in-Some.ensures.seats.0
-    c.in-Some.ensures.rooms.0 c.in-Some.ensures.worked c.close-core.result c.close-core.ensures.carries c.close-core.ensures.entries c.close-core.ensures.answers (none_out_of_memory c.in-Some.worked.items none)
+    c.in-Some.ensures.rooms.0 c.in-Some.ensures.worked c.close-core.result c.close-core.ensures.carries c.close-core.ensures.slots c.close-core.ensures.answers
+
+-- src/serving.rt:88:1
+pub returns-clause-gates : goal.returns-clause-gates
+returns-clause-gates g c =
+    let count : length c.in-Ok.seats.items ≡ length c.args.calls.now = c.in-Ok.ensures.count ∙ sym c.requires.processes in
+    let opened = same_opening c.in-Ok.hall c.args.core c.args.calls.now c.in-Ok.seats.items count (λ p less. c.in-Ok.ensures.seats p (omega (arith, less, c.requires.processes))) c.in-Some.seats.items c.in-Some.worked.items
+    c.in-Some.ensures.seats.0 c.in-Some.ensures.rooms.0 c.in-Some.ensures.worked c.close-core.result c.close-core.ensures.carries
+    (omega (arith, c.processes.ensures.range.0, c.processes.ensures.number, c.requires.processes)) in
+    one_gate_each c.in-Ok.hall c.args.core c.args.calls.now c.in-Ok.seats.items count (λ p less. c.in-Ok.ensures.seats p (omega (arith, less, c.requires.processes))) c.in-Some.seats.items c.in-Some.worked.items
+    c.in-Some.ensures.seats.0 c.in-Some.ensures.rooms.0 c.in-Some.ensures.worked c.close-core.result c.close-core.ensures.carries
+    g.G.Gate.asks g.G.Gate.says _ c.in_ok-gates.gates.items (c.in_ok-gates.ensures.count ∙ c.processes.ensures.number ∙ sym c.in-Ok.ensures.count) c.in-Some.ensures.asked c.in_ok-gates.ensures.made c.requires.empty
+    (ap (λ (o : Opening). processes_of o.plan) opened ∙ sym c.requires.processes)

@@ -3,9 +3,9 @@ use Rattle.std.proofs.lemmas.List.Elements.{All-pop}
 use Rattle.std.specs.Global.{Global}
 use Rattle.cn_hall.specs.Seats.{SeatState}
 use Rattle.cn_hall.specs.declared.call.Go.TheVariants.{On}
-use Rattle.cn_app.specs.Workers.{HasWorked, HaveAllWorked}
+use Rattle.cn_app.specs.Workers.{AllGatesWereAsked, HasWorked, HaveAllWorked}
 use Rattle.cn_app.specs.declared.workers.Worked.{Worked}
-use Rattle.cn_app.proofs.PlaceLemmas.{may_all_front, may_last, one_more_worked, read_at, room_front, room_last}
+use Rattle.cn_app.proofs.PlaceLemmas.{may_all_front, may_last, one_more_asked, one_more_worked, read_at, room_front, room_last}
 use Rattle.cn_app.proofs.workers.+answer_each+fn-answer_each-scope.Goals as goal
 
 -- src/workers.rt:118:9
@@ -56,4 +56,16 @@ returns-clause-worked g t c =
     let mine = read_at c.args.calls.now c.len.result (length seats) c.index-calls-len.result at less c.index-calls-len.is in
     subst (λ (z : List SeatState × List SeatState × List Worked). HaveAllWorked c.args.calls.now z.0 z.1 z.2) (λ i. (sym c.in-Some.ensures.items i, sym c.push_reserved.ensures.items i, sym c.push_reserved-2.ensures.items i))
     (one_more_worked c.args.calls.now seats c.in_ok-seats.seats.items c.in_ok-seats.worked.items c.in-Some.seat c.in_ok-seats.seat c.in_ok-seats.last h.1.0.0 h.1.1.0.0 h.1.1.1.0
-    (λ d got. let same : Some c.index-calls-len.result ≡ Some d = sym mine ∙ got in let is : c.index-calls-len.result ≡ d = cc in subst (λ (v : Vec ℕ Global). HasWorked v.items c.in-Some.seat c.in_ok-seats.seat c.in_ok-seats.last.replies.items c.in_ok-seats.last.end) is h.1.1.1.1))
+    (λ d got. let same : Some c.index-calls-len.result ≡ Some d = sym mine ∙ got in let is : c.index-calls-len.result ≡ d = cc in subst (λ (v : Vec ℕ Global). HasWorked v.items c.in-Some.seat c.in_ok-seats.seat c.in_ok-seats.last.replies.items c.in_ok-seats.last.end) is h.1.1.1.1.1.0))
+
+-- src/workers.rt:93:1
+pub returns-clause-asked : goal.returns-clause-asked
+returns-clause-asked g t c =
+    let h = c.in_ok-seats.ensures in
+    let seats = c.pop.new.self.items in
+    let gates = c.pop-3.new.self.items in
+    let longer = ap length c.in-Some.ensures.items in
+    let shorter = ap length c.in-Some-Some.ensures'.items in
+    let same : length gates ≡ length seats = omega (arith, longer, shorter, c.requires.gates.1, length-append seats (c.in-Some.seat ∷ []), length-append gates (c.in-Some-Some.gate ∷ [])) in
+    subst (λ (z : List SeatState × List g.row.G.Denot × List SeatState). AllGatesWereAsked g.G.Gate.asks g.G.Gate.says z.0 z.1 z.2) (λ i. (sym c.in-Some.ensures.items i, sym c.in-Some-Some.ensures'.items i, sym c.push_reserved.ensures.items i))
+    (one_more_asked g.G.Gate.asks g.G.Gate.says seats c.in_ok-seats.seats.items gates c.in-Some.seat c.in_ok-seats.seat c.in-Some-Some.gate h.1.0.0 same h.1.1.1.1.0 h.1.1.1.1.1.1)

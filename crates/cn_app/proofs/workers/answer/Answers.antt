@@ -1,16 +1,16 @@
-use Rattle.std.proofs.Common.{◌<◌, ◌+◌, List, [], ◌∷◌, ◌++◌, All, append-nil, length, sym, ap, ◌∙◌, subst, arith, rules}
+use Rattle.std.proofs.Common.{◌<◌, ◌+◌, List, [], ◌∷◌, ◌++◌, All, Err, Ok, append-nil, length, sym, ap, ◌∙◌, subst, arith, rules}
 use Rattle.std.proofs.lemmas.List.{take_all, take_more}
 use Rattle.std.proofs.lemmas.List.Elements.{All-push}
 use Rattle.cn_log.specs.Opening.{Opening}
 use Rattle.cn_hall.specs.declared.call.Reply.{Reply}
-use Rattle.cn_app.specs.Workers.{EndsAt}
+use Rattle.cn_app.specs.Workers.{EndsAt, HasAsked, OneCall}
 use Rattle.cn_app.specs.declared.workers.End.{End}
 use Rattle.cn_app.proofs.SeatLemmas.{begins_left, ends_left, one_more}
 use Rattle.cn_app.proofs.workers.answer.Goals as goal
 
 -- src/workers.rt:69:17
-pub returns-in-Err : goal.returns-in-Err
-returns-in-Err g c =
+pub returns-in-Err-clause-worked : goal.returns-in-Err-clause-worked
+returns-in-Err-clause-worked g c =
     let i = c.loop-operation.invariant in
     let h = c.in-Err.ensures in
     let more = take_more c.args.operations.now c.loop-operation.operation-index _ c.loop-operation-test.true in
@@ -37,13 +37,20 @@ loop-operation-preserved g c =
       range = subst (λ (z : Opening × List Reply). All (λ (r : Reply). r.response.0 < length z.0.object.responses) z.1) (λ k. (sym h.same.2 k, sym c.push_reserved.ensures.items k))
           (All-push (λ (r : Reply). r.response.0 < length c.loop-operation.seat.core.opening.object.responses) c.loop-operation.replies.items c.in-Ok.reply i.range h.range);
       says = h.said;
+      asked = OneCall _ (Ok c.in-Ok.reply) i.asked h.asked;
       count = search rules;
       room = search rules;
     }
 
 -- src/workers.rt:48:1
-pub returns : goal.returns
-returns g c =
+pub returns-in-Err-clause-asked : goal.returns-in-Err-clause-asked
+returns-in-Err-clause-asked g c = (c.call.new.gate, OneCall _ (Err c.in-Err.fault) c.loop-operation.invariant.asked c.in-Err.ensures.asked)
+
+pub returns-clause-asked : goal.returns-clause-asked
+returns-clause-asked g c = (c.loop-operation.gate, c.loop-operation.invariant.asked)
+
+pub returns-clause-worked : goal.returns-clause-worked
+returns-clause-worked g c =
     let i = c.loop-operation.invariant in
     let all = i.made ∙ take_all c.loop-operation.operation-index c.args.operations.now c.loop-operation-test.false in
     record {

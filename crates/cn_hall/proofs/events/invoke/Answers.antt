@@ -30,15 +30,15 @@ put_step-requires-clause-event g c = let v = view c.args.pass.now in let h = c.t
       event = Invoke c.args.process c.args.operation.0;
       knows = ap (λ (u : View). u.pairs) h ∙ sits_pairs v _ _ c.requires.sits;
       held = ap (λ (u : View). u.held) h;
-      core = c.in-Ok.ensures.ok;
+      core = c.invoke.ensures;
       own = refl;
     }
 
-pub returns-in-Ok-clause-invoked : goal.returns-in-Ok-clause-invoked
-returns-in-Ok-clause-invoked g c = let v = view c.args.pass.now in
+pub returns-clause-invoked : goal.returns-clause-invoked
+returns-clause-invoked g c = let v = view c.args.pass.now in
     let same = ap core_of (sits_later v _ _ _ _ c.take-item.result _ c.requires.sits c.take-item.ensures.held c.put_step.ensures.now) in (
       c.take-item.result.core,
       agreed v c.take-item.result c.args.process (core_of v) c.requires.sits c.take-item.ensures.agrees,
-      same ∙ c.in-Ok.ensures.ok,
+      same ∙ c.invoke.ensures,
       subst (λ (x : Log). IsLog x) (sym same) c.of-standing.ensures.log,
     )

@@ -11,8 +11,8 @@ use Rattle.cn_hall.proofs.Callers.{caller_carried}
 use Rattle.cn_hall.proofs.Sitting.{sits_pairs, agreed, sits_later}
 use Rattle.cn_hall.proofs.events.step.Goals as goal
 
-pub step-requires : goal.step-requires
-step-requires g c = let v = view c.args.pass.now in let x = c.take-item.result in
+pub step-answer-requires : goal.step-answer-requires
+step-answer-requires g c = let v = view c.args.pass.now in let x = c.take-item.result in
     let k = agreed v x c.args.process (core_of v) c.requires.sits c.take-item.ensures.agrees in
     record {
       process = subst (λ (o : Opening). c.args.process < processes_of o.plan) (sym k.0) c.requires.process;
@@ -28,20 +28,20 @@ put_step-requires-clause-event g c = let v = view c.args.pass.now in let h = c.t
       event = Step c.args.process;
       knows = ap (λ (u : View). u.pairs) h ∙ sits_pairs v _ _ c.requires.sits;
       held = ap (λ (u : View). u.held) h;
-      core = c.in-Ok.ensures.ok;
+      core = c.step-answer.ensures.core;
       own = refl;
     }
 
-pub returns-in-Ok-clause-step : goal.returns-in-Ok-clause-step
-returns-in-Ok-clause-step g c = let v = view c.args.pass.now in
+pub returns-clause-step : goal.returns-clause-step
+returns-clause-step g c = let v = view c.args.pass.now in
     let same = ap core_of (sits_later v _ _ _ _ c.take-item.result _ c.requires.sits c.take-item.ensures.held c.put_step.ensures.now) in (
       c.take-item.result.core,
       agreed v c.take-item.result c.args.process (core_of v) c.requires.sits c.take-item.ensures.agrees,
-      same ∙ c.in-Ok.ensures.ok,
-      c.in-Ok.ensures.answer,
+      same ∙ c.step-answer.ensures.core,
+      c.step-answer.ensures.answer,
       subst (λ (x : Log). IsLog x) (sym same) c.of-standing.ensures.log,
     )
 
-pub returns-in-Ok-clause-range : goal.returns-in-Ok-clause-range
-returns-in-Ok-clause-range g c = let k = agreed (view c.args.pass.now) c.take-item.result c.args.process (core_of (view c.args.pass.now)) c.requires.sits c.take-item.ensures.agrees in
-    subst (λ (o : Opening). HasResponse o.object c.in-Ok.answer) k.0 c.in-Ok.ensures.range
+pub returns-clause-range : goal.returns-clause-range
+returns-clause-range g c = let k = agreed (view c.args.pass.now) c.take-item.result c.args.process (core_of (view c.args.pass.now)) c.requires.sits c.take-item.ensures.agrees in
+    subst (λ (o : Opening). HasResponse o.object c.step-answer.result) k.0 c.step-answer.ensures.range

@@ -1,0 +1,41 @@
+-- What a gate is asked in a call.
+use Rattle.std.specs.Prelude.{◌≡◌, ℕ, zero, suc, List, [], ◌∷◌, ◌++◌, Some, drop, length, Result, Ok, Err}
+use Rattle.cn_log.specs.Callers.{BeginsWith}
+use Rattle.cn_log.specs.Opening.{Log}
+use Rattle.cn_log.specs.OwnSteps.{steps_of}
+use Rattle.cn_log.specs.declared.entry.Entry.{Entry}
+use Rattle.cn_hall.specs.Calls.{IsSameSeat}
+use Rattle.cn_hall.specs.Seats.{SeatState, pending}
+use Rattle.cn_hall.specs.declared.call.CallFault.{CallFault}
+use Rattle.cn_hall.specs.declared.call.CallFault.TheVariants.{LogFull, Stopped}
+use Rattle.cn_hall.specs.declared.call.Go.{Go}
+use Rattle.cn_hall.specs.declared.call.Go.TheVariants.{On}
+use Rattle.cn_hall.specs.declared.call.Reply.{Reply}
+
+-- how many steps process p has taken in a core since it was that one
+abbrev pub steps_since : ℕ → Log → Log → ℕ
+steps_since p before now = steps_of p (drop (length before.schedule) now.schedule)
+
+-- the seat has come from there, is in this call, and has taken so many steps since
+pub record HasTaken (mine : Entry) (k : ℕ) (start seat : SeatState) : Type 0 where
+  pub same : IsSameSeat start seat
+  pub later : BeginsWith seat.core.schedule start.core.schedule
+  pub pending : pending seat ≡ Some mine
+  pub steps : steps_since start.process start.core seat.core ≡ k
+
+-- k times, in the call that the seat is in, a gate was asked: about step 1, before the seat had taken a step, and so on to step k, before the seat had taken that; and it said On each time but perhaps the last
+abbrev pub IsAsked : {G : Type 0} → (G → SeatState → ℕ → G → Type 0) → (G → Go) → Entry → SeatState → ℕ → G → G → Type 0
+IsAsked asks says mine start zero old new = new ≡ old
+IsAsked {G} asks says mine start (suc k) old new = (mid : G) × (seat : SeatState) × IsAsked asks says mine start k old mid × (says mid ≡ On)
+    × HasTaken mine k start seat × asks mid seat (suc k) new
+
+-- 1, 2, .. up to this number
+abbrev pub numbers : ℕ → List ℕ
+numbers zero = []
+numbers (suc k) = numbers k ++ suc k ∷ []
+
+-- how often a call with this answer asked that took so many steps: before each, and once more where it was stopped
+abbrev pub asked_times : Result Reply CallFault → ℕ → ℕ
+asked_times (Ok r) steps = steps
+asked_times (Err LogFull) steps = steps
+asked_times (Err Stopped) steps = suc steps

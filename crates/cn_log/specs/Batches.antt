@@ -1,0 +1,52 @@
+-- Batches: what a slot of the log takes, at the place of each process an entry of its or none.
+use Rattle.std.specs.Prelude.{ℕ, zero, suc, ◌≡◌, ◌==◌, ◌&&◌, Bool, false, List, [], ◌∷◌, ◌++◌, map, replicate, slice_index_or, slice_set, Option, Some, None}
+use Rattle.cn_log.specs.declared.entry.Entry.{Entry}
+use Rattle.cn_log.specs.declared.batch.Batch.{Batch}
+
+abbrev pub same_entry : Entry → Entry → Bool
+same_entry e f = (e.process == f.process) && ((e.operation.0 == f.operation.0) && (e.call == f.call))
+
+abbrev pub no_entries : Batch
+no_entries = record { entries = replicate 8 None }
+
+-- the entry of process p
+abbrev pub entry_at : Batch → ℕ → Option Entry
+entry_at b p = slice_index_or b.entries p None
+
+-- the same with this entry of process p
+abbrev pub with_entry : Batch → ℕ → Entry → Batch
+with_entry b p e = record { entries = slice_set b.entries p (Some e) }
+
+-- the entry is in the batch
+abbrev pub Has : Batch → Entry → Type 0
+Has b e = entry_at b e.process ≡ Some e
+
+abbrev pub is_entry : Option Entry → Entry → Bool
+is_entry None e = false
+is_entry (Some f) e = same_entry f e
+
+abbrev pub has : Batch → Entry → Bool
+has b e = is_entry (entry_at b e.process) e
+
+abbrev pub and_entry : Option Entry → List Entry → List Entry
+and_entry None rest = rest
+and_entry (Some e) rest = e ∷ rest
+
+-- the entries of so many processes from process p on, in order
+abbrev pub members : ℕ → ℕ → Batch → List Entry
+members zero p b = []
+members (suc many) p b = and_entry (entry_at b p) (members many (suc p) b)
+
+-- the entries of n processes in the batches, by batch, then by process
+abbrev pub entries_in : ℕ → List Batch → List Entry
+entries_in n [] = []
+entries_in n (b ∷ bs) = members n 0 b ++ entries_in n bs
+
+-- for each of these entries slot k
+abbrev pub each_slot : ℕ → List Entry → List ℕ
+each_slot k entries = map (λ e. k) entries
+
+-- the slot of each of these entries, where the first batch is that of slot k
+abbrev pub slots_from : ℕ → ℕ → List Batch → List ℕ
+slots_from n k [] = []
+slots_from n k (b ∷ bs) = each_slot k (members n 0 b) ++ slots_from n (suc k) bs

@@ -1,0 +1,109 @@
+//! What a slot of the log takes.
+ghost use Rattle.std.specs.Prelude.{◌≡◌, ◌≤◌, ◌<◌, ◌+◌, ◌++◌, ℕ, Some, length, map};
+ghost use Rattle.cn_log.specs.Batches.{no_entries, each_slot, entry_at, has, members, with_entry};
+ghost use Rattle.cn_log.specs.declared.entry.Entry.{Entry as EntryOf};
+ghost use Rattle.std.specs.Vec.{vec_len, vec_capacity};
+ghost use Rattle.cn_table.specs.Run.{state_after as run_of};
+ghost use Rattle.cn_log.specs.Log.{operations_of};
+
+use crate::entry::Entry;
+use cn_table::{State, Table};
+
+/// The calls that a slot takes: at the place of each process its entry, or none.
+#[derive(Clone, Copy, Debug, PartialEq, Eq)]
+pub struct Batch {
+    entries: [Option<Entry>; 8],
+}
+
+impl Batch {
+    /// No entry.
+    pub(crate) fn new() -> Batch
+        ensures { result ≡ no_entries }
+    {
+        Batch { entries: [None; 8] }
+    }
+
+    /// The entry of process `p`.
+    pub(crate) fn of(self, p: u8) -> Option<Entry>
+        requires { p < 8 }
+        ensures { result ≡ entry_at self p }
+    {
+        self.entries[usize::from(p)]
+    }
+
+    /// Whether the entry is in the batch.
+    pub(crate) fn has(self, entry: Entry) -> bool
+        requires { entry.process < 8 }
+        ensures { result ≡ has self entry }
+    {
+        match self.of(entry.process) {
+            None => false,
+            Some(other) => other.is(entry),
+        }
+    }
+
+    /// The same with this entry of process `p`.
+    pub(crate) fn with(self, p: u8, entry: Entry) -> Batch
+        requires { p < 8 }
+        ensures { result ≡ with_entry self p entry }
+    {
+        let mut entries = self.entries;
+        entries[usize::from(p)] = Some(entry);
+        Batch { entries }
+    }
+}
+
+/// The entries of a batch go behind the others, each with its slot.
+pub(crate) fn put_batch(
+    entries: &mut Vec<Entry>,
+    slots: &mut Vec<u16>,
+    processes: u8,
+    slot: u16,
+    batch: Batch,
+)
+    requires processes { processes ≤ 8 }
+    requires room { vec_len entries.old + processes ≤ vec_capacity entries.old }
+    requires slots_room { vec_len slots.old + processes ≤ vec_capacity slots.old }
+    ensures entries { entries.new.items ≡ entries.old.items ++ members processes 0 batch }
+    ensures slots { slots.new.items ≡ slots.old.items ++ each_slot slot (members processes 0 batch) }
+    ensures room { vec_capacity entries.new ≡ vec_capacity entries.old }
+    ensures slots_room { vec_capacity slots.new ≡ vec_capacity slots.old }
+{
+    for p in 0..processes {
+        if let Some(entry) = batch.of(p) {
+            entries.push_reserved(entry);
+            slots.push_reserved(slot);
+        }
+    }
+}
+
+/// How many entries the first so many processes have in the batch.
+pub(crate) fn count(processes: u8, batch: Batch) -> u16
+    requires processes { processes ≤ 8 }
+    ensures number { result ≡ length (members processes 0 batch) }
+{
+    let mut count: u16 = 0;
+    for p in 0..processes {
+        if let Some(_entry) = batch.of(p) {
+            count += 1;
+        }
+    }
+    count
+}
+
+/// The state of the object after the calls of the first so many processes in the batch.
+pub(crate) fn state_after(object: &Table, processes: u8, batch: Batch, start: State) -> State
+    requires processes { processes ≤ 8 }
+    requires start { start.0 < length object.now.states }
+    requires operations { (q : ℕ) (e : EntryOf) → entry_at batch q ≡ Some e → e.operation.0 < length object.now.operations }
+    ensures state { result.0 ≡ run_of object.now start.0 (operations_of (members processes 0 batch)) }
+    ensures known { result.0 < length object.now.states }
+{
+    let mut state = start;
+    for p in 0..processes {
+        if let Some(call) = batch.of(p) {
+            state = object.apply(call.operation, state).1;
+        }
+    }
+    state
+}
