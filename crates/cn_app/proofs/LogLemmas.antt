@@ -1,15 +1,15 @@
 -- Events and entries, one at a time.
-use Rattle.std.proofs.Common.{◌≡◌, ℕ, zero, suc, ◌<◌, ◌≤◌, List, [], ◌∷◌, ◌++◌, drop, length, take, arith, slice_get, slice_index_or, Some, subst}
+use Rattle.std.proofs.Common.{◌≡◌, ℕ, zero, suc, ◌<◌, List, [], ◌∷◌, ◌++◌, drop, length, take, slice_get, slice_index_or, Some, subst}
 use Rattle.std.proofs.lemmas.List.Elements.{All-append}
 use Rattle.std.proofs.lemmas.Option.{slice_get-get_or}
 use Rattle.cn_table.specs.TypeTable.{TypeTable, transition}
 use Rattle.cn_log.specs.Callers.{HasResponse}
 use Rattle.cn_log.specs.declared.entry.Entry.{Entry}
 use Rattle.cn_log.specs.declared.event.Event.{Event}
-use Rattle.cn_log.specs.declared.event.Event.TheVariants.{Invoke, Step}
+use Rattle.cn_log.specs.declared.event.Event.TheVariants.{Invoke}
 use Rattle.cn_log.specs.Linearized.{IsLinearized}
 use Rattle.cn_log.specs.Log.{Setting, World, IsEventList, MayAllCome, MayCome, after_event, after_events, entries, first_world, state_of}
-use Rattle.cn_app.specs.Replay.{entry_line, entry_lines, told_by, HaveResponses}
+use Rattle.cn_app.specs.Replay.{entry_line, entry_lines, HaveResponses}
 use Rattle.cn_app.specs.declared.answers.Told.{Told}
 
 module _ {R : Type 0} (L : Setting R) where
@@ -33,11 +33,6 @@ module _ {R : Type 0} (L : Setting R) where
 -- what is told more has responses too
 pub responses_more : (object other : TypeTable) (told more : List Told) → other ≡ object → HaveResponses object told → HaveResponses other more → HaveResponses object (told ++ more)
 responses_more object other told more same have here = All-append (λ t. HasResponse object t.answer) told more have (subst (λ (o : TypeTable). HaveResponses o more) same here)
-
--- an event tells at most one answer
-pub told_few : {R : Type 0} (L : Setting R) (before : List Event) (e : Event) → length (told_by L before e) ≤ 1
-told_few L before (Invoke p operation) = omega arith
-told_few L before (Step p) = omega arith
 
 -- the line of the entry at a place, and then those of the entries behind it
 pub lines_at : (object : TypeTable) (state : ℕ) (es : List Entry) (slots : List ℕ) (k slot : ℕ) (e : Entry) → slice_get es k ≡ Some e → slice_get slots k ≡ Some slot

@@ -1,5 +1,5 @@
 //! What the steps among events answer, one event after the other.
-ghost use Rattle.std.specs.Prelude.{◌≡◌, ◌<◌, ◌≤◌, ◌++◌, ◌∷◌, [], length, vec_capacity, vec_len, IfOk};
+ghost use Rattle.std.specs.Prelude.{◌≡◌, ◌<◌, ◌≤◌, ◌+◌, ◌++◌, ◌∷◌, [], length, vec_capacity, vec_len, IfOk};
 ghost use Rattle.cn_log.specs.Log.{IsEventList, MayCome, state_of};
 ghost use Rattle.cn_log.specs.Opening.{opening_of, setting, setting_of};
 ghost use Rattle.cn_app.specs.Replay.{is_full, told_after, told_by, HaveResponses};
@@ -32,6 +32,7 @@ fn tell(core: &mut LogCore, event: Event, told: &mut Vec<Told>)
     ensures core { core.new ≡ record core.old { schedule = core.old.schedule ++ event ∷ [] } }
     ensures told { told.new.items ≡ told.old.items ++ told_by (setting core.old) core.old.schedule event }
     ensures responses { HaveResponses core.old.opening.object (told_by (setting core.old) core.old.schedule event) }
+    ensures few { length told.new.items ≤ length told.old.items + 1 }
     ensures room { vec_capacity told.new ≡ vec_capacity told.old }
 {
     match event {

@@ -29,8 +29,8 @@ use std::marker::Model;
 /// schedule have room for all that can come from the first on, so that no event takes memory.
 #[derive(Drop)]
 pub struct LogCore {
-    opening: Opening,
-    state: LogState,
+    opening: Box<Opening>,
+    state: Box<LogState>,
     schedule: Vec<Event>,
 }
 
@@ -44,10 +44,10 @@ impl Model for LogCore {
 
     ghost Value = { Log };
 
-    ghost view = { λ c. record { opening = c.opening; schedule = c.schedule.items } };
+    ghost view = { λ c. record { opening = c.opening.value; schedule = c.schedule.items } };
 
-    ghost invariant = { λ c. IsStateAfter c.opening c.schedule.items c.state × HasRoom c.opening c.state
-        × (event_room (processes_of c.opening.plan) c.opening.capacity ≤ vec_capacity c.schedule) };
+    ghost invariant = { λ c. IsStateAfter c.opening.value c.schedule.items c.state.value × HasRoom c.opening.value c.state.value
+        × (event_room (processes_of c.opening.value.plan) c.opening.value.capacity ≤ vec_capacity c.schedule) };
 }
 
 impl LogCore {
@@ -74,8 +74,8 @@ impl LogCore {
         let state = LogState::new(alloc, &opening)?;
         let schedule = empty_schedule(alloc, &opening)?;
         Ok(LogCore {
-            opening,
-            state,
+            opening: Box::new(alloc, opening)?,
+            state: Box::new(alloc, state)?,
             schedule,
         })
     }

@@ -1,8 +1,8 @@
-use Rattle.std.proofs.Common.{ap, ◌∙◌, arith, get_or, length, length-append, rules}
+use Rattle.std.proofs.Common.{ap, arith, rules}
 use Rattle.std.proofs.lemmas.Grind.{common_steps}
 use Rattle.std.proofs.lemmas.Option.{slice_get-get_or}
-use Rattle.cn_log.specs.Opening.{Opening, opening_of, setting, setting_of}
-use Rattle.cn_app.proofs.LogLemmas.{may_come_at, responses_more, told_few}
+use Rattle.cn_log.specs.Opening.{Opening, opening_of, setting_of}
+use Rattle.cn_app.proofs.LogLemmas.{may_come_at, responses_more}
 use Rattle.cn_app.proofs.answers.answers_of.Goals as goal
 
 pub tell-requires-clause-may_come : goal.tell-requires-clause-may_come
@@ -20,8 +20,6 @@ loop-event-preserved c = record {
   schedule = grind (arith, common_steps);
   told = grind (arith, common_steps);
   responses = rw c.tell.ensures.told (responses_more c.args.object.now c.loop-event.core.opening.object c.loop-event.told.items _ (ap (λ (o : Opening). o.object) c.loop-event.invariant.opening) c.loop-event.invariant.responses c.tell.ensures.responses);
-  few =
-      let more = ap length c.tell.ensures.told ∙ length-append c.loop-event.told.items _ in
-      omega (arith, more, c.loop-event.invariant.few, told_few (setting c.loop-event.core) c.loop-event.core.schedule (get_or c.args.events.now c.loop-event.event-index _));
+  few = omega (arith, c.tell.ensures.few, c.loop-event.invariant.few);
   room = search rules;
 }

@@ -33,7 +33,7 @@ loop-place-preserved c =
           ∙ ap (λ (x : ℕ × ℕ). before ++ (entry_line object c.slot_at-slot.result e x ++ rest x.1)) given
           ∙ ap (λ b. before ++ b) (sym lines)
           ∙ c.loop-place.invariant.lines
-      );
+          );
     }
 
 pub returns : goal.returns

@@ -45,3 +45,15 @@ pub returns-in_err-served-clause-untouched_certificate : goal.returns-in_err-ser
 returns-in_err-served-clause-untouched_certificate g c =
     let p = err_from_is_err_and c.from_residual-in_err-served.result c.from_residual-in_err-served.ensures.1 in
     rw (p.1, p.2) c.in_err-served.ensures.untouched_certificate
+
+pub returns-clause-served : goal.returns-clause-served
+returns-clause-served g c =
+    let table = c.serve_texts.new.table.bytes.items in
+    let certificate = c.serve_texts.new.certificate.bytes.items in
+    let object = c.serve_texts.new.object.bytes.items in
+    let outcome = c.in_ok-served.served.outcome in
+    let served = subst (λ (l : List ℕ). GivesObject table certificate object (λ t x o. (plan : Plan) × IsPlanOf t x plan
+    × StartGives o c.args.start.now (λ q. IsServedByThreads (EachHasOneGate g.G.Gate.asks g.G.Gate.says (λ p x. goal.F-post g c.args.make_gate p x)) plan o q c.in_ok-capacity.capacity (lists_of c.deref.result.now) l outcome))) (sym c.write.ensures.kept) c.in_ok-served.ensures.served in
+    calls_give c.args.capacity.now c.args.calls.now c.in_ok-capacity.capacity (lists_of c.deref.result.now) c.in_ok-capacity.ensures.capacity
+    (c.in_ok-calls.ensures.calls ∙ ap (λ l. Some (lists_of l)) (sym c.deref.ensures.value))
+    (λ k cs. GivesObject table certificate object (λ t x o. (plan : Plan) × IsPlanOf t x plan × StartGives o c.args.start.now (λ q. IsServedByThreads (EachHasOneGate g.G.Gate.asks g.G.Gate.says (λ p x. goal.F-post g c.args.make_gate p x)) plan o q k cs c.write.new.self.bytes.items outcome))) served

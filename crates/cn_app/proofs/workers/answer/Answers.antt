@@ -3,7 +3,7 @@ use Rattle.std.proofs.lemmas.List.{take_all, take_more}
 use Rattle.std.proofs.lemmas.List.Elements.{All-push}
 use Rattle.cn_log.specs.Opening.{Opening}
 use Rattle.cn_hall.specs.declared.call.Reply.{Reply}
-use Rattle.cn_app.specs.Workers.{EndsAt, HasAsked, OneCall}
+use Rattle.cn_app.specs.Workers.{EndsAt, NoCall, OneCall}
 use Rattle.cn_app.specs.declared.workers.End.{End}
 use Rattle.cn_app.proofs.SeatLemmas.{begins_left, ends_left, one_more}
 use Rattle.cn_app.proofs.workers.answer.Goals as goal
@@ -60,3 +60,17 @@ returns-clause-worked g c =
       range = i.range;
       ended = (all, omega (arith, i.count, c.loop-operation-test.false, c.loop-operation.auto.operation-index-end));
     }
+
+-- src/workers.rt:62:5
+pub loop-operation-init : goal.loop-operation-init
+loop-operation-init g c = record {
+  same = search rules;
+  idle = search rules;
+  made = search rules;
+  own = search rules;
+  range = search rules;
+  says = search rules;
+  asked = NoCall;
+  count = search rules;
+  room = search rules;
+}

@@ -4,20 +4,21 @@ use Rattle.cn_proto.specs.Plan.{processes_of}
 use Rattle.cn_log.specs.Batches.{entries_in}
 use Rattle.cn_log.specs.Log.{batches}
 use Rattle.cn_log.specs.Opening.{setting_of}
+use Rattle.cn_log.specs.declared.log_state.LogState.{LogState}
 use Rattle.cn_log.proofs.Places.{slots_as_many}
 use Rattle.cn_log.proofs.log_core.LogCore.slot_at.Goals as goal
 
 pub index-requires : goal.index-requires
 index-requires c =
-    let bs = batches (setting_of c.self.inside.opening) c.self.inside.schedule.items in
-    let n = processes_of c.self.inside.opening.plan in
+    let bs = batches (setting_of c.self.inside.opening.value) c.self.inside.schedule.items in
+    let n = processes_of c.self.inside.opening.value.plan in
     let r : c.args.i < length (entries_in n bs) = rw (← c.self.view_is) at c.requires in
-    omega (arith, r, ap length c.self.invariant.0.fits.slots_are, slots_as_many n 0 bs, c.self.inside.state.slots.ok)
+    omega (arith, r, ap length (ap (λ (s : LogState). s.slots.items) c.deref.ensures ∙ c.self.invariant.0.fits.slots_are), slots_as_many n 0 bs, c.deref.result.now.slots.ok)
 
 pub returns : goal.returns
 returns c =
-    let bs = batches (setting_of c.self.inside.opening) c.self.inside.schedule.items in
-    let n = processes_of c.self.inside.opening.plan in
+    let bs = batches (setting_of c.self.inside.opening.value) c.self.inside.schedule.items in
+    let n = processes_of c.self.inside.opening.value.plan in
     let r : c.args.i < length (entries_in n bs) = rw (← c.self.view_is) at c.requires in
-    let low : c.args.i < length c.self.inside.state.slots.items = omega (arith, r, ap length c.self.invariant.0.fits.slots_are, slots_as_many n 0 bs) in
-    rw (← c.self.view_is) (ap Some c.index.ensures ∙ sym (slice_get-get_or c.self.inside.state.slots.items c.args.i c.index.result.now low) ∙ ap (λ l. slice_get l c.args.i) c.self.invariant.0.fits.slots_are)
+    let low : c.args.i < length c.deref.result.now.slots.items = omega (arith, r, ap length (ap (λ (s : LogState). s.slots.items) c.deref.ensures ∙ c.self.invariant.0.fits.slots_are), slots_as_many n 0 bs) in
+    rw (← c.self.view_is) (ap Some c.index.ensures ∙ sym (slice_get-get_or c.deref.result.now.slots.items c.args.i c.index.result.now low) ∙ ap (λ l. slice_get l c.args.i) (ap (λ (s : LogState). s.slots.items) c.deref.ensures ∙ c.self.invariant.0.fits.slots_are))
