@@ -18,6 +18,14 @@ HasMade calls s i = invoked s.process s.core.schedule ≡ take i calls
 begins_taken : (calls : List ℕ) (s : SeatState) (i : ℕ) → HasMade calls s i → BeginsWith calls (invoked s.process s.core.schedule)
 begins_taken calls s i made = (drop i calls, sym (take-append-drop i calls) ∙ ap (λ l. l ++ drop i calls) (sym made))
 
+-- a call without a reply was made, or the seat is as it was
+pub made_or_not : (operation : ℕ) (s t : SeatState) (fault : CallFault) → CallFails operation fault s t → (t ≡ s) ⊎ Called s.process operation s.core t.core
+made_or_not operation s t LogFull h = elim h.2 [
+  | inl is ↦ inl is
+  | inr made ↦ inr made.0
+]
+made_or_not operation s t Stopped h = inr h.0
+
 -- after so many calls of the list, the seat made the next
 module _ (calls : List ℕ) (i operation : ℕ) (more : take (i + 1) calls ≡ take i calls ++ operation ∷ []) (s t : SeatState) (same : IsSameSeat s t) (made : HasMade calls s i) where
   pub one_more : Called s.process operation s.core t.core → HasMade calls t (i + 1)
@@ -30,14 +38,9 @@ module _ (calls : List ℕ) (i operation : ℕ) (more : take (i + 1) calls ≡ t
   begins_once (inl is) = begins_taken calls t i (none_more is)
   begins_once (inr called) = begins_taken calls t (i + 1) (one_more called)
 
-  made_or_not : {P : Type 0} → (t ≡ s) ⊎ (Called s.process operation s.core t.core × P) → (t ≡ s) ⊎ Called s.process operation s.core t.core
-  made_or_not (inl is) = inl is
-  made_or_not (inr h) = inr h.0
-
   -- a call without a reply leaves the first of the calls made
   pub begins_left : (fault : CallFault) → CallFails operation fault s t → BeginsWith calls (invoked t.process t.core.schedule)
-  begins_left LogFull h = begins_once (made_or_not h.2)
-  begins_left Stopped h = begins_once (inr h.0)
+  begins_left fault h = begins_once (made_or_not operation s t fault h)
 
   -- and ends them so
   pub ends_left : i < length calls → (replies : List Reply) → length replies ≡ i → (fault : CallFault) → CallFails operation fault s t → EndsAt calls t replies (end_by fault)

@@ -1,11 +1,11 @@
 -- What the thread of one process has in hand, and what it hands back.
-use Rattle.std.specs.Prelude.{◌≡◌, ◌≤◌, ℕ, ◌+◌, ◌<◌, List, [], Some, Result, Vec, All, length, slice_get, vec_capacity}
+use Rattle.std.specs.Prelude.{◌≡◌, ◌≤◌, ◌⊎◌, ℕ, ◌+◌, ◌<◌, List, [], Some, Result, Vec, All, length, slice_get, vec_capacity}
 use Rattle.std.specs.Global.{Global}
 use Rattle.cn_log.specs.Callers.{BeginsWith}
 use Rattle.cn_log.specs.Opening.{Log}
 use Rattle.cn_proto.specs.Plan.{processes_of}
 use Rattle.cn_hall.specs.Answers.{own}
-use Rattle.cn_hall.specs.Calls.{IsSameSeat, next_call}
+use Rattle.cn_hall.specs.Calls.{Called, IsSameSeat, next_call}
 use Rattle.cn_hall.specs.Gates.{IsAsked, asked_times, steps_since}
 use Rattle.cn_hall.specs.Rule.{Carries}
 use Rattle.cn_hall.specs.Seats.{HallId, IsSeatOf, SeatState, slots_seen}
@@ -59,10 +59,14 @@ HaveAllWorked calls before after worked =
     (p : ℕ) (c : Vec ℕ Global) (s t : SeatState) (w : Worked) → slice_get calls p ≡ Some c → slice_get before p ≡ Some s → slice_get after p ≡ Some t → slice_get worked p ≡ Some w
     → HasWorked c.items s t w.replies.items w.end
 
+-- what a seat comes to by a call of this operation: it was made, or it was refused at once
+abbrev pub ComesBy : ℕ → SeatState → SeatState → Type 0
+ComesBy operation t u = IsSameSeat t u × ((u ≡ t) ⊎ Called t.process operation t.core u.core)
+
 -- what a seat comes to by calls with a gate, made one after the other, and what becomes of the gate: each call asks as `call` does
 pub data HasAsked {G : Type 0} (asks : G → SeatState → ℕ → G → Type 0) (says : G → Go) (s : SeatState) (g : G) : SeatState → G → Type 0 where
   NoCall : HasAsked asks says s g s g
-  OneCall : {t u : SeatState} {h k : G} (operation : ℕ) (answer : Result Reply CallFault) → HasAsked asks says s g t h
+  OneCall : {t u : SeatState} {h k : G} (operation : ℕ) (answer : Result Reply CallFault) → HasAsked asks says s g t h → ComesBy operation t u
       → IsAsked asks says (next_call t operation) t (asked_times answer (steps_since t.process t.core u.core)) h k → HasAsked asks says s g u k
 
 -- the same of a gate that the thread of the seat has had

@@ -1,11 +1,11 @@
-use Rattle.std.proofs.Common.{◌<◌, ◌+◌, List, [], ◌∷◌, ◌++◌, All, Err, Ok, append-nil, length, sym, ap, ◌∙◌, subst, arith, rules}
+use Rattle.std.proofs.Common.{◌<◌, ◌+◌, inr, List, [], ◌∷◌, ◌++◌, All, Err, Ok, append-nil, length, sym, ap, ◌∙◌, subst, arith, rules}
 use Rattle.std.proofs.lemmas.List.{take_all, take_more}
 use Rattle.std.proofs.lemmas.List.Elements.{All-push}
 use Rattle.cn_log.specs.Opening.{Opening}
 use Rattle.cn_hall.specs.declared.call.Reply.{Reply}
 use Rattle.cn_app.specs.Workers.{EndsAt, NoCall, OneCall}
 use Rattle.cn_app.specs.declared.workers.End.{End}
-use Rattle.cn_app.proofs.SeatLemmas.{begins_left, ends_left, one_more}
+use Rattle.cn_app.proofs.SeatLemmas.{begins_left, ends_left, made_or_not, one_more}
 use Rattle.cn_app.proofs.workers.answer.Goals as goal
 
 -- src/workers.rt:69:17
@@ -37,14 +37,18 @@ loop-operation-preserved g c =
       range = subst (λ (z : Opening × List Reply). All (λ (r : Reply). r.response.0 < length z.0.object.responses) z.1) (λ k. (sym h.same.2 k, sym c.push_reserved.ensures.items k))
           (All-push (λ (r : Reply). r.response.0 < length c.loop-operation.seat.core.opening.object.responses) c.loop-operation.replies.items c.in-Ok.reply i.range h.range);
       says = h.said;
-      asked = OneCall _ (Ok c.in-Ok.reply) i.asked h.asked;
+      asked = OneCall _ (Ok c.in-Ok.reply) i.asked (h.same, inr h.reply.0) h.asked;
       count = search rules;
       room = search rules;
     }
 
 -- src/workers.rt:48:1
 pub returns-in-Err-clause-asked : goal.returns-in-Err-clause-asked
-returns-in-Err-clause-asked g c = (c.call.new.gate, OneCall _ (Err c.in-Err.fault) c.loop-operation.invariant.asked c.in-Err.ensures.asked)
+returns-in-Err-clause-asked g c =
+    let i = c.loop-operation.invariant in
+    let h = c.in-Err.ensures in
+    let came = (h.same, made_or_not _ c.loop-operation.seat c.call.new.seat c.in-Err.fault h.fault) in
+    (c.call.new.gate, OneCall _ (Err c.in-Err.fault) i.asked came h.asked)
 
 pub returns-clause-asked : goal.returns-clause-asked
 returns-clause-asked g c = (c.loop-operation.gate, c.loop-operation.invariant.asked)
