@@ -33,9 +33,12 @@ pub(super) struct StopsAt {
 }
 
 impl Gate for StopsAt {
+    ghost use Rattle.std.specs.Prelude.{◌≡◌, cond, nat_eq};
+    ghost use Rattle.cn_hall.specs.declared.call.Go.TheVariants.{On, Stop};
+
     ghost says = { λ g. g.last };
 
-    ghost asks = { λ _ _ _ _. Unit {0} };
+    ghost asks = { λ old _ step new. (new.stop ≡ old.stop) × (new.last ≡ cond (nat_eq step old.stop) Stop On) };
 
     fn before(&mut self, _seat: &Seat, step: u32) -> Go {
         self.last = if step == self.stop { Go::Stop } else { Go::On };

@@ -61,7 +61,13 @@ fn stands(rt: &impl Abort, core: &LogCore, p: u8) -> (u16, u16) {
     (core.replayed(p), core.seen(p))
 }
 
-/// The slot of each of the first so many entries, and 0 for the others.
+/// Whether process p is in no call, and whether it has replayed every slot.
+fn rests(rt: &impl Abort, core: &LogCore, p: u8) -> (bool, bool) {
+    assert!(rt; p < core.processes());
+    (core.is_idle(p), core.at_end(p))
+}
+
+/// The slot of each of the first four entries, and 0 where there are fewer.
 fn slots(core: &LogCore) -> [u16; 4] {
     let mut slots = [0; 4];
     for (place, slot) in slots.iter_mut().enumerate() {
@@ -100,7 +106,7 @@ fn a_call_ends_where_all_slots_are_fixed(rt: HostRuntime) -> Result<(), Fail> {
     assert!(rt; step(&rt, &mut core, 0, 4) == StepAnswer::Working);
     invoke(&rt, &mut core, 1);
     assert!(rt; step(&rt, &mut core, 1, 6) == StepAnswer::Full);
-    assert!(rt; !core.is_idle(0) && core.is_idle(1) && !core.at_end(0) && core.at_end(1));
+    assert!(rt; rests(&rt, &core, 0) == (false, false) && rests(&rt, &core, 1) == (true, true));
     assert!(rt; core.entries() == [entry(0, 0)].as_slice() && core.fixed_slots() == 1);
     assert!(rt; step(&rt, &mut core, 0, 2) == answered(0, 0));
     Ok(())

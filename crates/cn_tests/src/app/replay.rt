@@ -28,6 +28,7 @@ fn serves_the_same_from_copies(rt: HostRuntime) -> Result<(), Fail> {
     let (plan_copy, object_copy) = (plan.copy(alloc)?, object.copy(alloc)?);
     let again = replay(alloc, &plan_copy, &object_copy, State(0), 4, &events)?;
     assert_eq!(rt; core.entries().len(), 2);
+    assert_eq!(rt; core.fixed_slots(), 1);
     assert_eq!(rt; again.entries(), core.entries());
     assert_eq!(rt; again.schedule(), core.schedule());
     Ok(())

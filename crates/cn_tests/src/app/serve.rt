@@ -177,9 +177,9 @@ fn gathered<T: Threads + Wait + Sync>(
     )
 }
 
-#[test]
-fn all_processes_are_in_a_call_at_once(rt: HostRuntime) -> Result<(), Fail> {
-    for (texts, calls, processes) in [
+/// The texts of 2, 3 and 8 processes, a call of each, and how many they are.
+fn crowds() -> [((&'static str, &'static str), &'static str, u8); 3] {
+    [
         (two(), "0/0", 2),
         ((sticky_bit(), sticky_bit_at_3()), "0/0/0", 3),
         (
@@ -187,9 +187,22 @@ fn all_processes_are_in_a_call_at_once(rt: HostRuntime) -> Result<(), Fail> {
             "0/0/0/0/0/0/0/0",
             8,
         ),
-    ] {
-        let (ended, text) = gathered(&rt, rt.alloc(), texts, calls, processes)?;
+    ]
+}
+
+/// Each finds the calls of all, which go into one slot.
+#[test]
+fn all_processes_are_in_a_call_at_once(rt: HostRuntime) -> Result<(), Fail> {
+    let alloc = rt.alloc();
+    for (texts, calls, processes) in crowds() {
+        let (ended, text) = gathered(&rt, alloc, texts, calls, u32::from(processes))?;
         assert_eq!(rt; ended, Ok(Outcome::Whole), "{text}");
+        let (entries, _) = sorted_lines(alloc, text.as_str())?;
+        assert!(rt;
+            entries.iter().all(|line| line.starts_with("entry 0 ")),
+            "{text}"
+        );
+        assert_eq!(rt; entries.len(), usize::from(processes));
     }
     Ok(())
 }
@@ -226,7 +239,7 @@ fn serves_eight_processes_in_the_greatest_log(rt: HostRuntime) -> Result<(), Fai
     }
     let texts = (sticky_bit(), found_sticky_bit_at_8());
     let (ended, text) = served(&rt, alloc, texts, "1024", &calls, |_| AlwaysOn)?;
-    let (entries, answers) = sorted_lines(alloc, &text)?;
+    let (entries, answers) = sorted_lines(alloc, text.as_str())?;
     assert_eq!(rt; ended, Ok(Outcome::Whole));
     assert_eq!(rt; (entries.len(), answers.len()), (1024, 1024));
     Ok(())
