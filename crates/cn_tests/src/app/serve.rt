@@ -210,7 +210,7 @@ fn all_processes_are_in_a_call_at_once(rt: HostRuntime) -> Result<(), Fail> {
 /// Process 1 holds before the third step of its call until process 0 has begun its second call.
 #[test]
 fn no_call_waits_for_the_end_of_another(rt: HostRuntime) -> Result<(), Fail> {
-    let (begun, none) = (AtomicU32::new(0), AtomicU32::new(0));
+    let begun = AtomicU32::new(0);
     let (ended, text) = served(
         &rt,
         rt.alloc(),
@@ -218,8 +218,8 @@ fn no_call_waits_for_the_end_of_another(rt: HostRuntime) -> Result<(), Fail> {
         "4",
         "0,0/0",
         |process| Holds {
-            counted: if process == 0 { &begun } else { &none },
-            counts_at: 1,
+            counted: &begun,
+            counts_at: if process == 0 { 1 } else { 0 },
             awaited: &begun,
             holds_at: if process == 0 { 0 } else { 3 },
             number: 2,

@@ -47,8 +47,8 @@ pub returns-in-Err-clause-asked : goal.returns-in-Err-clause-asked
 returns-in-Err-clause-asked g c =
     let i = c.loop-operation.invariant in
     let h = c.in-Err.ensures in
-    let came = (h.same, made_or_not _ c.loop-operation.seat c.call.new.seat c.in-Err.fault h.fault) in
-    (c.call.new.gate, OneCall _ (Err c.in-Err.fault) i.asked came h.asked)
+    let made = made_or_not _ c.loop-operation.seat c.call.new.seat c.in-Err.fault h.fault in
+    (c.call.new.gate, OneCall _ (Err c.in-Err.fault) i.asked (h.same, made) h.asked)
 
 pub returns-clause-asked : goal.returns-clause-asked
 returns-clause-asked g c = (c.loop-operation.gate, c.loop-operation.invariant.asked)
