@@ -134,14 +134,16 @@ fn second_comes_first<V: Copy + PartialEq>(
     let plan = plan_for(rt, alloc, test_and_set(), 2)?;
     assert!(rt; plan.processes() == 2 && inputs.len() == 2);
     let second = Some(inputs[1]);
-    for (schedule, fixed, decided) in [
-        ([1].as_slice(), None, None),
-        (&[1, 1], second, None),
-        (&[1, 1, 0, 0, 0], second, None),
-        (&[1, 1, 0, 0, 0, 0], second, second),
+    for (schedule, is_fixed, is_decided) in [
+        ([1].as_slice(), false, false),
+        (&[1, 1], true, false),
+        (&[1, 1, 0, 0, 0], true, false),
+        (&[1, 1, 0, 0, 0, 0], true, true),
     ] {
         let round = replay(rt, alloc, &plan, inputs, schedule)?;
+        let fixed = if is_fixed { second } else { None };
         assert!(rt; round.fixed() == fixed, "{schedule:?}");
+        let decided = if is_decided { second } else { None };
         assert!(rt; decision_of(&plan, &round, 0) == decided, "{schedule:?}");
         assert!(rt; decision_of(&plan, &round, 1).is_none(), "{schedule:?}");
     }
