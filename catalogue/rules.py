@@ -1,0 +1,82 @@
+"""Rules that give the number of a type from its table alone, without a search.
+
+They share nothing with the program: they are here so that the numbers in `expected` stand on more than
+one leg. Each is said and proved in README.md, under "Rules that give a number".
+"""
+import tomllib
+
+
+class Type:
+    """A type table, its states, responses and operations by number: rows[operation][state] = (response, next state)."""
+
+    def __init__(self, text):
+        table = tomllib.loads(text)
+        self.name, self.states, self.responses = table["name"], table["states"], table["responses"]
+        self.operations = [o["name"] for o in table["operation"]]
+        self.rows = [
+            [(self.responses.index(r), self.states.index(s)) for r, s in zip(o["response"], o["next"])] for o in table["operation"]
+        ]
+
+    def starts(self):
+        """Each start state with two operations, the rows of a process of team A and of one of team B."""
+        return [(s, f, g) for s in range(len(self.states)) for f in self.rows for g in self.rows]
+
+
+def interfere(s, f, g):
+    """True where, from state s, f and g lead to one state in both orders, or one of them leads where it leads after the other."""
+    after_f, after_g = f[s][1], g[s][1]
+    return len({f[after_g][1], g[after_f][1]}) == 1 or f[after_g][1] == after_f or g[after_f][1] == after_g
+
+
+def interferes(a_type):
+    """True where any two operations interfere in every state."""
+    return all(interfere(*start) for start in a_type.starts())
+
+
+def two_can_tell(a_type):
+    """True where two processes can tell which of them was first: from some state, with some operations."""
+    return any(tells(s, f, g) and tells(s, g, f) for s, f, g in a_type.starts())
+
+
+def tells(s, f, g):
+    """True where the process that does f can tell whether it was before g, from its response and the state afterwards."""
+    first, second = f[s], f[g[s][1]]
+    return second not in (first, (first[0], g[first[1]][1]))
+
+
+def one_against_many(a_type):
+    """True where one process can be told from any number of processes that all do a second operation."""
+    return any(tells_from_many(*start) for start in a_type.starts())
+
+
+def led_to(states, g):
+    """The states that any number of calls of g, none among them, lead to."""
+    reached = list(states)
+    for state in reached:
+        reached += [g[state][1]] if g[state][1] not in reached else []
+    return reached
+
+
+def pairs(states, operation, g):
+    """The pairs of a response and a last state where `operation` is done in one of the states, and then g any number of times."""
+    return {(operation[x][0], last) for x in states for last in led_to([operation[x][1]], g)}
+
+
+def tells_from_many(s, f, g):
+    """True where, from state s, nobody has a pair both when the one that does f was first and when one of those that do g was."""
+    before = led_to([g[s][1]], g)
+    one_first, one_later = pairs([s], f, g), pairs(before, f, g)
+    many_after = pairs(led_to([f[s][1]], g), g, g)
+    late_one = led_to([f[x][1] for x in before], g)
+    many_first = pairs([s] + before, g, g) | pairs(late_one, g, g)
+    many_first |= {(g[x][0], last) for x in [s] + before for y in led_to([g[x][1]], g) for last in led_to([f[y][1]], g)}
+    return not one_first & one_later and not many_after & many_first
+
+
+def number(a_type):
+    """The number by the rules: an integer, "infinite", or None where they do not say."""
+    if one_against_many(a_type):
+        return "infinite"
+    if interferes(a_type):
+        return 2 if two_can_tell(a_type) else 1
+    return None
