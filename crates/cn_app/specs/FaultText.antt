@@ -1,27 +1,30 @@
 -- The text of each fault, as it stands behind `cnum: ` on standard error, and its exit status.
-use Rattle.std.specs.Prelude.{◌≡◌, ◌≢◌, ℕ, List, [], ◌++◌, codes, Option, Some, None}
+use Rattle.std.specs.Prelude.{ℕ, List, codes, ◌++◌, [], Option, Some, None, ◌≡◌, ◌≢◌}
 use Rattle.cn_table.specs.FaultText.{table_fault_text}
-use Rattle.cn_table.specs.declared.fault.TableFault.{TableFault}
 use Rattle.cn_table.specs.declared.fault.TableFault.TheVariants as table
+use Rattle.cn_table.specs.declared.fault.TableFault.{TableFault}
 use Rattle.cn_search.specs.FaultText.{find_fault_text}
-use Rattle.cn_search.specs.declared.fault.FindFault.{FindFault}
 use Rattle.cn_search.specs.declared.fault.FindFault.TheVariants as find
+use Rattle.cn_search.specs.declared.fault.FindFault.{FindFault}
 use Rattle.cn_cert.specs.FaultText.{cert_fault_text}
-use Rattle.cn_cert.specs.declared.fault.CertFault.{CertFault}
 use Rattle.cn_cert.specs.declared.fault.CertFault.TheVariants as cert
+use Rattle.cn_cert.specs.declared.fault.CertFault.{CertFault}
 use Rattle.cn_check.specs.FaultText.{check_fault_text}
 use Rattle.cn_agree.specs.FaultText.{schedule_fault_text}
-use Rattle.cn_agree.specs.declared.fault.ScheduleFault.{ScheduleFault}
 use Rattle.cn_agree.specs.declared.fault.ScheduleFault.TheVariants as schedule
+use Rattle.cn_agree.specs.declared.fault.ScheduleFault.{ScheduleFault}
 use Rattle.cn_log.specs.FaultText.{replay_fault_text}
-use Rattle.cn_log.specs.declared.fault.ReplayFault.{ReplayFault}
 use Rattle.cn_log.specs.declared.fault.ReplayFault.TheVariants as replay
-use Rattle.cn_app.specs.declared.fault.AppFault.{AppFault}
-use Rattle.cn_app.specs.declared.fault.AppFault.TheVariants as fault
-use Rattle.cn_app.specs.declared.fault.Part.{Part}
-use Rattle.cn_app.specs.declared.fault.Part.TheVariants as part
+use Rattle.cn_log.specs.declared.fault.ReplayFault.{ReplayFault}
 use Rattle.cn_app.specs.declared.fault.Source.{Source}
 use Rattle.cn_app.specs.declared.fault.Source.TheVariants as source
+use Rattle.cn_app.specs.declared.fault.Part.{Part}
+use Rattle.cn_app.specs.declared.fault.Part.TheVariants as part
+use Rattle.cn_app.specs.declared.fault.AppFault.{AppFault}
+use Rattle.cn_app.specs.declared.fault.AppFault.TheVariants.{Thread}
+use Rattle.cn_app.specs.declared.fault.AppFault.TheVariants as fault
+use Rattle.cn_app.specs.declared.threads.serving.ServeFault.{ServeFault}
+use Rattle.cn_app.specs.declared.threads.serving.ServeFault.TheVariants as serving
 
 abbrev pub source_text : Source → List ℕ
 source_text source.Table = codes "table"
@@ -155,3 +158,8 @@ of_replay f = fault.Replay f
 -- a fault of the work between reading and writing: of no text that is read, and not of the writer
 abbrev pub IsOfWork : AppFault → Type 0
 IsOfWork e = (text_of e ≡ None) × (e ≢ fault.Write)
+
+-- the fault of the command for a fault of serving
+abbrev pub of_serving : ServeFault → AppFault
+of_serving serving.Thread = Thread
+of_serving serving.OutOfMemory = fault.OutOfMemory

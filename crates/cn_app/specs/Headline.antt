@@ -1,11 +1,11 @@
 -- The headline: what the number that is found for a type says, and what the plan of its witness does.
-use Rattle.std.specs.Prelude.{◌≡◌, ℕ, ◌<◌, ◌≤◌, List, length, Some}
+use Rattle.std.specs.Prelude.{◌≡◌, ℕ, ◌<◌, List, length, ◌≤◌, Some}
 use Rattle.std.specs.List.{AllByRecursion}
 use Rattle.cn_table.specs.TypeTable.{TypeTable}
 use Rattle.cn_choice.specs.Canonical.{Choice}
 use Rattle.cn_choice.specs.Discerning.{IsNumberUpTo}
 use Rattle.cn_search.specs.Finding.{Finding}
-use Rattle.cn_proto.specs.Plan.{Plan, IsPlan, processes_of, protocol_of}
+use Rattle.cn_proto.specs.Plan.{Plan, processes_of, protocol_of, IsPlan}
 use Rattle.cn_agree.specs.Consensus.{IsConsensus}
 use Rattle.cn_agree.specs.Schedules.{decisions_after}
 use Rattle.cn_log.specs.Linearized.{IsLinearized}
@@ -13,7 +13,8 @@ use Rattle.cn_log.specs.Log.{IsEventList}
 use Rattle.cn_log.specs.Opening.{opening_of, setting_of}
 use Rattle.cn_log.specs.declared.event.Event.{Event}
 
--- whatever the inputs, one for each process, and whatever the schedule: all decisions are equal, they are the input of a participant, and a process has decided as soon as it occurs 4 (n - 1) times, or earlier
+-- whatever the inputs, one for each process, and whatever the schedule: all decisions are equal, they are the input of a participant, and a process has decided
+-- as soon as it occurs 4 (n - 1) times, or earlier
 abbrev pub ReachesConsensus : Type 0 → Plan → Type 0
 ReachesConsensus V plan =
     (inputs : List V) (schedule : List ℕ) → length inputs ≡ processes_of plan → AllByRecursion (λ p. p < processes_of plan) schedule
@@ -31,7 +32,8 @@ pub record IsPlanOfNumber (V : Type 0) (f : Finding) (plan : Plan) : Type 0 wher
   pub consensus : ReachesConsensus V plan
   pub log : ServesObjects plan
 
--- the number found is the greatest n from 2 to the limit for which the type is n-discerning, or none is, and each plan of the table and the witness found keeps what is said above
+-- the number found is the greatest n from 2 to the limit for which the type is n-discerning, or none is, and each plan of the table and the witness found keeps
+-- what is said above
 pub record Headline (V : Type 0) (t : TypeTable) (limit : ℕ) (f : Finding) : Type 0 where
   pub number : IsNumberUpTo t limit f.number
   pub plan : (w : Choice) (plan : Plan) → f.witness ≡ Some w → IsPlan plan → plan.table ≡ t → plan.choice ≡ w → IsPlanOfNumber V f plan

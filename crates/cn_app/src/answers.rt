@@ -2,7 +2,7 @@
 ghost use Rattle.std.specs.Prelude.{◌≡◌, ◌<◌, ◌≤◌, ◌+◌, ◌++◌, ◌∷◌, [], length, vec_capacity, vec_len, IfOk};
 ghost use Rattle.cn_log.specs.Log.{IsEventList, MayCome, state_of};
 ghost use Rattle.cn_log.specs.Opening.{opening_of, setting, setting_of};
-ghost use Rattle.cn_app.specs.Replay.{is_full, told_after, told_by, HaveResponses};
+ghost use Rattle.cn_app.specs.Answers.{is_full, told_after, told_by, HaveResponses};
 
 use cn_log::{Event, LogCore, StepAnswer};
 use cn_proto::Plan;

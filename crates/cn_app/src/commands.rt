@@ -4,9 +4,16 @@
 //! [`Output`](crate::Output) those that were handed to its writer. So what a command promises is
 //! said of the bytes that were read and of the bytes that were written, whatever the streams are.
 
-pub use crate::agree::agree;
-pub use crate::check::check;
-pub use crate::find::find;
-pub use crate::replay::replay;
-pub use crate::serve::serve;
-pub use crate::show::show;
+mod agree_by_schedule;
+mod check_certificate;
+mod find_number;
+mod replay_events;
+mod serve_by_threads;
+mod show_plan;
+
+pub use agree_by_schedule::agree;
+pub use check_certificate::check;
+pub use find_number::find;
+pub use replay_events::replay;
+pub use serve_by_threads::serve;
+pub use show_plan::show;

@@ -2,7 +2,7 @@
 ghost use Rattle.std.specs.Prelude.{◌≡◌, Some};
 ghost use Rattle.cn_app.specs.declared.fault.AppFault.TheVariants.{OutOfMemory};
 
-use crate::serving::ServeFault;
+use crate::threads::serving::ServeFault;
 use cn_agree::ScheduleFault;
 use cn_cert::CertFault;
 use cn_check::CheckFault;
@@ -168,7 +168,7 @@ impl From<ReplayFault> for AppFault {
 }
 
 impl From<ServeFault> for AppFault {
-    ghost use Rattle.cn_app.specs.Serve.{of_serving};
+    ghost use Rattle.cn_app.specs.FaultText.{of_serving};
 
     ghost from_gives = { λ fault e. e ≡ of_serving fault };
 

@@ -4,35 +4,24 @@
 //! command that fails writes nothing.
 #![tactic(auto)]
 
-mod agree;
 mod answers;
 mod arguments;
-mod calls;
-mod check;
 pub mod commands;
-mod events;
 mod fault;
-mod find;
 pub mod laws;
-mod log_lines;
-mod output;
-mod plan;
-mod progress;
-mod replay;
+mod limits;
+mod lines;
 mod run;
-mod serve;
-mod serve_lines;
-mod serving;
-mod show;
-mod source;
+mod streams;
 mod texts;
-mod workers;
+mod threads;
 
-pub use arguments::{read_inputs, read_schedule};
-pub use calls::read_calls;
-pub use events::read_events;
+pub use arguments::calls::read_calls;
+pub use arguments::events::read_events;
+pub use arguments::lists::{read_inputs, read_schedule};
 pub use fault::{AppFault, Part, Source};
-pub use output::{Outcome, Output};
-pub use progress::Progress;
+pub use limits::{MOST_CALLS, MOST_CERTIFICATE_BYTES, MOST_DIGITS, MOST_ITEMS, MOST_TABLE_BYTES};
 pub use run::{run_agree, run_check, run_find, run_replay, run_serve, run_show};
-pub use source::Text;
+pub use streams::output::{Outcome, Output};
+pub use streams::progress::Progress;
+pub use streams::text::Text;

@@ -3,28 +3,31 @@
 //! Each stands on the function of the same name in [`commands`](crate::commands), which is the one
 //! to read. What a reader gave and what a writer was handed stay inside, so that the clauses speak
 //! of bytes that there are: those that the reader had, where they are known beforehand.
-ghost use Rattle.std.specs.Prelude.{◌≡◌, ◌⊎◌, ℕ, codes, Err, Some, None, IfOk, IfErr, OnOk};
+ghost use Rattle.std.specs.Prelude.{◌≡◌, ◌⊎◌, ℕ, codes, Err, None, IfOk, IfErr, OnOk};
 ghost use Rattle.std.specs.Io.KnownBytes.{Appends};
 ghost use Rattle.cn_choice.specs.Discerning.{IsNumberUpTo};
 ghost use Rattle.cn_proto.specs.Plan.{Plan};
 ghost use Rattle.cn_proto.specs.PlanText.{plan_text};
 ghost use Rattle.cn_hall.specs.declared.call.Go.TheVariants.{On};
-ghost use Rattle.cn_app.specs.Agree.{IsAgreed, ListsFail, ListsGive, RunFails};
-ghost use Rattle.cn_app.specs.Check.{FailsChecked, GivesChecked};
-ghost use Rattle.cn_app.specs.Events.{capacity_of};
-ghost use Rattle.cn_app.specs.Find.{IsFound, SearchFails};
-ghost use Rattle.cn_app.specs.Plans.{IsPlanOf, PlanFails};
-ghost use Rattle.cn_app.specs.Replay.{EventsFail, EventsGive, FailsObject, GivesObject, IsServed, ServingFails, StartFails, StartGives};
-ghost use Rattle.cn_app.specs.Workers.{EachHasOneGate};
-ghost use Rattle.cn_app.specs.Serve.{CallsFail, CallsGive, IsServedByThreads, ThreadsFail};
-ghost use Rattle.cn_app.specs.SourceBytes.{MayBeRead, WasRead};
-ghost use Rattle.cn_app.specs.Texts.{table_in, Fails, Gives};
-ghost use Rattle.cn_app.specs.Writing.{WasWritten};
+ghost use Rattle.cn_app.specs.Commands.Agree.{IsAgreed, RunFails};
+ghost use Rattle.cn_app.specs.Arguments.Lists.{ListsFail, ListsGive};
+ghost use Rattle.cn_app.specs.Texts.Checked.{FailsChecked, GivesChecked};
+ghost use Rattle.cn_app.specs.Arguments.Events.{capacity_of, EventsFail, EventsGive};
+ghost use Rattle.cn_app.specs.Commands.Find.{IsFound, SearchFails};
+ghost use Rattle.cn_app.specs.Texts.Plans.{IsPlanOf, PlanFails};
+ghost use Rattle.cn_app.specs.Texts.Services.{FailsObject, GivesObject, StartFails, StartGives};
+ghost use Rattle.cn_app.specs.Commands.Replay.{IsServed, ServingFails};
+ghost use Rattle.cn_app.specs.Threads.Workers.{EachHasOneGate};
+ghost use Rattle.cn_app.specs.Arguments.Calls.{CallsFail, CallsGive};
+ghost use Rattle.cn_app.specs.Commands.Serve.{IsServedByThreads, ThreadsFail};
+ghost use Rattle.cn_app.specs.Streams.SourceBytes.{MayBeRead, WasRead};
+ghost use Rattle.cn_app.specs.Texts.Contents.{table_in, Fails, Gives};
+ghost use Rattle.cn_app.specs.Streams.Writing.{WasWritten};
 
 use crate::commands;
 use crate::fault::{AppFault, Part, Source};
-use crate::output::{Outcome, Output};
-use crate::source::Text;
+use crate::streams::output::{Outcome, Output};
+use crate::streams::text::Text;
 use cn_hall::Gate;
 use std::alloc::Global;
 use std::io::{Read, Write};
@@ -46,7 +49,8 @@ pub fn run_find<T: Threads + Sync, R: Read, W: Write>(
     ensures whole { IfOk result (λ outcome. outcome ≡ Outcome.Whole) }
     ensures found { OnOk result (WasRead Source.Table result R.remaining table.old table.new (λ bytes.
         WasWritten W.contents writer.old writer.new (λ text. Gives bytes table_in (λ t. IsFound t limit text)))) }
-    ensures refused { IfErr result (λ e. WasRead Source.Table result R.remaining table.old table.new (λ bytes. (e ≡ AppFault.OutOfMemory) ⊎ Fails Source.Table bytes table_in e (λ t. SearchFails t limit e))) }
+    ensures refused { IfErr result (λ e. WasRead Source.Table result R.remaining table.old table.new
+        (λ bytes. (e ≡ AppFault.OutOfMemory) ⊎ Fails Source.Table bytes table_in e (λ t. SearchFails t limit e))) }
     ensures silent { IfErr result (λ e. (e ≡ AppFault.Write) ⊎ (writer.new ≡ writer.old)) }
 {
     let mut table = Text::new(alloc, table);
@@ -64,24 +68,26 @@ pub fn run_find<T: Threads + Sync, R: Read, W: Write>(
 ///
 /// Those of [`check`](commands::check).
 pub fn run_check<T, R: Read, C: Read, W: Write>(
-    rt: &T,
+    _rt: &T,
     alloc: Global,
     table: &mut R,
     certificate: &mut C,
     writer: &mut W,
 ) -> Result<Outcome, AppFault>
     ensures whole { IfOk result (λ outcome. outcome ≡ Outcome.Whole) }
-    ensures accepted { OnOk result (WasRead Source.Table result R.remaining table.old table.new (λ x. WasRead Source.Certificate result C.remaining certificate.old certificate.new (λ y.
+    ensures accepted { OnOk result (WasRead Source.Table result R.remaining table.old table.new
+        (λ x. WasRead Source.Certificate result C.remaining certificate.old certificate.new (λ y.
         GivesChecked x y (λ t c. IsNumberUpTo t c.limit c.number)))) }
     ensures written { OnOk result (Appends (W.contents writer.old) (W.contents writer.new) (codes "ok\n")) }
-    ensures refused { IfErr result (λ e. WasRead Source.Table result R.remaining table.old table.new (λ x. MayBeRead Source.Certificate result C.remaining certificate.old certificate.new (λ y.
+    ensures refused { IfErr result (λ e. WasRead Source.Table result R.remaining table.old table.new
+        (λ x. MayBeRead Source.Certificate result C.remaining certificate.old certificate.new (λ y.
         (e ≡ AppFault.OutOfMemory) ⊎ FailsChecked x y e (λ _ _. e ≡ AppFault.Write)))) }
     ensures silent { IfErr result (λ e. (e ≡ AppFault.Write) ⊎ (writer.new ≡ writer.old)) }
 {
     let mut table = Text::new(alloc, table);
     let mut certificate = Text::new(alloc, certificate);
     let mut output = Output::new(alloc, writer);
-    let outcome = commands::check(rt, alloc, &mut table, &mut certificate, &mut output);
+    let outcome = commands::check(alloc, &mut table, &mut certificate, &mut output);
     // As in `run_find`.
     let _ = &*table.into_reader();
     let _ = &*certificate.into_reader();
@@ -95,23 +101,25 @@ pub fn run_check<T, R: Read, C: Read, W: Write>(
 ///
 /// Those of [`show`](commands::show).
 pub fn run_show<T, R: Read, C: Read, W: Write>(
-    rt: &T,
+    _rt: &T,
     alloc: Global,
     table: &mut R,
     certificate: &mut C,
     writer: &mut W,
 ) -> Result<Outcome, AppFault>
     ensures whole { IfOk result (λ outcome. outcome ≡ Outcome.Whole) }
-    ensures written { OnOk result (WasRead Source.Table result R.remaining table.old table.new (λ x. WasRead Source.Certificate result C.remaining certificate.old certificate.new (λ y.
+    ensures written { OnOk result (WasRead Source.Table result R.remaining table.old table.new
+        (λ x. WasRead Source.Certificate result C.remaining certificate.old certificate.new (λ y.
         WasWritten W.contents writer.old writer.new (λ text. GivesChecked x y (λ t c. (plan : Plan) × IsPlanOf t c plan × (text ≡ plan_text plan)))))) }
-    ensures refused { IfErr result (λ e. WasRead Source.Table result R.remaining table.old table.new (λ x. MayBeRead Source.Certificate result C.remaining certificate.old certificate.new (λ y.
+    ensures refused { IfErr result (λ e. WasRead Source.Table result R.remaining table.old table.new
+        (λ x. MayBeRead Source.Certificate result C.remaining certificate.old certificate.new (λ y.
         (e ≡ AppFault.OutOfMemory) ⊎ FailsChecked x y e (λ t c. PlanFails t c e (λ _. e ≡ AppFault.Write))))) }
     ensures silent { IfErr result (λ e. (e ≡ AppFault.Write) ⊎ (writer.new ≡ writer.old)) }
 {
     let mut table = Text::new(alloc, table);
     let mut certificate = Text::new(alloc, certificate);
     let mut output = Output::new(alloc, writer);
-    let outcome = commands::show(rt, alloc, &mut table, &mut certificate, &mut output);
+    let outcome = commands::show(alloc, &mut table, &mut certificate, &mut output);
     // As in `run_find`.
     let _ = &*table.into_reader();
     let _ = &*certificate.into_reader();
@@ -125,7 +133,7 @@ pub fn run_show<T, R: Read, C: Read, W: Write>(
 ///
 /// Those of [`agree`](commands::agree).
 pub fn run_agree<T, R: Read, C: Read, W: Write>(
-    rt: &T,
+    _rt: &T,
     alloc: Global,
     table: &mut R,
     certificate: &mut C,
@@ -134,18 +142,20 @@ pub fn run_agree<T, R: Read, C: Read, W: Write>(
     schedule: &str,
 ) -> Result<Outcome, AppFault>
     ensures whole { IfOk result (λ outcome. outcome ≡ Outcome.Whole) }
-    ensures written { OnOk result (WasRead Source.Table result R.remaining table.old table.new (λ x. WasRead Source.Certificate result C.remaining certificate.old certificate.new (λ y.
+    ensures written { OnOk result (WasRead Source.Table result R.remaining table.old table.new
+        (λ x. WasRead Source.Certificate result C.remaining certificate.old certificate.new (λ y.
         WasWritten W.contents writer.old writer.new (λ lines. ListsGive inputs.now schedule.now (λ xs s. GivesChecked x y (λ t c. (plan : Plan)
         × IsPlanOf t c plan × IsAgreed plan xs s lines)))))) }
-    ensures refused { IfErr result (λ e. MayBeRead Source.Table result R.remaining table.old table.new (λ x. MayBeRead Source.Certificate result C.remaining certificate.old certificate.new (λ y.
-        (e ≡ AppFault.OutOfMemory) ⊎ ListsFail inputs.now schedule.now e (λ xs s. FailsChecked x y e (λ t c. PlanFails t c e (λ plan. RunFails plan xs s e)))))) }
+    ensures refused { IfErr result (λ e. MayBeRead Source.Table result R.remaining table.old table.new
+        (λ x. MayBeRead Source.Certificate result C.remaining certificate.old certificate.new (λ y.
+        (e ≡ AppFault.OutOfMemory) ⊎ ListsFail inputs.now schedule.now e
+        (λ xs s. FailsChecked x y e (λ t c. PlanFails t c e (λ plan. RunFails plan xs s e)))))) }
     ensures silent { IfErr result (λ e. (e ≡ AppFault.Write) ⊎ (writer.new ≡ writer.old)) }
 {
     let mut table = Text::new(alloc, table);
     let mut certificate = Text::new(alloc, certificate);
     let mut output = Output::new(alloc, writer);
     let outcome = commands::agree(
-        rt,
         alloc,
         &mut table,
         &mut certificate,
@@ -166,7 +176,7 @@ pub fn run_agree<T, R: Read, C: Read, W: Write>(
 ///
 /// Those of [`replay`](commands::replay).
 pub fn run_replay<T, R: Read, C: Read, O: Read, W: Write>(
-    rt: &T,
+    _rt: &T,
     alloc: Global,
     table: &mut R,
     certificate: &mut C,
@@ -176,12 +186,15 @@ pub fn run_replay<T, R: Read, C: Read, O: Read, W: Write>(
     capacity: &str,
     events: &str,
 ) -> Result<Outcome, AppFault>
-    ensures written { IfOk result (λ outcome. WasRead Source.Table result R.remaining table.old table.new (λ x. WasRead Source.Certificate result C.remaining certificate.old certificate.new (λ y.
+    ensures written { IfOk result (λ outcome. WasRead Source.Table result R.remaining table.old table.new
+        (λ x. WasRead Source.Certificate result C.remaining certificate.old certificate.new (λ y.
         WasRead Source.Object result O.remaining object.old object.new (λ z. WasWritten W.contents writer.old writer.new (λ lines.
         EventsGive capacity.now events.now (λ k es. GivesObject x y z (λ t c o. (plan : Plan)
         × IsPlanOf t c plan × StartGives o start.now (λ q. IsServed plan o q k es lines outcome)))))))) }
-    ensures refused { IfErr result (λ e. MayBeRead Source.Table result R.remaining table.old table.new (λ x. MayBeRead Source.Certificate result C.remaining certificate.old certificate.new (λ y.
-        MayBeRead Source.Object result O.remaining object.old object.new (λ z. (e ≡ AppFault.OutOfMemory) ⊎ EventsFail capacity.now events.now e (λ k es. FailsObject x y z e (λ t c o.
+    ensures refused { IfErr result (λ e. MayBeRead Source.Table result R.remaining table.old table.new
+        (λ x. MayBeRead Source.Certificate result C.remaining certificate.old certificate.new (λ y.
+        MayBeRead Source.Object result O.remaining object.old object.new
+        (λ z. (e ≡ AppFault.OutOfMemory) ⊎ EventsFail capacity.now events.now e (λ k es. FailsObject x y z e (λ t c o.
         PlanFails t c e (λ plan. StartFails o start.now e (λ q. ServingFails plan o q k es e)))))))) }
     ensures told { capacity_of capacity.now ≡ None → result ≡ Err (AppFault.Argument Part.Capacity) }
     ensures silent { IfErr result (λ e. (e ≡ AppFault.Write) ⊎ (writer.new ≡ writer.old)) }
@@ -191,7 +204,6 @@ pub fn run_replay<T, R: Read, C: Read, O: Read, W: Write>(
     let mut object = Text::new(alloc, object);
     let mut output = Output::new(alloc, writer);
     let outcome = commands::replay(
-        rt,
         alloc,
         &mut table,
         &mut certificate,
@@ -232,12 +244,16 @@ where
     F: Fn(u8) -> G,
     requires gates { F.IsAlwaysCallable make_gate }
     requires on { (p : ℕ) (g : _) → F.post make_gate p g → G.says g ≡ On }
-    ensures written { IfOk result (λ outcome. WasRead Source.Table result R.remaining table.old table.new (λ x. WasRead Source.Certificate result C.remaining certificate.old certificate.new (λ y.
+    ensures written { IfOk result (λ outcome. WasRead Source.Table result R.remaining table.old table.new
+        (λ x. WasRead Source.Certificate result C.remaining certificate.old certificate.new (λ y.
         WasRead Source.Object result O.remaining object.old object.new (λ z. WasWritten W.contents writer.old writer.new (λ lines.
         CallsGive capacity.now calls.now (λ k cs. GivesObject x y z (λ t c o. (plan : Plan)
-        × IsPlanOf t c plan × StartGives o start.now (λ q. IsServedByThreads (EachHasOneGate G.asks G.says (λ p g. F.post make_gate p g)) plan o q k cs lines outcome)))))))) }
-    ensures refused { IfErr result (λ e. MayBeRead Source.Table result R.remaining table.old table.new (λ x. MayBeRead Source.Certificate result C.remaining certificate.old certificate.new (λ y.
-        MayBeRead Source.Object result O.remaining object.old object.new (λ z. (e ≡ AppFault.OutOfMemory) ⊎ CallsFail capacity.now calls.now e (λ k cs. FailsObject x y z e (λ t c o.
+        × IsPlanOf t c plan × StartGives o start.now (λ q.
+        IsServedByThreads (EachHasOneGate G.asks G.says (λ p g. F.post make_gate p g)) plan o q k cs lines outcome)))))))) }
+    ensures refused { IfErr result (λ e. MayBeRead Source.Table result R.remaining table.old table.new
+        (λ x. MayBeRead Source.Certificate result C.remaining certificate.old certificate.new (λ y.
+        MayBeRead Source.Object result O.remaining object.old object.new
+        (λ z. (e ≡ AppFault.OutOfMemory) ⊎ CallsFail capacity.now calls.now e (λ k cs. FailsObject x y z e (λ t c o.
         PlanFails t c e (λ plan. StartFails o start.now e (λ _. ThreadsFail plan o cs e)))))))) }
     ensures told { capacity_of capacity.now ≡ None → result ≡ Err (AppFault.Argument Part.Capacity) }
     ensures silent { IfErr result (λ e. (e ≡ AppFault.Write) ⊎ (writer.new ≡ writer.old)) }

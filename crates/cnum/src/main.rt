@@ -6,8 +6,8 @@ mod always_on;
 mod lazy_file;
 mod words;
 
-ghost use Rattle.cn_app.specs.SourceBytes.{IsUnread};
-ghost use Rattle.cn_app.specs.Writing.{IsUnwritten};
+ghost use Rattle.cn_app.specs.Streams.SourceBytes.{IsUnread};
+ghost use Rattle.cn_app.specs.Streams.Writing.{IsUnwritten};
 
 use always_on::AlwaysOn;
 use clap::{ArgMatches, Error};
@@ -45,7 +45,6 @@ fn run_on_object<T: Threads + Wait + Sync + Files, I: Read, C: Read, O: Write>(
     if command == "replay" {
         let events = text(words, "EVENTS")?;
         return commands::replay(
-            rt,
             alloc,
             table,
             certificate,
@@ -90,11 +89,11 @@ fn run<T: Threads + Wait + Sync + Files, I: Read, O: Write>(
     let mut file = LazyFile::new(rt, text(words, "CERT")?);
     let mut certificate = Text::new(alloc, &mut file);
     match command {
-        "check" => commands::check(rt, alloc, table, &mut certificate, output),
-        "show" => commands::show(rt, alloc, table, &mut certificate, output),
+        "check" => commands::check(alloc, table, &mut certificate, output),
+        "show" => commands::show(alloc, table, &mut certificate, output),
         "agree" => {
             let (inputs, schedule) = (text(words, "INPUTS")?, text(words, "SCHEDULE")?);
-            commands::agree(rt, alloc, table, &mut certificate, output, inputs, schedule)
+            commands::agree(alloc, table, &mut certificate, output, inputs, schedule)
         }
         "replay" | "serve" => {
             run_on_object(rt, alloc, table, &mut certificate, output, command, words)

@@ -1,6 +1,6 @@
 //! What texts and outputs keep.
-ghost use Rattle.cn_app.specs.SourceBytes.{IsUnread};
-ghost use Rattle.cn_app.specs.Writing.{IsUnwritten};
+ghost use Rattle.cn_app.specs.Streams.SourceBytes.{IsUnread};
+ghost use Rattle.cn_app.specs.Streams.Writing.{IsUnwritten};
 
 use super::streams::{Drip, Narrow, Padded};
 use super::*;
@@ -108,7 +108,7 @@ fn a_later_text_is_not_touched(rt: HostRuntime) -> Result<(), Fail> {
     let mut table = Text::new(alloc, &mut reader);
     let mut certificate = Text::new(alloc, &mut file);
     let mut output = Output::new(alloc, &mut written);
-    let outcome = commands::check(&rt, alloc, &mut table, &mut certificate, &mut output);
+    let outcome = commands::check(alloc, &mut table, &mut certificate, &mut output);
     assert!(rt; matches!(outcome, Err(AppFault::Table(_))));
     assert_eq!(rt; certificate.progress, Progress::Open);
     assert_eq!(rt; output.progress, Progress::Open);

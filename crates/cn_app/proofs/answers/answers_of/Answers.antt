@@ -2,7 +2,7 @@ use Rattle.std.proofs.Common.{ap, arith, rules}
 use Rattle.std.proofs.lemmas.Grind.{common_steps}
 use Rattle.std.proofs.lemmas.Option.{slice_get-get_or}
 use Rattle.cn_log.specs.Opening.{Opening, opening_of, setting_of}
-use Rattle.cn_app.proofs.LogLemmas.{may_come_at, responses_more}
+use Rattle.cn_app.proofs.LineLemmas.Log.{may_come_at, responses_more}
 use Rattle.cn_app.proofs.answers.answers_of.Goals as goal
 
 pub tell-requires-clause-may_come : goal.tell-requires-clause-may_come
@@ -19,7 +19,8 @@ loop-event-preserved c = record {
   opening = search rules;
   schedule = grind (arith, common_steps);
   told = grind (arith, common_steps);
-  responses = rw c.tell.ensures.told (responses_more c.args.object.now c.loop-event.core.opening.object c.loop-event.told.items _ (ap (λ (o : Opening). o.object) c.loop-event.invariant.opening) c.loop-event.invariant.responses c.tell.ensures.responses);
+  responses = rw c.tell.ensures.told (responses_more c.args.object.now c.loop-event.core.opening.object c.loop-event.told.items _
+      (ap (λ (o : Opening). o.object) c.loop-event.invariant.opening) c.loop-event.invariant.responses c.tell.ensures.responses);
   few = omega (arith, c.tell.ensures.few, c.loop-event.invariant.few);
   room = search rules;
 }

@@ -1,6 +1,6 @@
 use Rattle.std.proofs.Common.{◌≡◌, ◌≤◌, ◌++◌, [], drop, length, take, vec_capacity}
 use Rattle.cn_log.specs.Opening.{opening_of, setting_of}
-use Rattle.cn_app.specs.Replay.{told_after, HaveResponses}
+use Rattle.cn_app.specs.Answers.{told_after, HaveResponses}
 use Rattle.cn_app.proofs.answers.answers_of.Given as goal
 
 abbrev pub invariant-loop-event : goal.invariant-loop-event

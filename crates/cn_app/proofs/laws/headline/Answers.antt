@@ -1,6 +1,6 @@
 use Rattle.std.proofs.Common.{◌+◌, length, Some, ap, sym, ◌∙◌}
 use Rattle.cn_choice.specs.Canonical.{Choice}
-use Rattle.cn_app.proofs.HeadlineLemmas.{number_of_witness, serves_objects}
+use Rattle.cn_app.proofs.LawLemmas.Headline.{number_of_witness, serves_objects}
 use Rattle.cn_app.proofs.laws.headline.Goals as goal
 
 pub returns : goal.returns

@@ -1,4 +1,4 @@
-use Rattle.cn_app.proofs.OneOutput as output
+use Rattle.cn_app.proofs.LawLemmas.OneOutput as output
 use Rattle.cn_app.proofs.laws.one_plan_of.Goals as goal
 
 pub returns : goal.returns

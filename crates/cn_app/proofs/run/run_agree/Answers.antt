@@ -1,11 +1,12 @@
 use Rattle.std.proofs.Common.{◌≡◌, ◌⊎◌, rules}
-use Rattle.cn_app.specs.Agree.{ListsFail, RunFails}
-use Rattle.cn_app.specs.Check.{FailsChecked}
-use Rattle.cn_app.specs.Plans.{PlanFails}
-use Rattle.cn_app.specs.SourceBytes.{MayBeRead}
+use Rattle.cn_app.specs.Arguments.Lists.{ListsFail}
+use Rattle.cn_app.specs.Commands.Agree.{RunFails}
+use Rattle.cn_app.specs.Texts.Checked.{FailsChecked}
+use Rattle.cn_app.specs.Texts.Plans.{PlanFails}
+use Rattle.cn_app.specs.Streams.SourceBytes.{MayBeRead}
 use Rattle.cn_app.specs.declared.fault.AppFault.TheVariants.{OutOfMemory}
 use Rattle.cn_app.specs.declared.fault.Source.TheVariants as source
-use Rattle.cn_app.proofs.Running.{may_be_read}
+use Rattle.cn_app.proofs.StreamLemmas.Running.{may_be_read}
 use Rattle.cn_app.proofs.run.run_agree.Goals as goal
 
 pub returns-clause-refused : goal.returns-clause-refused

@@ -1,10 +1,12 @@
 use Rattle.std.proofs.Common.{◌≡◌, ◌⊎◌, rules}
-use Rattle.cn_app.specs.Plans.{PlanFails}
-use Rattle.cn_app.specs.Replay.{EventsFail, FailsObject, ServingFails, StartFails}
-use Rattle.cn_app.specs.SourceBytes.{MayBeRead}
+use Rattle.cn_app.specs.Texts.Plans.{PlanFails}
+use Rattle.cn_app.specs.Arguments.Events.{EventsFail}
+use Rattle.cn_app.specs.Texts.Services.{FailsObject, StartFails}
+use Rattle.cn_app.specs.Commands.Replay.{ServingFails}
+use Rattle.cn_app.specs.Streams.SourceBytes.{MayBeRead}
 use Rattle.cn_app.specs.declared.fault.AppFault.TheVariants.{OutOfMemory}
 use Rattle.cn_app.specs.declared.fault.Source.TheVariants as source
-use Rattle.cn_app.proofs.Running.{may_be_read}
+use Rattle.cn_app.proofs.StreamLemmas.Running.{may_be_read}
 use Rattle.cn_app.proofs.run.run_replay.Goals as goal
 
 pub returns-clause-refused : goal.returns-clause-refused
@@ -18,5 +20,6 @@ returns-clause-refused g c =
     (λ y e. MayBeRead source.Object r g.O.Read.remaining c.args.object.now _
     (λ z. (e ≡ OutOfMemory) ⊎ EventsFail c.args.capacity.now c.args.events.now e (λ k es. FailsObject new.table.bytes.items y z e (λ t u o. PlanFails t u e (λ plan. StartFails o c.args.start.now e (λ q. ServingFails plan o q k es e))))))
     (may_be_read source.Object g.O.Read.remaining c.new-object.result new.object c.args.object.now _ (search rules) (search rules) r c.replay-outcome.ensures.object
-    (λ z e. (e ≡ OutOfMemory) ⊎ EventsFail c.args.capacity.now c.args.events.now e (λ k es. FailsObject new.table.bytes.items new.certificate.bytes.items z e (λ t u o. PlanFails t u e (λ plan. StartFails o c.args.start.now e (λ q. ServingFails plan o q k es e)))))
+    (λ z e. (e ≡ OutOfMemory) ⊎ EventsFail c.args.capacity.now c.args.events.now e (λ k es.
+    FailsObject new.table.bytes.items new.certificate.bytes.items z e (λ t u o. PlanFails t u e (λ plan. StartFails o c.args.start.now e (λ q. ServingFails plan o q k es e)))))
     c.replay-outcome.ensures.refused))

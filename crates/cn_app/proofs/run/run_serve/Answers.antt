@@ -1,11 +1,12 @@
 use Rattle.std.proofs.Common.{◌≡◌, ◌⊎◌, rules}
-use Rattle.cn_app.specs.Plans.{PlanFails}
-use Rattle.cn_app.specs.Replay.{FailsObject, StartFails}
-use Rattle.cn_app.specs.Serve.{CallsFail, ThreadsFail}
-use Rattle.cn_app.specs.SourceBytes.{MayBeRead}
+use Rattle.cn_app.specs.Texts.Plans.{PlanFails}
+use Rattle.cn_app.specs.Texts.Services.{FailsObject, StartFails}
+use Rattle.cn_app.specs.Arguments.Calls.{CallsFail}
+use Rattle.cn_app.specs.Commands.Serve.{ThreadsFail}
+use Rattle.cn_app.specs.Streams.SourceBytes.{MayBeRead}
 use Rattle.cn_app.specs.declared.fault.AppFault.TheVariants.{OutOfMemory}
 use Rattle.cn_app.specs.declared.fault.Source.TheVariants as source
-use Rattle.cn_app.proofs.Running.{may_be_read}
+use Rattle.cn_app.proofs.StreamLemmas.Running.{may_be_read}
 use Rattle.cn_app.proofs.run.run_serve.Goals as goal
 
 pub returns-clause-refused : goal.returns-clause-refused
@@ -19,5 +20,6 @@ returns-clause-refused g c =
     (λ y e. MayBeRead source.Object r g.O.Read.remaining c.args.object.now _
     (λ z. (e ≡ OutOfMemory) ⊎ CallsFail c.args.capacity.now c.args.calls.now e (λ k cs. FailsObject new.table.bytes.items y z e (λ t u o. PlanFails t u e (λ plan. StartFails o c.args.start.now e (λ _. ThreadsFail plan o cs e))))))
     (may_be_read source.Object g.O.Read.remaining c.new-object.result new.object c.args.object.now _ (search rules) (search rules) r c.serve-outcome.ensures.object
-    (λ z e. (e ≡ OutOfMemory) ⊎ CallsFail c.args.capacity.now c.args.calls.now e (λ k cs. FailsObject new.table.bytes.items new.certificate.bytes.items z e (λ t u o. PlanFails t u e (λ plan. StartFails o c.args.start.now e (λ _. ThreadsFail plan o cs e)))))
+    (λ z e. (e ≡ OutOfMemory) ⊎ CallsFail c.args.capacity.now c.args.calls.now e (λ k cs.
+    FailsObject new.table.bytes.items new.certificate.bytes.items z e (λ t u o. PlanFails t u e (λ plan. StartFails o c.args.start.now e (λ _. ThreadsFail plan o cs e)))))
     c.serve-outcome.ensures.refused))

@@ -1,0 +1,5 @@
+-- Arguments.
+pub mod Calls
+pub mod Events
+pub mod Numbers
+pub mod Pairs

@@ -1,0 +1,3 @@
+-- The laws.
+pub mod Headline
+pub mod OneOutput

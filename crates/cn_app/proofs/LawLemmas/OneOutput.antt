@@ -1,0 +1,23 @@
+-- What a command writes is one text.
+use Rattle.std.proofs.Common.{◌≡◌, ℕ, List, ◌++◌, codes, Some, ap, sym, ◌∙◌}
+use Rattle.cn_table.specs.TypeTable.{TypeTable}
+use Rattle.cn_choice.specs.Canonical.{Choice}
+use Rattle.cn_search.specs.Evidence.{IsFindingFor}
+use Rattle.cn_search.specs.Finding.{Finding}
+use Rattle.cn_cert.specs.Certificate.{Certificate, certificate_of}
+use Rattle.cn_cert.specs.CertificateText.{certificate_text}
+use Rattle.cn_proto.specs.Plan.{Plan, IsPlan}
+use Rattle.cn_app.specs.Commands.Find.{IsFound}
+use Rattle.cn_app.specs.Texts.Plans.{IsPlanOf}
+
+pub one_found : ((t : TypeTable) (limit : ℕ) (f g : Finding) → IsFindingFor t limit f → IsFindingFor t limit g → f ≡ g)
+    → (t : TypeTable) (limit : ℕ) (x y : List ℕ) → IsFound t limit x → IsFound t limit y → x ≡ y
+one_found one t limit x y f g =
+    f.written ∙ ap (λ (finding : Finding). certificate_text (certificate_of t.name finding) ++ codes "\n") (one t limit f.finding g.finding f.found g.found) ∙ sym g.written
+
+same_choice : (v w : Choice) → Some v ≡ Some w → v ≡ w
+same_choice v w e = cc
+
+pub one_plan_of : ((p q : Plan) → IsPlan p → IsPlan q → p.table ≡ q.table → p.choice ≡ q.choice → p ≡ q)
+    → (t : TypeTable) (c : Certificate) (p q : Plan) → IsPlanOf t c p → IsPlanOf t c q → p ≡ q
+one_plan_of one t c p q f g = one p q f.is_plan g.is_plan (f.table ∙ sym g.table) (same_choice p.choice q.choice (sym f.witness ∙ g.witness))

@@ -1,0 +1,3 @@
+-- What is written of a log.
+pub mod Log
+pub mod Threads

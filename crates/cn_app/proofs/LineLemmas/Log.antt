@@ -1,0 +1,47 @@
+-- Events and entries, one at a time.
+use Rattle.std.proofs.Common.{◌≡◌, ℕ, zero, suc, ◌<◌, List, [], ◌∷◌, ◌++◌, drop, length, take, slice_get, slice_index_or, Some, subst}
+use Rattle.std.proofs.lemmas.List.Elements.{All-append}
+use Rattle.std.proofs.lemmas.Option.{slice_get-get_or}
+use Rattle.cn_table.specs.TypeTable.{TypeTable, transition}
+use Rattle.cn_log.specs.Callers.{HasResponse}
+use Rattle.cn_log.specs.declared.entry.Entry.{Entry}
+use Rattle.cn_log.specs.declared.event.Event.{Event}
+use Rattle.cn_log.specs.declared.event.Event.TheVariants.{Invoke}
+use Rattle.cn_log.specs.Linearized.{IsLinearized}
+use Rattle.cn_log.specs.Log.{Setting, World, IsEventList, MayAllCome, MayCome, after_event, after_events, entries, first_world, state_of}
+use Rattle.cn_app.specs.Lines.Log.{entry_line, entry_lines}
+use Rattle.cn_app.specs.Answers.{HaveResponses}
+use Rattle.cn_app.specs.declared.answers.Told.{Told}
+
+module _ {R : Type 0} (L : Setting R) where
+  may_come_from : (events : List Event) (w : World R) (i : ℕ) (e : Event) → MayAllCome L events w → slice_get events i ≡ Some e → MayCome L (after_events L (take i events) w) e
+  may_come_from [] w i e may there = absurd cc
+  may_come_from (x ∷ events) w zero e may there = let is : x ≡ e = cc in subst (λ (y : Event). MayCome L w y) is may.0
+  may_come_from (x ∷ events) w (suc i) e may there = may_come_from events (after_event L w x) i e may.1 there
+
+  -- the event at a place can come there
+  pub may_come_at : (events : List Event) (i : ℕ) (e : Event) → IsEventList L events → slice_get events i ≡ Some e → MayCome L (state_of L (take i events)) e
+  may_come_at events i e may there = may_come_from events (first_world L) i e may there
+
+  -- each entry has an operation of the object
+  pub known_entries : (events : List Event) → IsEventList L events → IsLinearized L events
+      → (k : ℕ) (d : Entry) → k < length (entries L events) → (slice_index_or (entries L events) k d).operation.0 < length L.object.operations
+  known_entries events may linearized k d less =
+      let e : Entry = slice_index_or (entries L events) k d in
+      let called = linearized.called k e (slice_get-get_or (entries L events) k d less) in
+      (may_come_at events called.0 (Invoke e.process e.operation.0) may called.1.invoke).operation
+
+-- what is told more has responses too
+pub responses_more : (object other : TypeTable) (told more : List Told) → other ≡ object → HaveResponses object told → HaveResponses other more → HaveResponses object (told ++ more)
+responses_more object other told more same have here = All-append (λ t. HasResponse object t.answer) told more have (subst (λ (o : TypeTable). HaveResponses o more) same here)
+
+-- the line of the entry at a place, and then those of the entries behind it
+pub lines_at : (object : TypeTable) (state : ℕ) (es : List Entry) (slots : List ℕ) (k slot : ℕ) (e : Entry) → slice_get es k ≡ Some e → slice_get slots k ≡ Some slot
+    → entry_lines object state (drop k es) (drop k slots) ≡ entry_line object slot e (transition object e.operation.0 state) ++ entry_lines object (transition object e.operation.0 state).1 (drop (suc k) es) (drop (suc k) slots)
+lines_at object state [] slots k slot e h g = absurd cc
+lines_at object state (x ∷ es) [] k slot e h g = absurd cc
+lines_at object state (x ∷ es) (s ∷ slots) zero slot e h g =
+    let a : x ≡ e = cc in
+    let b : s ≡ slot = cc in
+    λ i. entry_line object (b i) (a i) (transition object (a i).operation.0 state) ++ entry_lines object (transition object (a i).operation.0 state).1 es slots
+lines_at object state (x ∷ es) (s ∷ slots) (suc k) slot e h g = lines_at object state es slots k slot e h g

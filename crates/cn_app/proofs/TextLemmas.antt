@@ -1,0 +1,5 @@
+-- What the texts give a command, and how it fails where they do not.
+pub mod AcceptedWitnesses
+pub mod Checked
+pub mod Plans
+pub mod Services

@@ -1,0 +1,16 @@
+use Rattle.std.proofs.Common.{◌≡◌, ◌==◌, ◌&&◌, ◌∙◌, ℕ, Bool, List, length, map, nat_lt, eq-eqb}
+use Rattle.std.specs.List.{list_all}
+use Rattle.std.proofs.lemmas.List.{length-map}
+use Rattle.std.proofs.lemmas.List.Folds.{list_all-map}
+use Rattle.cn_app.proofs.arguments.calls.calls_fit.Goals as goal
+
+-- where there are as many lists as processes, the rest is whether each number is known
+fitting : {V : Type 0} (items : V → List ℕ) (calls : List V) (processes operations number : ℕ) (known : Bool) → length calls ≡ processes → number ≡ operations
+    → known ≡ list_all (λ list. list_all (λ operation. nat_lt operation number) (items list)) calls
+    → known ≡ ((length (map items calls) == processes) && list_all (λ list. list_all (λ operation. nat_lt operation operations) list) (map items calls))
+fitting items calls processes operations number known many is h =
+    rw (eq-eqb (length (map items calls)) processes (length-map calls items ∙ many), list_all-map (λ list. list_all (λ operation. nat_lt operation operations) list) items calls, ← is) h
+
+pub returns-then-calls-from-clause-fit : goal.returns-then-calls-from-clause-fit
+returns-then-calls-from-clause-fit c =
+    fitting (λ list. list.items) c.args.calls.now _ _ c.operations.result c.each_known.result (c.if-calls-from.true ∙ c.from.ensures ∙ c.processes.ensures.number) c.operations.ensures.number c.each_known.ensures

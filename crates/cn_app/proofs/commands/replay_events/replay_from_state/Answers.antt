@@ -1,0 +1,15 @@
+use Rattle.std.proofs.Common.{inl}
+use Rattle.std.proofs.lemmas.Result.{err_from_is_err_and}
+use Rattle.cn_log.specs.Opening.{opening_of, setting_of}
+use Rattle.cn_app.proofs.LineLemmas.Log.{known_entries}
+use Rattle.cn_app.proofs.commands.replay_events.replay_from_state.Goals as goal
+
+pub entry_lines-requires-clause-known : goal.entry_lines-requires-clause-known
+entry_lines-requires-clause-known c =
+    rw (c.in_ok-core.ensures.opening, c.in_ok-core.ensures.schedule)
+    (known_entries (setting_of (opening_of c.args.service.now.plan c.args.service.now.object c.args.start.0 c.args.capacity)) c.args.events.now c.in_ok-core.ensures.events c.in_ok-core.ensures.linearized)
+
+pub returns-in_err-push_str-clause-refused : goal.returns-in_err-push_str-clause-refused
+returns-in_err-push_str-clause-refused c =
+    let p = err_from_is_err_and c.from_residual-in_err-push_str.result c.from_residual-in_err-push_str.ensures.1 in
+    rw p.1 (inl p.2)

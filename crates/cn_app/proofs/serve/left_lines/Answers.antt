@@ -1,8 +1,0 @@
-use Rattle.cn_log.specs.Opening.{setting}
-use Rattle.cn_app.proofs.LogLemmas.{known_entries}
-use Rattle.cn_app.proofs.serve.left_lines.Goals as goal
-
-pub entry_lines-requires-clause-known : goal.entry_lines-requires-clause-known
-entry_lines-requires-clause-known c =
-    rw (← c.requires.object)
-    (known_entries (setting c.args.left.now.core) c.args.left.now.core.schedule c.is_linearized.ensures.events c.is_linearized.ensures.linearized)

@@ -1,7 +1,0 @@
-use Rattle.std.proofs.lemmas.Result.{err_from_is_err_and}
-use Rattle.cn_app.proofs.show.shown_text.Goals as goal
-
-pub returns-in_err-plan-clause-untouched : goal.returns-in_err-plan-clause-untouched
-returns-in_err-plan-clause-untouched g c =
-    let p = err_from_is_err_and c.from_residual.result c.from_residual.ensures.1 in
-    rw (p.1, p.2) c.in_err-plan.ensures.untouched

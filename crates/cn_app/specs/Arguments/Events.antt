@@ -1,0 +1,41 @@
+-- Arguments that are events of a log, and how many slots it has.
+use Rattle.std.specs.Prelude.{codes, ℕ, List, Option, option_map, option_and_then, ◌==◌, [], ◌∷◌, None, if◌then◌else◌, nat_le, Some, IsSomeAnd, ◌≡◌, MatchOption}
+use Rattle.std.specs.List.{before_first, after_first}
+use Rattle.cn_log.specs.declared.event.Event.{Event}
+use Rattle.cn_log.specs.declared.event.Event.TheVariants.{Step, Invoke}
+use Rattle.cn_app.specs.Arguments.Lists.{code_of, number_up_to, list_of}
+use Rattle.cn_app.specs.declared.fault.AppFault.{AppFault}
+use Rattle.cn_app.specs.declared.fault.AppFault.TheVariants.{Argument}
+use Rattle.cn_app.specs.declared.fault.Part.TheVariants.{Capacity, Events}
+
+-- a process that takes a step: its number, behind an s
+abbrev pub step_of : List ℕ → Option Event
+step_of text = option_map Step (number_up_to 255 text)
+
+-- a process that makes a call: behind an i its number, a colon and the number of the operation
+abbrev pub invoke_of : List ℕ → Option Event
+invoke_of text =
+    option_and_then (λ p. option_map (λ o. Invoke p o) (number_up_to 255 (after_first (λ byte. byte == code_of (codes ":")) text)))
+    (number_up_to 255 (before_first (λ byte. byte == code_of (codes ":")) text))
+
+-- the event that a text spells, if it spells one
+abbrev pub event_of : List ℕ → Option Event
+event_of [] = None
+event_of (letter ∷ rest) = if letter == code_of (codes "s") then step_of rest else (if letter == code_of (codes "i") then invoke_of rest else None)
+
+-- a list of events
+abbrev pub events_of : List ℕ → Option (List Event)
+events_of text = list_of event_of text
+
+-- the number of slots, which is at least 1
+abbrev pub capacity_of : List ℕ → Option ℕ
+capacity_of text = option_and_then (λ n. if nat_le 1 n then Some n else None) (number_up_to 1024 text)
+
+-- both texts spell a number of slots and a list of events, of which this holds
+abbrev pub EventsGive : List ℕ → List ℕ → (ℕ → List Event → Type 0) → Type 0
+EventsGive capacity events P = IsSomeAnd (capacity_of capacity) (λ k. IsSomeAnd (events_of events) (P k))
+
+-- a command that reads both fails with e: the first that is not spelled as it should be, or both are and what comes later fails with e
+abbrev pub EventsFail : List ℕ → List ℕ → AppFault → (ℕ → List Event → Type 0) → Type 0
+EventsFail capacity events e later = MatchOption (capacity_of capacity) (e ≡ Argument Capacity)
+    (λ k. MatchOption (events_of events) (e ≡ Argument Events) (later k))

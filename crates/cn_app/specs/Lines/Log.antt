@@ -1,0 +1,34 @@
+-- The lines of a log: of what its steps answered, and of its entries.
+use Rattle.std.specs.Prelude.{ℕ, List, [], ◌++◌, codes, ◌∷◌}
+use Rattle.std.specs.Fmt.{decimal}
+use Rattle.cn_table.specs.TypeTable.{TypeTable, operation_names, transition}
+use Rattle.cn_proto.specs.PlanText.{name_at}
+use Rattle.cn_log.specs.Log.{answer}
+use Rattle.cn_log.specs.declared.event.StepAnswer.{StepAnswer}
+use Rattle.cn_log.specs.declared.event.StepAnswer.TheVariants.{Working, Answered, Full}
+use Rattle.cn_log.specs.declared.entry.Entry.{Entry}
+use Rattle.cn_app.specs.declared.answers.Told.{Told}
+
+-- the line of a call that a step answers with this, if it ends one
+abbrev pub answer_line : TypeTable → ℕ → StepAnswer → List ℕ
+answer_line object p Working = []
+answer_line object p (Answered slot response) = codes "answer " ++ decimal p ++ codes " " ++ decimal slot ++ codes " " ++ name_at object.responses response.0
+    ++ codes "\n"
+answer_line object p Full = codes "full " ++ decimal p ++ codes "\n"
+
+abbrev pub answer_lines : TypeTable → List Told → List ℕ
+answer_lines object [] = []
+answer_lines object (told ∷ rest) = answer_line object told.process told.answer ++ answer_lines object rest
+
+-- the line of an entry: its slot, process and operation, and what the object answers there, with the state after it
+abbrev pub entry_line : TypeTable → ℕ → Entry → ℕ × ℕ → List ℕ
+entry_line object slot e given =
+    codes "entry " ++ decimal slot ++ codes " " ++ decimal e.process ++ codes " " ++ name_at (operation_names object) e.operation.0
+    ++ codes " " ++ name_at object.responses given.0 ++ codes " " ++ name_at object.states given.1 ++ codes "\n"
+
+-- the lines of entries, each with its slot, where the object is in this state before them
+abbrev pub entry_lines : TypeTable → ℕ → List Entry → List ℕ → List ℕ
+entry_lines object state [] slots = []
+entry_lines object state (e ∷ es) [] = []
+entry_lines object state (e ∷ es) (slot ∷ slots) =
+    entry_line object slot e (transition object e.operation.0 state) ++ entry_lines object (transition object e.operation.0 state).1 es slots

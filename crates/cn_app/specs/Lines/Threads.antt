@@ -1,0 +1,61 @@
+-- The lines of what threads did: of the calls of each process, and of the events.
+use Rattle.std.specs.Prelude.{ℕ, ◌+◌, List, ◌++◌, codes, [], ◌∷◌, ◌<◌, All, length}
+use Rattle.std.specs.Fmt.{decimal}
+use Rattle.std.specs.List.{join_by}
+use Rattle.cn_table.specs.TypeTable.{TypeTable}
+use Rattle.cn_log.specs.Linearized.{entry_slots}
+use Rattle.cn_log.specs.Log.{entries}
+use Rattle.cn_log.specs.Opening.{Log, setting}
+use Rattle.cn_log.specs.declared.event.Event.{Event}
+use Rattle.cn_log.specs.declared.event.Event.TheVariants.{Invoke, Step}
+use Rattle.cn_log.specs.declared.event.StepAnswer.TheVariants as answer
+use Rattle.cn_hall.specs.declared.call.Reply.{Reply}
+use Rattle.cn_app.specs.Lines.Log.{answer_line, entry_lines}
+use Rattle.cn_app.specs.declared.threads.workers.End.{End}
+use Rattle.cn_app.specs.declared.threads.workers.End.TheVariants.{Full, Stopped, Whole}
+use Rattle.cn_app.specs.declared.threads.workers.Worked.{Worked}
+
+-- the text of an event, as events are read
+abbrev pub event_text : Event → List ℕ
+event_text (Invoke p operation) = codes "i" ++ decimal p ++ codes ":" ++ decimal operation
+event_text (Step p) = codes "s" ++ decimal p
+
+-- the text of events, as a list of them is read
+abbrev pub events_text : List Event → List ℕ
+events_text [] = codes "none"
+events_text (e ∷ es) = join_by event_text (codes ",") (e ∷ es)
+
+abbrev pub events_line : List Event → List ℕ
+events_line events = codes "events " ++ events_text events ++ codes "\n"
+
+-- the lines of the replies to the calls of a process, in order
+abbrev pub reply_lines : TypeTable → ℕ → List Reply → List ℕ
+reply_lines object p [] = []
+reply_lines object p (reply ∷ replies) = answer_line object p (answer.Answered reply.slot reply.response) ++ reply_lines object p replies
+
+-- the line of the call that has no reply, if there is one
+abbrev pub end_line : TypeTable → ℕ → End → List ℕ
+end_line object p Whole = []
+end_line object p Full = answer_line object p answer.Full
+end_line object p Stopped = codes "stopped " ++ decimal p ++ codes "\n"
+
+-- the lines of the calls of a process, in order
+abbrev pub call_lines : TypeTable → ℕ → List Reply → End → List ℕ
+call_lines object p replies end = reply_lines object p replies ++ end_line object p end
+
+-- the lines of the calls of each process, from process p on
+abbrev pub worked_lines : TypeTable → ℕ → List Worked → List ℕ
+worked_lines object p [] = []
+worked_lines object p (w ∷ ws) = call_lines object p w.replies.items w.end ++ worked_lines object (p + 1) ws
+
+-- the lines of what threads have left: process by process of their calls, then of the entries of the log, and last of its events
+abbrev pub left_lines : TypeTable → ℕ → List Worked → Log → List ℕ
+left_lines object start worked core = worked_lines object 0 worked
+    ++ entry_lines object start (entries (setting core) core.schedule) (entry_slots (setting core) core.schedule) ++ events_line core.schedule
+
+-- each reply's response is one of the object's
+abbrev pub RepliesHaveResponses : TypeTable → List Reply → Type 0
+RepliesHaveResponses object replies = All (λ r. r.response.0 < length object.responses) replies
+
+abbrev pub EachHasResponses : TypeTable → List Worked → Type 0
+EachHasResponses object worked = All (λ w. RepliesHaveResponses object w.replies.items) worked

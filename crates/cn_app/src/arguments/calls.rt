@@ -1,0 +1,77 @@
+//! The argument that lists the calls of each process.
+ghost use Rattle.std.specs.Prelude.{◌≡◌, ◌⊎◌, ◌≤◌, length, map, nat_lt, true, IfOk, IfErr, Some, None};
+ghost use Rattle.std.specs.List.{list_all};
+ghost use Rattle.cn_table.specs.Draft.{all_some};
+ghost use Rattle.cn_app.specs.Arguments.Calls.{calls_fit, calls_of, process_calls};
+ghost use Rattle.cn_app.specs.declared.fault.AppFault.TheVariants.{Argument, OutOfMemory};
+ghost use Rattle.cn_app.specs.declared.fault.Part.TheVariants.{Calls};
+
+use crate::arguments::lists::{pieces_of, read_list};
+use crate::fault::{AppFault, Part};
+use crate::limits::MOST_CALLS;
+use cn_proto::Plan;
+use cn_table::Table;
+use std::alloc::Global;
+
+fn read_process(alloc: Global, text: &str) -> Result<Vec<u8>, AppFault>
+    ensures calls { IfOk result (λ calls. process_calls text.now ≡ Some calls.items) }
+    ensures refused { IfErr result (λ e. (e ≡ OutOfMemory) ⊎ ((e ≡ Argument Calls) × (process_calls text.now ≡ None))) }
+{
+    let calls = read_list::<u8>(alloc, text, Part::Calls)?;
+    if calls.len() > MOST_CALLS {
+        return Err(AppFault::Argument(Part::Calls));
+    }
+    Ok(calls)
+}
+
+fn read_each(alloc: Global, pieces: &[&str]) -> Result<Vec<Vec<u8>>, AppFault>
+    ensures calls { IfOk result (λ calls. all_some (map process_calls (map (λ piece. piece.now) pieces.now)) ≡ Some (map (λ list. list.items) calls.items)) }
+    ensures refused { IfErr result (λ e. (e ≡ OutOfMemory)
+        ⊎ ((e ≡ Argument Calls) × (all_some (map process_calls (map (λ piece. piece.now) pieces.now)) ≡ None))) }
+{
+    let mut calls = Vec::new(alloc);
+    for piece in pieces {
+        calls.push(read_process(alloc, piece)?)?;
+    }
+    Ok(calls)
+}
+
+/// Reads the calls of each process: for one process after the other a list of the numbers, from 0
+/// to 255, of the operations that it calls, with `/` between two lists.
+///
+/// Each list is written as for [`read_inputs`](crate::read_inputs), and has at most
+/// [`MOST_CALLS`](crate::MOST_CALLS) items.
+///
+/// # Errors
+///
+/// `Argument(Calls)` where the text is no such lists, or `OutOfMemory`.
+pub fn read_calls(alloc: Global, text: &str) -> Result<Vec<Vec<u8>>, AppFault>
+    ensures calls { IfOk result (λ calls. calls_of text.now ≡ Some (map (λ list. list.items) calls.items)) }
+    ensures refused { IfErr result (λ e. (e ≡ OutOfMemory) ⊎ ((e ≡ Argument Calls) × (calls_of text.now ≡ None))) }
+{
+    let pieces = pieces_of(alloc, text, '/')?;
+    read_each(alloc, &pieces)
+}
+
+/// Whether each number is below that of the operations.
+fn all_known(calls: &[u8], operations: u8) -> bool
+    ensures { result ≡ list_all (λ operation. nat_lt operation operations) calls.now }
+{
+    calls.iter().all(|operation| *operation < operations)
+}
+
+/// Whether each number in each list is below that of the operations.
+fn each_known(calls: &[Vec<u8>], operations: u8) -> bool
+    ensures { result ≡ list_all (λ list. list_all (λ operation. nat_lt operation operations) list.items) calls.now }
+{
+    calls.iter().all(|list| all_known(list, operations))
+}
+
+/// Whether there is a list for each process of the plan, and each call is of an operation of the
+/// object.
+pub(crate) fn calls_fit(plan: &Plan, object: &Table, calls: &[Vec<u8>]) -> bool
+    ensures fit { result ≡ calls_fit plan.now object.now (map (λ list. list.items) calls.now) }
+    ensures few { result ≡ true → length calls.now ≤ 8 }
+{
+    calls.len() == usize::from(plan.processes()) && each_known(calls, object.operations())
+}

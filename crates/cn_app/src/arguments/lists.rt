@@ -1,0 +1,131 @@
+//! Arguments that are lists: items with a comma between two, or the word `none`.
+ghost use Rattle.std.specs.Prelude.{◌≡◌, ◌⊎◌, ◌<◌, ℕ, map, IfOk, IfErr, List, Option, Some, None, ◌==◌};
+ghost use Rattle.std.specs.List.{list_all, slice_split};
+ghost use Rattle.std.specs.Char.{is_ascii_digit};
+ghost use Rattle.cn_table.specs.Draft.{all_some};
+ghost use Rattle.cn_app.specs.Arguments.Lists.{number_up_to, list_of, inputs_of, schedule_of};
+ghost use Rattle.cn_app.specs.declared.fault.AppFault.TheVariants.{Argument, OutOfMemory};
+ghost use Rattle.cn_app.specs.declared.fault.Part.TheVariants.{Inputs, Schedule};
+
+use crate::fault::{AppFault, Part};
+use crate::limits::{MOST_DIGITS, MOST_ITEMS};
+use std::alloc::{AllocError, Global};
+
+/// What a list may be of.
+pub(crate) trait Item {
+    ghost item_of: { List ℕ → Option Self };
+
+    /// The item that a text spells, if it spells one.
+    fn read(text: &str) -> Option<Self>
+    where
+        Self: Sized,
+        ensures { result ≡ item_of text.now };
+}
+
+impl Item for u64 {
+    ghost item_of = { number_up_to 18446744073709551615 };
+
+    fn read(text: &str) -> Option<u64> {
+        read_number(text)
+    }
+}
+
+impl Item for u8 {
+    ghost item_of = { number_up_to 255 };
+
+    fn read(text: &str) -> Option<u8> {
+        u8::try_from(read_number(text)?).ok()
+    }
+}
+
+fn has_digits_only(text: &str) -> bool
+    ensures { result ≡ list_all is_ascii_digit text.now }
+{
+    text.bytes().all(|byte| byte.is_ascii_digit())
+}
+
+/// The number that decimal digits write, with no sign.
+pub(crate) fn read_number(text: &str) -> Option<u64>
+    ensures { result ≡ number_up_to 18446744073709551615 text.now }
+{
+    if !has_digits_only(text) || text.len() > MOST_DIGITS {
+        return None;
+    }
+    text.parse::<u64>().ok()
+}
+
+pub(crate) fn pieces_of(alloc: Global, text: &str, separator: char) -> Result<Vec<&str>, AllocError>
+    requires { separator < 128 }
+    ensures { IfOk result (λ pieces. map (λ piece. piece.now) pieces.items ≡ slice_split (λ byte. byte == separator) text.now) }
+{
+    text.split(separator).collect(alloc)
+}
+
+#[tactic(auto, using(cn_table::proofs::Lists::front_next, cn_table::proofs::Lists::front_stops))]
+fn read_items<T: Item + Drop>(
+    alloc: Global,
+    pieces: &[&str],
+    argument: Part,
+) -> Result<Vec<T>, AppFault>
+    ensures items { IfOk result (λ items. all_some (map T.item_of (map (λ piece. piece.now) pieces.now)) ≡ Some items.items) }
+    ensures refused { IfErr result (λ e. (e ≡ OutOfMemory)
+        ⊎ ((e ≡ Argument argument) × (all_some (map T.item_of (map (λ piece. piece.now) pieces.now)) ≡ None))) }
+{
+    let mut items = Vec::new(alloc);
+    for piece in pieces {
+        match T::read(piece) {
+            Some(item) => items.push(item)?,
+            None => return Err(AppFault::Argument(argument)),
+        }
+    }
+    Ok(items)
+}
+
+pub(crate) fn read_list<T: Item + Drop>(
+    alloc: Global,
+    text: &str,
+    argument: Part,
+) -> Result<Vec<T>, AppFault>
+    ensures list { IfOk result (λ items. list_of T.item_of text.now ≡ Some items.items) }
+    ensures refused { IfErr result (λ e. (e ≡ OutOfMemory) ⊎ ((e ≡ Argument argument) × (list_of T.item_of text.now ≡ None))) }
+{
+    if text == "none" {
+        return Ok(Vec::new(alloc));
+    }
+    let pieces = pieces_of(alloc, text, ',')?;
+    if pieces.len() > MOST_ITEMS {
+        return Err(AppFault::Argument(argument));
+    }
+    read_items(alloc, &pieces, argument)
+}
+
+/// Reads the numbers that the processes begin with, from 0 to 18446744073709551615.
+///
+/// A list is its items in order with a comma and no space between two, at most
+/// [`MOST_ITEMS`](crate::MOST_ITEMS) of them, or for the empty list the word `none`. A number is at
+/// least one and at most [`MOST_DIGITS`](crate::MOST_DIGITS) decimal digits without a sign; zeros
+/// may stand first.
+///
+/// # Errors
+///
+/// `Argument(Inputs)` where the text is no such list, or `OutOfMemory`.
+pub fn read_inputs(alloc: Global, text: &str) -> Result<Vec<u64>, AppFault>
+    ensures inputs { IfOk result (λ inputs. inputs_of text.now ≡ Some inputs.items) }
+    ensures refused { IfErr result (λ e. (e ≡ OutOfMemory) ⊎ ((e ≡ Argument Inputs) × (inputs_of text.now ≡ None))) }
+{
+    read_list::<u64>(alloc, text, Part::Inputs)
+}
+
+/// Reads a schedule: the processes, from 0 to 255, in the order in which they take their steps.
+///
+/// The list is written as for [`read_inputs`].
+///
+/// # Errors
+///
+/// `Argument(Schedule)` where the text is no such list, or `OutOfMemory`.
+pub fn read_schedule(alloc: Global, text: &str) -> Result<Vec<u8>, AppFault>
+    ensures schedule { IfOk result (λ schedule. schedule_of text.now ≡ Some schedule.items) }
+    ensures refused { IfErr result (λ e. (e ≡ OutOfMemory) ⊎ ((e ≡ Argument Schedule) × (schedule_of text.now ≡ None))) }
+{
+    read_list::<u8>(alloc, text, Part::Schedule)
+}

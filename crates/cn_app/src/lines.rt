@@ -1,0 +1,5 @@
+//! The lines that commands write.
+
+pub mod decisions;
+pub mod log;
+pub mod threads;

@@ -1,0 +1,137 @@
+//! The lines of what threads left: of the calls of each process, of the entries of the log, and of
+//! its events.
+ghost use Rattle.std.specs.Prelude.{◌≡◌, ◌≤◌, length, string_bytes, IfOk, ◌<◌};
+ghost use Rattle.cn_app.specs.Lines.Threads.{call_lines, end_line, event_text, events_line, events_text, reply_lines, worked_lines, EachHasResponses, RepliesHaveResponses, left_lines};
+
+use crate::answers::Told;
+use crate::lines::log::{answer_line, entry_lines};
+use crate::threads::serving::Left;
+use crate::threads::workers::{End, Worked};
+use cn_hall::Reply;
+use cn_log::{Event, StepAnswer};
+use cn_table::{State, Table};
+use std::alloc::{AllocError, Global};
+
+/// The text of an event, as events are read.
+fn event_text(alloc: Global, event: Event) -> Result<String, AllocError>
+    ensures { IfOk result (λ text. string_bytes text ≡ event_text event) }
+{
+    match event {
+        Event::Invoke(process, operation) => format!(in alloc; "i{process}:{operation}"),
+        Event::Step(process) => format!(in alloc; "s{process}"),
+    }
+}
+
+/// The text of events, as a list of them is read.
+fn events_text(alloc: Global, events: &[Event]) -> Result<String, AllocError>
+    ensures { IfOk result (λ text. string_bytes text ≡ events_text events.now) }
+{
+    let Some((first, rest)) = events.split_first() else {
+        return String::from_str(alloc, "none");
+    };
+    let mut text = event_text(alloc, *first)?;
+    for event in rest {
+        let next = event_text(alloc, *event)?;
+        text.push_str(",")?;
+        text.push_str(&next)?;
+    }
+    Ok(text)
+}
+
+pub(crate) fn events_line(alloc: Global, events: &[Event]) -> Result<String, AllocError>
+    ensures { IfOk result (λ line. string_bytes line ≡ events_line events.now) }
+{
+    let text = events_text(alloc, events)?;
+    format!(in alloc; "events {text}\n")
+}
+
+fn reply_lines(
+    alloc: Global,
+    object: &Table,
+    process: u8,
+    replies: &[Reply],
+) -> Result<String, AllocError>
+    requires { RepliesHaveResponses object.now replies.now }
+    ensures { IfOk result (λ lines. string_bytes lines ≡ reply_lines object.now process replies.now) }
+{
+    let mut lines = String::new(alloc);
+    for reply in replies {
+        let answer = StepAnswer::Answered {
+            slot: reply.slot,
+            response: reply.response,
+        };
+        let line = answer_line(alloc, object, Told { process, answer })?;
+        lines.push_str(&line)?;
+    }
+    Ok(lines)
+}
+
+/// The line of the call that has no reply, which is empty where there is none.
+fn end_line(alloc: Global, object: &Table, process: u8, end: End) -> Result<String, AllocError>
+    ensures { IfOk result (λ line. string_bytes line ≡ end_line object.now process end) }
+{
+    match end {
+        End::Whole => Ok(String::new(alloc)),
+        End::Full => {
+            let answer = StepAnswer::Full;
+            answer_line(alloc, object, Told { process, answer })
+        }
+        End::Stopped => format!(in alloc; "stopped {process}\n"),
+    }
+}
+
+fn call_lines(
+    alloc: Global,
+    object: &Table,
+    process: u8,
+    replies: &[Reply],
+    end: End,
+) -> Result<String, AllocError>
+    requires { RepliesHaveResponses object.now replies.now }
+    ensures { IfOk result (λ lines. string_bytes lines ≡ call_lines object.now process replies.now end) }
+{
+    let mut lines = reply_lines(alloc, object, process, replies)?;
+    let last = end_line(alloc, object, process, end)?;
+    lines.push_str(&last)?;
+    Ok(lines)
+}
+
+pub(crate) fn worked_lines(
+    alloc: Global,
+    object: &Table,
+    worked: &[Worked],
+) -> Result<String, AllocError>
+    requires few { length worked.now ≤ 8 }
+    requires range { EachHasResponses object.now worked.now }
+    ensures { IfOk result (λ lines. string_bytes lines ≡ worked_lines object.now 0 worked.now) }
+{
+    let mut lines = String::new(alloc);
+    for (process, one) in worked.iter().enumerate() {
+        let next = call_lines(alloc, object, process as u8, &one.replies, one.end)?;
+        lines.push_str(&next)?;
+    }
+    Ok(lines)
+}
+
+/// The lines of what threads left: of the calls of each process, of the entries of the log, and of
+/// its events.
+pub(crate) fn left_lines(
+    alloc: Global,
+    object: &Table,
+    start: State,
+    left: &Left,
+) -> Result<String, AllocError>
+    requires start { start.0 < length object.now.states }
+    requires object { left.now.core.opening.object ≡ object.now }
+    requires few { length left.now.worked.items ≤ 8 }
+    requires range { EachHasResponses object.now left.now.worked.items }
+    ensures { IfOk result (λ lines. string_bytes lines ≡ left_lines object.now start.0 left.now.worked.items left.now.core) }
+{
+    left.core.is_linearized();
+    let mut lines = worked_lines(alloc, object, &left.worked)?;
+    let entries = entry_lines(alloc, object, start, &left.core)?;
+    lines.push_str(&entries)?;
+    let events = events_line(alloc, left.core.schedule())?;
+    lines.push_str(&events)?;
+    Ok(lines)
+}

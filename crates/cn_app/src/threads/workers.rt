@@ -1,0 +1,160 @@
+//! Threads that make the calls of the processes, one thread for each seat of a hall.
+ghost use Rattle.std.specs.Prelude.{◌≡◌, ◌≤◌, All, IfSome, length, vec_capacity};
+ghost use Rattle.std.specs.Thread.{IsSync};
+ghost use Rattle.cn_hall.specs.declared.call.Go.TheVariants.{On};
+ghost use Rattle.cn_app.specs.Threads.Workers.{AllGatesWereAsked, GateWasAsked, HasRoom, HasWorked, HaveAllWorked, HaveRoom, MayAllWork, MayWork, end_by};
+
+use cn_hall::{CallFault, Gate, Hall, Reply, Seat};
+use cn_table::Operation;
+use std::snapshot::Snapshot;
+use std::sync::Wait;
+use std::thread;
+use std::thread::{Promise, Threads};
+
+/// How the calls of a process ended.
+#[derive(Clone, Copy)]
+pub(crate) enum End {
+    /// Each has its reply.
+    Whole,
+    /// One found no slot.
+    Full,
+    /// The gate stopped one.
+    Stopped,
+}
+
+impl End {
+    /// How the calls end with one that has no reply.
+    fn by(fault: CallFault) -> End
+        ensures { result ≡ end_by fault }
+    {
+        match fault {
+            CallFault::LogFull => End::Full,
+            CallFault::Stopped => End::Stopped,
+        }
+    }
+}
+
+/// The replies to the calls of a process, in order, and how the calls ended.
+#[derive(Drop)]
+pub(crate) struct Worked {
+    pub replies: Vec<Reply>,
+    pub end: End,
+}
+
+/// Makes the calls of one process, one after the other, until one has no reply.
+fn answer<R: Wait, G: Gate + Drop>(
+    rt: &R,
+    hall: &Hall,
+    seat: Seat,
+    room: Worked,
+    gate: G,
+    operations: &[u8],
+) -> (Seat, Worked)
+    requires seat { MayWork hall.now operations.now seat }
+    requires room { HasRoom operations.now room }
+    requires gate { G.says gate ≡ On }
+    ensures worked { HasWorked operations.now seat result.0 result.1.replies.items result.1.end }
+    ensures asked { GateWasAsked G.asks G.says seat gate result.0 }
+{
+    let mut seat = seat;
+    let mut gate = gate;
+    let Worked { mut replies, .. } = room;
+    for operation in operations {
+        match hall.call(rt, &mut seat, Operation(*operation), &mut gate) {
+            Ok(reply) => replies.push_reserved(reply),
+            Err(fault) => {
+                let end = End::by(fault);
+                return (seat, Worked { replies, end });
+            }
+        }
+    }
+    let end = End::Whole;
+    (seat, Worked { replies, end })
+}
+
+/// What the thread of a seat owes.
+#[derive(Drop)]
+struct AnswerOf<G> {
+    seat: Snapshot<Seat>,
+    gate: Snapshot<G>,
+    operations: Snapshot<Vec<u8>>,
+}
+
+impl<G: Gate> Promise<(Seat, Worked)> for AnswerOf<G> {
+    ghost use Rattle.cn_app.specs.Threads.Workers.{GateWasAsked, HasWorked};
+
+    ghost kept_by = { λ p r. HasWorked p.operations.value.items p.seat.value r.0 r.1.replies.items r.1.end
+        × GateWasAsked G.asks G.says p.seat.value p.gate.value r.0 };
+}
+
+/// Makes the calls of all seats, each in a thread of a scope, and joins them. Each thread takes
+/// its seat, its gate and its room for replies from the ends of the vectors; none is answered where
+/// a thread could not be started.
+pub(crate) fn answer_each<R: Threads + Wait + Sync, G: Gate + Send + Drop>(
+    rt: &R,
+    hall: &Hall,
+    seats: Vec<Seat>,
+    rooms: Vec<Worked>,
+    gates: Vec<G>,
+    calls: &[Vec<u8>],
+) -> Option<(Vec<Seat>, Vec<Worked>)>
+    requires seats { MayAllWork hall.now calls.now seats.items × (length seats.items ≤ length calls.now) }
+    requires rooms { HaveRoom calls.now rooms.items × (length rooms.items ≡ length seats.items) }
+    requires gates { All (λ g. G.says g ≡ On) gates.items × (length gates.items ≡ length seats.items) }
+    ensures seats { IfSome result (λ r. (length r.0.items ≡ length seats.items) × (vec_capacity r.0 ≡ vec_capacity seats)) }
+    ensures rooms { IfSome result (λ r. (length r.1.items ≡ length seats.items) × (vec_capacity r.1 ≡ vec_capacity rooms)) }
+    ensures worked { IfSome result (λ r. HaveAllWorked calls.now seats.items r.0.items r.1.items) }
+    ensures asked { IfSome result (λ r. AllGatesWereAsked G.asks G.says seats.items gates.items r.0.items) }
+{
+    let mut seats = seats;
+    let mut rooms = rooms;
+    let mut gates = gates;
+    let Some(seat) = seats.pop() else {
+        return Some((seats, rooms));
+    };
+    let (Some(room), Some(gate)) = (rooms.pop(), gates.pop()) else {
+        unreachable!()
+    };
+    let operations = &calls[seats.len()];
+    let both = thread::scope(
+        thread::scope_env(),
+        rt,
+        move |scope| -> Option<((Vec<Seat>, Vec<Worked>), (Seat, Worked))>
+            requires rt { IsSync R.row }
+            requires mine { MayWork hall.now operations.now.items seat × HasRoom operations.now.items room × (G.says gate ≡ On) }
+            requires seats { MayAllWork hall.now calls.now seats.items × (length seats.items ≤ length calls.now) }
+            requires rooms { HaveRoom calls.now rooms.items × (length rooms.items ≡ length seats.items) }
+            requires gates { All (λ g. G.says g ≡ On) gates.items × (length gates.items ≡ length seats.items) }
+            ensures seats { IfSome result (λ r. (length r.0.0.items ≡ length seats.items) × (vec_capacity r.0.0 ≡ vec_capacity seats)) }
+            ensures rooms { IfSome result (λ r. (length r.0.1.items ≡ length seats.items) × (vec_capacity r.0.1 ≡ vec_capacity rooms)) }
+            ensures worked { IfSome result (λ r. HaveAllWorked calls.entry.now seats.items r.0.0.items r.0.1.items) }
+            ensures asked { IfSome result (λ r. AllGatesWereAsked G.asks G.says seats.items gates.items r.0.0.items) }
+            ensures last { IfSome result (λ r. HasWorked operations.entry.now.items seat r.1.0 r.1.1.replies.items r.1.1.end) }
+            ensures last_asked { IfSome result (λ r. GateWasAsked G.asks G.says seat gate r.1.0) }
+        {
+            let promise = AnswerOf {
+                seat: Snapshot::of(&seat),
+                gate: Snapshot::of(&gate),
+                operations: Snapshot::of(operations),
+            };
+            let child = scope.spawn_with(
+                promise,
+                move || -> (Seat, Worked)
+                    requires { MayWork hall.now operations.now.items seat × HasRoom operations.now.items room × (G.says gate ≡ On) }
+                    ensures worked { HasWorked operations.entry.now.items seat result.0 result.1.replies.items result.1.end }
+                    ensures asked { GateWasAsked G.asks G.says seat gate result.0 }
+                { answer(rt, hall, seat, room, gate, operations) },
+            );
+            let Ok(child) = child else {
+                return None;
+            };
+            let rest = answer_each(rt, hall, seats, rooms, gates, calls);
+            let last = child.join(rt);
+            Some((rest?, last))
+        },
+    );
+    let ((mut seats, mut worked), (seat, last)) = both?;
+    seats.push_reserved(seat);
+    worked.push_reserved(last);
+    Some((seats, worked))
+}
