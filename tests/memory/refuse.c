@@ -1,24 +1,63 @@
-/* Refuses one allocation of a program: the REFUSE-th call of malloc or realloc, counted from 1.
-   Loaded before the C library by LD_PRELOAD, as tests/measure memory does. */
+/* Refuses allocations of a program, or the start of one of its threads: loaded before the C library
+   by LD_PRELOAD, as tests/memory/run does.
+     REFUSE       the number of the call of malloc, calloc or realloc that is refused, counted from 1
+     REFUSE_ALL   where it is set, so are all calls after it
+     REFUSE_START the number of the call of pthread_create that is refused
+     REFUSE_TELL  where a byte goes for the first refusal: 'p' where the program itself asked, 'l'
+                  where a library did, 't' for a thread */
+#define _GNU_SOURCE
+#include <dlfcn.h>
+#include <errno.h>
+#include <pthread.h>
 #include <stdlib.h>
+#include <string.h>
+#include <unistd.h>
 
 extern void *__libc_malloc(size_t);
+extern void *__libc_calloc(size_t, size_t);
 extern void *__libc_realloc(void *, size_t);
+extern char **environ;
 
-static long left = -1;
-static int ready = 0;
-
-static int refused(void) {
-    if (!ready) {
-        const char *number = getenv("REFUSE");
-        ready = 1;
-        if (number) left = atol(number);
-    }
-    if (left <= 0) return 0;
-    left--;
-    return left == 0;
+static long number(const char *name) {
+    size_t length = strlen(name);
+    for (char **it = environ; it && *it; it++)
+        if (!strncmp(*it, name, length) && (*it)[length] == '=') return atol(*it + length + 1);
+    return -1;
 }
 
-void *malloc(size_t size) { return refused() ? 0 : __libc_malloc(size); }
+static long calls = 0, starts = 0, told = 0;
 
-void *realloc(void *old, size_t size) { return refused() ? 0 : __libc_realloc(old, size); }
+static void tell(char who) {
+    long where = number("REFUSE_TELL");
+    if (where >= 0 && !__atomic_exchange_n(&told, 1, __ATOMIC_SEQ_CST) && write(where, &who, 1) != 1) abort();
+}
+
+static int refused(void *caller) {
+    static long refuse = -2, all;
+    if (refuse == -2) {
+        all = number("REFUSE_ALL");
+        refuse = number("REFUSE");
+    }
+    if (refuse < 0) return 0;
+    long now = __atomic_add_fetch(&calls, 1, __ATOMIC_SEQ_CST);
+    if (now != refuse && !(all >= 0 && now > refuse)) return 0;
+    Dl_info asked;
+    tell(dladdr(caller, &asked) && !strstr(asked.dli_fname, ".so") ? 'p' : 'l');
+    errno = ENOMEM;
+    return 1;
+}
+
+void *malloc(size_t size) { return refused(__builtin_return_address(0)) ? 0 : __libc_malloc(size); }
+
+void *calloc(size_t count, size_t size) { return refused(__builtin_return_address(0)) ? 0 : __libc_calloc(count, size); }
+
+void *realloc(void *old, size_t size) { return refused(__builtin_return_address(0)) ? 0 : __libc_realloc(old, size); }
+
+int pthread_create(pthread_t *thread, const pthread_attr_t *how, void *(*start)(void *), void *with) {
+    int (*real)(pthread_t *, const pthread_attr_t *, void *(*)(void *), void *) = dlsym(RTLD_NEXT, "pthread_create");
+    if (__atomic_add_fetch(&starts, 1, __ATOMIC_SEQ_CST) == number("REFUSE_START")) {
+        tell('t');
+        return EAGAIN;
+    }
+    return real(thread, how, start, with);
+}
