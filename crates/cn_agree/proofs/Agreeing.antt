@@ -52,7 +52,8 @@ module _ {V : Type 0} (P : Protocol) (n nodes : ℕ) (team : ℕ → Team) (soun
       subst T (append_assoc before (p ∷ []) schedule)
       (reached_after (before ++ p ∷ []) schedule (after_step P p w) (Steps p all.0 (begun p all.0) r) (λ q lq. begun_stays P n nodes team sound r p q all.0 (begun q lq)) all.1)
 
-  consensus_of : (inputs : List V) (schedule : List ℕ) (w : World V) → IsReached P n nodes schedule w → w.inputs ≡ map (λ x. Some x) inputs → ((p : ℕ) → p < n → length (P.path p) ≤ nodes) → nodes ≡ n - 1 → IsConsensus P n inputs schedule (decisions_of w)
+  consensus_of : (inputs : List V) (schedule : List ℕ) (w : World V) → IsReached P n nodes schedule w → w.inputs ≡ map (λ x. Some x) inputs → ((p : ℕ) → p < n → length (P.path p) ≤ nodes) → nodes ≡ n - 1
+      → IsConsensus P n inputs schedule (decisions_of w)
   consensus_of inputs schedule w r given_inputs short one_fewer =
       let keeps = keeps_consensus P n nodes team sound r in
       let many = locals_are P n nodes team sound r in

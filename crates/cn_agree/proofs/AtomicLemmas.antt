@@ -65,7 +65,8 @@ leaves_alike P here x (Read response) node other e = e
 leaves_alike P here x (Take response state) node other e = e
 
 -- a part of the node that is written, or of one that isn't there
-written_part : {V : Type 0} (nodes : List (Node V)) (v : ℕ) (d node : Node V) (part : Part) → content node part ≡ content (slice_index_or nodes v d) part → content (slice_index_or (slice_set nodes v node) v d) part ≡ content (slice_index_or nodes v d) part
+written_part : {V : Type 0} (nodes : List (Node V)) (v : ℕ) (d node : Node V) (part : Part) → content node part ≡ content (slice_index_or nodes v d) part
+    → content (slice_index_or (slice_set nodes v node) v d) part ≡ content (slice_index_or nodes v d) part
 written_part [] v d node part e = refl
 written_part (n ∷ nodes) zero d node part e = e
 written_part (n ∷ nodes) (suc v) d node part e = written_part nodes v d node part e
@@ -84,7 +85,8 @@ module _ {V : Type 0} (P : Protocol) (p : ℕ) where
   first_is w here Write = inl refl
   first_is w here Apply = go w.first here.node refl refl
     where
-      go : (first : Option Team) (node : ℕ) → w.first ≡ first → here.node ≡ node → (recorded w.first here.node here.team ≡ w.first) ⊎ ((w.first ≡ None) × (recorded w.first here.node here.team ≡ Some here.team) × (here.node ≡ 0) × (Apply ≡ Apply))
+      go : (first : Option Team) (node : ℕ) → w.first ≡ first → here.node ≡ node → (recorded w.first here.node here.team ≡ w.first)
+          ⊎ ((w.first ≡ None) × (recorded w.first here.node here.team ≡ Some here.team) × (here.node ≡ 0) × (Apply ≡ Apply))
       go None zero e f = inr (e, rw (e, f) refl, f, refl)
       go None (suc node) e f = inl (rw (e, f) refl)
       go (Some team) node e f = inl (rw e refl)
@@ -107,7 +109,8 @@ module _ {V : Type 0} (P : Protocol) (p : ℕ) where
       ap (λ (u : World V). local_at u p) (step_is w i x stage e) ∙ get_or-set_same w.locals p (local_after P (length (P.path p)) i (place_of P p i) x stage (node_at P w (place_of P p i).node)) NotBegun (active_within w.locals p i x stage e)
 
   -- the node of its place after its step
-  node_is : (w : World V) (i : ℕ) (x : V) (stage : Stage) → local_at w p ≡ Active i x stage → (place_of P p i).node < length w.nodes → node_at P (after_step P p w) (place_of P p i).node ≡ node_after P (place_of P p i) x stage (node_at P w (place_of P p i).node)
+  node_is : (w : World V) (i : ℕ) (x : V) (stage : Stage) → local_at w p ≡ Active i x stage → (place_of P p i).node < length w.nodes
+      → node_at P (after_step P p w) (place_of P p i).node ≡ node_after P (place_of P p i) x stage (node_at P w (place_of P p i).node)
   node_is w i x stage e there =
       ap (λ (u : World V). node_at P u (place_of P p i).node) (step_is w i x stage e) ∙ get_or-set_same w.nodes (place_of P p i).node (node_after P (place_of P p i) x stage (node_at P w (place_of P p i).node)) (untouched P.start) there
 

@@ -1,5 +1,7 @@
 -- A round while its processes begin.
-use Rattle.std.proofs.Common.{ℕ, zero, suc, ◌≡◌, ◌+◌, ◌<◌, ◌≤◌, List, [], ◌∷◌, length, map, set, replicate, get_or, slice_index_or, Some, None, refl, ap, ◌∙◌, subst, arith}
+use Rattle.std.proofs.Common.{ℕ, zero, suc, ◌≡◌, ◌+◌, ◌<◌, ◌≤◌, List, [], ◌∷◌, length, map, set, replicate, get_or, slice_index_or, Some, None, refl, ap, sym, ◌∙◌, subst, arith}
+use Rattle.std.proofs.lemmas.Option.{get_or_from_slice_get}
+use Rattle.cn_table.proofs.Lists.{there_is}
 use Rattle.cn_proto.specs.Protocol.{Protocol}
 use Rattle.cn_agree.specs.declared.local.Stage.TheVariants.{Write}
 use Rattle.cn_agree.specs.declared.local.Local.TheVariants.{NotBegun, Active}
@@ -58,16 +60,12 @@ module _ {V : Type 0} (P : Protocol) (n nodes : ℕ) (inputs : List V) (many : l
   reached_some : (i : ℕ) → i ≤ n → IsReached P n nodes [] (some_begun P n nodes inputs i)
   reached_some zero le = Opens
   reached_some (suc i) le =
-      let x = some_at inputs i (rw many (omega arith)) in
+      let x = there_is inputs i (rw many (omega arith)) in
+      let read = sym (get_or_from_slice_get inputs i x.0 x.0 x.1) in
       let suc_is : i + 1 ≡ suc i = omega arith in
       let T : World V → Type 0 = IsReached P n nodes [] in
       let T' : ℕ → Type 0 = λ k. T (some_begun P n nodes inputs k) in
-      subst T' suc_is (subst T (next_begins i x.0 (omega arith) x.1) (Begins i x.0 (omega arith) (next_waits i (omega arith)) (reached_some i (omega arith))))
-    where
-      some_at : (xs : List V) (i : ℕ) → i < length xs → (x : V) × (x ≡ get_or xs i x)
-      some_at [] i lt = absurd (omega arith)
-      some_at (y ∷ xs) zero lt = (y, refl)
-      some_at (y ∷ xs) (suc i) lt = some_at xs i (omega arith)
+      subst T' suc_is (subst T (next_begins i x.0 (omega arith) read) (Begins i x.0 (omega arith) (next_waits i (omega arith)) (reached_some i (omega arith))))
 
   -- the world in which all have begun is one that a round comes to
   pub reached_all : IsReached P n nodes [] (all_begun P nodes inputs)

@@ -149,7 +149,8 @@ module _ {V : Type 0} (P : Protocol) (n nodes : ℕ) (team : ℕ → Team) (soun
       here_recorded None (suc node) side e = absurd (omega arith)
       here_recorded (Some t) node side e = (t, refl)
 
-      staged : (j : ℕ) (x : V) (stage : Stage) → local_at old p ≡ Active j x stage → IsPlace P n p i → (place_of P p i).node ≡ 0 → 4 * i + 2 ≤ suc (4 * j + actions_done stage) → AppliesFirst old p i → (side : Team) × ((after_action P p old j x stage (place_of P p j)).first ≡ Some side)
+      staged : (j : ℕ) (x : V) (stage : Stage) → local_at old p ≡ Active j x stage → IsPlace P n p i → (place_of P p i).node ≡ 0 → 4 * i + 2 ≤ suc (4 * j + actions_done stage) → AppliesFirst old p i
+          → (side : Team) × ((after_action P p old j x stage (place_of P p j)).first ≡ Some side)
       staged j x Write e at root le before = before at root (rw e (omega arith))
       staged j x Apply e at root le before = elim (cases_eq i j) [
         | inl same ↦ here_recorded old.first (place_of P p j).node (place_of P p j).team (rw same at root)
@@ -158,7 +159,8 @@ module _ {V : Type 0} (P : Protocol) (n nodes : ℕ) (team : ℕ → Team) (soun
       staged j x (Read response) e at root le before = before at root (rw e (omega arith))
       staged j x (Take response state) e at root le before = before at root (rw e (omega arith))
 
-      went : (here : Local V) → local_at old p ≡ here → IsOneMore P n nodes team sound p here (local_at (after_step P p old) p) → IsPlace P n p i → (place_of P p i).node ≡ 0 → 4 * i + 2 ≤ steps_taken P p (local_at (after_step P p old) p) → AppliesFirst old p i → (side : Team) × ((after_step_from P p old here).first ≡ Some side)
+      went : (here : Local V) → local_at old p ≡ here → IsOneMore P n nodes team sound p here (local_at (after_step P p old) p) → IsPlace P n p i → (place_of P p i).node ≡ 0 → 4 * i + 2 ≤ steps_taken P p (local_at (after_step P p old) p)
+          → AppliesFirst old p i → (side : Team) × ((after_step_from P p old here).first ≡ Some side)
       went NotBegun e one at root le before = absurd (b e)
       went (Active j x stage) e one at root le before = staged j x stage e at root (let count = one.0 in omega arith) before
       went (Decided y) e one at root le before = before at root (rw e (rw one at le))
@@ -176,7 +178,8 @@ module _ {V : Type 0} (P : Protocol) (n nodes : ℕ) (team : ℕ → Team) (soun
       some : (found : Option V) (y : V) → found ≡ Some y → IsSome found
       some found y e = rw e refl
 
-      go : (roles all : List ℕ) → all ≡ roles → (side : Team) → w.first ≡ Some side → w.first ≡ first_team team all → ((head : ℕ) (rest : List ℕ) → all ≡ head ∷ rest → (y : V) × (register (node_at P w 0) (team head) ≡ Some y)) → IsSome (fixed_value w)
+      go : (roles all : List ℕ) → all ≡ roles → (side : Team) → w.first ≡ Some side → w.first ≡ first_team team all → ((head : ℕ) (rest : List ℕ) → all ≡ head ∷ rest → (y : V) × (register (node_at P w 0) (team head) ≡ Some y))
+          → IsSome (fixed_value w)
       go [] all e side f is written = absurd (let none : w.first ≡ None = rw e at is in cc)
       go (head ∷ rest) all e side f is written =
           let y = written head rest e in
@@ -208,7 +211,8 @@ module _ {V : Type 0} (P : Protocol) (n nodes : ℕ) (team : ℕ → Team) (soun
       stages (Read response) = omega arith
       stages (Take response state) = omega arith
 
-      go : (here : Local V) → LocalHolds P n team w (reached_kept P n nodes team sound r).0 p here → steps_taken P p here ≡ min (occurrences schedule p) (4 * length (P.path p)) → IsSome (decided here) ↔ (4 * length (P.path p) ≤ occurrences schedule p)
+      go : (here : Local V) → LocalHolds P n team w (reached_kept P n nodes team sound r).0 p here → steps_taken P p here ≡ min (occurrences schedule p) (4 * length (P.path p)) → IsSome (decided here)
+          ↔ (4 * length (P.path p) ≤ occurrences schedule p)
       go NotBegun h e = (λ s. absurd (true≢false (sym s)), λ le. absurd (let some = sound.starts p lt in omega arith))
       go (Active i y stage) h e = (λ s. absurd (true≢false (sym s)), λ le. absurd (let l = h.0.1 in let s = stages stage in omega arith))
       go (Decided y) h e = (λ s. omega arith, λ le. refl)

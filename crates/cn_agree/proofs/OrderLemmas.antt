@@ -4,7 +4,7 @@ use Rattle.std.specs.List.{AllPairs}
 use Rattle.std.proofs.lemmas.List.Quantifiers.{all_pairs_push}
 use Rattle.std.proofs.lemmas.Option.{slice_get-get_or}
 use Rattle.cn_proto.specs.Order.{after, answers, IsAnswered}
-use Rattle.cn_agree.proofs.Lists.{slice_get_front, slice_get_last}
+use Rattle.cn_table.proofs.Lists.{get_front, get_push_new, get_push_old}
 
 pub after_push : (act : ℕ → ℕ → ℕ × ℕ) (start : ℕ) (order : List ℕ) (role : ℕ) → after act start (order ++ role ∷ []) ≡ (act role (after act start order)).1
 after_push act start [] role = refl
@@ -22,16 +22,16 @@ length-answers act start (x ∷ order) = ap suc (length-answers act (act x start
 pub answered_last : (act : ℕ → ℕ → ℕ × ℕ) (start : ℕ) (order : List ℕ) (role : ℕ) → IsAnswered act start (order ++ role ∷ []) role (act role (after act start order)).0
 answered_last act start order role = (
   length order,
-  slice_get_last order role,
-  rw (answers_push act start order role, ← length-answers act start order) (slice_get_last (answers act start order) (act role (after act start order)).0),
+  get_push_new order role,
+  rw (answers_push act start order role, ← length-answers act start order) (get_push_new (answers act start order) (act role (after act start order)).0),
 )
 
 -- and what the others were answered stays
 pub answered_push : (act : ℕ → ℕ → ℕ × ℕ) (start : ℕ) (order : List ℕ) (role : ℕ) (j r : ℕ) → IsAnswered act start order j r → IsAnswered act start (order ++ role ∷ []) j r
 answered_push act start order role j r h = (
   h.0,
-  slice_get_front order (role ∷ []) h.0 j h.1,
-  rw (answers_push act start order role) (slice_get_front (answers act start order) ((act role (after act start order)).0 ∷ []) h.0 r h.2),
+  get_push_old order role h.0 j h.1,
+  rw (answers_push act start order role) (get_push_old (answers act start order) (act role (after act start order)).0 h.0 r h.2),
 )
 
 pub distinct_push : (order : List ℕ) (role : ℕ) → AllPairs (λ (x : ℕ) y. x ≢ y) order → ((k : ℕ) → slice_get order k ≢ Some role) → AllPairs (λ (x : ℕ) y. x ≢ y) (order ++ role ∷ [])
@@ -41,7 +41,7 @@ distinct_push order role h new =
 -- what was answered stays, whoever comes after
 pub answers_append : (act : ℕ → ℕ → ℕ × ℕ) (start : ℕ) (order more : List ℕ) (j r : ℕ) → IsAnswered act start order j r → IsAnswered act start (order ++ more) j r
 answers_append act start order more j r h =
-    (h.0, slice_get_front order more h.0 j h.1, rw (answers_of_append act start order more) (slice_get_front (answers act start order) (answers act (after act start order) more) h.0 r h.2))
+    (h.0, get_front order more h.0 j h.1, rw (answers_of_append act start order more) (get_front (answers act start order) (answers act (after act start order) more) h.0 r h.2))
   where
     answers_of_append : (act : ℕ → ℕ → ℕ × ℕ) (start : ℕ) (order more : List ℕ) → answers act start (order ++ more) ≡ answers act start order ++ answers act (after act start order) more
     answers_of_append act start [] more = refl

@@ -64,7 +64,8 @@ has_root w r = some_node r.0 r.1.0 w r.1.1
 begins_is : {V : Type 0} (w : World V) (p i j : ℕ) (x : V) → i ≡ p → j ≡ p → record w { locals = slice_set w.locals i (Active 0 x Write); inputs = slice_set w.inputs j (Some x) } ≡ begun p x w
 begins_is w p i j x e f = rw (e, f) refl
 
-pub begins_round : {V : Type 0} (w self : World V) (p i j : ℕ) (x : V) → w ≡ self → i ≡ p → j ≡ p → p < length self.locals → local_at self p ≡ NotBegun → IsRound w → IsRound (record w { locals = slice_set w.locals i (Active 0 x Write); inputs = slice_set w.inputs j (Some x) })
+pub begins_round : {V : Type 0} (w self : World V) (p i j : ℕ) (x : V) → w ≡ self → i ≡ p → j ≡ p → p < length self.locals → local_at self p ≡ NotBegun → IsRound w
+    → IsRound (record w { locals = slice_set w.locals i (Active 0 x Write); inputs = slice_set w.inputs j (Some x) })
 begins_round {V = V} w self p i j x is e f lt waits r =
     let T : World V → Type 0 = IsRound in
     subst T (sym (begins_is w p i j x e f)) (r.0, (r.1.0, round_begins r.0 r.1.0 w r.1.1 p x (rw is lt) (rw is waits)))
@@ -94,9 +95,11 @@ stands_at {V = V} plan self runs p lt w is q e found read i x stage f path g =
     found_at locals q p found e within read = read ∙ ap (λ k. slice_index_or locals k found) e ∙ sym (get_or_default locals p NotBegun found within)
 
 -- the fields after a step
-pub steps_is : {V : Type 0} (plan : Plan) (self w : World V) (p q q' v i : ℕ) (x : V) (stage : Stage) (path : List Place) (node node' : Node V) (found next : Local V) (first : Option Team) → w ≡ self → p < length w.locals → v < length w.nodes
+pub steps_is : {V : Type 0} (plan : Plan) (self w : World V) (p q q' v i : ℕ) (x : V) (stage : Stage) (path : List Place) (node node' : Node V) (found next : Local V) (first : Option Team) → w ≡ self → p < length w.locals
+    → v < length w.nodes
     → q ≡ p → found ≡ slice_index_or w.locals q found → found ≡ Active i x stage → path ≡ (protocol_of plan).path p → v ≡ (slice_index_or path i nowhere).node → node ≡ slice_index_or w.nodes v node
-    → node' ≡ node_after (protocol_of plan) (slice_index_or path i nowhere) x stage node → next ≡ local_after (protocol_of plan) (length path) i (slice_index_or path i nowhere) x stage node → q' ≡ p → first ≡ first_after w.first (slice_index_or path i nowhere) stage
+    → node' ≡ node_after (protocol_of plan) (slice_index_or path i nowhere) x stage node → next ≡ local_after (protocol_of plan) (length path) i (slice_index_or path i nowhere) x stage node → q' ≡ p
+    → first ≡ first_after w.first (slice_index_or path i nowhere) stage
     → record w { nodes = slice_set w.nodes v node'; locals = slice_set w.locals q' next; first = first } ≡ after_step (protocol_of plan) p self
 steps_is {V = V} plan self w p q q' v i x stage path node node' found next first is within there e read f g h n n' l e' o =
     let here : local_at w p ≡ Active i x stage = get_or_default w.locals p NotBegun found within ∙ ap (λ k. slice_index_or w.locals k found) (sym e) ∙ sym read ∙ f in

@@ -32,7 +32,8 @@ next_process plan inputs i w many lt h = (
   rw h.is (next_waits (protocol_of plan) (processes_of plan) (nodes_of plan) inputs many i lt),
 )
 
-pub one_more_begun : {V : Type 0} (plan : Plan) (inputs : List V) (i p : ℕ) (x : V) (w w' : World V) → length inputs ≡ processes_of plan → i < processes_of plan → HaveBegun plan inputs i w → p ≡ i → x ≡ get_or inputs i x → w' ≡ begun p x w → IsRoundOf plan [] w'
+pub one_more_begun : {V : Type 0} (plan : Plan) (inputs : List V) (i p : ℕ) (x : V) (w w' : World V) → length inputs ≡ processes_of plan → i < processes_of plan → HaveBegun plan inputs i w → p ≡ i → x ≡ get_or inputs i x → w' ≡ begun p x w
+    → IsRoundOf plan [] w'
     → HaveBegun plan inputs (i + 1) w'
 one_more_begun plan inputs i p x w w' many lt h e read is r = record {
   is = is ∙ ap (λ k. begun k x w) e ∙ ap (begun i x) h.is ∙ next_begins (protocol_of plan) (processes_of plan) (nodes_of plan) inputs many i x lt read;
@@ -50,7 +51,8 @@ pub record HasRun {V : Type 0} (plan : Plan) (from : World V) (schedule : List �
   pub runs : RunsBy plan w
   pub begun : AllHaveBegun (processes_of plan) w
 
-drop_schedule : {V : Type 0} (plan : Plan) (schedule : List ℕ) (k d : ℕ) → k < length schedule → (w : World V) → after_schedule (protocol_of plan) (drop k schedule) w ≡ after_schedule (protocol_of plan) (drop (suc k) schedule) (after_step (protocol_of plan) (get_or schedule k d) w)
+drop_schedule : {V : Type 0} (plan : Plan) (schedule : List ℕ) (k d : ℕ) → k < length schedule → (w : World V)
+    → after_schedule (protocol_of plan) (drop k schedule) w ≡ after_schedule (protocol_of plan) (drop (suc k) schedule) (after_step (protocol_of plan) (get_or schedule k d) w)
 drop_schedule plan [] k d less w = absurd (omega arith)
 drop_schedule plan (q ∷ schedule) zero d less w = refl
 drop_schedule plan (q ∷ schedule) (suc k) d less w = drop_schedule plan schedule k d (omega arith) w
@@ -73,7 +75,8 @@ one_more_run {V = V} plan from schedule k p w w' less all read h e =
     let T : World V → Type 0 = IsRoundOf plan (h.runs.0 ++ p ∷ []) in
     let B : World V → Type 0 = AllHaveBegun (processes_of plan) in
     record {
-      rest = rw suc_is (ap (after_schedule (protocol_of plan) (drop (suc k) schedule)) e ∙ ap (λ q. after_schedule (protocol_of plan) (drop (suc k) schedule) (after_step (protocol_of plan) q w)) read ∙ sym (drop_schedule plan schedule k 0 less w) ∙ h.rest);
+      rest = rw suc_is (ap (after_schedule (protocol_of plan) (drop (suc k) schedule)) e ∙ ap (λ q. after_schedule (protocol_of plan) (drop (suc k) schedule) (after_step (protocol_of plan) q w)) read
+          ∙ sym (drop_schedule plan schedule k 0 less w) ∙ h.rest);
       runs = (h.runs.0 ++ p ∷ [], subst T (sym e) (round_steps plan h.runs.0 w r p lt (h.begun p lt)));
       begun = subst B (sym e) (λ q lq. begun_stays (protocol_of plan) (processes_of plan) (nodes_of plan) (team_of (length plan.choice.a)) r.sound r.reached p q lt (h.begun q lq));
     }
@@ -89,7 +92,8 @@ first_is plan nodes locals inputs start k n s e f a b c =
     let inputs_are : inputs ≡ replicate (processes_of plan) None = c ∙ ap (λ m. replicate m None) f in
     λ d. record { nodes = nodes_are d; locals = locals_are d; inputs = inputs_are d; first = None }
 
-pub opens : {V : Type 0} (plan : Plan) → IsPlan plan → IsSound (protocol_of plan) (processes_of plan) (nodes_of plan) (team_of (length plan.choice.a)) → IsRoundOf {V = V} plan [] (first_world (protocol_of plan) (processes_of plan) (nodes_of plan))
+pub opens : {V : Type 0} (plan : Plan) → IsPlan plan → IsSound (protocol_of plan) (processes_of plan) (nodes_of plan) (team_of (length plan.choice.a))
+    → IsRoundOf {V = V} plan [] (first_world (protocol_of plan) (processes_of plan) (nodes_of plan))
 opens plan is_plan sound = record { is_plan = is_plan; sound = sound; reached = Opens }
 
 -- a schedule without a stranger names processes only

@@ -1,6 +1,6 @@
 -- The text of a fault: its number and its name, and the place in the schedule.
-use Rattle.std.specs.Prelude.{ℕ, List, [], ◌++◌, codes, Option, Some, None}
-use Rattle.std.specs.Fmt.{decimal}
+use Rattle.std.specs.Prelude.{ℕ, List, codes, Option, Some, None}
+use Rattle.cn_table.specs.FaultText.{numbered_text}
 use Rattle.cn_agree.specs.declared.fault.ScheduleFault.{ScheduleFault}
 use Rattle.cn_agree.specs.declared.fault.ScheduleFault.TheVariants.{InputCount, NoSuchProcess, OutOfMemory}
 
@@ -19,10 +19,5 @@ place_of InputCount = None
 place_of (NoSuchProcess place) = Some place
 place_of OutOfMemory = None
 
--- a place behind the name, where there is one
-abbrev pub place_text : Option ℕ → List ℕ
-place_text None = []
-place_text (Some place) = codes " " ++ decimal place
-
 abbrev pub schedule_fault_text : ScheduleFault → List ℕ
-schedule_fault_text fault = decimal (number_of fault) ++ codes " " ++ name_of fault ++ place_text (place_of fault)
+schedule_fault_text fault = numbered_text (number_of fault) (name_of fault) (place_of fault)

@@ -5,6 +5,5 @@ pub mod Reached
 pub mod Consensus
 pub mod Rounds
 pub mod Schedules
-pub mod Decided
 pub mod Beginning
 pub mod FaultText

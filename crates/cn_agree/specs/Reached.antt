@@ -17,4 +17,5 @@ pub data IsReached {V : Type 0} (P : Protocol) (n : ℕ) (nodes : ℕ) : List �
   Opens : IsReached P n nodes [] (first_world P n nodes)
   Begins : {schedule : List ℕ} {w : World V} (p : ℕ) (x : V) → p < n → local_at w p ≡ NotBegun
       → IsReached P n nodes schedule w → IsReached P n nodes schedule (begun p x w)
-  Steps : {schedule : List ℕ} {w : World V} (p : ℕ) → p < n → HasBegun w p → IsReached P n nodes schedule w → IsReached P n nodes (schedule ++ p ∷ []) (after_step P p w)
+  Steps : {schedule : List ℕ} {w : World V} (p : ℕ) → p < n → HasBegun w p → IsReached P n nodes schedule w
+      → IsReached P n nodes (schedule ++ p ∷ []) (after_step P p w)

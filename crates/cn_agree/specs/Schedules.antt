@@ -10,6 +10,10 @@ use Rattle.cn_agree.specs.World.{World, untouched}
 use Rattle.cn_agree.specs.Steps.{after_schedule}
 use Rattle.cn_agree.specs.Rounds.{decided}
 
+-- what a schedule decides: for each process its decision, if it has one
+pub record Decided : Type 0 where
+  pub decisions : List (Option ℕ)
+
 -- each process has begun with its input, and none has taken a step
 abbrev pub all_begun : {V : Type 0} → Protocol → ℕ → List V → World V
 all_begun P nodes inputs = record {

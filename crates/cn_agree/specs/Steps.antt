@@ -14,7 +14,8 @@ use Rattle.cn_agree.specs.World.{World, node_at, local_at, register, with_regist
 abbrev pub begun : {V : Type 0} → ℕ → V → World V → World V
 begun p x w = record w { locals = slice_set w.locals p (Active 0 x Write); inputs = slice_set w.inputs p (Some x) }
 
--- the node after an action of a process that stands here with this value: the first action writes the register of its team, the second applies its operation to the object, the third and the fourth only read
+-- the node after an action of a process that stands here with this value: the first action writes the register of its team, the second applies its operation to
+-- the object, the third and the fourth only read
 abbrev pub node_after : {V : Type 0} → Protocol → Place → V → Stage → Node V → Node V
 node_after P here x Write node = with_register node here.team x
 node_after P here x Apply node = record node { state = record { 0 = (P.act here.role node.state.0).1 } }
@@ -30,7 +31,8 @@ abbrev pub taken : {V : Type 0} → ℕ → ℕ → Local V → Option V → Loc
 taken places i stays None = stays
 taken places i stays (Some y) = onward places i y
 
--- its local state after the action: it keeps the response to its operation, then the state that it reads, and the fourth action reads the register of the team that it judges by these two to have come first
+-- its local state after the action: it keeps the response to its operation, then the state that it reads, and the fourth action reads the register of the team
+-- that it judges by these two to have come first
 abbrev pub local_after : {V : Type 0} → Protocol → ℕ → ℕ → Place → V → Stage → Node V → Local V
 local_after P places i here x Write node = Active i x Apply
 local_after P places i here x Apply node = Active i x (Read (record { 0 = (P.act here.role node.state.0).0 }))

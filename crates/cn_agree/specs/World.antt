@@ -7,7 +7,8 @@ use Rattle.cn_agree.specs.declared.node.Node.{Node}
 use Rattle.cn_agree.specs.declared.local.Local.{Local}
 use Rattle.cn_agree.specs.declared.local.Local.TheVariants.{NotBegun}
 
--- the object and the registers of each node, the local state of each process, the value that each process began with, and the team of the first application at the root
+-- the object and the registers of each node, the local state of each process, the value that each process began with, and the team of the first application at
+-- the root
 pub record World (V : Type 0) : Type 0 where
   pub nodes : List (Node V)
   pub locals : List (Local V)

@@ -14,7 +14,6 @@ pub struct Node<V> {
 }
 
 impl<V: Copy> Node<V> {
-    /// What the register of the team holds.
     pub(crate) fn register(&self, team: Team) -> Option<V>
         ensures { result ≡ register self.now team }
     {
@@ -24,7 +23,6 @@ impl<V: Copy> Node<V> {
         }
     }
 
-    /// Writes the register of the team.
     pub(crate) fn write(&mut self, team: Team, value: V)
         ensures { self.new ≡ with_register self.old team value }
     {

@@ -147,7 +147,8 @@ impl<V: Copy> Round<V> {
         requires { p < length self.now.locals }
         ensures value { result ≡ decision_at self.now p }
         ensures fixed { IfSome result (λ x. fixed_value self.now ≡ Some x) }
-        ensures in_time { (plan : PlanOf) (schedule : List ℕ) → IsRoundOf plan schedule self.now → IsSome result ↔ (4 * length ((protocol_of plan).path p) ≤ occurrences schedule p) }
+        ensures in_time { (plan : PlanOf) (schedule : List ℕ) → IsRoundOf plan schedule self.now
+            → IsSome result ↔ (4 * length ((protocol_of plan).path p) ≤ occurrences schedule p) }
     {
         decided(self.locals[usize::from(p)])
     }
@@ -156,15 +157,16 @@ impl<V: Copy> Round<V> {
     /// first application there on.
     pub fn fixed(&self) -> Option<V>
         ensures value { result ≡ fixed_value self.now }
-        ensures valid { (plan : PlanOf) (schedule : List ℕ) → IsRoundOf plan schedule self.now → IfSome result (λ x. (q : ℕ) × IsParticipant schedule q × (input_at self.now q ≡ Some x)) }
-        ensures since { (plan : PlanOf) (schedule : List ℕ) → IsRoundOf plan schedule self.now → IsSome result ↔ IsAppliedAtRoot (protocol_of plan) (processes_of plan) self.now }
+        ensures valid { (plan : PlanOf) (schedule : List ℕ) → IsRoundOf plan schedule self.now
+            → IfSome result (λ x. (q : ℕ) × IsParticipant schedule q × (input_at self.now q ≡ Some x)) }
+        ensures since { (plan : PlanOf) (schedule : List ℕ) → IsRoundOf plan schedule self.now
+            → IsSome result ↔ IsAppliedAtRoot (protocol_of plan) (processes_of plan) self.now }
     {
         let root = self.nodes[0];
         root.register(self.first?)
     }
 }
 
-/// So many copies of a value.
 fn filled<T: Copy>(alloc: Global, value: T, count: usize) -> Result<Vec<T>, AllocError>
     ensures { IfOk result (λ values. values.items ≡ replicate count value) }
 {

@@ -1,5 +1,5 @@
 //! Whole schedules: lists of the processes that take the steps.
-ghost use Rattle.std.specs.Prelude.{◌≡◌, ◌<◌, ◌≤◌, ◌⊎◌, ℕ, length, Err, IfErr, IfOk, OnOk, None, Some, nat_le, position};
+ghost use Rattle.std.specs.Prelude.{◌≡◌, ◌<◌, ◌⊎◌, length, Err, IfErr, IfOk, OnOk, None, Some, nat_le, position};
 ghost use Rattle.cn_proto.specs.Plan.{protocol_of, processes_of, nodes_of};
 ghost use Rattle.cn_agree.specs.Beginning.{AllHaveBegun, HaveBegun};
 ghost use Rattle.cn_agree.specs.Consensus.{IsConsensus, IsSchedule};
@@ -21,7 +21,7 @@ pub struct Decided {
 }
 
 impl Model for Decided {
-    ghost use Rattle.cn_agree.specs.Decided.{Decided};
+    ghost use Rattle.cn_agree.specs.Schedules.{Decided};
 
     ghost Value = { Decided };
 
@@ -101,7 +101,8 @@ fn round_after<V: Copy>(
 ) -> Result<Round<V>, AllocError>
     requires inputs { length inputs.now ≡ processes_of plan.now }
     requires schedule { IsSchedule (processes_of plan.now) schedule.now }
-    ensures world { IfOk result (λ round. round ≡ after_schedule (protocol_of plan.now) schedule.now (all_begun (protocol_of plan.now) (nodes_of plan.now) inputs.now)) }
+    ensures world { IfOk result (λ round. round ≡ after_schedule (protocol_of plan.now) schedule.now
+        (all_begun (protocol_of plan.now) (nodes_of plan.now) inputs.now)) }
     ensures processes { IfOk result (λ round. length round.locals ≡ processes_of plan.now) }
     ensures of_plan { IfOk result (RunsBy plan.now) }
     ensures begun { IfOk result (AllHaveBegun (processes_of plan.now)) }

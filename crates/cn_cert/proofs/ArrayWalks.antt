@@ -1,5 +1,5 @@
 -- Arrays, an item after another, and values of other kinds than the wanted one.
-use Rattle.std.proofs.Common.{◌≡◌, ℕ, zero, suc, append-nil, ◌-◌, ◌<◌, List, [], ◌∷◌, ◌++◌, length, Bool, true, false, Option, Some, None, Result, Ok, Err, IfOk, IfErr, option_map, refl, sym, ap, ◌∙◌, arith, inl, inr, append_assoc, ◌==◌, Bor}
+use Rattle.std.proofs.Common.{◌≡◌, ℕ, zero, suc, append-nil, ◌-◌, ◌<◌, List, [], ◌∷◌, ◌++◌, length, Bool, true, false, Option, Some, None, Result, Ok, Err, IfOk, IfErr, option_map, option_and_then, refl, sym, ap, ◌∙◌, subst, arith, inl, inr, append_assoc, ◌==◌, Bor}
 use Rattle.json.specs.Json.{after_end_array, value}
 use Rattle.json.specs.Token.{Token}
 use Rattle.serde_json.specs.Data.{Num, Data, null, boolean, number, string, array, object, Items, no_items, item}
@@ -12,7 +12,7 @@ use Rattle.cn_choice.specs.Collisions.{Collision}
 use Rattle.cn_cert.specs.Document.{list_of}
 use Rattle.cn_cert.specs.Draft.{choice_from, choice_of, collision_from, collision_of}
 use Rattle.cn_cert.specs.Reads.{Reads, Refuses}
-use Rattle.cn_cert.specs.Values.{natural_of, naturals_of}
+use Rattle.cn_cert.specs.Values.{items_of_len, natural_of, naturals_of}
 use Rattle.cn_cert.specs.Tokens.{Opens, data_at, items_at, rest_at, told, nothing, next_item, next_choice, first_item, later_items, choice_parts, next_collision, whole, in_array, collision_parts, is_over, all_items}
 use Rattle.cn_cert.specs.declared.fault.CertFault.{CertFault}
 use Rattle.cn_cert.specs.declared.fault.CertFault.TheVariants.{NotJson}
@@ -99,30 +99,42 @@ not_array (string s) h = refl
 not_array (array ds) h = absurd (h refl)
 not_array (object ms) h = refl
 
--- the token of such a value
+-- what a token of this sort is
+abbrev IsOfSort : ℕ → ReadToken → Type 0
+IsOfSort zero k = k ≡ read.Null
+IsOfSort (suc zero) k = Unit {0}
+IsOfSort (suc (suc zero)) k = (s : Bor (List ℕ)) × (k ≡ read.Number s)
+IsOfSort (suc (suc (suc zero))) k = (s : Bor (List ℕ)) × (k ≡ read.String s)
+IsOfSort (suc (suc (suc (suc zero)))) k = k ≡ read.BeginArray
+IsOfSort (suc (suc (suc (suc (suc zero))))) k = k ≡ read.BeginObject
+IsOfSort _ k = Unit {0}
+
+of_its_sort : (k : ReadToken) → IsOfSort (token_sort (token_of k)) k
+of_its_sort read.BeginObject = refl
+of_its_sort read.EndObject = tt
+of_its_sort read.BeginArray = refl
+of_its_sort read.EndArray = tt
+of_its_sort (read.Key s) = tt
+of_its_sort (read.String s) = (s, refl)
+of_its_sort (read.Number s) = (s, refl)
+of_its_sort (read.Bool b) = tt
+of_its_sort read.Null = refl
+of_its_sort read.Bad = tt
+
+pub null_token : (k : ReadToken) → token_sort (token_of k) ≡ 0 → k ≡ read.Null
+null_token k e = subst (λ (n : ℕ). IsOfSort n k) e (of_its_sort k)
+
 pub number_token : (k : ReadToken) → token_sort (token_of k) ≡ 2 → (s : Bor (List ℕ)) × (k ≡ read.Number s)
-number_token read.BeginObject e = absurd (omega (arith, e))
-number_token read.EndObject e = absurd (omega (arith, e))
-number_token read.BeginArray e = absurd (omega (arith, e))
-number_token read.EndArray e = absurd (omega (arith, e))
-number_token (read.Key s) e = absurd (omega (arith, e))
-number_token (read.String s) e = absurd (omega (arith, e))
-number_token (read.Number s) e = (s, refl)
-number_token (read.Bool b) e = absurd (omega (arith, e))
-number_token read.Null e = absurd (omega (arith, e))
-number_token read.Bad e = absurd (omega (arith, e))
+number_token k e = subst (λ (n : ℕ). IsOfSort n k) e (of_its_sort k)
+
+pub string_token : (k : ReadToken) → token_sort (token_of k) ≡ 3 → (s : Bor (List ℕ)) × (k ≡ read.String s)
+string_token k e = subst (λ (n : ℕ). IsOfSort n k) e (of_its_sort k)
 
 pub array_token : (k : ReadToken) → token_sort (token_of k) ≡ 4 → k ≡ read.BeginArray
-array_token read.BeginObject e = absurd (omega (arith, e))
-array_token read.EndObject e = absurd (omega (arith, e))
-array_token read.BeginArray e = refl
-array_token read.EndArray e = absurd (omega (arith, e))
-array_token (read.Key s) e = absurd (omega (arith, e))
-array_token (read.String s) e = absurd (omega (arith, e))
-array_token (read.Number s) e = absurd (omega (arith, e))
-array_token (read.Bool b) e = absurd (omega (arith, e))
-array_token read.Null e = absurd (omega (arith, e))
-array_token read.Bad e = absurd (omega (arith, e))
+array_token k e = subst (λ (n : ℕ). IsOfSort n k) e (of_its_sort k)
+
+pub object_token : (k : ReadToken) → token_sort (token_of k) ≡ 5 → k ≡ read.BeginObject
+object_token k e = subst (λ (n : ℕ). IsOfSort n k) e (of_its_sort k)
 
 -- ---- a number's token
 
@@ -218,21 +230,21 @@ collision_is (item d (item e (item f (item g (item h no_items))))) = sym (ap (co
 collision_is (item d (item e (item f (item g (item h (item i no_items)))))) = all_parts (choice_parts (natural_of d) (naturals_of e) (naturals_of f)) (natural_of g) (naturals_of h) (naturals_of i)
 collision_is (item d (item e (item f (item g (item h (item i (item j ds))))))) = rw (not_so_many (length (d ∷ e ∷ f ∷ g ∷ h ∷ i ∷ j ∷ list_of ds)) 6 (omega arith)) refl
 
+-- a thing of so many items, read as the parts of an array
+in_array_of : {X : Type 0} (len : ℕ) (from : List Data → Option X) (parts : Items → Option X) → ((ds : Items) → option_and_then from (items_of_len len (array ds)) ≡ parts ds)
+    → (d : Data) → in_array parts d ≡ option_and_then from (items_of_len len d)
+in_array_of len from parts are null = refl
+in_array_of len from parts are (boolean b) = refl
+in_array_of len from parts are (number n) = refl
+in_array_of len from parts are (string s) = refl
+in_array_of len from parts are (array ds) = sym (are ds)
+in_array_of len from parts are (object ms) = refl
+
 pub choice_in_array : (d : Data) → in_array (whole next_choice) d ≡ choice_of d
-choice_in_array null = refl
-choice_in_array (boolean b) = refl
-choice_in_array (number n) = refl
-choice_in_array (string s) = refl
-choice_in_array (array ds) = sym (choice_is ds)
-choice_in_array (object ms) = refl
+choice_in_array = in_array_of 3 choice_from (whole next_choice) choice_is
 
 pub collision_in_array : (d : Data) → in_array (whole next_collision) d ≡ collision_of d
-collision_in_array null = refl
-collision_in_array (boolean b) = refl
-collision_in_array (number n) = refl
-collision_in_array (string s) = refl
-collision_in_array (array ds) = sym (collision_is ds)
-collision_in_array (object ms) = refl
+collision_in_array = in_array_of 6 collision_from (whole next_collision) collision_is
 
 -- ---- steps within such an array
 

@@ -1,11 +1,12 @@
 -- What a search finds is within the ranges of a certificate.
-use Rattle.std.proofs.Common.{◌≡◌, ◌↔◌, ℕ, ◌+◌, ◌≤◌, ◌<◌, Contains, List, [], ◌∷◌, length, Bool, true, false, Option, Some, None, IsSomeAnd, nat_le, nat_lt, arith, refl, sym, le-leb, ltb-true, length-append}
+use Rattle.std.proofs.Common.{◌≡◌, ◌↔◌, ℕ, ◌+◌, ◌-◌, ◌≤◌, ◌<◌, Contains, List, [], ◌∷◌, length, Bool, true, false, Option, Some, None, IsSomeAnd, nat_le, nat_lt, arith, refl, sym, le-leb, ltb-true, length-append}
 use Rattle.std.proofs.lemmas.List.{length-map}
 use Rattle.std.proofs.lemmas.List.Elements.{All-contains_itself, All-weaker, recursion_from_All}
 use Rattle.std.specs.List.{AllByRecursion, AllZip, list_all}
 use Rattle.std.specs.Prelude.{MatchOption}
 use Rattle.cn_table.proofs.Lists.{All-parts, Contains-between}
 use Rattle.cn_table.specs.TypeTable.{TypeTable, IsTypeTable}
+use Rattle.cn_table.specs.declared.limits.TheConstants.{MOST_STATES}
 use Rattle.cn_choice.specs.Canonical.{Choice, IsCanonical, raw_choice_of}
 use Rattle.cn_choice.specs.Collisions.{Collision, IsCollision}
 use Rattle.cn_choice.specs.Discerning.{IsNumberUpTo}
@@ -51,7 +52,7 @@ module _ (few_moves : AreShort) (of_processes : AreOfProcesses) (t : TypeTable) 
       let operations : length t.operations ≤ 8 = omega (arith, table.operations.few, length-map t.operations (λ row. row.name)) in
       let a_short = short (length t.operations) c.a operations (omega (arith, is.one_operation_each, length-append c.a c.b)) a_known in
       let b_short = short (length t.operations) c.b operations (omega (arith, is.one_operation_each, length-append c.a c.b)) b_known in
-      rw (le-leb c.state 15 (omega (arith, is.state_known, table.states.few)), a_short, b_short)
+      rw (le-leb c.state (MOST_STATES - 1) (omega (arith, is.state_known, table.states.few)), a_short, b_short)
 
   order_short : (m : ℕ) (order : List ℕ) → m ≡ n → IsOrder m order → is_short order ≡ true
   order_short m order e is =

@@ -1,12 +1,9 @@
 -- The members of an object, and values that are of a kind or null.
-use Rattle.std.proofs.Common.{◌≡◌, ℕ, ◌+◌, List, ◌∷◌, Bool, true, false, true≢false, Option, Some, None, option_map, option_and_then, codes, bytes_eq, Ordering, Less, Equal, Greater, if◌then◌else◌, refl, sym, ap, ◌∙◌, arith, ◌==◌, Bor, nat_cmp}
+use Rattle.std.proofs.Common.{◌≡◌, ℕ, ◌+◌, List, ◌∷◌, Bool, true, false, true≢false, Option, Some, None, option_map, option_and_then, codes, bytes_eq, Ordering, Less, Equal, Greater, if◌then◌else◌, refl, sym, ap, ◌∙◌, ◌==◌, nat_cmp}
 use Rattle.std.proofs.lemmas.Slice.Eq.{bytes_eq-Decides}
 use Rattle.std.specs.Cmp.Lexicographic.{slice_cmp}
 use Rattle.std.specs.Ordering.{match_ordering}
-use Rattle.json.specs.Reads.{token_of}
 use Rattle.json.specs.Token.{Token}
-use Rattle.json.specs.declared.token.Token.{Token as ReadToken}
-use Rattle.json.specs.declared.token.Token.TheVariants as read
 use Rattle.serde_json.specs.Data.{Num, Data, null, boolean, number, string, array, object, Members, no_members, member, put}
 use Rattle.serde_json.specs.Find.{as_str, as_u64, get_member}
 use Rattle.serde_json.proofs.Views.{get_member-put, get_member-put_other}
@@ -43,42 +40,6 @@ not_null kind (string s) h = refl
 not_null kind (array ds) h = refl
 not_null kind (object ms) h = refl
 
-pub null_token : (k : ReadToken) → token_sort (token_of k) ≡ 0 → k ≡ read.Null
-null_token read.BeginObject e = absurd (omega (arith, e))
-null_token read.EndObject e = absurd (omega (arith, e))
-null_token read.BeginArray e = absurd (omega (arith, e))
-null_token read.EndArray e = absurd (omega (arith, e))
-null_token (read.Key s) e = absurd (omega (arith, e))
-null_token (read.String s) e = absurd (omega (arith, e))
-null_token (read.Number s) e = absurd (omega (arith, e))
-null_token (read.Bool b) e = absurd (omega (arith, e))
-null_token read.Null e = refl
-null_token read.Bad e = absurd (omega (arith, e))
-
-pub string_token : (k : ReadToken) → token_sort (token_of k) ≡ 3 → (s : Bor (List ℕ)) × (k ≡ read.String s)
-string_token read.BeginObject e = absurd (omega (arith, e))
-string_token read.EndObject e = absurd (omega (arith, e))
-string_token read.BeginArray e = absurd (omega (arith, e))
-string_token read.EndArray e = absurd (omega (arith, e))
-string_token (read.Key s) e = absurd (omega (arith, e))
-string_token (read.String s) e = (s, refl)
-string_token (read.Number s) e = absurd (omega (arith, e))
-string_token (read.Bool b) e = absurd (omega (arith, e))
-string_token read.Null e = absurd (omega (arith, e))
-string_token read.Bad e = absurd (omega (arith, e))
-
-pub object_token : (k : ReadToken) → token_sort (token_of k) ≡ 5 → k ≡ read.BeginObject
-object_token read.BeginObject e = refl
-object_token read.EndObject e = absurd (omega (arith, e))
-object_token read.BeginArray e = absurd (omega (arith, e))
-object_token read.EndArray e = absurd (omega (arith, e))
-object_token (read.Key s) e = absurd (omega (arith, e))
-object_token (read.String s) e = absurd (omega (arith, e))
-object_token (read.Number s) e = absurd (omega (arith, e))
-object_token (read.Bool b) e = absurd (omega (arith, e))
-object_token read.Null e = absurd (omega (arith, e))
-object_token read.Bad e = absurd (omega (arith, e))
-
 -- a number, read as a number or null
 pub number_or_null_read : (n : Option Num) (ts : List Token) (o : Option ℕ) → option_map as_u64 n ≡ Some o
     → option_map {U = Option (Option ℕ) × List Token} (λ x. (nullable natural_of (number x), ts)) n ≡ Some (option_map Some o, ts)
@@ -103,7 +64,14 @@ at_put : {X : Type 0} (q k : List ℕ) (f : Data → Option X) (d : Data) (ms : 
 at_put q k f d ms = at_put_by q k f d ms _ refl
 
 pub slots_put : (k : List ℕ) (d : Data) (ms : Members) → slots_of (put k d ms) ≡ with_member k (slots_of ms) d
-slots_put k d ms = rw (at_put (codes "collisions") k collisions_of d ms, at_put (codes "limit") k natural_of d ms, at_put (codes "number") k (nullable natural_of) d ms, at_put (codes "type") k as_str d ms, at_put (codes "version") k natural_of d ms, at_put (codes "witness") k (nullable choice_of) d ms) refl
+slots_put k d ms = rw (
+  at_put (codes "collisions") k collisions_of d ms,
+  at_put (codes "limit") k natural_of d ms,
+  at_put (codes "number") k (nullable natural_of) d ms,
+  at_put (codes "type") k as_str d ms,
+  at_put (codes "version") k natural_of d ms,
+  at_put (codes "witness") k (nullable choice_of) d ms,
+) refl
 
 -- ---- the keys
 

@@ -1,5 +1,5 @@
 -- A certificate within the ranges is read back from its text.
-use Rattle.std.proofs.Common.{◌≡◌, ◌==◌, ◌||◌, ℕ, suc, ◌^◌, ◌<◌, ◌≤◌, List, [], ◌∷◌, ◌++◌, Bool, true, false, Option, Some, None, Ok, codes, IsUtf8, nat_le, nat_lt, refl, arith, leb-true}
+use Rattle.std.proofs.Common.{◌≡◌, ◌==◌, ◌||◌, ℕ, suc, ◌-◌, ◌^◌, ◌<◌, ◌≤◌, List, [], ◌∷◌, ◌++◌, Bool, true, false, Option, Some, None, Ok, codes, IsUtf8, nat_le, nat_lt, refl, arith, leb-true}
 use Rattle.std.specs.List.{list_all}
 use Rattle.std.proofs.lemmas.Bool.{and_parts, eqb-true}
 use Rattle.std.proofs.lemmas.Bool.Decides.{nat_tests}
@@ -7,6 +7,7 @@ use Rattle.std.proofs.lemmas.Str.{IsUtf8-append, is_utf8-from_IsUtf8}
 use Rattle.json.proofs.Printed.Utf8.{are_ascii, IsUtf8-are_ascii}
 use Rattle.serde_json.specs.Read.{read}
 use Rattle.cn_table.specs.Names.{is_name_byte, is_name}
+use Rattle.cn_table.specs.declared.limits.TheConstants.{MOST_STATES}
 use Rattle.cn_choice.specs.Canonical.{Choice}
 use Rattle.cn_choice.specs.Collisions.{Collision}
 use Rattle.cn_cert.specs.Certificate.{Certificate, is_version}
@@ -44,7 +45,7 @@ choice : (most : ℕ) (c : Choice) → is_choice_in_range c ≡ true → IsReadB
 choice most c pass =
     let p = and_parts _ _ pass in
     let q = and_parts _ _ p.1 in
-    array_back (suc most) _ (one_more _ _ _ (number_below _ 15 c.state (omega arith) p.0) (one_more _ _ _ (numbers most c.a q.0) (one_more _ _ _ (numbers most c.b q.1) (no_more _))))
+    array_back (suc most) _ (one_more _ _ _ (number_below _ (MOST_STATES - 1) c.state (omega arith) p.0) (one_more _ _ _ (numbers most c.a q.0) (one_more _ _ _ (numbers most c.b q.1) (no_more _))))
 
 witness : (most : ℕ) (w : Option Choice) → is_witness_in_range w ≡ true → IsReadBack (suc (suc most)) (witness_data w)
 witness most None pass = null_back _
@@ -58,7 +59,7 @@ collision most x pass =
     let r = and_parts _ _ p.1 in
     let orders = and_parts _ _ r.1 in
     array_back (suc most) _
-    (one_more _ _ _ (number_below _ 15 x.choice.state (omega arith) q.0) (one_more _ _ _ (numbers most x.choice.a teams.0) (one_more _ _ _ (numbers most x.choice.b teams.1)
+    (one_more _ _ _ (number_below _ (MOST_STATES - 1) x.choice.state (omega arith) q.0) (one_more _ _ _ (numbers most x.choice.a teams.0) (one_more _ _ _ (numbers most x.choice.b teams.1)
     (one_more _ _ _ (number_below _ 7 x.process (omega arith) r.0) (one_more _ _ _ (numbers most x.alpha orders.0) (one_more _ _ _ (numbers most x.beta orders.1) (no_more _)))))))
 
 name_byte : (b : ℕ) → is_name_byte b ≡ true → nat_lt b 128 ≡ true

@@ -1,5 +1,5 @@
 -- The JSON value of a certificate, and its one text.
-use Rattle.std.specs.Prelude.{ℕ, ◌++◌, ◌∷◌, List, Option, Some, None, map, codes}
+use Rattle.std.specs.Prelude.{ℕ, ◌++◌, List, Option, Some, None, map, codes}
 use Rattle.serde_json.specs.Data.{Data, null, number, unsigned, string, array, object, item, no_items, Members, member, no_members}
 use Rattle.serde_json.specs.View.{items_of}
 use Rattle.serde_json.specs.Written.{compact_text}
@@ -51,7 +51,7 @@ certificate_text c = compact_text (certificate_data c)
 
 -- the text of a state or a process, and two lists, in an array
 abbrev pub part_text : ℕ → List ℕ → List ℕ → List ℕ
-part_text n a b = compact_text (number_data n) ++ (44 ∷ (compact_text (numbers_data a) ++ (44 ∷ compact_text (numbers_data b))))
+part_text n a b = compact_text (number_data n) ++ codes "," ++ compact_text (numbers_data a) ++ codes "," ++ compact_text (numbers_data b)
 
 -- the members behind the collisions
 abbrev pub other_members : Certificate → Members

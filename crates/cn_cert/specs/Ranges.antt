@@ -1,9 +1,10 @@
 -- The ranges of a certificate's numbers, and the name of its type.
-use Rattle.std.specs.Prelude.{ℕ, List, length, Bool, true, ◌&&◌, nat_le, Option, Some, None, map, if◌then◌else◌}
+use Rattle.std.specs.Prelude.{ℕ, ◌-◌, List, length, Bool, true, ◌&&◌, nat_le, Option, Some, None, map, if◌then◌else◌}
 use Rattle.std.specs.Option.{option_map_or}
 use Rattle.std.specs.List.{list_all}
 use Rattle.cn_table.specs.Draft.{all_some}
 use Rattle.cn_table.specs.Names.{is_name}
+use Rattle.cn_table.specs.declared.limits.TheConstants.{MOST_STATES}
 use Rattle.cn_choice.specs.Canonical.{Choice}
 use Rattle.cn_choice.specs.Collisions.{Collision}
 use Rattle.cn_cert.specs.Certificate.{Certificate}
@@ -20,7 +21,7 @@ abbrev pub is_short : List ℕ → Bool
 is_short ns = nat_le (length ns) 8 && list_all (λ n. nat_le n 7) ns
 
 abbrev pub is_choice_in_range : Choice → Bool
-is_choice_in_range c = nat_le c.state 15 && (is_short c.a && is_short c.b)
+is_choice_in_range c = nat_le c.state (MOST_STATES - 1) && (is_short c.a && is_short c.b)
 
 abbrev pub is_witness_in_range : Option Choice → Bool
 is_witness_in_range w = option_map_or is_choice_in_range w true

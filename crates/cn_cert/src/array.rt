@@ -1,10 +1,7 @@
 //! Arrays, an item after another.
-ghost use Rattle.std.specs.Prelude.{◌≡◌, ◌∷◌, true, IfOk, IfErr, Some, None, option_map, ℕ};
+ghost use Rattle.std.specs.Prelude.{◌≡◌, ◌∷◌, true, IfOk, IfErr, Some, None, option_map};
 ghost use Rattle.std.specs.Bool.{MatchBool};
-ghost use Rattle.json.specs.Json.{after_end_array};
 ghost use Rattle.json.specs.Reads.{token_of};
-ghost use Rattle.serde_json.specs.Data.{no_items};
-ghost use Rattle.serde_json.specs.Find.{as_array};
 ghost use Rattle.cn_cert.specs.Reads.{Refuses};
 ghost use Rattle.cn_cert.specs.Tokens.{IsLast, IsNext, Opens, Takes, data_at, items_at, rest_at, told};
 ghost use Rattle.cn_cert.specs.Tokens.{next_item, choice_parts, collision_parts, is_over, all_items, in_array, whole};

@@ -8,7 +8,6 @@ use cn_table::Table;
 use std::alloc::Global;
 use std::marker::Model;
 
-/// The version of the certificates that are made.
 const NEWEST_VERSION: u8 = 2;
 
 /// What a certificate says of a type: its number up to a limit, and what shows that number.

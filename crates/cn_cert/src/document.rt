@@ -1,6 +1,5 @@
 //! From bytes to what they say as a certificate.
 ghost use Rattle.std.specs.Prelude.{◌≡◌, Some, Err, IfOk, IfErr, IsUtf8, option_map};
-ghost use Rattle.json.specs.Lex.{tokens};
 ghost use Rattle.serde_json.specs.Read.{read};
 ghost use Rattle.cn_cert.specs.Document.{document_of};
 ghost use Rattle.cn_cert.specs.Draft.{draft_of};

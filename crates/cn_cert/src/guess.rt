@@ -1,9 +1,10 @@
 //! Texts in the form in which certificates are written, by a way that is short and only guesses.
 //!
 //! What a text says is guessed from its digits, and the guess stands where its own text is that text.
-ghost use Rattle.std.specs.Prelude.{◌≡◌, ◌≤◌, ◌⊎◌, ◌++◌, ◌∷◌, [], IfSome, IsTrue, IsUtf8, None, Ok, true, string_bytes};
+ghost use Rattle.std.specs.Prelude.{◌≡◌, ◌<◌, ◌≤◌, ◌⊎◌, ◌++◌, ◌∷◌, [], IfSome, IsTrue, IsUtf8, None, Ok, true, string_bytes};
 ghost use Rattle.std.specs.List.{list_all};
 ghost use Rattle.cn_table.specs.Names.{is_name};
+ghost use Rattle.cn_table.specs.declared.limits.TheConstants.{MOST_STATES};
 ghost use Rattle.cn_cert.specs.Certificate.{is_version};
 ghost use Rattle.cn_cert.specs.CertificateText.{certificate_text};
 ghost use Rattle.cn_cert.specs.Ranges.{is_number_in_range, is_short, is_choice_in_range, is_collision_in_range, is_witness_in_range, is_in_range};
@@ -49,13 +50,11 @@ impl<'a> Bytes<'a> {
         }
     }
 
-    /// Passes this byte.
     #[inline(always)]
     fn pass(&mut self, byte: u8) -> Option<()> {
         if self.next() == byte { Some(()) } else { None }
     }
 
-    /// Passes these bytes.
     fn pass_all(&mut self, bytes: &[u8]) -> Option<()> {
         for byte in bytes {
             self.pass(*byte)?;
@@ -86,7 +85,7 @@ impl<'a> Bytes<'a> {
 
     /// The number of a state, and the comma behind it.
     fn state(&mut self) -> Option<u8>
-        ensures { IfSome result (λ n. n ≤ 15) }
+        ensures { IfSome result (λ n. n < MOST_STATES) }
     {
         let first = digit(self.next(), 9)?;
         let next = self.next();
@@ -148,7 +147,6 @@ impl<'a> Bytes<'a> {
         None
     }
 
-    /// A digit, or null.
     fn digit_or_null(&mut self) -> Option<Option<u8>>
         ensures { IfSome result (λ o. is_number_in_range o ≡ true) }
     {

@@ -10,11 +10,10 @@ use crate::draft::{Draft, DraftChoice, DraftCollision};
 use crate::fault::CertFault;
 use arrayvec::ArrayVec;
 use cn_choice::{Choice, Collision};
-use cn_table::{State, is_name};
+use cn_table::{MOST_STATES, State, is_name};
 use std::alloc::Global;
 
-/// The greatest number of a state.
-const GREATEST_STATE: u64 = 15;
+const GREATEST_STATE: u64 = MOST_STATES as u64 - 1;
 
 /// The greatest number of an operation or of a process.
 const GREATEST_NUMBER: u64 = 7;

@@ -10,7 +10,6 @@ use crate::fault::CertFault;
 use crate::number::natural;
 use json::{Reader, Token};
 
-/// The next token.
 #[inline(always)]
 pub(crate) fn first<'a>(reader: &mut Reader<'a>) -> Result<Token<'a>, CertFault>
     ensures first { IfOk result (λ t. reader.old ≡ token_of t ∷ reader.new) }
@@ -62,7 +61,6 @@ pub(crate) fn rest_of(
     }
 }
 
-/// Passes over the rest of an array.
 #[cycle(skip)]
 pub(crate) fn rest_of_items(reader: &mut Reader<'_>, depth: usize) -> Result<(), CertFault>
     ensures ok { IfOk result (λ u. told nothing (items_at depth reader.old) ≡ Some (u, reader.new)) }
@@ -75,7 +73,6 @@ pub(crate) fn rest_of_items(reader: &mut Reader<'_>, depth: usize) -> Result<(),
     Ok(())
 }
 
-/// Passes over the rest of an object.
 #[cycle(skip)]
 fn rest_of_members(reader: &mut Reader<'_>, depth: usize) -> Result<(), CertFault>
     ensures ok { IfOk result (λ u. told nothing (members_at depth no_members reader.old) ≡ Some (u, reader.new)) }

@@ -126,7 +126,14 @@ module _ (t : TypeTable) (c : RawChoice) (used state : ℕ) where
   ShowsNext j r q p = (¬ IsIn used p) × ShowsBy t c used state p j r q
 
   pub ends_by_first : (n q : ℕ) → n ≡ length c.operations → EndsIn t c used state q ↔ ((q ≡ state) ⊎ Below (EndsNext q) n)
-  ends_by_first n q all = (λ h. from_moves h.0 h.1 h.2, λ h. elim h [ inl e ↦ ([], no_moves (length c.operations) used, sym e) | inr b ↦ (b.0 ∷ b.2.1.0, first_move (length c.operations) used b.0 b.2.1.0 (omega (arith, b.1, all)) b.2.0 b.2.1.1, b.2.1.2) ])
+  ends_by_first n q all = (
+    λ h. from_moves h.0 h.1 h.2,
+    λ h. elim h [
+      | inl e ↦ ([], no_moves (length c.operations) used, sym e)
+      | inr b ↦
+          (b.0 ∷ b.2.1.0, first_move (length c.operations) used b.0 b.2.1.0 (omega (arith, b.1, all)) b.2.0 b.2.1.1, b.2.1.2)
+    ],
+  )
     where
       from_moves : (moves : List ℕ) → AreMoves (length c.operations) used moves → state_after t state (operations_of c moves) ≡ q → (q ≡ state) ⊎ Below (EndsNext q) n
       from_moves [] are e = inl (sym e)

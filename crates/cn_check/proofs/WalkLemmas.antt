@@ -8,7 +8,8 @@ use Rattle.cn_choice.specs.ResultSets.{operations_of, pair_of, response_of}
 
 -- what the law of pairs says
 abbrev pub IsSeenAlong : Type 0
-IsSeenAlong = (t : TypeTable) (c : RawChoice) (order : List ℕ) (j : ℕ) → pair_of t c order j ≡ option_map (λ response. (response, state_after t c.state (operations_of c order))) (response_of j order (responses_along t c.state (operations_of c order)))
+IsSeenAlong = (t : TypeTable) (c : RawChoice) (order : List ℕ) (j : ℕ) → pair_of t c order j ≡ option_map (λ response. (response, state_after t c.state (operations_of c order)))
+    (response_of j order (responses_along t c.state (operations_of c order)))
 
 -- the first of two that is there
 abbrev pub first_some : Option ℕ → Option ℕ → Option ℕ

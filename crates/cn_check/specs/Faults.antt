@@ -28,7 +28,8 @@ HasFault t c (NotNext i) = IsNotNext t c i
 HasFault t c (NotACollision i) = IsNoCollision t c i
 HasFault t c TooFew = length c.collisions < length (choices_to_refute_in c.version t c.limit c.number)
 
--- when a fault is looked for: the round, and the turn within the round; the entries are gone through in one round, and each is tried for its choice, then for its collision
+-- when a fault is looked for: the round, and the turn within the round; the entries are gone through in one round, and each is tried for its choice, then for
+-- its collision
 abbrev pub turn : CheckFault → ℕ × ℕ
 turn OtherType = (1, 0)
 turn BadNumber = (2, 0)

@@ -28,8 +28,10 @@ IsWitnessFault t number witness TooFew = ⊥
 -- the first fault of the entries, for this version, this limit and this number
 abbrev pub IsEvidenceFault : TypeTable → ℕ → ℕ → Option ℕ → List Collision → CheckFault → Type 0
 IsEvidenceFault t version limit number entries Unexpected = (number ≡ Some limit) × (entries ≢ [])
-IsEvidenceFault t version limit number entries (NotNext i) = (number ≢ Some limit) × IsFirstEntryFault t (choices_to_refute_in version t limit number) entries (NotNext i)
-IsEvidenceFault t version limit number entries (NotACollision i) = (number ≢ Some limit) × IsFirstEntryFault t (choices_to_refute_in version t limit number) entries (NotACollision i)
+IsEvidenceFault t version limit number entries (NotNext i) = (number ≢ Some limit)
+    × IsFirstEntryFault t (choices_to_refute_in version t limit number) entries (NotNext i)
+IsEvidenceFault t version limit number entries (NotACollision i) = (number ≢ Some limit)
+    × IsFirstEntryFault t (choices_to_refute_in version t limit number) entries (NotACollision i)
 IsEvidenceFault t version limit number entries TooFew = (number ≢ Some limit) × IsFirstEntryFault t (choices_to_refute_in version t limit number) entries TooFew
 IsEvidenceFault t version limit number entries OtherType = ⊥
 IsEvidenceFault t version limit number entries BadNumber = ⊥

@@ -36,7 +36,8 @@ AreRefuted t choices entries place = (i : ℕ) → i < place → IsSomeAnd (slic
 -- the first fault of the entries as a refutation of the choices
 abbrev pub IsFirstEntryFault : TypeTable → List Choice → List Collision → CheckFault → Type 0
 IsFirstEntryFault t choices entries (NotNext i) = AreRefuted t choices entries i × IsSomeAnd (slice_get entries i) (λ entry. ¬ IsOfChoice choices i entry)
-IsFirstEntryFault t choices entries (NotACollision i) = AreRefuted t choices entries i × IsSomeAnd (slice_get entries i) (λ entry. IsOfChoice choices i entry × ¬ HoldsCollision t entry)
+IsFirstEntryFault t choices entries (NotACollision i) = AreRefuted t choices entries i
+    × IsSomeAnd (slice_get entries i) (λ entry. IsOfChoice choices i entry × ¬ HoldsCollision t entry)
 IsFirstEntryFault t choices entries TooFew = AreRefuted t choices entries (length entries) × (length entries < length choices)
 IsFirstEntryFault t choices entries OtherType = ⊥
 IsFirstEntryFault t choices entries BadNumber = ⊥

@@ -7,7 +7,6 @@ use cn_choice::laws::choice_by_teams;
 use cn_choice::{Choice, Team};
 use cn_table::{Operation, Table};
 
-/// Whether each of the numbers is below the limit.
 pub(crate) fn are_below(numbers: &[u8], limit: u8) -> bool
     ensures { IsTrue result ↔ All (λ x. x < limit) numbers.now }
 {
@@ -16,7 +15,8 @@ pub(crate) fn are_below(numbers: &[u8], limit: u8) -> bool
 
 /// Whether the state and the operations of the choice are the table's.
 fn is_of_table(choice: &Choice, table: &Table) -> bool
-    ensures { IsTrue result ↔ ((choice.now.state < length table.now.states) × All (λ operation. operation < length table.now.operations) choice.now.a × All (λ operation. operation < length table.now.operations) choice.now.b) }
+    ensures { IsTrue result ↔ ((choice.now.state < length table.now.states) × All (λ operation. operation < length table.now.operations) choice.now.a
+        × All (λ operation. operation < length table.now.operations) choice.now.b) }
 {
     let operations = table.operations();
     are_below(choice.a.as_slice(), operations)
@@ -39,7 +39,6 @@ pub(crate) fn is_choice_for(choice: &Choice, table: &Table, n: u8) -> bool
     has_processes(choice, n) && is_of_table(choice, table)
 }
 
-/// How many processes the choice has.
 pub(crate) fn processes(table: &Table, choice: &Choice) -> u8
     requires { FitsTable table.now choice.now }
     ensures { result ≡ length choice.now.a + length choice.now.b }
@@ -47,7 +46,6 @@ pub(crate) fn processes(table: &Table, choice: &Choice) -> u8
     (choice.a.len() + choice.b.len()) as u8
 }
 
-/// The operation of a process.
 pub(crate) fn operation_of(choice: &Choice, process: u8) -> Operation
     requires { process < length choice.now.a + length choice.now.b }
     ensures { result.0 ≡ slice_index (raw_choice_of choice.now).operations process }
@@ -61,7 +59,6 @@ pub(crate) fn operation_of(choice: &Choice, process: u8) -> Operation
     }
 }
 
-/// The team of a process.
 pub(crate) fn team_of(choice: &Choice, process: u8) -> Team
     requires { process < length choice.now.a + length choice.now.b }
     ensures { slice_get (raw_choice_of choice.now).marks process ≡ Some result }

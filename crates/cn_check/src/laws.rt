@@ -24,7 +24,8 @@ pub fn one_verdict()
 /// each finding is accepted.
 pub fn accepted_is_right()
     ensures number { (t : TypeTable) (c : Certificate) → IsAccepted t c → IsNumberUpTo t c.limit c.number }
-    ensures found { (t : TypeTable) (f : Finding) → IsFindingFor t f.limit f → find_fault (length t.states) (length t.operations) f.limit ≡ None → IsAccepted t (certificate_of t.name f) }
+    ensures found { (t : TypeTable) (f : Finding) → IsFindingFor t f.limit f → find_fault (length t.states) (length t.operations) f.limit ≡ None
+        → IsAccepted t (certificate_of t.name f) }
 {
     // What refutes a choice shows that it is no witness; where none of the choices is, of either
     // version, no choice is, for as many processes or for more.

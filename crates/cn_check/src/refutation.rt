@@ -114,9 +114,11 @@ fn check_team(
     requires half { length a.now + length a.now ≤ n }
     requires known { All (λ operation. operation < length table.now.operations) a.now }
     requires counts { all_count version table.now state.0 a.now ≡ true }
-    requires next { ComeNext (choices_in_version version table.now n) start (counting version table.now (with_first (length table.now.operations) n state.0 a.now)) }
+    requires next { ComeNext (choices_in_version version table.now n) start (counting version table.now
+        (with_first (length table.now.operations) n state.0 a.now)) }
     requires refuted { AreRefuted table.now (choices_in_version version table.now n) entries.now start }
-    ensures passed { IfOk result (λ place. HasComeTo (choices_in_version version table.now n) start (counting version table.now (with_first (length table.now.operations) n state.0 a.now)) place []) }
+    ensures passed { IfOk result (λ place. HasComeTo (choices_in_version version table.now n) start
+        (counting version table.now (with_first (length table.now.operations) n state.0 a.now)) place []) }
     ensures refuted { IfOk result (AreRefuted table.now (choices_in_version version table.now n) entries.now) }
     ensures fault { IfErr result (IsFirstEntryFault table.now (choices_in_version version table.now n) entries.now) }
 {
@@ -148,9 +150,11 @@ fn check_size(
     requires few { n ≤ 8 }
     requires state { state.0 < length table.now.states }
     requires half { size + size ≤ n }
-    requires next { ComeNext (choices_in_version version table.now n) start (counting version table.now (with_size (length table.now.operations) n state.0 size)) }
+    requires next { ComeNext (choices_in_version version table.now n) start (counting version table.now
+        (with_size (length table.now.operations) n state.0 size)) }
     requires refuted { AreRefuted table.now (choices_in_version version table.now n) entries.now start }
-    ensures passed { IfOk result (λ place. HasComeTo (choices_in_version version table.now n) start (counting version table.now (with_size (length table.now.operations) n state.0 size)) place []) }
+    ensures passed { IfOk result (λ place. HasComeTo (choices_in_version version table.now n) start
+        (counting version table.now (with_size (length table.now.operations) n state.0 size)) place []) }
     ensures refuted { IfOk result (AreRefuted table.now (choices_in_version version table.now n) entries.now) }
     ensures fault { IfErr result (IsFirstEntryFault table.now (choices_in_version version table.now n) entries.now) }
 {
@@ -182,7 +186,8 @@ fn check_state(
     requires state { state.0 < length table.now.states }
     requires next { ComeNext (choices_in_version version table.now n) start (counting version table.now (with_state (length table.now.operations) n state.0)) }
     requires refuted { AreRefuted table.now (choices_in_version version table.now n) entries.now start }
-    ensures passed { IfOk result (λ place. HasComeTo (choices_in_version version table.now n) start (counting version table.now (with_state (length table.now.operations) n state.0)) place []) }
+    ensures passed { IfOk result (λ place. HasComeTo (choices_in_version version table.now n) start
+        (counting version table.now (with_state (length table.now.operations) n state.0)) place []) }
     ensures refuted { IfOk result (AreRefuted table.now (choices_in_version version table.now n) entries.now) }
     ensures fault { IfErr result (IsFirstEntryFault table.now (choices_in_version version table.now n) entries.now) }
 {

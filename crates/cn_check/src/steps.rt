@@ -17,7 +17,6 @@ pub(crate) fn zeros(count: usize) -> ArrayVec<u8, 8>
     list
 }
 
-/// The list of these numbers.
 fn list_of(numbers: &[u8]) -> ArrayVec<u8, 8>
     requires { length numbers.now ≤ 8 }
     ensures { result.items ≡ numbers.now }

@@ -1,5 +1,5 @@
 //! The check of a certificate.
-ghost use Rattle.std.specs.Prelude.{◌≡◌, ◌≤◌, ◌↔◌, ℕ, length, IfErr, IfSome, IsOk, IsTrue, None, OnOk};
+ghost use Rattle.std.specs.Prelude.{◌≡◌, ◌≤◌, ◌↔◌, length, IfErr, IfSome, IsOk, IsTrue, None, OnOk};
 ghost use Rattle.std.specs.List.{AllZip};
 ghost use Rattle.cn_choice.specs.Canonical.{raw_choice_of};
 ghost use Rattle.cn_choice.specs.Discerning.{IsNumberUpTo, IsWitness};
@@ -112,7 +112,8 @@ pub fn check(table: &Table, certificate: &Certificate) -> Result<(), CheckFault>
     ensures passes { IsAccepted table.now certificate.now → IsOk result }
     ensures refused { IfErr result (IsFirstFault table.now certificate.now) }
     ensures number { OnOk result (IsNumberUpTo table.now certificate.now.limit certificate.now.number) }
-    ensures found { (f : Finding) → IsFindingFor table.now f.limit f → find_fault (length table.now.states) (length table.now.operations) f.limit ≡ None → certificate.now ≡ certificate_of table.now.name f → IsOk result }
+    ensures found { (f : Finding) → IsFindingFor table.now f.limit f → find_fault (length table.now.states) (length table.now.operations) f.limit ≡ None
+        → certificate.now ≡ certificate_of table.now.name f → IsOk result }
 {
     accepted_is_right();
     if !is_of_type(certificate, table) {

@@ -67,7 +67,6 @@ fn walk(
     ends
 }
 
-/// The result sets of the team.
 fn result_sets(table: &Table, choice: &Choice, team: Team) -> Pairs
     requires { FitsTable table.now choice.now }
     ensures { (j r q : ℕ) → HasPair result j r q ↔ InResultSet table.now (raw_choice_of choice.now) team j (r, q) }

@@ -8,6 +8,7 @@ use Rattle.cn_table.specs.Draft.{Draft, DraftRow, row_names, all_some, ◌>>=◌
 use Rattle.cn_table.specs.Names.{is_name, has_repeat, number_of, IsNameList}
 use Rattle.cn_table.specs.TypeTable.{Row, IsRow, IsTypeTable}
 use Rattle.cn_table.specs.Numbering.{numbers_of, row_from, rows_from}
+use Rattle.cn_table.specs.declared.limits.TheConstants.{MOST_OPERATIONS, MOST_RESPONSES, MOST_STATES}
 use Rattle.cn_table.specs.Faults.{is_misfit, has_bad_length, is_miscounted, has_bad_count, has_bad_name, has_repeated_name}
 
 -- the parts of a reading that gave something
@@ -99,9 +100,9 @@ is_type_table d rows names counts repeats lengths e =
     let (len, all) = each_read (row_from d.states d.responses) (is_misfit (length d.states)) (IsRow (length d.states) (length d.responses)) (row_is d.states d.responses) d.operations rows lengths e in
     record {
       name = own_name;
-      states = name_list 16 d.states state_count state_names states_once;
-      responses = name_list 16 d.responses response_count response_names responses_once;
+      states = name_list MOST_STATES d.states state_count state_names states_once;
+      responses = name_list MOST_RESPONSES d.responses response_count response_names responses_once;
       operations = rw (rows_keep_names d.states d.responses d.operations rows e)
-          (name_list 8 (row_names d.operations) (rw (length_of_names d.operations) row_count) names_of_rows rows_once);
+          (name_list MOST_OPERATIONS (row_names d.operations) (rw (length_of_names d.operations) row_count) names_of_rows rows_once);
       rows = all;
     }

@@ -9,15 +9,25 @@ use Rattle.cn_table.proofs.ListLemmas.{map_twice}
 pub Contains-between : {X : Type 0} (xs before after : List X) (x : X) → before ++ x ∷ after ≡ xs → Contains xs x
 Contains-between xs before after x e = subst (λ (ys : List _). Contains ys x) e (Contains-append_right before (x ∷ after) x (0, omega arith, refl))
 
+-- what stands in the front of a list stands in the whole
+pub get_front : {A : Type 0} (xs ys : List A) (k : ℕ) (x : A) → slice_get xs k ≡ Some x → slice_get (xs ++ ys) k ≡ Some x
+get_front [] ys k x h = absurd cc
+get_front (z ∷ xs) ys zero x h = h
+get_front (z ∷ xs) ys (suc k) x h = get_front xs ys k x h
+
 -- what stands in a list stands there still where one more is put behind it, and that one stands behind them all
 pub get_push_old : {A : Type 0} (xs : List A) (x : A) (k : ℕ) (y : A) → slice_get xs k ≡ Some y → slice_get (xs ++ x ∷ []) k ≡ Some y
-get_push_old [] x k y h = absurd cc
-get_push_old (z ∷ xs) x zero y h = h
-get_push_old (z ∷ xs) x (suc k) y h = get_push_old xs x k y h
+get_push_old xs x k y h = get_front xs (x ∷ []) k y h
 
 pub get_push_new : {A : Type 0} (xs : List A) (x : A) → slice_get (xs ++ x ∷ []) (length xs) ≡ Some x
 get_push_new [] x = refl
 get_push_new (z ∷ xs) x = get_push_new xs x
+
+-- each place of a list has something
+pub there_is : {A : Type 0} (xs : List A) (k : ℕ) → k < length xs → (x : A) × (slice_get xs k ≡ Some x)
+there_is [] k within = absurd (omega (arith, within))
+there_is (x ∷ xs) zero within = (x, refl)
+there_is (x ∷ xs) (suc k) within = there_is xs k (omega (arith, within))
 
 -- what stands in a list has a place in it
 pub get_low : {A : Type 0} (xs : List A) (k : ℕ) (x : A) → slice_get xs k ≡ Some x → k < length xs

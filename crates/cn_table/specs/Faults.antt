@@ -10,6 +10,7 @@ use Rattle.cn_table.specs.Names.{is_name, has_repeat, number_of}
 use Rattle.cn_table.specs.Numbering.{table_from}
 use Rattle.cn_table.specs.TypeTable.{TypeTable}
 use Rattle.cn_table.specs.declared.fault.TableFault.{TableFault}
+use Rattle.cn_table.specs.declared.limits.TheConstants.{MOST_OPERATIONS, MOST_RESPONSES, MOST_STATES}
 use Rattle.cn_table.specs.declared.fault.TableFault.TheVariants.{NotToml, UnknownKey, MissingKey, WrongKind, BadName, Count, Repeated, RowLength, UnknownName, OutOfMemory}
 
 -- the keys of the root, and of an operation
@@ -53,7 +54,8 @@ is_array_of kind d = option_map_or (λ items. list_all kind (list_of items)) (as
 
 abbrev pub is_operation : Data → Bool
 is_operation d =
-    option_map_or (λ table. is_at is_text (codes "name") table && (is_at (is_array_of is_text) (codes "response") table && is_at (is_array_of is_text) (codes "next") table))
+    option_map_or (λ table.
+    is_at is_text (codes "name") table && (is_at (is_array_of is_text) (codes "response") table && is_at (is_array_of is_text) (codes "next") table))
     (as_table d) false
 
 unfoldable pub has_wrong_kind : Members → Bool
@@ -70,7 +72,7 @@ abbrev pub is_miscounted : {X : Type 0} → ℕ → List X → Bool
 is_miscounted most xs = not (nat_le 1 (length xs) && nat_le (length xs) most)
 
 abbrev pub has_bad_count : Draft → Bool
-has_bad_count draft = is_miscounted 16 draft.states || (is_miscounted 16 draft.responses || is_miscounted 8 draft.operations)
+has_bad_count draft = is_miscounted MOST_STATES draft.states || (is_miscounted MOST_RESPONSES draft.responses || is_miscounted MOST_OPERATIONS draft.operations)
 
 abbrev pub has_repeated_name : Draft → Bool
 has_repeated_name draft = has_repeat draft.states || (has_repeat draft.responses || has_repeat (row_names draft.operations))

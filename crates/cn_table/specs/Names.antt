@@ -1,15 +1,26 @@
 -- Names of types, states, responses and operations.
-use Rattle.std.specs.Prelude.{◌≤◌, ℕ, List, [], ◌∷◌, length, Bool, false, IsTrue, ◌&&◌, ◌||◌, ◌==◌, not, nat_le, Option, position}
+use Rattle.std.specs.Prelude.{◌≤◌, codes, ℕ, List, [], ◌∷◌, length, Bool, false, IsTrue, ◌&&◌, ◌||◌, ◌==◌, not, nat_le, Option, position}
 use Rattle.std.specs.List.{list_all, list_any}
 use Rattle.std.specs.Str.{bytes_eq}
+use Rattle.cn_table.specs.declared.limits.TheConstants.{LONGEST_NAME}
+
+-- a byte from the first of two letters to the second
+abbrev pub is_from : List ℕ → ℕ → Bool
+is_from (first ∷ last ∷ []) b = nat_le first b && nat_le b last
+is_from letters b = false
+
+-- the byte of one letter
+abbrev pub is_letter : List ℕ → ℕ → Bool
+is_letter (letter ∷ []) b = b == letter
+is_letter letters b = false
 
 -- a small letter, a digit or an underscore
 abbrev pub is_name_byte : ℕ → Bool
-is_name_byte b = ((nat_le 97 b && nat_le b 122) || (nat_le 48 b && nat_le b 57)) || (b == 95)
+is_name_byte b = (is_from (codes "az") b || is_from (codes "09") b) || is_letter (codes "_") b
 
--- 1 to 32 such bytes
+-- some such bytes, and not too many
 abbrev pub is_name : List ℕ → Bool
-is_name text = (nat_le 1 (length text) && nat_le (length text) 32) && list_all is_name_byte text
+is_name text = (nat_le 1 (length text) && nat_le (length text) LONGEST_NAME) && list_all is_name_byte text
 
 -- some text stands twice
 abbrev pub has_repeat : List (List ℕ) → Bool

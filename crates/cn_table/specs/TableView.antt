@@ -13,4 +13,9 @@ abbrev pub transitions_views : Vec Transitions Global → List Row
 transitions_views v = map transitions_view v.items
 
 abbrev pub table_view : Inside → TypeTable
-table_view t = record { name = string_bytes t.name; states = texts_view t.states; responses = texts_view t.responses; operations = transitions_views t.operations }
+table_view t = record {
+  name = string_bytes t.name;
+  states = texts_view t.states;
+  responses = texts_view t.responses;
+  operations = transitions_views t.operations;
+}

@@ -3,6 +3,7 @@ use Rattle.std.specs.Prelude.{◌≡◌, ℕ, ◌<◌, List, [], length, map, Is
 use Rattle.std.specs.Coded.{Coded, code_by, coded×, coded_ℕ, coded_list}
 use Rattle.std.specs.List.{AllByRecursion}
 use Rattle.cn_table.specs.Names.{is_name, IsNameList}
+use Rattle.cn_table.specs.declared.limits.TheConstants.{MOST_OPERATIONS, MOST_RESPONSES, MOST_STATES}
 
 -- an operation: its name, and by state the number of the response and the number of the next state
 pub record Row : Type 0 where
@@ -36,9 +37,9 @@ pub record IsRow (states responses : ℕ) (row : Row) : Type 0 where
 -- what every table is
 pub record IsTypeTable (t : TypeTable) : Type 0 where
   pub name : IsTrue (is_name t.name)
-  pub states : IsNameList 16 t.states
-  pub responses : IsNameList 16 t.responses
-  pub operations : IsNameList 8 (operation_names t)
+  pub states : IsNameList MOST_STATES t.states
+  pub responses : IsNameList MOST_RESPONSES t.responses
+  pub operations : IsNameList MOST_OPERATIONS (operation_names t)
   pub rows : AllByRecursion (IsRow (length t.states) (length t.responses)) t.operations
 
 -- how a table is written as plain lists, which equality and copies go by

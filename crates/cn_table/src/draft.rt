@@ -1,5 +1,5 @@
 //! From a document to what it says, where each value is of its kind.
-ghost use Rattle.std.specs.Prelude.{◌≡◌, map, string_bytes};
+ghost use Rattle.std.specs.Prelude.{map, string_bytes};
 ghost use Rattle.toml.specs.View.{table_view, view};
 ghost use Rattle.cn_table.specs.Draft.{text_at, texts_of, texts_at, row_of, row_at, rows_of, rows_at, draft_of};
 ghost use Rattle.cn_table.specs.Reads.{Reads};

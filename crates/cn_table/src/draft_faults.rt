@@ -5,13 +5,8 @@ ghost use Rattle.cn_table.specs.DraftView.{draft_view, row_view};
 ghost use Rattle.cn_table.specs.Faults.{has_bad_name, has_bad_count, has_repeated_name, is_misfit, has_bad_length};
 
 use crate::draft::{Draft, DraftRow};
+use crate::limits::{MOST_OPERATIONS, MOST_RESPONSES, MOST_STATES};
 use crate::names::{are_named, have_repeat, is_name};
-
-const MOST_STATES: usize = 16;
-
-const MOST_RESPONSES: usize = 16;
-
-const MOST_OPERATIONS: usize = 8;
 
 /// Whether the type, a state, a response or an operation has no name.
 #[tactic(auto, using(crate::proofs::ListLemmas::map_twice))]

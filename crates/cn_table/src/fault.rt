@@ -23,9 +23,11 @@ pub enum TableFault {
     /// texts, or `operation` not an array of tables.
     WrongKind = 4,
     /// The type, a state, a response or an operation is called by a text that is not a name, which
-    /// is 1 to 32 small letters, digits and underscores.
+    /// is 1 to [`LONGEST_NAME`](crate::LONGEST_NAME) small letters, digits and underscores.
     BadName = 5,
-    /// There are not 1 to 16 states, 1 to 16 responses and 1 to 8 operations.
+    /// There are not 1 to [`MOST_STATES`](crate::MOST_STATES) states, 1 to
+    /// [`MOST_RESPONSES`](crate::MOST_RESPONSES) responses and 1 to
+    /// [`MOST_OPERATIONS`](crate::MOST_OPERATIONS) operations.
     Count = 6,
     /// Two states, two responses or two operations have one name.
     Repeated = 7,

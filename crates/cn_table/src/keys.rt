@@ -19,7 +19,6 @@ const ROOT_KEYS: [&str; 4] = ["name", "states", "responses", "operation"];
 
 const OPERATION_KEYS: [&str; 3] = ["name", "response", "next"];
 
-/// The value at a key.
 fn value_at<'a>(table: &'a Table, key: &str) -> Option<&'a Value>
     ensures { option_map (λ v. view v.now) result ≡ get_member key.now (table_view table.now) }
 {

@@ -11,6 +11,7 @@ mod draft_faults;
 mod elements;
 mod fault;
 mod keys;
+mod limits;
 mod names;
 mod read;
 mod resolve;
@@ -18,6 +19,7 @@ mod table;
 
 pub use elements::{Operation, Response, State};
 pub use fault::TableFault;
+pub use limits::{LONGEST_NAME, MOST_OPERATIONS, MOST_RESPONSES, MOST_STATES};
 pub use names::is_name;
 pub use read::read_table;
 pub use table::Table;

@@ -4,6 +4,8 @@ ghost use Rattle.std.specs.List.{list_all, list_any, position};
 ghost use Rattle.std.specs.Str.{bytes_eq};
 ghost use Rattle.cn_table.specs.Names.{is_name_byte, is_name, has_repeat, number_of};
 
+use crate::limits::LONGEST_NAME;
+
 fn is_name_byte(b: u8) -> bool
     ensures { result ≡ is_name_byte b }
 {
@@ -16,18 +18,18 @@ fn has_name_bytes(text: &str) -> bool
     text.bytes().all(|b| is_name_byte(b))
 }
 
-/// Whether a text is a name: 1 to 32 small letters, digits and underscores.
+/// Whether a text is a name: 1 to [`LONGEST_NAME`](crate::LONGEST_NAME) small letters, digits and
+/// underscores.
 pub fn is_name(text: &str) -> bool
     ensures { result ≡ is_name text.now }
 {
-    text.len() >= 1 && text.len() <= 32 && has_name_bytes(text)
+    text.len() >= 1 && text.len() <= LONGEST_NAME && has_name_bytes(text)
 }
 
 /// What goes by a name.
 pub(crate) trait Named {
     ghost name_of: { Self → List ℕ };
 
-    /// The name.
     fn name(&self) -> &str
         ensures { result.now ≡ name_of self.now };
 }

@@ -1,10 +1,11 @@
 //! From a draft to a table: the entries of its rows by number.
-ghost use Rattle.std.specs.Prelude.{◌≡◌, ◌≤◌, ◌<◌, IfSome, length, map, string_bytes, false};
+ghost use Rattle.std.specs.Prelude.{◌≡◌, ◌≤◌, ◌<◌, ◌^◌, length, map, string_bytes, false};
 ghost use Rattle.cn_table.specs.Reads.{Reads};
-ghost use Rattle.cn_table.specs.DraftView.{row_view, rows_view, draft_view};
+ghost use Rattle.cn_table.specs.DraftView.{row_view, draft_view};
 ghost use Rattle.cn_table.specs.TableView.{transitions_view, transitions_views};
 ghost use Rattle.cn_table.specs.Names.{number_of};
 ghost use Rattle.cn_table.specs.Numbering.{numbers_of, row_from, rows_from, table_from};
+ghost use Rattle.cn_table.specs.declared.limits.TheConstants.{MOST_RESPONSES, MOST_STATES};
 ghost use Rattle.cn_table.specs.Faults.{has_bad_name, has_bad_count, has_repeated_name, has_bad_length};
 
 use crate::draft::{Draft, DraftRow};
@@ -15,7 +16,7 @@ use std::alloc::Global;
 
 /// The number of each text among the names.
 fn numbers(alloc: Global, names: &[String], texts: &[String]) -> Result<Vec<u8>, TableFault>
-    requires { length names.now ≤ 16 }
+    requires { length names.now ≤ 2 ^ 8 }
     ensures { Reads TableFault.UnknownName (λ v. v.items) result
         (numbers_of (map (λ s. string_bytes s) names.now) (map (λ s. string_bytes s) texts.now)) }
 {
@@ -34,8 +35,8 @@ fn transitions(
     responses: &[String],
     row: &DraftRow,
 ) -> Result<Transitions, TableFault>
-    requires states { length states.now ≤ 16 }
-    requires responses { length responses.now ≤ 16 }
+    requires states { length states.now ≤ MOST_STATES }
+    requires responses { length responses.now ≤ MOST_RESPONSES }
     ensures { Reads TableFault.UnknownName transitions_view result
         (row_from (map (λ s. string_bytes s) states.now) (map (λ s. string_bytes s) responses.now) (row_view row.now)) }
 {
@@ -55,8 +56,8 @@ fn all_transitions(
     responses: &[String],
     rows: &[DraftRow],
 ) -> Result<Vec<Transitions>, TableFault>
-    requires states { length states.now ≤ 16 }
-    requires responses { length responses.now ≤ 16 }
+    requires states { length states.now ≤ MOST_STATES }
+    requires responses { length responses.now ≤ MOST_RESPONSES }
     ensures { Reads TableFault.UnknownName transitions_views result
         (rows_from (map (λ s. string_bytes s) states.now) (map (λ s. string_bytes s) responses.now) (map row_view rows.now)) }
 {

@@ -4,6 +4,7 @@ ghost use Rattle.cn_table.specs.DraftView.{texts_view};
 ghost use Rattle.cn_table.specs.TableView.{transitions_view, transitions_views};
 ghost use Rattle.cn_table.specs.TypeTable.{transition, operation_names, IsTypeTable};
 ghost use Rattle.cn_table.specs.Names.{is_name, number_of};
+ghost use Rattle.cn_table.specs.declared.limits.TheConstants.{MOST_OPERATIONS, MOST_RESPONSES, MOST_STATES};
 
 use crate::elements::{Operation, Response, State};
 use crate::names::{Named, number_of};
@@ -27,8 +28,10 @@ impl Named for Transitions {
     }
 }
 
-/// A finite shared object type: 1 to 16 states, 1 to 16 responses and 1 to 8 operations, each with
-/// a name, and for each operation and state one response and one next state.
+/// A finite shared object type: 1 to [`MOST_STATES`](crate::MOST_STATES) states, 1 to
+/// [`MOST_RESPONSES`](crate::MOST_RESPONSES) responses and 1 to
+/// [`MOST_OPERATIONS`](crate::MOST_OPERATIONS) operations, each with a name, and for each operation
+/// and state one response and one next state.
 ///
 /// Tables come from [`read_table`](crate::read_table). States, operations and responses are
 /// numbered from 0 in the order of the file. No call here but [`copy`](Table::copy) takes memory.
@@ -62,27 +65,27 @@ impl Table {
         self.name.as_str()
     }
 
-    /// How many states there are, from 1 to 16.
+    /// How many states there are, from 1 to [`MOST_STATES`](crate::MOST_STATES).
     pub fn states(&self) -> u8
         ensures number { result ≡ length self.now.states }
-        ensures range { (1 ≤ result) × (result ≤ 16) }
+        ensures range { (1 ≤ result) × (result ≤ MOST_STATES) }
         ensures table { IsTypeTable self.now }
     {
         self.states.len() as u8
     }
 
-    /// How many operations there are, from 1 to 8.
+    /// How many operations there are, from 1 to [`MOST_OPERATIONS`](crate::MOST_OPERATIONS).
     pub fn operations(&self) -> u8
         ensures number { result ≡ length self.now.operations }
-        ensures range { (1 ≤ result) × (result ≤ 8) }
+        ensures range { (1 ≤ result) × (result ≤ MOST_OPERATIONS) }
     {
         self.operations.len() as u8
     }
 
-    /// How many responses there are, from 1 to 16.
+    /// How many responses there are, from 1 to [`MOST_RESPONSES`](crate::MOST_RESPONSES).
     pub fn responses(&self) -> u8
         ensures number { result ≡ length self.now.responses }
-        ensures range { (1 ≤ result) × (result ≤ 16) }
+        ensures range { (1 ≤ result) × (result ≤ MOST_RESPONSES) }
     {
         self.responses.len() as u8
     }
@@ -171,7 +174,6 @@ impl Table {
     }
 }
 
-/// The same texts once more.
 fn copy_texts(alloc: Global, texts: &[String]) -> Result<Vec<String>, AllocError>
     ensures { IfOk result (λ copy. texts_view copy ≡ map (λ s. string_bytes s) texts.now) }
 {
@@ -182,7 +184,6 @@ fn copy_texts(alloc: Global, texts: &[String]) -> Result<Vec<String>, AllocError
     Ok(copy)
 }
 
-/// The same row once more.
 fn copy_transitions(alloc: Global, row: &Transitions) -> Result<Transitions, AllocError>
     ensures { IfOk result (λ copy. transitions_view copy ≡ transitions_view row.now) }
 {
@@ -193,7 +194,6 @@ fn copy_transitions(alloc: Global, row: &Transitions) -> Result<Transitions, All
     })
 }
 
-/// The same rows once more.
 fn copy_all_transitions(alloc: Global, rows: &[Transitions]) -> Result<Vec<Transitions>, AllocError>
     ensures { IfOk result (λ copy. transitions_views copy ≡ map transitions_view rows.now) }
 {

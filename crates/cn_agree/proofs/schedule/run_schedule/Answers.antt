@@ -13,4 +13,5 @@ returns-clause-consensus c =
     let Q : List (Option ℕ) → Type 0 = IsConsensus (protocol_of c.args.plan.now) (processes_of c.args.plan.now) c.args.inputs.now c.args.schedule.now in
     let none = sym c.fault_of.ensures ∙ c.in_default.is in
     subst Q (sym (c.in_ok-decisions.ensures ∙ ap decisions_of c.in_ok-round.ensures.world))
-    (c.every_schedule.ensures c.args.inputs.now c.args.schedule.now (right_count (processes_of c.args.plan.now) c.args.inputs.now c.args.schedule.now none) (no_stranger (processes_of c.args.plan.now) c.args.inputs.now c.args.schedule.now none))
+    (c.every_schedule.ensures c.args.inputs.now c.args.schedule.now (right_count (processes_of c.args.plan.now) c.args.inputs.now c.args.schedule.now none)
+    (no_stranger (processes_of c.args.plan.now) c.args.inputs.now c.args.schedule.now none))

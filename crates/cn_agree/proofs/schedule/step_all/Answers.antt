@@ -16,7 +16,9 @@ decision-requires g c =
 pub loop-p-preserved : goal.loop-p-preserved
 loop-p-preserved g c =
     elim c.if-is_none.branch [
-      | then-is_none w ↦ one_more_run c.args.plan.now c.args.round.now c.args.schedule.now c.loop-p.p-index (get_or c.args.schedule.now c.loop-p.p-index 0) c.loop-p.round c.if-is_none.round c.loop-p-test.true c.requires.schedule refl c.loop-p.invariant (w.round-is ∙ w.step.ensures.world)
-      | else-is_none w ↦ one_more_run c.args.plan.now c.args.round.now c.args.schedule.now c.loop-p.p-index (get_or c.args.schedule.now c.loop-p.p-index 0) c.loop-p.round c.if-is_none.round c.loop-p-test.true c.requires.schedule refl c.loop-p.invariant
+      | then-is_none w ↦ one_more_run c.args.plan.now c.args.round.now c.args.schedule.now c.loop-p.p-index
+          (get_or c.args.schedule.now c.loop-p.p-index 0) c.loop-p.round c.if-is_none.round c.loop-p-test.true c.requires.schedule refl c.loop-p.invariant (w.round-is ∙ w.step.ensures.world)
+      | else-is_none w ↦ one_more_run c.args.plan.now c.args.round.now c.args.schedule.now c.loop-p.p-index
+          (get_or c.args.schedule.now c.loop-p.p-index 0) c.loop-p.round c.if-is_none.round c.loop-p-test.true c.requires.schedule refl c.loop-p.invariant
           (w.round-is ∙ stays_decided c.args.plan.now (get_or c.args.schedule.now c.loop-p.p-index 0) c.loop-p.round c.decision.result (c.is_none.ensures ∙ ap not w.if-is_none.false) c.decision.ensures.value)
     ]

@@ -3,7 +3,8 @@ use Rattle.json.specs.Reads.{token_of}
 use Rattle.cn_cert.specs.Values.{nullable}
 use Rattle.cn_cert.specs.Tokens.{data_at, told}
 use Rattle.cn_cert.proofs.Walks.{empty_told, null_told}
-use Rattle.cn_cert.proofs.ObjectWalks.{null_token, some_or_null}
+use Rattle.cn_cert.proofs.ArrayWalks.{null_token}
+use Rattle.cn_cert.proofs.ObjectWalks.{some_or_null}
 use Rattle.cn_cert.proofs.kind.next_or_null.Goals as goal
 
 pub returns-in_err-token-clause-err : goal.returns-in_err-token-clause-err

@@ -4,8 +4,8 @@ use Rattle.cn_cert.specs.Draft.{draft_of}
 use Rattle.cn_cert.specs.Reads.{Refuses}
 use Rattle.cn_cert.specs.Tokens.{data_at, told}
 use Rattle.cn_cert.proofs.Walks.{empty_told, object_told, object_too_deep}
-use Rattle.cn_cert.proofs.ArrayWalks.{else_told}
-use Rattle.cn_cert.proofs.ObjectWalks.{not_object, object_token}
+use Rattle.cn_cert.proofs.ArrayWalks.{else_told, object_token}
+use Rattle.cn_cert.proofs.ObjectWalks.{not_object}
 use Rattle.cn_cert.proofs.object.draft.Goals as goal
 
 pub returns-in_err-token-clause-err : goal.returns-in_err-token-clause-err

@@ -3,8 +3,8 @@ use Rattle.json.specs.Reads.{token_of}
 use Rattle.serde_json.specs.Find.{as_str}
 use Rattle.cn_cert.specs.Tokens.{data_at, told}
 use Rattle.cn_cert.proofs.Walks.{empty_told, string_told}
-use Rattle.cn_cert.proofs.ArrayWalks.{else_told}
-use Rattle.cn_cert.proofs.ObjectWalks.{not_string, string_token}
+use Rattle.cn_cert.proofs.ArrayWalks.{else_told, string_token}
+use Rattle.cn_cert.proofs.ObjectWalks.{not_string}
 use Rattle.cn_cert.proofs.object.text.Goals as goal
 
 pub returns-in_err-token-clause-err : goal.returns-in_err-token-clause-err
@@ -22,5 +22,6 @@ returns-in-String-clause-ok c =
 pub returns : goal.returns
 returns c =
     let front : c.args.reader.now ≡ token_of c.in_ok-token.token ∷ c.first.new.reader = grind arith in
-    let other = else_told as_str None c.args.depth (token_of c.in_ok-token.token) c.first.new.reader c.rest_of.new.reader (λ d e. not_string d (λ f. let is = string_token c.in_ok-token.token (sym e ∙ f) in c.in_default.not-String is.0 is.1)) c.in_ok-rest_of.ensures.ok in
+    let other = else_told as_str None c.args.depth (token_of c.in_ok-token.token) c.first.new.reader c.rest_of.new.reader
+    (λ d e. not_string d (λ f. let is = string_token c.in_ok-token.token (sym e ∙ f) in c.in_default.not-String is.0 is.1)) c.in_ok-rest_of.ensures.ok in
     record { ok = ap (λ xs. told as_str (data_at c.args.depth xs)) front ∙ other; err = tt }

@@ -34,7 +34,8 @@ pub rest_of-returns-in_ok-_number-in-Number-clause-ok : goal.rest_of-returns-in_
 rest_of-returns-in_ok-_number-in-Number-clause-ok t c =
     let ts = c.args.reader.now in
     let text = c.in-Number.text.now in
-    let at : told nothing (data_at c.args.depth (token_of c.args.token ∷ ts)) ≡ option_map (λ x. (tt, ts)) (number_of text) = ap (λ k. told nothing (data_at c.args.depth (token_of k ∷ ts))) c.in-Number.is ∙ number_told nothing c.args.depth text ts in
+    let at : told nothing (data_at c.args.depth (token_of c.args.token ∷ ts)) ≡ option_map (λ x. (tt, ts)) (number_of text) = ap (λ k. told nothing (data_at c.args.depth (token_of k ∷ ts))) c.in-Number.is
+    ∙ number_told nothing c.args.depth text ts in
     at ∙ some_too as_u64 (tt, ts) (number_of text) c.in_ok-_number-in-Number._number c.in_ok-_number-in-Number.ensures
 
 pub rest_of-returns-in-EndObject-clause-err : goal.rest_of-returns-in-EndObject-clause-err
@@ -82,7 +83,8 @@ rest_of_items-returns-in_err-rest_of-clause-err t c =
     let l = c.items in
     let going : (after_end_array l.reader ≡ None) × (c.take_end_array.new.self ≡ l.reader) = grind arith in
     let front : l.reader ≡ token_of c.in_ok-token.token ∷ c.first.new.reader = grind arith in
-    let refused = refuse_more _ _ (told nothing (items_at c.args.depth c.args.reader.now)) (λ none. l.invariant ∙ item_none nothing c.args.depth l.reader going.0 nothing (ap (λ ts. told nothing (data_at c.args.depth ts)) front ∙ none)) c.in_err-rest_of.ensures.err in
+    let refused = refuse_more _ _ (told nothing (items_at c.args.depth c.args.reader.now)) (λ none. l.invariant ∙ item_none nothing c.args.depth l.reader going.0 nothing
+    (ap (λ ts. told nothing (data_at c.args.depth ts)) front ∙ none)) c.in_err-rest_of.ensures.err in
     grind (arith, refused)
 
 pub rest_of_items-returns-clause-ok : goal.rest_of_items-returns-clause-ok
@@ -131,7 +133,8 @@ rest_of_members-returns-in_err-rest_of-clause-err t c =
     let k = c.in-Some.field-0.now in
     let named : read_key l.reader ≡ Some (Some k, c.key.new.reader) = grind arith in
     let front : c.key.new.reader ≡ token_of c.in_ok-token.token ∷ c.first.new.reader = grind arith in
-    let refused = refuse_more _ _ (told nothing (members_at c.args.depth no_members c.args.reader.now)) (λ none. l.invariant.1 ∙ member_none nothing nothing c.args.depth l.invariant.0 k l.reader c.key.new.reader named (ap (λ ts. told nothing (data_at c.args.depth ts)) front ∙ none)) c.in_err-rest_of.ensures.err in
+    let refused = refuse_more _ _ (told nothing (members_at c.args.depth no_members c.args.reader.now)) (λ none. l.invariant.1
+    ∙ member_none nothing nothing c.args.depth l.invariant.0 k l.reader c.key.new.reader named (ap (λ ts. told nothing (data_at c.args.depth ts)) front ∙ none)) c.in_err-rest_of.ensures.err in
     grind (arith, refused)
 
 pub rest_of_members-members-smaller : goal.rest_of_members-members-smaller

@@ -11,7 +11,8 @@ whole c =
     let items : c.deref.result.now ≡ written.collisions = grind arith in
     let begun : string_bytes c.push_str.new.self ≡ codes "{\"collisions\":" = c.in_ok-push_str.ensures.bytes ∙ ap (λ xs. xs ++ codes "{\"collisions\":") c.new-out.ensures.bytes in
     let listed = c.in_ok-push_collisions.ensures ∙ ap₂ (λ (xs : List ℕ) cs. xs ++ compact_text (collisions_data cs)) begun items in
-    c.in_ok-push_rest.ensures ∙ ap (λ xs. xs ++ members_text true (other_members written)) listed ∙ append_assoc (codes "{\"collisions\":") (compact_text (collisions_data written.collisions)) (members_text true (other_members written)) ∙ sym (head_text written)
+    c.in_ok-push_rest.ensures ∙ ap (λ xs. xs ++ members_text true (other_members written)) listed ∙ append_assoc (codes "{\"collisions\":") (compact_text (collisions_data written.collisions)) (members_text true (other_members written))
+    ∙ sym (head_text written)
 
 pub returns-clause-text : goal.returns-clause-text
 returns-clause-text c = whole c

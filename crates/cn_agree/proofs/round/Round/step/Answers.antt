@@ -9,34 +9,40 @@ use Rattle.cn_agree.proofs.round.Round.step.Goals as goal
 pub offset_bounds-path-place : goal.offset_bounds-path-place
 offset_bounds-path-place g c =
     let w : World g.row.V.Denot = record { nodes = c.self.inside.nodes.items; locals = c.self.inside.locals.items; inputs = c.self.inside.inputs.items; first = c.self.inside.first } in
-    let at = stands_at c.args.plan.now c.args.self.now c.requires.of_plan c.args.p c.requires.process w c.self.view_is c.from.result c.from.ensures c.index.result.now c.index.ensures c.in-Active.place c.in-Active.value c.in-Active.stage c.in-Active.is c.path-path.result.now c.path-path.ensures in
+    let at = stands_at c.args.plan.now c.args.self.now c.requires.of_plan c.args.p c.requires.process w c.self.view_is c.from.result c.from.ensures c.index.result.now c.index.ensures c.in-Active.place c.in-Active.value c.in-Active.stage
+    c.in-Active.is c.path-path.result.now c.path-path.ensures in
     let small = c.path-path.type_inv.1 in let less = at.place in omega arith
 
 pub bounds-path-place : goal.bounds-path-place
 bounds-path-place g c =
     let w : World g.row.V.Denot = record { nodes = c.self.inside.nodes.items; locals = c.self.inside.locals.items; inputs = c.self.inside.inputs.items; first = c.self.inside.first } in
-    (stands_at c.args.plan.now c.args.self.now c.requires.of_plan c.args.p c.requires.process w c.self.view_is c.from.result c.from.ensures c.index.result.now c.index.ensures c.in-Active.place c.in-Active.value c.in-Active.stage c.in-Active.is c.path-path.result.now c.path-path.ensures).place
+    (stands_at c.args.plan.now c.args.self.now c.requires.of_plan c.args.p c.requires.process w c.self.view_is c.from.result c.from.ensures c.index.result.now c.index.ensures c.in-Active.place c.in-Active.value c.in-Active.stage
+    c.in-Active.is c.path-path.result.now c.path-path.ensures).place
 
 pub index_mut-requires : goal.index_mut-requires
 index_mut-requires g c =
     let w : World g.row.V.Denot = record { nodes = c.self.inside.nodes.items; locals = c.self.inside.locals.items; inputs = c.self.inside.inputs.items; first = c.self.inside.first } in
-    let at = stands_at c.args.plan.now c.args.self.now c.requires.of_plan c.args.p c.requires.process w c.self.view_is c.from.result c.from.ensures c.index.result.now c.index.ensures c.in-Active.place c.in-Active.value c.in-Active.stage c.in-Active.is c.path-path.result.now c.path-path.ensures in
+    let at = stands_at c.args.plan.now c.args.self.now c.requires.of_plan c.args.p c.requires.process w c.self.view_is c.from.result c.from.ensures c.index.result.now c.index.ensures c.in-Active.place c.in-Active.value c.in-Active.stage
+    c.in-Active.is c.path-path.result.now c.path-path.ensures in
     let v = c.from-in-Active.ensures in let less = at.node in omega arith
 
 pub act-next-requires-clause-role : goal.act-next-requires-clause-role
 act-next-requires-clause-role g c =
     let w : World g.row.V.Denot = record { nodes = c.self.inside.nodes.items; locals = c.self.inside.locals.items; inputs = c.self.inside.inputs.items; first = c.self.inside.first } in
-    (stands_at c.args.plan.now c.args.self.now c.requires.of_plan c.args.p c.requires.process w c.self.view_is c.from.result c.from.ensures c.index.result.now c.index.ensures c.in-Active.place c.in-Active.value c.in-Active.stage c.in-Active.is c.path-path.result.now c.path-path.ensures).role
+    (stands_at c.args.plan.now c.args.self.now c.requires.of_plan c.args.p c.requires.process w c.self.view_is c.from.result c.from.ensures c.index.result.now c.index.ensures c.in-Active.place c.in-Active.value c.in-Active.stage
+    c.in-Active.is c.path-path.result.now c.path-path.ensures).role
 
 pub act-next-requires-clause-place : goal.act-next-requires-clause-place
 act-next-requires-clause-place g c =
     let w : World g.row.V.Denot = record { nodes = c.self.inside.nodes.items; locals = c.self.inside.locals.items; inputs = c.self.inside.inputs.items; first = c.self.inside.first } in
-    (stands_at c.args.plan.now c.args.self.now c.requires.of_plan c.args.p c.requires.process w c.self.view_is c.from.result c.from.ensures c.index.result.now c.index.ensures c.in-Active.place c.in-Active.value c.in-Active.stage c.in-Active.is c.path-path.result.now c.path-path.ensures).place
+    (stands_at c.args.plan.now c.args.self.now c.requires.of_plan c.args.p c.requires.process w c.self.view_is c.from.result c.from.ensures c.index.result.now c.index.ensures c.in-Active.place c.in-Active.value c.in-Active.stage
+    c.in-Active.is c.path-path.result.now c.path-path.ensures).place
 
 pub act-next-requires-clause-state : goal.act-next-requires-clause-state
 act-next-requires-clause-state g c =
     let w : World g.row.V.Denot = record { nodes = c.self.inside.nodes.items; locals = c.self.inside.locals.items; inputs = c.self.inside.inputs.items; first = c.self.inside.first } in
-    let at = stands_at c.args.plan.now c.args.self.now c.requires.of_plan c.args.p c.requires.process w c.self.view_is c.from.result c.from.ensures c.index.result.now c.index.ensures c.in-Active.place c.in-Active.value c.in-Active.stage c.in-Active.is c.path-path.result.now c.path-path.ensures in
+    let at = stands_at c.args.plan.now c.args.self.now c.requires.of_plan c.args.p c.requires.process w c.self.view_is c.from.result c.from.ensures c.index.result.now c.index.ensures c.in-Active.place c.in-Active.value c.in-Active.stage
+    c.in-Active.is c.path-path.result.now c.path-path.ensures in
     state_below_of c.args.plan.now c.args.self.now c.requires.of_plan w c.self.view_is c.is_sound.ensures.reachable c.from-in-Active.result c.index_mut.result.now (rw c.from-in-Active.ensures at.node) c.index_mut.ensures.value
 
 pub unreachable-requires : goal.unreachable-requires
@@ -45,12 +51,27 @@ unreachable-requires g c =
     under_way c.args.plan.now c.args.self.now c.requires.of_plan w c.self.view_is c.args.p c.requires.process c.from.result c.from.ensures c.index.result.now c.index.ensures c.requires.begun c.requires.undecided c.in-NotBegun.is
 
 -- the world after the step
-after : (g : _) (c : goal.After-decided g) → (let w : World g.row.V.Denot = record { nodes = c.self.inside.nodes.items; locals = c.self.inside.locals.items; inputs = c.self.inside.inputs.items; first = c.self.inside.first } in record w { nodes = slice_set w.nodes c.from-in-Active.result c.act-next.new.node; locals = slice_set w.locals c.from-in-Active-2.result c.act-next.result; first = c.first_after-self-inside.result } ≡ after_step (protocol_of c.args.plan.now) c.args.p c.args.self.now)
+after : (g : _) (c : goal.After-decided g) → (let w : World g.row.V.Denot = record {
+  nodes = c.self.inside.nodes.items;
+  locals = c.self.inside.locals.items;
+  inputs = c.self.inside.inputs.items;
+  first = c.self.inside.first;
+} in
+    record w {
+      nodes = slice_set w.nodes c.from-in-Active.result c.act-next.new.node;
+      locals = slice_set w.locals c.from-in-Active-2.result c.act-next.result;
+      first = c.first_after-self-inside.result;
+    }
+    ≡ after_step (protocol_of c.args.plan.now) c.args.p c.args.self.now)
 after g c =
     let w : World g.row.V.Denot = record { nodes = c.self.inside.nodes.items; locals = c.self.inside.locals.items; inputs = c.self.inside.inputs.items; first = c.self.inside.first } in
-    let at = stands_at c.args.plan.now c.args.self.now c.requires.of_plan c.args.p c.requires.process w c.self.view_is c.from.result c.from.ensures c.index.result.now c.index.ensures c.in-Active.place c.in-Active.value c.in-Active.stage c.in-Active.is c.path-path.result.now c.path-path.ensures in
-    steps_is c.args.plan.now c.args.self.now w c.args.p c.from.result c.from-in-Active-2.result c.from-in-Active.result c.in-Active.place c.in-Active.value c.in-Active.stage c.path-path.result.now c.index_mut.result.now c.act-next.new.node c.index.result.now c.act-next.result c.first_after-self-inside.result
-    c.self.view_is (local_within c.args.plan.now c.args.self.now c.requires.of_plan w c.self.view_is c.args.p c.requires.process) (rw c.from-in-Active.ensures at.node) c.from.ensures c.index.ensures c.in-Active.is c.path-path.ensures c.from-in-Active.ensures c.index_mut.ensures.value c.act-next.ensures.node c.act-next.ensures.local c.from-in-Active-2.ensures c.first_after-self-inside.ensures
+    let at = stands_at c.args.plan.now c.args.self.now c.requires.of_plan c.args.p c.requires.process w c.self.view_is c.from.result c.from.ensures c.index.result.now c.index.ensures c.in-Active.place c.in-Active.value c.in-Active.stage
+    c.in-Active.is c.path-path.result.now c.path-path.ensures in
+    steps_is c.args.plan.now c.args.self.now w c.args.p c.from.result c.from-in-Active-2.result c.from-in-Active.result c.in-Active.place c.in-Active.value c.in-Active.stage c.path-path.result.now c.index_mut.result.now c.act-next.new.node
+    c.index.result.now c.act-next.result c.first_after-self-inside.result
+    c.self.view_is (local_within c.args.plan.now c.args.self.now c.requires.of_plan w c.self.view_is c.args.p c.requires.process)
+    (rw c.from-in-Active.ensures at.node) c.from.ensures c.index.ensures c.in-Active.is c.path-path.ensures c.from-in-Active.ensures c.index_mut.ensures.value c.act-next.ensures.node c.act-next.ensures.local c.from-in-Active-2.ensures
+    c.first_after-self-inside.ensures
 
 pub returns-clause-world : goal.returns-clause-world
 returns-clause-world g c = after g c

@@ -22,6 +22,7 @@ returns-in-Number-clause-err c =
 
 pub returns : goal.returns
 returns c = record {
-  ok = else_told natural_of None c.args.depth (token_of c.args.token) c.args.reader.now c.rest_of.new.reader (λ d e. not_natural d (λ f. let is = number_token c.args.token (sym e ∙ f) in c.in_default.not-Number is.0 is.1)) c.in_ok-rest_of.ensures.ok;
+  ok = else_told natural_of None c.args.depth (token_of c.args.token) c.args.reader.now c.rest_of.new.reader (λ d e. not_natural d
+      (λ f. let is = number_token c.args.token (sym e ∙ f) in c.in_default.not-Number is.0 is.1)) c.in_ok-rest_of.ensures.ok;
   err = tt;
 }
