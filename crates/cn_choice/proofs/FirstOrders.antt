@@ -34,7 +34,7 @@ along t c j state ps = response_of j ps (responses_along t state (operations_of 
 abbrev after : TypeTable → RawChoice → ℕ → List ℕ → ℕ
 after t c state ps = state_after t state (operations_of c ps)
 
-ends_to : (t : TypeTable) (c : RawChoice) (j state : ℕ) (seen : Option ℕ) (ps : List ℕ) (pair : ℕ × ℕ) → Ends t c j state seen ps pair → (first_some seen (along t c j state ps) ≡ Some pair.0) × (after t c state ps ≡ pair.1)
+pub ends_to : (t : TypeTable) (c : RawChoice) (j state : ℕ) (seen : Option ℕ) (ps : List ℕ) (pair : ℕ × ℕ) → Ends t c j state seen ps pair → (first_some seen (along t c j state ps) ≡ Some pair.0) × (after t c state ps ≡ pair.1)
 ends_to t c j state None [] pair h = h
 ends_to t c j state (Some s) [] pair h = h
 ends_to t c j state None (p ∷ ps) pair h =
@@ -42,7 +42,7 @@ ends_to t c j state None (p ∷ ps) pair h =
     (sym (first_of_cond None (nat_eq p j) (answer_of t c p state) (along t c j (next_of t c p state) ps)) ∙ r.0, r.1)
 ends_to t c j state (Some s) (p ∷ ps) pair h = ends_to t c j (next_of t c p state) (Some s) ps pair h
 
-ends_from : (t : TypeTable) (c : RawChoice) (j state : ℕ) (seen : Option ℕ) (ps : List ℕ) (pair : ℕ × ℕ) → first_some seen (along t c j state ps) ≡ Some pair.0 → after t c state ps ≡ pair.1 → Ends t c j state seen ps pair
+pub ends_from : (t : TypeTable) (c : RawChoice) (j state : ℕ) (seen : Option ℕ) (ps : List ℕ) (pair : ℕ × ℕ) → first_some seen (along t c j state ps) ≡ Some pair.0 → after t c state ps ≡ pair.1 → Ends t c j state seen ps pair
 ends_from t c j state None [] pair e f = (e, f)
 ends_from t c j state (Some s) [] pair e f = (e, f)
 ends_from t c j state None (p ∷ ps) pair e f =
@@ -51,7 +51,7 @@ ends_from t c j state (Some s) (p ∷ ps) pair e f = ends_from t c j (next_of t 
 
 -- ---- fresh lists
 
-fresh_from : (n used : ℕ) (xs : List ℕ) → AllByRecursion (λ p. p < n) xs → Differ xs → ((x : ℕ) → IsIn x xs → ¬ IsBitSet used x) → IsFresh n used xs
+pub fresh_from : (n used : ℕ) (xs : List ℕ) → AllByRecursion (λ p. p < n) xs → Differ xs → ((x : ℕ) → IsIn x xs → ¬ IsBitSet used x) → IsFresh n used xs
 fresh_from n used [] a d h = tt
 fresh_from n used (x ∷ xs) a d h = (
   a.0,
@@ -59,7 +59,7 @@ fresh_from n used (x ∷ xs) a d h = (
   fresh_from n (bit_or used (2 ^ x)) xs a.1 d.1 (λ y i s. elim ((union_set used (2 ^ x) y).0 s) [ inl u ↦ h y (inr i) u | inr b ↦ each_at (λ z. x ≢ z) xs y d.0 i (sym (pow_set x y b)) ]),
 )
 
-fresh_to : (n used : ℕ) (xs : List ℕ) → IsFresh n used xs → AllByRecursion (λ p. p < n) xs × Differ xs × ((x : ℕ) → IsIn x xs → ¬ IsBitSet used x)
+pub fresh_to : (n used : ℕ) (xs : List ℕ) → IsFresh n used xs → AllByRecursion (λ p. p < n) xs × Differ xs × ((x : ℕ) → IsIn x xs → ¬ IsBitSet used x)
 fresh_to n used [] h = (tt, tt, λ x i. absurd i)
 fresh_to n used (x ∷ xs) h =
     let r = fresh_to n (bit_or used (2 ^ x)) xs h.2 in (

@@ -19,7 +19,7 @@ use Rattle.cn_choice.proofs.Members.{IsIn, each_at}
 use Rattle.cn_choice.proofs.Packing.{below_or_last, packing}
 use Rattle.cn_choice.proofs.Sizes.{count_more}
 
-size_of_list : (ps : List ℕ) → ((p : ℕ) → IsIn p ps → p < 8) → Differ ps → count_below 8 (subset_of ps) ≡ length ps
+pub size_of_list : (ps : List ℕ) → ((p : ℕ) → IsIn p ps → p < 8) → Differ ps → count_below 8 (subset_of ps) ≡ length ps
 size_of_list [] l d = refl
 size_of_list (p ∷ ps) l d =
     let new : ¬ IsBitSet (subset_of ps) p = λ s. each_at (λ x. p ≢ x) ps p d.0 ((exactly_subset ps p).1 s) refl in
@@ -29,7 +29,7 @@ size_of_list (p ∷ ps) l d =
 abbrev pub CanGive : ℕ → List (List ℕ) → ℕ → ℕ → ℕ → Type 0
 CanGive links rows r q subset = IsPacked links subset × Has (get_or rows subset []) r q
 
-min_least : (a b : ℕ) → (ord_min nat_cmp a b ≤ a) × (ord_min nat_cmp a b ≤ b)
+pub min_least : (a b : ℕ) → (ord_min nat_cmp a b ≤ a) × (ord_min nat_cmp a b ≤ b)
 min_least a b = elim (cases_order b a) [
   | inl e ↦ rw (sym (nat_cmp_is b a Equal e)) (omega arith, omega (arith, e))
   | inr o ↦ elim o [

@@ -26,7 +26,7 @@ in_pow k = set_from (2 ^ k) k (bit_at-pow_same k)
 behind : (q p : ℕ) (qs tail : List ℕ) → q ≡ p → slice_cmp nat_cmp (q ∷ qs) (p ∷ tail) ≡ Less → slice_cmp nat_cmp qs tail ≡ Less
 behind q p qs tail e b = rw (sym (nat_cmp_is q p Equal e)) at b
 
-not_above : (q p : ℕ) (qs tail : List ℕ) → p < q → slice_cmp nat_cmp (q ∷ qs) (p ∷ tail) ≡ Less → ⊥
+pub not_above : (q p : ℕ) (qs tail : List ℕ) → p < q → slice_cmp nat_cmp (q ∷ qs) (p ∷ tail) ≡ Less → ⊥
 not_above q p qs tail g b = let no : Greater ≡ Less = rw (sym (nat_cmp_is q p Greater g)) at b in absurd (cc)
 
 -- ---- two processes exchanged

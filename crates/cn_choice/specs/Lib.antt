@@ -8,6 +8,7 @@ pub mod Discerning
 pub mod EarlyPairs
 pub mod Examination
 pub mod FirstCollision
+pub mod Led
 pub mod Live
 pub mod LiveLeft
 pub mod Meeting
@@ -18,6 +19,7 @@ pub mod OutcomeSets
 pub mod Ranks
 pub mod RawChoices
 pub mod Renumbering
+pub mod ResponseRows
 pub mod ResultSets
 pub mod Rising
 pub mod Subsets

@@ -1,0 +1,81 @@
+//! Collisions of process 0 whose first order is short and led by it.
+ghost use Rattle.std.specs.Prelude.{◌≡◌, ◌≤◌, ◌<◌, ◌+◌, ◌⊎◌, ℕ, length, IfNone, IfSome, IsBitSet, None};
+ghost use Rattle.cn_choice.specs.Canonical.{raw_choice_of};
+ghost use Rattle.cn_choice.specs.FirstCollision.{IsFirstCollision};
+ghost use Rattle.cn_choice.specs.RawChoices.{IsRawChoice};
+ghost use Rattle.cn_choice.specs.Led.{IsFirstLed};
+ghost use Rattle.cn_choice.specs.Twins.{AreLinks};
+
+use crate::bits::{minus, with};
+use crate::dead_ends::DeadEnds;
+use crate::first_orders::first_order_into;
+use crate::laws::RawChoice;
+use crate::response_rows::{asked_first, least_with, response_rows};
+use crate::result_sets::OutcomeSet;
+use crate::subset_rows::is_in;
+use crate::tails::{Place, way_into};
+use crate::{Choice, Team};
+use arrayvec::ArrayVec;
+use cn_table::Table;
+
+/// The first order of one or two processes that process 0 leads and that gives it a pair of the set,
+/// and that pair.
+fn led_alpha(
+    table: &Table,
+    raw: &RawChoice,
+    set: &OutcomeSet,
+    dead: &mut DeadEnds,
+) -> Option<(ArrayVec<u8, 8>, (u8, u8))>
+    requires some { 1 ≤ length raw.now.operations }
+    requires short { length raw.now.operations ≤ 8 }
+    requires fits { IsRawChoice table.now (length raw.now.operations) raw.now }
+    ensures first { IfSome result (λ found. IsFirstLed table.now raw.now set.now found.0.items found.1) }
+    ensures in_range { IfSome result (λ found. (found.1.0 < 16) × (found.1.1 < 16)) }
+{
+    let alone = Place {
+        used: 0,
+        left: 1,
+        state: raw.state,
+        seen: None,
+    };
+    let soon = way_into(table, raw, 0, set, dead, 0, 1, alone);
+    if let Some((order, pair)) = soon {
+        return Some((order, pair));
+    }
+    let then = Place { left: 2, ..alone };
+    let (order, pair) = way_into(table, raw, 0, set, dead, 0, 1, then)?;
+    Some((order, pair))
+}
+
+/// The first collision of process 0, if its first order has one or two processes and 0 leads it;
+/// else it may be none. Then 0 gets in it what it gets in the start state, so that the rows for this
+/// response are enough.
+pub(crate) fn led_collision(
+    table: &Table,
+    choice: &Choice,
+    raw: &RawChoice,
+    links: u16,
+    dead: &mut DeadEnds,
+) -> Option<(ArrayVec<u8, 8>, ArrayVec<u8, 8>)>
+    requires some { 1 ≤ length choice.now.a + length choice.now.b }
+    requires few { length choice.now.a + length choice.now.b ≤ 8 }
+    requires same { raw.now ≡ raw_choice_of choice.now }
+    requires short { length raw.now.operations ≤ 8 }
+    requires fits { IsRawChoice table.now (length raw.now.operations) raw.now }
+    requires links { AreLinks raw.now links }
+    ensures { IfSome result (λ found. IsFirstCollision table.now raw.now 0 found.0.items found.1.items) }
+{
+    if !is_in(raw, 0, Team::A) {
+        return None;
+    }
+    let links = minus(links, with(0, 1));
+    let n = raw.operations.len() as u8;
+    let asked = asked_first(table, raw, 0);
+    let rows = response_rows(table, raw, Team::B, 0, asked, links);
+    let from_b = OutcomeSet::of_response(asked.response, rows.all);
+    let (alpha, (response, state)) = led_alpha(table, raw, &from_b, dead)?;
+    let pair = OutcomeSet::only(response, state);
+    let first = least_with(links, n, &rows.given, state) + 1;
+    let (beta, _) = first_order_into(table, choice, raw, Team::B, 0, &pair, first, n + 1, dead)?;
+    Some((alpha, beta))
+}

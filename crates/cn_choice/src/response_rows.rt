@@ -1,0 +1,172 @@
+//! Rows for one process and one response of it, by the subsets of the other processes.
+ghost use Rattle.std.specs.Prelude.{◌≡◌, ◌≢◌, ◌<◌, ◌≤◌, ◌↔◌, ◌+◌, ◌^◌, ℕ, length, slice_get, slice_index, IsBitSet, Some};
+ghost use Rattle.cn_table.specs.TypeTable.{transition};
+ghost use Rattle.cn_choice.specs.RawChoices.{IsRawChoice};
+ghost use Rattle.cn_choice.specs.ResponseRows.{AreAsked, AreGivenRows, AreRowsWithout, GivesWith};
+ghost use Rattle.cn_choice.specs.ResultSets.{InResultSet};
+ghost use Rattle.cn_choice.specs.Subsets.{Below, Leaves};
+ghost use Rattle.cn_choice.specs.Tails.{count_below};
+ghost use Rattle.cn_choice.specs.Twins.{AreLinks, IsPacked};
+
+use crate::Team;
+use crate::bits::{common, contains, least, size, union, with, without};
+use crate::laws::RawChoice;
+use crate::subset_rows::{found, image, operation_of};
+use crate::twins::{is_packed, movers};
+use cn_table::{Operation, Response, State, Table};
+
+/// A response of a process, and the states in which it gets it.
+#[derive(Clone, Copy)]
+pub(crate) struct Asked {
+    pub response: u8,
+    pub states: u16,
+}
+
+/// What process j gets by the response: by the subsets of the other processes the states in which
+/// orders of the subset and of j leave the object, and these states for all subsets.
+#[derive(Drop)]
+pub(crate) struct ResponseRows {
+    pub given: [u16; 256],
+    pub all: u16,
+}
+
+/// The states in which the operation gives the response.
+fn states_with(table: &Table, operation: Operation, response: Response) -> u16
+    requires operation { operation.0 < length table.now.operations }
+    ensures { (q : ℕ) → IsBitSet result q ↔ ((q < length table.now.states) × ((transition table.now operation.0 q).0 ≡ response.0)) }
+{
+    let mut set = 0;
+    for state in 0..table.states() {
+        let (got, _) = table.apply(operation, State(state));
+        if got == response {
+            set = with(set, state);
+        }
+    }
+    set
+}
+
+/// The response that the process gets in the start state, and the states in which it gets that.
+pub(crate) fn asked_first(table: &Table, choice: &RawChoice, j: u8) -> Asked
+    requires few { length choice.now.operations ≤ 8 }
+    requires fits { IsRawChoice table.now (length choice.now.operations) choice.now }
+    requires j { j < length choice.now.operations }
+    ensures response { result.response ≡ (transition table.now (slice_index choice.now.operations j) choice.now.state).0 }
+    ensures in_range { result.response < 16 }
+    ensures states { AreAsked table.now choice.now j result.response result.states }
+{
+    let _responses = table.responses();
+    let operation = operation_of(choice, j);
+    let (response, _) = table.apply(operation, choice.state);
+    Asked {
+        response: response.0,
+        states: states_with(table, operation, response),
+    }
+}
+
+/// The states in which orders of the packed subset leave the object, and those in which orders of it
+/// and of process j do that give j the response, from the rows of smaller subsets.
+fn both_rows(
+    table: &Table,
+    choice: &RawChoice,
+    team: Team,
+    j: u8,
+    asked: Asked,
+    links: u16,
+    rows: &[u16; 256],
+    given: &[u16; 256],
+    subset: u16,
+) -> (u16, u16)
+    requires few { length choice.now.operations ≤ 8 }
+    requires fits { IsRawChoice table.now (length choice.now.operations) choice.now }
+    requires j { j < length choice.now.operations }
+    requires other { ¬ (slice_get choice.now.marks j ≡ Some team) }
+    requires first { ¬ IsBitSet links j }
+    requires links { AreLinks choice.now links }
+    requires asked { AreAsked table.now choice.now j asked.response asked.states }
+    requires subset { subset < 256 }
+    requires inside { subset < 2 ^ length choice.now.operations }
+    requires packed { IsPacked links subset }
+    requires without { ¬ IsBitSet subset j }
+    requires rows { AreRowsWithout table.now choice.now team links j subset rows.now }
+    requires given { AreGivenRows table.now choice.now team links j asked.response subset given.now }
+    ensures row { (q : ℕ) → IsBitSet result.0 q ↔ Leaves table.now choice.now team subset q }
+    ensures known { Below (length table.now.states) result.0 }
+    ensures given { (q : ℕ) → IsBitSet result.1 q ↔ GivesWith table.now choice.now team j asked.response subset q }
+    ensures given_known { Below (length table.now.states) result.1 }
+{
+    let (mut row, mut gets) = (0, 0);
+    let mut left = movers(links, subset);
+    while left != 0 {
+        let process = least(left);
+        left = without(left, process);
+        let rest = without(subset, process);
+        let operation = operation_of(choice, process);
+        let from = found(table, choice, team, rows, process, rest);
+        let moved = image(table, operation, from);
+        row = union(row, moved);
+        let passed = image(table, operation, given[rest as usize]);
+        gets = union(gets, passed);
+    }
+    let asking = common(row, asked.states);
+    let own = image(table, operation_of(choice, j), asking);
+    (row, union(gets, own))
+}
+
+/// The rows for process j and the response, where orders begin in the other team. Neither j nor the
+/// process behind it is linked.
+pub(crate) fn response_rows(
+    table: &Table,
+    choice: &RawChoice,
+    team: Team,
+    j: u8,
+    asked: Asked,
+    links: u16,
+) -> ResponseRows
+    requires few { length choice.now.operations ≤ 8 }
+    requires fits { IsRawChoice table.now (length choice.now.operations) choice.now }
+    requires j { j < length choice.now.operations }
+    requires other { ¬ (slice_get choice.now.marks j ≡ Some team) }
+    requires first { ¬ IsBitSet links j }
+    requires alone { ¬ IsBitSet links (j + 1) }
+    requires links { AreLinks choice.now links }
+    requires asked { AreAsked table.now choice.now j asked.response asked.states }
+    ensures all { (q : ℕ) → IsBitSet result.all q ↔ InResultSet table.now choice.now team j (asked.response, q) }
+    ensures given { AreGivenRows table.now choice.now team links j asked.response (2 ^ length choice.now.operations) result.given }
+{
+    let mut rows = [0; 256];
+    let mut given = [0; 256];
+    let mut all = 0;
+    for subset in 1..1u16 << choice.operations.len() {
+        if contains(subset, j) {
+            continue;
+        }
+        if !is_packed(links, subset) {
+            continue;
+        }
+        let (row, gets) = both_rows(table, choice, team, j, asked, links, &rows, &given, subset);
+        rows[subset as usize] = row;
+        given[subset as usize] = gets;
+        all = union(all, gets);
+    }
+    ResponseRows { given, all }
+}
+
+/// The size of the least packed subset of n processes whose row has the state, or 9 if none has it.
+pub(crate) fn least_with(links: u16, n: u8, given: &[u16; 256], state: u8) -> u8
+    requires few { n ≤ 8 }
+    requires state { state < 16 }
+    ensures least { (subset : ℕ) → subset < 2 ^ n → IsPacked links subset → IsBitSet (slice_index given.now subset) state → result ≤ count_below 8 subset }
+    ensures most { result ≤ 9 }
+{
+    let mut least = 9;
+    for subset in 0..1u16 << n {
+        if !contains(given[subset as usize], state) {
+            continue;
+        }
+        if !is_packed(links, subset) {
+            continue;
+        }
+        least = least.min(size(subset));
+    }
+    least
+}
