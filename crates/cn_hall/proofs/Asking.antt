@@ -66,7 +66,8 @@ later_same core = ([], sym (append-nil core.schedule))
 pub since_step : (p : ℕ) (core now next : Log) (x : StepAnswer) → BeginsWith now.schedule core.schedule → IsStep p now x next → (steps_since p core next ≡ suc (steps_since p core now)) × BeginsWith next.schedule core.schedule
 since_step p core now next x h k =
     let r = k.1.1 in
-    let e : next.schedule ≡ core.schedule ++ ((h.0 ++ r) ++ Step p ∷ []) = ap (λ (y : Log). y.schedule) k.2 ∙ ap (λ l. l ++ Step p ∷ []) (k.1.2 ∙ ap (λ l. l ++ r) h.1 ∙ append_assoc core.schedule h.0 r) ∙ append_assoc core.schedule (h.0 ++ r) (Step p ∷ []) in
+    let e : next.schedule ≡ core.schedule ++ ((h.0 ++ r) ++ Step p ∷ []) = ap (λ (y : Log). y.schedule) k.2 ∙ ap (λ l. l ++ Step p ∷ []) (k.1.2 ∙ ap (λ l. l ++ r) h.1 ∙ append_assoc core.schedule h.0 r)
+    ∙ append_assoc core.schedule (h.0 ++ r) (Step p ∷ []) in
     let a = since_is p core next ((h.0 ++ r) ++ Step p ∷ []) e in
     let b = since_is p core now h.0 h.1 in
     let c = steps_join p (h.0 ++ r) (Step p ∷ []) in
@@ -133,6 +134,7 @@ module _ {G : Type 0} (asks : G → SeatState → ℕ → G → Type 0) (says : 
   since_call a b d operation same invoke goes = ap (λ p. steps_since p b.core d.core) same.1 ∙ sym (since_invoke a.process operation a.core b.core d.core invoke (goes.1, goes.2)).0
 
   -- a gate that keeps the list of the numbers that it was asked has 1, 2, .., k at its end
-  pub asked_numbers : (list : G → List ℕ) → ((a : G) (seat : SeatState) (n : ℕ) (b : G) → asks a seat n b → list b ≡ list a ++ n ∷ []) → (mine : Entry) (start : SeatState) (k : ℕ) (old new : G) → IsAsked asks says mine start k old new → list new ≡ list old ++ numbers k
+  pub asked_numbers : (list : G → List ℕ) → ((a : G) (seat : SeatState) (n : ℕ) (b : G) → asks a seat n b → list b ≡ list a ++ n ∷ []) → (mine : Entry) (start : SeatState) (k : ℕ) (old new : G)
+      → IsAsked asks says mine start k old new → list new ≡ list old ++ numbers k
   asked_numbers list keeps mine start zero old new h = ap list h ∙ sym (append-nil (list old))
   asked_numbers list keeps mine start (suc k) old new h = keeps h.0 h.1 (suc k) new h.5 ∙ ap (λ l. l ++ suc k ∷ []) (asked_numbers list keeps mine start k old h.0 h.2) ∙ append_assoc (list old) (numbers k) (suc k ∷ [])

@@ -19,7 +19,8 @@ numbered p k [] i e h = absurd cc
 numbered p k (Step q ∷ events) i e h = numbered p k events i e h
 numbered p k (Invoke q operation ∷ events) i e h = go (q == p) i (λ k' j. numbered p k' events j e) h
   where
-    go : (b : Bool) (j : ℕ) → ((k' j' : ℕ) → slice_get (calls_from p k' events) j' ≡ Some e → e.call ≡ k' + j') → slice_get (if b then call_of p operation k ∷ calls_from p (k + 1) events else calls_from p k events) j ≡ Some e → e.call ≡ k + j
+    go : (b : Bool) (j : ℕ) → ((k' j' : ℕ) → slice_get (calls_from p k' events) j' ≡ Some e → e.call ≡ k' + j')
+        → slice_get (if b then call_of p operation k ∷ calls_from p (k + 1) events else calls_from p k events) j ≡ Some e → e.call ≡ k + j
     go true zero rest h = let same : call_of p operation k ≡ e = cc in let number : k ≡ e.call = ap (λ (x : Entry). x.call) same in omega arith
     go true (suc j) rest h = let r = rest (k + 1) j h in omega arith
     go false j rest h = rest k j h

@@ -38,7 +38,8 @@ Called p operation before now = (mid : Log) × IsInvoke p operation before mid �
 abbrev pub next_call : SeatState → ℕ → Entry
 next_call s operation = record { process = s.process; operation = record { 0 = operation }; call = (caller s).calls }
 
--- the last slot seen is the slot replied and holds this call, no call is pending, and the response is that of one sequential run at its place there. The entries of the seat's process that it has seen are the calls that it has made
+-- the last slot seen is the slot replied and holds this call, no call is pending, and the response is that of one sequential run at its place there. The
+-- entries of the seat's process that it has seen are the calls that it has made
 abbrev pub IsReply : Entry → SeatState → Reply → Type 0
 IsReply mine s r = (pending s ≡ None) × (front : List Batch) × (batch : Batch) × (slots_seen s ≡ front ++ batch ∷ [])
     × (entry_at batch s.process ≡ Some mine) × (r.slot ≡ length front) × (r.response.0 ≡ response_in (setting s.core) front batch mine)
@@ -61,13 +62,15 @@ abbrev pub EndsBy : Entry → CallFault → SeatState → Type 0
 EndsBy mine LogFull s = IsFull s × IsUnseen mine s × AllButLast mine s
 EndsBy mine Stopped s = (pending s ≡ Some mine) × AllButLast mine s
 
--- how a call that answered a fault has left the seat: where the log is full, every slot has been seen and the call in none of them, and it was made unless the seat had seen every slot before; else it was made, and has ended so
+-- how a call that answered a fault has left the seat: where the log is full, every slot has been seen and the call in none of them, and it was made unless
+-- the seat had seen every slot before; else it was made, and has ended so
 abbrev pub CallFails : ℕ → CallFault → SeatState → SeatState → Type 0
 CallFails operation LogFull old new = IsFull new × IsUnseen (next_call old operation) new
     × ((new ≡ old) ⊎ (Called old.process operation old.core new.core × AllButLast (next_call old operation) new))
 CallFails operation Stopped old new = Called old.process operation old.core new.core × EndsBy (next_call old operation) Stopped new
 
--- after a call with this answer, the entries of the seat's process that it has seen are the calls that it has made, each once and in order; where there was no reply, perhaps without the last
+-- after a call with this answer, the entries of the seat's process that it has seen are the calls that it has made, each once and in order; where there was
+-- no reply, perhaps without the last
 abbrev pub HasPlaced : SeatState → Result Reply CallFault → Type 0
 HasPlaced s (Ok r) = made s ≡ placed s
 HasPlaced s (Err e) = (made s ≡ placed s) ⊎ ((mine : Entry) × AllButLast mine s)

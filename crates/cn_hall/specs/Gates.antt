@@ -23,7 +23,8 @@ pub record HasTaken (mine : Entry) (k : ℕ) (start seat : SeatState) : Type 0 w
   pub pending : pending seat ≡ Some mine
   pub steps : steps_since start.process start.core seat.core ≡ k
 
--- k times, in the call that the seat is in, a gate was asked: about step 1, before the seat had taken a step, and so on to step k, before the seat had taken that; and it said On each time but perhaps the last
+-- k times, in the call that the seat is in, a gate was asked: about step 1, before the seat had taken a step, and so on to step k, before the seat had
+-- taken that; and it said On each time but perhaps the last
 abbrev pub IsAsked : {G : Type 0} → (G → SeatState → ℕ → G → Type 0) → (G → Go) → Entry → SeatState → ℕ → G → G → Type 0
 IsAsked asks says mine start zero old new = new ≡ old
 IsAsked {G} asks says mine start (suc k) old new = (mid : G) × (seat : SeatState) × IsAsked asks says mine start k old mid × (says mid ≡ On)

@@ -1,7 +1,6 @@
 //! What is asked before each step of a call, and what a call answers.
 ghost use Rattle.std.specs.Prelude.{◌≡◌};
 ghost use Rattle.cn_hall.specs.FaultText.{name_of, number_of};
-ghost use Rattle.cn_hall.specs.declared.call.Go.{Go as GoOf};
 
 use crate::seat::Seat;
 use cn_table::Response;

@@ -148,7 +148,8 @@ impl Hall {
         ensures calls { HasPlaced seat.new result }
         ensures range { IfOk result (λ r. r.response.0 < length seat.old.core.opening.object.responses) }
         ensures said { G.says gate.new ≡ said_after result }
-        ensures asked { IsAsked G.asks G.says (next_call seat.old operation.0) seat.old (asked_times result (steps_since seat.old.process seat.old.core seat.new.core)) gate.old gate.new }
+        ensures asked { IsAsked G.asks G.says (next_call seat.old operation.0) seat.old
+            (asked_times result (steps_since seat.old.process seat.old.core seat.new.core)) gate.old gate.new }
     {
         seat.has_its_calls();
         every_caller();

@@ -37,7 +37,11 @@ impl Standing {
     }
 }
 
-/// Takes the core out of the queue, and waits until it is there.
+/// How often a thread gives way, at most, before it looks for the core again.
+const MOST_TURNS: u32 = 64;
+
+/// Takes the core out of the queue, and waits until it is there. Who waits looks ever more seldom:
+/// each look disturbs the threads that hand the core on.
 pub(crate) fn take<R: Wait>(rt: &R, queue: &Queue, pass: &mut Pass) -> Item
     requires queue { IsPassOf queue.now pass.old }
     requires live { (view pass.old).stage ≡ Live }
@@ -45,13 +49,22 @@ pub(crate) fn take<R: Wait>(rt: &R, queue: &Queue, pass: &mut Pass) -> Item
     ensures held { view pass.new ≡ holding (view pass.old) result }
     ensures agrees { Agrees (view pass.old) result }
 {
+    let mut turns: u32 = 1;
     for _ in rt.forever() {
         if let Some(item) = queue.pop_as::<Takes, R>(rt, pass) {
             return item;
         }
-        thread::yield_now();
+        give_way(turns);
+        turns = (2 * turns).min(MOST_TURNS);
     }
     unreachable!()
+}
+
+/// Lets other threads run, so many times.
+fn give_way(turns: u32) {
+    for _turn in 0..turns {
+        thread::yield_now();
+    }
 }
 
 /// Puts the core back as it was.

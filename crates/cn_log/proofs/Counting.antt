@@ -58,7 +58,8 @@ from_own : (p : ℕ) (xs : List Entry) (i : ℕ) (x : Entry) → slice_get (entr
 from_own p [] i x h = absurd cc
 from_own p (y ∷ xs) i x h = go (y.process == p) i h (λ j g. from_own p xs j x g)
   where
-    go : (own : Bool) (i : ℕ) → slice_get (if own then y ∷ entries_by p xs else entries_by p xs) i ≡ Some x → ((j : ℕ) → slice_get (entries_by p xs) j ≡ Some x → (k : ℕ) × (slice_get xs k ≡ Some x)) → (k : ℕ) × (slice_get (y ∷ xs) k ≡ Some x)
+    go : (own : Bool) (i : ℕ) → slice_get (if own then y ∷ entries_by p xs else entries_by p xs) i ≡ Some x → ((j : ℕ) → slice_get (entries_by p xs) j ≡ Some x → (k : ℕ) × (slice_get xs k ≡ Some x)) → (k : ℕ)
+        × (slice_get (y ∷ xs) k ≡ Some x)
     go true zero h rest = (zero, h)
     go true (suc j) h rest = let r = rest j h in (suc r.0, r.1)
     go false i h rest = let r = rest i h in (suc r.0, r.1)

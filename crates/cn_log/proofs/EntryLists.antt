@@ -22,7 +22,8 @@ module _ {R : Type 0} (L : Setting R) (round : ℕ → R) where
       go (Some x) is zero h rest = (omega arith, (let b : base + 0 ≡ base = omega arith in rw b (is ∙ h)))
       go (Some x) is (suc k) h rest = let r = rest k h in ((let l = r.0 in omega arith), (let b : base + suc k ≡ suc base + k = omega arith in rw b r.1))
 
-  pub fixed_entry : (fuel base k : ℕ) (e : Batch) → k < fuel → ((j : ℕ) → j < k → (x : Batch) × (L.consensus.fixed (round (base + j)) ≡ Some x)) → L.consensus.fixed (round (base + k)) ≡ Some e → slice_get (fixed_from L fuel base round) k ≡ Some e
+  pub fixed_entry : (fuel base k : ℕ) (e : Batch) → k < fuel → ((j : ℕ) → j < k → (x : Batch) × (L.consensus.fixed (round (base + j)) ≡ Some x)) → L.consensus.fixed (round (base + k)) ≡ Some e
+      → slice_get (fixed_from L fuel base round) k ≡ Some e
   fixed_entry zero base k e less below h = absurd (omega arith)
   fixed_entry (suc fuel) base zero e less below h = let b : base + 0 ≡ base = omega arith in let g : L.consensus.fixed (round base) ≡ Some e = rw b at h in rw g refl
   fixed_entry (suc fuel) base (suc k) e less below h =
@@ -49,7 +50,8 @@ entries_few L round (suc slots) base = go (L.consensus.fixed (round base)) (entr
     go (Some e) few = omega arith
 
 -- where fixed slots stay, entries stay
-pub entries_stay : {R : Type 0} (L : Setting R) (round after : ℕ → R) → ((k : ℕ) (e : Batch) → L.consensus.fixed (round k) ≡ Some e → L.consensus.fixed (after k) ≡ Some e) → (fuel base : ℕ) → (rest : List Batch) × (fixed_from L fuel base after ≡ fixed_from L fuel base round ++ rest)
+pub entries_stay : {R : Type 0} (L : Setting R) (round after : ℕ → R) → ((k : ℕ) (e : Batch) → L.consensus.fixed (round k) ≡ Some e → L.consensus.fixed (after k) ≡ Some e) → (fuel base : ℕ)
+    → (rest : List Batch) × (fixed_from L fuel base after ≡ fixed_from L fuel base round ++ rest)
 entries_stay L round after stay zero base = ([], refl)
 entries_stay L round after stay (suc fuel) base = go (L.consensus.fixed (round base)) refl (entries_stay L round after stay fuel (suc base))
   where

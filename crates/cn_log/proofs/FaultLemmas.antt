@@ -1,5 +1,6 @@
 -- Faults of events, and of lists of events.
-use Rattle.std.proofs.Common.{ℕ, ◌≡◌, ◌≢◌, ◌<◌, ◌↔◌, Bool, true, false, nat_lt, if◌then◌else◌, arith, List, length, take, get_or, Option, Some, None, refl, sym, ap, ◌∙◌, subst}
+use Rattle.std.proofs.Common.{ℕ, ◌≡◌, ◌≢◌, ◌<◌, ◌↔◌, Bool, true, false, nat_lt, if◌then◌else◌, arith, List, ◌∷◌, ◌++◌, suc, drop, get_or, length, take, Some, None, refl, sym, ap, ◌∙◌, subst}
+use Rattle.std.proofs.Math.Seq.{take-append_seam}
 use Rattle.std.proofs.lemmas.Option.{slice_get-get_or}
 use Rattle.std.proofs.lemmas.Bool.Decides.{nat_tests}
 use Rattle.cn_log.specs.declared.event.Event.{Event}
@@ -10,17 +11,26 @@ use Rattle.cn_log.specs.declared.progress.Phase.{Phase}
 use Rattle.cn_log.specs.declared.progress.Phase.TheVariants.{Idle, Looks, Runs}
 use Rattle.cn_log.specs.Faults.{invoke_fault, step_fault, event_fault, IsFirstFault}
 use Rattle.cn_log.specs.Log.{Setting, World, Caller, MayInvoke, MayStep, MayCome, state_of, IsEventList}
+use Rattle.cn_log.proofs.EventLists.{split_at}
+use Rattle.cn_log.proofs.ListLemmas.{get_seam}
 
--- the fault of the event that comes after so many that could come
-pub first_fault : {R : Type 0} (L : Setting R) (s events : List Event) (place : ℕ) (d : Event) (given : Option ReplayFault) (fault : ReplayFault) → s ≡ take place events → place < length events → IsEventList L s
-    → given ≡ event_fault L (state_of L s) place (get_or events place d) → given ≡ Some fault → IsFirstFault L events fault
-first_fault L s events place d given fault is less may why some = record {
-  place = place;
-  event = get_or events place d;
-  before = subst (IsEventList L) is may;
-  there = slice_get-get_or events place d less;
-  why = ap (λ z. event_fault L (state_of L z) place (get_or events place d)) (sym is) ∙ sym why ∙ some;
+-- the fault of an event that comes after these is that of the first event that cannot come, in each list that goes on with it
+pub first_fault : {R : Type 0} (L : Setting R) (s rest : List Event) (event : Event) (fault : ReplayFault) → IsEventList L s → event_fault L (state_of L s) (length s) event ≡ Some fault
+    → IsFirstFault L (s ++ event ∷ rest) fault
+first_fault L s rest event fault may why = record {
+  place = length s;
+  event = event;
+  before = subst (IsEventList L) (sym (take-append_seam s (event ∷ rest))) may;
+  there = get_seam s event rest;
+  why = ap (λ z. event_fault L (state_of L z) (length s) event) (take-append_seam s (event ∷ rest)) ∙ why;
 }
+
+-- and so, where those are the events of a list up to a place, it is that of the list
+pub first_in : {R : Type 0} (L : Setting R) (events : List Event) (k : ℕ) (d : Event) (s : List Event) (fault : ReplayFault) → s ≡ take k events → k < length events
+    → ((rest : List Event) → IsFirstFault L (s ++ get_or events k d ∷ rest) fault) → IsFirstFault L events fault
+first_in L events k d s fault is less first =
+    let parted = ap (λ front. front ++ get_or events k d ∷ drop (suc k) events) is ∙ sym (split_at events k (get_or events k d) (slice_get-get_or events k d less)) in
+    subst (λ (es : List Event). IsFirstFault L es fault) parted (first (drop (suc k) events))
 
 -- without a fault
 invoke_none : (capacity i : ℕ) (here : Caller) (ph : Phase) → invoke_fault capacity i here ph ≡ None → (ph ≡ Idle) × (length here.seen < capacity)

@@ -12,7 +12,7 @@ use Rattle.cn_log.specs.declared.progress.Phase.{Phase}
 use Rattle.cn_log.specs.declared.progress.Phase.TheVariants.{Idle, Looks, Runs}
 use Rattle.cn_log.specs.declared.progress.Progress.{Progress}
 use Rattle.cn_log.specs.Agreement.{Agrees}
-use Rattle.cn_log.specs.Fields.{no_calls, no_progress, IsProgressOf, Fits, Keeps}
+use Rattle.cn_log.specs.Fields.{no_calls, no_progress, IsProgressOf, Kept, Fits, Keeps}
 use Rattle.cn_log.specs.Log.{Setting, World, Caller, put, gathered, first_look, batches_of, after_events, after_event, after_gathering, after_step, after_decision, phase_after, first_world, state_of, MayCome, MayAllCome, IsEventList, MayInvoke}
 use Rattle.cn_log.proofs.ListLemmas.{put_same, put_other}
 use Rattle.cn_log.proofs.Invariant.{PhaseHolds, Holds}
@@ -20,6 +20,10 @@ use Rattle.cn_log.proofs.Invoking.{keeps_event}
 use Rattle.cn_log.proofs.Bypassing.{first_holds}
 use Rattle.cn_log.proofs.EventLists.{run_append}
 use Rattle.cn_log.proofs.EntryLists.{fixed_from_is}
+
+-- what was read at a place, where that is one of another name
+pub read_at : {A : Type 0} (xs : List A) {x : A} {k p : ℕ} → x ≡ get_or xs k x → k ≡ p → x ≡ get_or xs p x
+read_at xs {x = x} there same = there ∙ ap (λ k. get_or xs k x) same
 
 abbrev busy : Phase → ℕ
 busy Idle = 0
@@ -47,7 +51,8 @@ module _ {R : Type 0} (L : Setting R) where
     | inr ne ↦ rw (put_other w.caller p s q ne) (low q)
   ]
 
-  low_gathering : (w : World R) → ((q : ℕ) → IsLow L.capacity (w.caller q)) → (p : ℕ) (here : Caller) → w.caller p ≡ here → (mine : Entry) (i : ℕ) (batch v : Batch) (b : Bool) → here.phase ≡ Looks mine i batch → (q : ℕ) → IsLow L.capacity ((after_gathering L w p here mine i v b).caller q)
+  low_gathering : (w : World R) → ((q : ℕ) → IsLow L.capacity (w.caller q)) → (p : ℕ) (here : Caller) → w.caller p ≡ here → (mine : Entry) (i : ℕ) (batch v : Batch) (b : Bool) → here.phase ≡ Looks mine i batch
+      → (q : ℕ) → IsLow L.capacity ((after_gathering L w p here mine i v b).caller q)
   low_gathering w low p here is mine i batch v false ph q =
       let was : IsLow L.capacity here = rw is at (low p) in
       let b : busy here.phase ≡ 1 = ap busy ph in
@@ -86,17 +91,17 @@ module _ {R : Type 0} (L : Setting R) where
       let m = may.not_at_end in
       (omega arith, (omega arith, was.1))
 
-  pub progress_put : (w : World R) (rounds : List R) (announced : List (Option Entry)) (progress : List Progress) (entries : List Entry) (slots : List ℕ) (fixed : ℕ) → Fits L w rounds announced progress entries slots fixed → (p : ℕ) → p < L.processes → (x : Progress) (s : Caller) → IsProgressOf L x s
-      → (q : ℕ) → q < L.processes → IsProgressOf L (slice_index_or (slice_set progress p x) q no_progress) (put w.caller p s q)
-  progress_put w rounds announced progress entries slots fixed fits p lt x s is q less = elim (cases_eq q p) [
-    | inl f ↦ (let many = fits.progress_many in rw (f, put_same w.caller p s, get_or-set_same progress p x no_progress (omega arith)) is)
-    | inr ne ↦ rw (put_other w.caller p s q ne, get_or-set_other progress p q x no_progress ne) (fits.caller q less)
+  pub progress_put : {w : World R} {kept : Kept R} → Fits L w kept → {p : ℕ} → p < L.processes → (x : Progress) (s : Caller) → IsProgressOf L x s
+      → (q : ℕ) → q < L.processes → IsProgressOf L (slice_index_or (slice_set kept.progress p x) q no_progress) (put w.caller p s q)
+  progress_put {w = w} {kept = kept} fits {p = p} lt x s is q less = elim (cases_eq q p) [
+    | inl f ↦ (let many = fits.progress_many in rw (f, put_same w.caller p s, get_or-set_same kept.progress p x no_progress (omega arith)) is)
+    | inr ne ↦ rw (put_other w.caller p s q ne, get_or-set_other kept.progress p q x no_progress ne) (fits.caller q less)
   ]
 
-  pub progress_here : (s : List Event) (rounds : List R) (announced : List (Option Entry)) (progress : List Progress) (entries : List Entry) (slots : List ℕ) (fixed : ℕ) → Keeps L s rounds announced progress entries slots fixed → (p : ℕ) → p < L.processes → (here : Progress) → here ≡ get_or progress p here → IsProgressOf L here ((state_of L s).caller p)
-  progress_here s rounds announced progress entries slots fixed keeps p lt here read =
+  pub progress_here : {s : List Event} {kept : Kept R} → Keeps L s kept → {p : ℕ} → p < L.processes → {here : Progress} → here ≡ get_or kept.progress p here → IsProgressOf L here ((state_of L s).caller p)
+  progress_here {s = s} {kept = kept} keeps {p = p} lt {here = here} read =
       let many = keeps.fits.progress_many in
-      let is : here ≡ get_or progress p no_progress = read ∙ get_or_default progress p here no_progress (omega arith) in
+      let is : here ≡ get_or kept.progress p no_progress = read ∙ get_or_default kept.progress p here no_progress (omega arith) in
       rw is (keeps.fits.caller p lt)
 
 module _ {R : Type 0} (L : Setting R) (Good : R → Type 0) (agrees : Agrees L Good) where
@@ -116,18 +121,21 @@ module _ {R : Type 0} (L : Setting R) (Good : R → Type 0) (agrees : Agrees L G
   seen_few s may q = (low_after s may q).1
 
   -- a process makes no more calls than there are slots
-  pub calls_few : (s : List Event) (rounds : List R) (announced : List (Option Entry)) (progress : List Progress) (entries : List Entry) (slots : List ℕ) (fixed : ℕ) → Keeps L s rounds announced progress entries slots fixed → (p operation : ℕ) → MayInvoke L (state_of L s) p operation → (here : Progress) → here ≡ get_or progress p here → here.calls < L.capacity
-  calls_few s rounds announced progress entries slots fixed keeps p operation may here read =
+  pub calls_few : {s : List Event} {kept : Kept R} → Keeps L s kept → {p operation : ℕ} → MayInvoke L (state_of L s) p operation → {here : Progress} → here ≡ get_or kept.progress p here → here.calls < L.capacity
+  calls_few {s = s} {kept = kept} keeps {p = p} {operation = operation} may {here = here} read =
       let low = (low_invoke L (state_of L s) (low_after s keeps.events) p operation may).0 in
-      let d = (progress_here L s rounds announced progress entries slots fixed keeps p may.process here read).calls in
+      let d = (progress_here L keeps may.process read).calls in
       omega arith
 
-  pub invoke_keeps : (s : List Event) (rounds : List R) (announced : List (Option Entry)) (progress : List Progress) (entries : List Entry) (slots : List ℕ) (fixed : ℕ) → Keeps L s rounds announced progress entries slots fixed → (p operation : ℕ) → MayInvoke L (state_of L s) p operation → (here : Progress) → here ≡ get_or progress p here
-      → Keeps L (s ++ Invoke p operation ∷ []) rounds (slice_set announced p (Some (record { process = p; operation = record { 0 = operation }; call = here.calls })))
-      (slice_set progress p (record { replayed = here.replayed; seen = here.seen; calls_seen = here.calls_seen; calls = here.calls + 1; phase = first_look (record { process = p; operation = record { 0 = operation }; call = here.calls }); state = here.state })) entries slots fixed
-  invoke_keeps s rounds announced progress entries slots fixed keeps p operation may here read =
+  pub invoke_keeps : {s : List Event} {kept : Kept R} → Keeps L s kept → {p operation : ℕ} → MayInvoke L (state_of L s) p operation → {here : Progress} → here ≡ get_or kept.progress p here
+      → let entry : Entry = record { process = p; operation = record { 0 = operation }; call = here.calls } in
+      Keeps L (s ++ Invoke p operation ∷ []) (record kept {
+        announced = slice_set kept.announced p (Some entry);
+        progress = slice_set kept.progress p (record here { calls = here.calls + 1; phase = first_look entry });
+      })
+  invoke_keeps {s = s} {kept = kept} keeps {p = p} {operation = operation} may {here = here} read =
       let w = state_of L s in
-      let d = progress_here L s rounds announced progress entries slots fixed keeps p may.process here read in
+      let d = progress_here L keeps may.process read in
       let fits = keeps.fits in
       let many = fits.announced_many in
       let lt = may.process in
@@ -137,13 +145,13 @@ module _ {R : Type 0} (L : Setting R) (Good : R → Type 0) (agrees : Agrees L G
         fits = rw (state_push L s (Invoke p operation)) (record {
           rounds_many = fits.rounds_many;
           round = fits.round;
-          announced_many = length-set announced p _ ∙ fits.announced_many;
+          announced_many = length-set kept.announced p _ ∙ fits.announced_many;
           announcement = λ q less. elim (cases_eq q p) [
-            | inl f ↦ rw (f, put_same w.announced p (Some (entry (w.caller p).calls)), get_or-set_same announced p (Some (entry (w.caller p).calls)) None (omega arith)) refl
-            | inr ne ↦ rw (put_other w.announced p (Some (entry (w.caller p).calls)) q ne, get_or-set_other announced p q (Some (entry (w.caller p).calls)) None ne) (fits.announcement q less)
+            | inl f ↦ rw (f, put_same w.announced p (Some (entry (w.caller p).calls)), get_or-set_same kept.announced p (Some (entry (w.caller p).calls)) None (omega arith)) refl
+            | inr ne ↦ rw (put_other w.announced p (Some (entry (w.caller p).calls)) q ne, get_or-set_other kept.announced p q (Some (entry (w.caller p).calls)) None ne) (fits.announcement q less)
           ];
-          progress_many = length-set progress p _ ∙ fits.progress_many;
-          caller = progress_put L w rounds announced progress entries slots fixed fits p may.process _ _ (record { replayed = d.replayed; seen = d.seen; calls_places = d.calls_places; calls_seen = d.calls_seen; calls = refl; phase = refl; state = d.state; known = d.known });
+          progress_many = length-set kept.progress p _ ∙ fits.progress_many;
+          caller = progress_put L fits may.process _ _ (record { replayed = d.replayed; seen = d.seen; calls_places = d.calls_places; calls_seen = d.calls_seen; calls = refl; phase = refl; state = d.state; known = d.known });
           entries_are = fits.entries_are;
           slots_are = fits.slots_are;
           fixed_is = fits.fixed_is;
@@ -156,7 +164,14 @@ module _ {R : Type 0} (L : Setting R) (Good : R → Type 0) (agrees : Agrees L G
   get_replicate (suc n) (suc k) x d less = get_replicate n k x d (omega arith)
 
   pub new_keeps : (start : State) → start.0 ≡ L.start → start.0 < length L.object.states
-      → Keeps L [] (replicate L.capacity L.untouched) (replicate L.processes None) (replicate L.processes (record { replayed = 0; seen = 0; calls_seen = no_calls; calls = 0; phase = Idle; state = start })) [] [] 0
+      → Keeps L [] (record {
+        rounds = replicate L.capacity L.untouched;
+        announced = replicate L.processes None;
+        progress = replicate L.processes (record { replayed = 0; seen = 0; calls_seen = no_calls; calls = 0; phase = Idle; state = start });
+        entries = [];
+        slots = [];
+        fixed = 0;
+      })
   new_keeps start is known = record {
     events = tt;
     fits = record {
@@ -165,7 +180,16 @@ module _ {R : Type 0} (L : Setting R) (Good : R → Type 0) (agrees : Agrees L G
       announced_many = length-replicate L.processes _;
       announcement = λ p less. get_replicate L.processes p _ _ less;
       progress_many = length-replicate L.processes _;
-      caller = λ p less. rw (get_replicate L.processes p none no_progress less) (record { replayed = refl; seen = refl; calls_places = refl; calls_seen = λ q low. get_replicate 8 q 0 0 (let few = agrees.few in omega (arith, low, few)); calls = refl; phase = refl; state = is; known = known });
+      caller = λ p less. rw (get_replicate L.processes p none no_progress less) (record {
+        replayed = refl;
+        seen = refl;
+        calls_places = refl;
+        calls_seen = λ q low. get_replicate 8 q 0 0 (let few = agrees.few in omega (arith, low, few));
+        calls = refl;
+        phase = refl;
+        state = is;
+        known = known;
+      });
       entries_are = ap (entries_in L.processes) (sym nothing);
       slots_are = ap (slots_from L.processes 0) (sym nothing);
       fixed_is = ap length (sym nothing);

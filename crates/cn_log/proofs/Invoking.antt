@@ -22,7 +22,8 @@ module _ {R : Type 0} (L : Setting R) (round : ℕ → R) where
   open_below zero k j le less = absurd (omega arith)
   open_below (suc slots) k j le less = go (L.consensus.fixed (round k)) refl (open_below slots (suc k) j) (eq-or-lt_of_le le)
     where
-      go : (o : Option Batch) → L.consensus.fixed (round k) ≡ o → (suc k ≤ j → j < suc k + length (fixed_from L slots (suc k) round) → (y : Batch) × (L.consensus.fixed (round j) ≡ Some y)) → (k ≡ j) ⊎ (k < j) → (y : Batch) × (L.consensus.fixed (round j) ≡ Some y)
+      go : (o : Option Batch) → L.consensus.fixed (round k) ≡ o → (suc k ≤ j → j < suc k + length (fixed_from L slots (suc k) round) → (y : Batch) × (L.consensus.fixed (round j) ≡ Some y)) → (k ≡ j) ⊎ (k < j)
+          → (y : Batch) × (L.consensus.fixed (round j) ≡ Some y)
       go None e rest c = absurd (let l : j < k + 0 = rw e at less in omega arith)
       go (Some y) e rest (inl same) = (y, rw same at e)
       go (Some y) e rest (inr more) = rest more (let l : j < k + suc (length (fixed_from L slots (suc k) round)) = rw e at less in omega arith)

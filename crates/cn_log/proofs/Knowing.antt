@@ -66,7 +66,8 @@ module _ {R : Type 0} (L : Setting R) where
       ((pending_in now.phase ≡ Some mine) × (now.calls ≡ here.calls) × (now.seen ≡ here.seen) × (given ≡ Working))
       ⊎ ((x : Batch) × (now ≡ record { seen = here.seen ++ x ∷ []; calls = here.calls; phase = phase_after L (length here.seen) mine x }) × (given ≡ answer_with L here.seen mine (Some x)))
 
-  replays_option : (w : World R) (p : ℕ) (here : Caller) (mine : Entry) (o : Option Batch) → w.caller p ≡ here → pending_in here.phase ≡ Some mine → Replays here mine ((after_decision L w p here mine o).caller p) (answer_with L here.seen mine o)
+  replays_option : (w : World R) (p : ℕ) (here : Caller) (mine : Entry) (o : Option Batch) → w.caller p ≡ here → pending_in here.phase ≡ Some mine
+      → Replays here mine ((after_decision L w p here mine o).caller p) (answer_with L here.seen mine o)
   replays_option w p here mine None is pending = inl (ap (λ (c : Caller). pending_in c.phase) is ∙ pending, ap (λ (c : Caller). c.calls) is, ap (λ (c : Caller). c.seen) is, refl)
   replays_option w p here mine (Some x) is pending = inr (x, put_same w.caller p _, refl)
 
@@ -115,7 +116,8 @@ module _ {R : Type 0} (L : Setting R) (Good : R → Type 0) (agrees : Agrees L G
 
     pending_call : (ph : Phase) (mine : Entry) → pending_in ph ≡ Some mine → PhaseHolds L (state_of L events) p ph → IsPendingCall L events p mine
     pending_call Idle mine is h = absurd (cc)
-    pending_call (Looks m i b) mine is h = let same : m ≡ mine = cc in subst (λ (z : Entry). IsPendingCall L events p z) same (record { process = h.pending.process; last = h.pending.call ∙ number L events p; unseen = h.pending.unseen; room = h.pending.room })
+    pending_call (Looks m i b) mine is h = let same : m ≡ mine = cc in subst (λ (z : Entry). IsPendingCall L events p z) same
+        (record { process = h.pending.process; last = h.pending.call ∙ number L events p; unseen = h.pending.unseen; room = h.pending.room })
     pending_call (Runs m) mine is h = let same : m ≡ mine = cc in subst (λ (z : Entry). IsPendingCall L events p z) same (record { process = h.process; last = h.call ∙ number L events p; unseen = h.unseen; room = h.room })
 
     pub pending : (mine : Entry) → pending_in here.phase ≡ Some mine → IsPendingCall L events p mine
@@ -171,7 +173,8 @@ module _ {R : Type 0} (L : Setting R) (Good : R → Type 0) (agrees : Agrees L G
         go e own has holds' fixed (inr (inl s)) =
             let was : slice_get here.seen s.slot ≡ Some s.batch = ap (λ q. slice_get (w.caller q).seen s.slot) (sym own) ∙ s.there in
             let now : slice_get (next.caller p).seen s.slot ≡ Some s.batch = ap (λ l. slice_get l s.slot) seen ∙ get_push_old here.seen x s.slot s.batch was in
-            let same : s.slot ≡ length here.seen = stands_once L Good agrees next holds' s.slot (length here.seen) e (record { batch = s.batch; fixed = holds'.seen p s.slot s.batch now; has = s.has }) (record { batch = x; fixed = fixed; has = has }) in
+            let same : s.slot ≡ length here.seen = stands_once L Good agrees next holds' s.slot (length here.seen) e (record { batch = s.batch; fixed = holds'.seen p s.slot s.batch now; has = s.has })
+            (record { batch = x; fixed = fixed; has = has }) in
             let low = get_low here.seen s.slot s.batch was in
             absurd (omega (arith, same, low))
         go e own has holds' fixed (inr (inr full)) = let room = call.room in let whole : L.capacity ≤ length here.seen = subst (λ q. L.capacity ≤ length (w.caller q).seen) own full in absurd (omega (arith, room, whole))
@@ -215,5 +218,6 @@ module _ {R : Type 0} (L : Setting R) (Good : R → Type 0) (agrees : Agrees L G
     pub stepped : IsStepped L p here mine (next.caller p) (answer L events p)
     stepped = elim (replays L events p mine is) [
       | inl none ↦ subst (λ (a : StepAnswer). IsStepped L p here mine (next.caller p) a) (sym none.3) (record { pending = none.0; calls = none.1; seen = inl none.2 })
-      | inr one ↦ subst (λ (z : Caller × StepAnswer). IsStepped L p here mine z.0 z.1) (λ i. (sym one.1 i, sym one.2 i)) (replayed_one one.0 (has one.0 mine) (length here.seen + 1 == L.capacity) refl refl (own_is_mine one.0 (ap (λ (c : Caller). c.seen) one.1)))
+      | inr one ↦ subst (λ (z : Caller × StepAnswer). IsStepped L p here mine z.0 z.1) (λ i. (sym one.1 i, sym one.2 i))
+          (replayed_one one.0 (has one.0 mine) (length here.seen + 1 == L.capacity) refl refl (own_is_mine one.0 (ap (λ (c : Caller). c.seen) one.1)))
     ]

@@ -44,7 +44,8 @@ module _ {R : Type 0} (L : Setting R) (Good : R → Type 0) (agrees : Agrees L G
   abbrev Stay : World R → World R → Type 0
   Stay w w' = (k : ℕ) (y : Batch) → L.consensus.fixed (w.round k) ≡ Some y → L.consensus.fixed (w'.round k) ≡ Some y
 
-  stay_put : (w : World R) (k0 k : ℕ) (r : R) (y : Batch) → (L.consensus.fixed (w.round k0) ≡ Some y → L.consensus.fixed r ≡ Some y) → (k ≡ k0) ⊎ (k ≢ k0) → L.consensus.fixed (w.round k) ≡ Some y → L.consensus.fixed (put w.round k0 r k) ≡ Some y
+  stay_put : (w : World R) (k0 k : ℕ) (r : R) (y : Batch) → (L.consensus.fixed (w.round k0) ≡ Some y → L.consensus.fixed r ≡ Some y) → (k ≡ k0) ⊎ (k ≢ k0) → L.consensus.fixed (w.round k) ≡ Some y
+      → L.consensus.fixed (put w.round k0 r k) ≡ Some y
   stay_put w k0 k r y now (inl same) h = rw (same, put_same w.round k0 r) (now (rw same at h))
   stay_put w k0 k r y now (inr ne) h = rw (put_other w.round k0 r k ne) h
 
@@ -107,7 +108,8 @@ module _ {R : Type 0} (L : Setting R) (Good : R → Type 0) (agrees : Agrees L G
         where
           go : (b d : Bool) → (if b then Answered (length here.seen) (record { 0 = response_in L here.seen x mine }) else (if d then Full else Working)) ≡ Answered slot (record { 0 = response })
               → (if b then Replied mine (length here.seen) (response_in L here.seen x mine) ∷ w.history else (if d then Refused mine ∷ w.history else w.history)) ≡ Replied mine slot response ∷ w.history
-          go true d g = let a : length here.seen ≡ slot = cc in let s : (let z : Response = record { 0 = response_in L here.seen x mine } in z) ≡ record { 0 = response } = cc in let b : response_in L here.seen x mine ≡ response = ap (λ (z : Response). z.0) s in rw (a, b) refl
+          go true d g = let a : length here.seen ≡ slot = cc in let s : (let z : Response = record { 0 = response_in L here.seen x mine } in z) ≡ record { 0 = response } = cc in
+              let b : response_in L here.seen x mine ≡ response = ap (λ (z : Response). z.0) s in rw (a, b) refl
           go false true g = absurd cc
           go false false g = absurd cc
 
@@ -270,7 +272,8 @@ module _ {R : Type 0} (L : Setting R) (Good : R → Type 0) (agrees : Agrees L G
         let g : slice_get (batches L events) a.slot ≡ Some b.batch = ap (slice_get (batches L events)) same ∙ b.there in
         let h = a.there in
         let one : a.batch ≡ b.batch = cc (g, h) in
-        a.place_is ∙ ap (λ s. length (entries_in L.processes (take s (batches L events))) + length (members e.process 0 a.batch)) same ∙ ap (λ (z : Batch). length (entries_in L.processes (take b.slot (batches L events))) + length (members e.process 0 z)) one ∙ sym b.place_is
+        a.place_is ∙ ap (λ s. length (entries_in L.processes (take s (batches L events))) + length (members e.process 0 a.batch)) same
+        ∙ ap (λ (z : Batch). length (entries_in L.processes (take b.slot (batches L events))) + length (members e.process 0 z)) one ∙ sym b.place_is
 
     -- what stands in a slot stands at a place
     pub place_of : (e : Entry) (k : ℕ) → e.process < L.processes → k < L.capacity → Stands L w e k → HasPlace e k
@@ -417,7 +420,8 @@ module _ {R : Type 0} (L : Setting R) (Good : R → Type 0) (agrees : Agrees L G
     no_slot i e a =
         let all = facts_now.ended e (ended_note events may i e a) in (
           all_fixed L w.round L.capacity 0 (λ k less. (let z : 0 + k ≡ k = omega arith in rw z ((all k less).batch, (all k less).fixed))),
-          λ k h. (let t = there_of k e h in let o = all t.slot (room_of t.slot t.batch t.there) in let f = o.fixed in let g = fixed_of t.slot t.batch t.there in let same : t.batch ≡ o.batch = cc (f, g) in o.other (subst (λ (z : Batch). Has z e) same t.at)),
+          λ k h. (let t = there_of k e h in let o = all t.slot (room_of t.slot t.batch t.there) in let f = o.fixed in let g = fixed_of t.slot t.batch t.there in let same : t.batch ≡ o.batch = cc (f, g) in
+              o.other (subst (λ (z : Batch). Has z e) same t.at)),
         )
 
     ordered_calls : (k : ℕ) (e : Entry) (call : ℕ) → StandsAt L events k e → call < e.call → (j : ℕ) × (f : Entry) × (j < k) × (f.process ≡ e.process) × (f.call ≡ call) × StandsAt L events j f

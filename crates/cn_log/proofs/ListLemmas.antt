@@ -44,6 +44,11 @@ has_not (f ∷ es) e h k s = go (same_entry f e) refl (has_not es e) k s
     go false t rest zero s = same_not f e t cc
     go false t rest (suc k) s = rest (rw t at h) k s
 
+-- what stands behind the first list
+pub get_seam : {A : Type 0} (xs : List A) (x : A) (ys : List A) → slice_get (xs ++ x ∷ ys) (length xs) ≡ Some x
+get_seam [] x ys = refl
+get_seam (y ∷ xs) x ys = get_seam xs x ys
+
 pub get_push_cases : {A : Type 0} (xs : List A) (x : A) (k : ℕ) (y : A) → slice_get (xs ++ x ∷ []) k ≡ Some y → (slice_get xs k ≡ Some y) ⊎ ((k ≡ length xs) × (x ≡ y))
 get_push_cases [] x zero y h = inr (refl, cc)
 get_push_cases [] x (suc k) y h = absurd cc

@@ -116,7 +116,8 @@ module _ {R : Type 0} (L : Setting R) (Good : R → Type 0) (agrees : Agrees L G
         seen_by s (inr gt) = let o = in_order L Good agrees w holds k0 s.slot s.batch gt (holds.seen e.process s.slot s.batch s.there) in helped e since noted low o.0 less o.1
 
         look : (b : Bool) → has_entry known e ≡ b → w.announced q ≡ Some e → Has v e ⊎ StandsBy L w e k0
-        look true h a = let f = found e h in let l = get_low here.seen f.slot f.batch f.there in inr (record { slot = f.slot; low = omega (arith, l); stands = record { batch = f.batch; fixed = holds.seen p f.slot f.batch f.there; has = f.has } })
+        look true h a = let f = found e h in let l = get_low here.seen f.slot f.batch f.there in
+            inr (record { slot = f.slot; low = omega (arith, l); stands = record { batch = f.batch; fixed = holds.seen p f.slot f.batch f.there; has = f.has } })
         look false h a = inl (rw (a, h) (subst (λ z. entry_at (with_entry batch q e) z ≡ Some e) (sym whose) (with_new batch q e low_place)))
 
         announces : (mine' : Entry) → IsPending L w e.process mine' → mine' ≡ e → Has v e ⊎ StandsBy L w e k0
@@ -160,6 +161,33 @@ module _ {R : Type 0} (L : Setting R) (Good : R → Type 0) (agrees : Agrees L G
     | inr ne ↦ ap (λ (s : Caller). s.calls) (put_other w.caller p c i ne)
   ]
 
+  -- a process that stays in its phase keeps it, whatever becomes of the rounds, where p goes on with what it has seen and called
+  module _ (round : ℕ → R) (onward : Caller) (seen : onward.seen ≡ here.seen) (calls : onward.calls ≡ here.calls) where
+    abbrev later : World R
+    later = record w { round = round; caller = put w.caller p onward }
+
+    pending_later : (i : ℕ) (e : Entry) → IsPending L w i e → IsPending L later i e
+    pending_later i e h = record {
+      unseen = subst (λ (z : List Batch). IsUnseen z e) (sym (seen_put onward seen i)) h.unseen;
+      called = h.called;
+      announced = h.announced;
+      process = h.process;
+      call = h.call ∙ sym (calls_put onward calls i);
+      room = subst (λ (z : List Batch). length z < L.capacity) (sym (seen_put onward seen i)) h.room;
+    }
+
+    looking_later : (i : ℕ) (e : Entry) (j : ℕ) (b : Batch) → IsLooking L w i e j b → IsLooking L later i e j b
+    looking_later i e j b h = record {
+      pending = pending_later i e h.pending;
+      next = h.next;
+      gathered = subst (λ (z : List Batch). IsGathered z w.history b) (sym (seen_put onward seen i)) h.gathered;
+    }
+
+    holds_later : (i : ℕ) (ph : Phase) → PhaseHolds L w i ph → PhaseHolds L later i ph
+    holds_later i Idle h = tt
+    holds_later i (Looks e j b) h = looking_later i e j b h
+    holds_later i (Runs e) h = pending_later i e h
+
   -- after a look at a process that is not the last one
   module _ (more : (q + 1 == L.processes) ≡ false) where
     abbrev looks : Caller
@@ -186,27 +214,9 @@ module _ {R : Type 0} (L : Setting R) (Good : R → Type 0) (agrees : Agrees L G
       | inr ne ↦ subst IsRuns (sym (phase1 i ne)) runs
     ]
 
-    pending1 : (i : ℕ) (e : Entry) → IsPending L w i e → IsPending L w1 i e
-    pending1 i e h = record {
-      unseen = subst (λ (z : List Batch). IsUnseen z e) (sym (seen1 i)) h.unseen;
-      called = h.called;
-      announced = h.announced;
-      process = h.process;
-      call = h.call ∙ sym (calls_put looks refl i);
-      room = subst (λ (z : List Batch). length z < L.capacity) (sym (seen1 i)) h.room;
-    }
-
-    looking1 : (i : ℕ) (e : Entry) (j : ℕ) (b : Batch) → IsLooking L w i e j b → IsLooking L w1 i e j b
-    looking1 i e j b h = record { pending = pending1 i e h.pending; next = h.next; gathered = subst (λ (z : List Batch). IsGathered z w.history b) (sym (seen1 i)) h.gathered }
-
-    holds1 : (i : ℕ) (ph : Phase) → PhaseHolds L w i ph → PhaseHolds L w1 i ph
-    holds1 i Idle h = tt
-    holds1 i (Looks e j b) h = looking1 i e j b h
-    holds1 i (Runs e) h = pending1 i e h
-
     mine1 : IsLooking L w1 p mine (q + 1) v
     mine1 = record {
-      pending = pending1 p mine looking.pending;
+      pending = pending_later w.round looks refl refl p mine looking.pending;
       next = (let ne : q + 1 ≢ L.processes = grind (arith, nat_tests) in let n = looking.next in grind arith);
       gathered = subst (λ (z : List Batch). IsGathered z w.history v) (sym (seen1 p)) (gathered_now (w.announced q) refl);
     }
@@ -223,7 +233,7 @@ module _ {R : Type 0} (L : Setting R) (Good : R → Type 0) (agrees : Agrees L G
       begun = λ k i u h. (let b = holds.begun k i u h in record { shaped = b.shaped; called = b.called; other = b.other; turn = b.turn });
       phases = λ i. elim (cases_eq i p) [
         | inl e ↦ rw (e, put_same w.caller p looks) mine1
-        | inr ne ↦ rw (phase1 i ne) (holds1 i (w.caller i).phase (holds.phases i))
+        | inr ne ↦ rw (phase1 i ne) (holds_later w.round looks refl refl i (w.caller i).phase (holds.phases i))
       ];
       announced = holds.announced;
       numbered = λ e c. rw (calls_put looks refl e.process) (holds.numbered e c);
@@ -309,24 +319,6 @@ module _ {R : Type 0} (L : Setting R) (Good : R → Type 0) (agrees : Agrees L G
     runs2 : IsRuns (w2.caller p).phase
     runs2 = rw (put_same w.caller p runs) tt
 
-    pending2 : (i : ℕ) (e : Entry) → IsPending L w i e → IsPending L w2 i e
-    pending2 i e h = record {
-      unseen = subst (λ (z : List Batch). IsUnseen z e) (sym (seen2 i)) h.unseen;
-      called = h.called;
-      announced = h.announced;
-      process = h.process;
-      call = h.call ∙ sym (calls_put runs refl i);
-      room = subst (λ (z : List Batch). length z < L.capacity) (sym (seen2 i)) h.room;
-    }
-
-    looking2 : (i : ℕ) (e : Entry) (j : ℕ) (b : Batch) → IsLooking L w i e j b → IsLooking L w2 i e j b
-    looking2 i e j b h = record { pending = pending2 i e h.pending; next = h.next; gathered = subst (λ (z : List Batch). IsGathered z w.history b) (sym (seen2 i)) h.gathered }
-
-    holds2 : (i : ℕ) (ph : Phase) → PhaseHolds L w i ph → PhaseHolds L w2 i ph
-    holds2 i Idle h = tt
-    holds2 i (Looks e j b) h = looking2 i e j b h
-    holds2 i (Runs e) h = pending2 i e h
-
     other2 : (j : ℕ) (u : Entry) → IsOther L (w.round j) u → IsOther L (w2.round j) u
     other2 j u o = record { batch = o.batch; fixed = fixed2 j ∙ o.fixed; other = o.other }
 
@@ -376,7 +368,12 @@ module _ {R : Type 0} (L : Setting R) (Good : R → Type 0) (agrees : Agrees L G
     running_other i ne h = (h.0, input_kept (length (w.caller i).seen) i ne ∙ h.1, decided_kept (length (w.caller i).seen) i ne ∙ h.2)
 
     running_mine : (u : Batch) × (L.consensus.input (w2.round k0) p ≡ Some u) × (L.consensus.decided (w2.round k0) p ≡ None)
-    running_mine = (v, ap (λ z. L.consensus.input z p) (put_same w.round k0 r2) ∙ agrees.input_mine (w.round k0) p v lt (holds.good k0), ap (λ z. L.consensus.decided z p) (put_same w.round k0 r2) ∙ agrees.undecided_begin (w.round k0) p v lt (holds.good k0))
+    running_mine = (
+      v,
+      ap (λ z. L.consensus.input z p) (put_same w.round k0 r2) ∙ agrees.input_mine (w.round k0) p v lt (holds.good k0),
+      ap (λ z. L.consensus.decided z p) (put_same w.round k0 r2)
+          ∙ agrees.undecided_begin (w.round k0) p v lt (holds.good k0),
+    )
 
     entered_same : (k i : ℕ) → (k < length (w.caller i).seen) ⊎ ((k ≡ length (w.caller i).seen) × IsRuns (w.caller i).phase) → (k < length (w.caller i).seen) ⊎ ((k ≡ length (w.caller i).seen) × IsRuns (w2.caller i).phase)
     entered_same k i (inl less) = inl less
@@ -402,8 +399,8 @@ module _ {R : Type 0} (L : Setting R) (Good : R → Type 0) (agrees : Agrees L G
         | inr new ↦ subst (λ z. IsBegun L w2 k z) new.2 (subst (λ z. IsBegun L w2 z v) (sym new.0) begun_now)
       ];
       phases = λ i. elim (cases_eq i p) [
-        | inl e ↦ rw (e, put_same w.caller p runs) (pending2 p mine looking.pending)
-        | inr ne ↦ rw (phase2 i ne) (holds2 i (w.caller i).phase (holds.phases i))
+        | inl e ↦ rw (e, put_same w.caller p runs) (pending_later (put w.round k0 r2) runs refl refl p mine looking.pending)
+        | inr ne ↦ rw (phase2 i ne) (holds_later (put w.round k0 r2) runs refl refl i (w.caller i).phase (holds.phases i))
       ];
       announced = holds.announced;
       numbered = λ e c. rw (calls_put runs refl e.process) (holds.numbered e c);

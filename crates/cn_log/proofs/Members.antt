@@ -1,17 +1,20 @@
 -- The entries of one process more.
-use Rattle.std.proofs.Common.{ℕ, zero, suc, ◌≡◌, ◌+◌, List, [], ◌∷◌, ◌++◌, length, map, Option, Some, None, refl, sym, ap, ◌∙◌, arith, append-nil}
+use Rattle.std.proofs.Common.{ℕ, zero, suc, ◌≡◌, ◌≢◌, false, ◌+◌, ◌==◌, List, [], ◌∷◌, ◌++◌, length, map, Option, Some, None, refl, sym, ap, ◌∙◌, arith, append-nil}
+use Rattle.std.proofs.lemmas.Bool.Decides.{nat_tests}
 use Rattle.cn_log.specs.declared.batch.Batch.{Batch}
 use Rattle.cn_log.specs.declared.entry.Entry.{Entry}
 use Rattle.cn_table.specs.TypeTable.{TypeTable, transition}
 use Rattle.cn_table.specs.Run.{state_after}
 use Rattle.cn_log.specs.Log.{operations_of}
 use Rattle.cn_log.specs.Batches.{entry_at, and_entry, each_slot, members}
+use Rattle.cn_log.specs.Fields.{next_batch}
 
 push_from : (many q : ℕ) (b : Batch) → members (suc many) q b ≡ members many q b ++ and_entry (entry_at b (q + many)) []
 push_from zero q b = let z : q + 0 ≡ q = omega arith in ap (λ i. and_entry (entry_at b i) []) (sym z)
 push_from (suc many) q b = go (entry_at b q) (push_from many (suc q) b ∙ ap (λ i. members many (suc q) b ++ and_entry (entry_at b i) []) (let z : suc q + many ≡ q + suc many = omega arith in z))
   where
-    go : (o : Option Entry) → members (suc many) (suc q) b ≡ members many (suc q) b ++ and_entry (entry_at b (q + suc many)) [] → and_entry o (members (suc many) (suc q) b) ≡ and_entry o (members many (suc q) b) ++ and_entry (entry_at b (q + suc many)) []
+    go : (o : Option Entry) → members (suc many) (suc q) b ≡ members many (suc q) b ++ and_entry (entry_at b (q + suc many)) []
+        → and_entry o (members (suc many) (suc q) b) ≡ and_entry o (members many (suc q) b) ++ and_entry (entry_at b (q + suc many)) []
     go None r = r
     go (Some e) r = ap (λ l. e ∷ l) r
 
@@ -47,3 +50,8 @@ slots_many k (e ∷ es) = ap suc (slots_many k es)
 pub run_push : (t : TypeTable) (state : ℕ) (es : List Entry) (e : Entry) → state_after t state (operations_of (es ++ e ∷ [])) ≡ (transition t e.operation.0 (state_after t state (operations_of es))).1
 run_push t state [] e = refl
 run_push t state (f ∷ es) e = run_push t (transition t f.operation.0 state).1 es e
+
+-- nothing comes behind so many batches where the slot is not the next one
+pub not_next : (many k : ℕ) (o : Option Batch) → many ≢ k → next_batch many k o ≡ []
+not_next many k None ne = refl
+not_next many k (Some b) ne = let t : (many == k) ≡ false = grind (arith, nat_tests) in rw t refl

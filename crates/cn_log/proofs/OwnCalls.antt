@@ -31,7 +31,8 @@ get_behind (x ∷ xs) ys k = let z : suc (length xs) + k ≡ suc (length xs + k)
 -- the calls in a longer list are those in its front, and then those in the rest
 calls_join : (p k : ℕ) (before rest : List Event) → calls_from p k (before ++ rest) ≡ calls_from p k before ++ calls_from p (k + calls_of p before) rest
 calls_join p k [] rest = let none : calls_of p [] ≡ 0 = refl in let e : k + calls_of p [] ≡ k = omega (arith, none) in ap (λ i. calls_from p i rest) (sym e)
-calls_join p k (Step q ∷ before) rest = let count = calls_cons p (Step q) before in let e : k + calls_of p before ≡ k + calls_of p (Step q ∷ before) = omega (arith, count) in calls_join p k before rest ∙ ap (λ i. calls_from p k before ++ calls_from p i rest) e
+calls_join p k (Step q ∷ before) rest = let count = calls_cons p (Step q) before in let e : k + calls_of p before ≡ k + calls_of p (Step q ∷ before) = omega (arith, count) in calls_join p k before rest
+    ∙ ap (λ i. calls_from p k before ++ calls_from p i rest) e
 calls_join p k (Invoke q operation ∷ before) rest = go (k + calls_of p (Invoke q operation ∷ before)) refl (q == p) refl (λ i. calls_join p i before rest)
   where
     go : (n : ℕ) → k + calls_of p (Invoke q operation ∷ before) ≡ n → (own : Bool) → (q == p) ≡ own → ((i : ℕ) → calls_from p i (before ++ rest) ≡ calls_from p i before ++ calls_from p (i + calls_of p before) rest)
@@ -74,7 +75,8 @@ none_by p [] h = refl
 none_by p (x ∷ xs) h = let ne = h 0 x refl in let t : (x.process == p) ≡ false = grind (arith, nat_tests) in rw t (none_by p xs (λ k y at. h (suc k) y at))
 
 -- where the one entry of the process that can be there stands in no two places
-one_by : (p : ℕ) (mine : Entry) (xs : List Entry) → ((k : ℕ) (x : Entry) → slice_get xs k ≡ Some x → x.process ≡ p → x ≡ mine) → ((j k : ℕ) → slice_get xs j ≡ Some mine → slice_get xs k ≡ Some mine → j ≡ k) → (entries_by p xs ≡ []) ⊎ (entries_by p xs ≡ mine ∷ [])
+one_by : (p : ℕ) (mine : Entry) (xs : List Entry) → ((k : ℕ) (x : Entry) → slice_get xs k ≡ Some x → x.process ≡ p → x ≡ mine) → ((j k : ℕ) → slice_get xs j ≡ Some mine → slice_get xs k ≡ Some mine → j ≡ k)
+    → (entries_by p xs ≡ []) ⊎ (entries_by p xs ≡ mine ∷ [])
 one_by p mine [] h once = inl refl
 one_by p mine (x ∷ xs) h once = go (x.process == p) refl (one_by p mine xs (λ k y at own. h (suc k) y at own) (λ j k a b. (let e = once (suc j) (suc k) a b in omega (arith, e))))
   where
@@ -134,11 +136,16 @@ module _ {R : Type 0} (L : Setting R) (Good : R → Type 0) (agrees : Agrees L G
       let mine : Entry = call_of p operation here.calls in
       let now = invoked L events p operation in
       let none = unanswered_none L here here.phase own.0 may.idle may.not_at_end own.2 in
-      let before : calls_by p events ≡ entries_by p (entries_in L.processes here.seen) = own.1 ∙ ap (λ l. entries_by p (entries_in L.processes here.seen) ++ l) none ∙ append-nil (entries_by p (entries_in L.processes here.seen)) in
-      (mine ∷ [], called L events p operation ∙ ap (λ l. l ++ mine ∷ []) before ∙ ap (λ (c : Caller). entries_by p (entries_in L.processes c.seen) ++ mine ∷ []) (sym now), subst (λ (c : Caller). IsUnanswered L c c.phase (mine ∷ [])) (sym now) refl)
+      let before : calls_by p events ≡ entries_by p (entries_in L.processes here.seen) = own.1 ∙ ap (λ l. entries_by p (entries_in L.processes here.seen) ++ l) none ∙ append-nil (entries_by p (entries_in L.processes here.seen)) in (
+        mine ∷ [],
+        called L events p operation ∙ ap (λ l. l ++ mine ∷ []) before ∙ ap (λ (c : Caller). entries_by p (entries_in L.processes c.seen) ++ mine ∷ []) (sym now),
+        subst (λ (c : Caller). IsUnanswered L c c.phase (mine ∷ [])) (sym now) refl,
+      )
 
-  sees_other : (events : List Event) (here now : Caller) (mine : Entry) → calls_by p (events ++ Step p ∷ []) ≡ entries_by p (entries_in L.processes here.seen) ++ mine ∷ [] → SeesOther L p here now → calls_by p (events ++ Step p ∷ []) ≡ entries_by p (entries_in L.processes now.seen) ++ mine ∷ []
-  sees_other events here now mine calls s = calls ∙ ap (λ l. l ++ mine ∷ []) (sym (ap (λ l. entries_by p (entries_in L.processes l)) s.seen ∙ push_batch L.processes p here.seen s.batch ∙ ap (λ l. entries_by p (entries_in L.processes here.seen) ++ l) s.own ∙ append-nil (entries_by p (entries_in L.processes here.seen))))
+  sees_other : (events : List Event) (here now : Caller) (mine : Entry) → calls_by p (events ++ Step p ∷ []) ≡ entries_by p (entries_in L.processes here.seen) ++ mine ∷ [] → SeesOther L p here now
+      → calls_by p (events ++ Step p ∷ []) ≡ entries_by p (entries_in L.processes now.seen) ++ mine ∷ []
+  sees_other events here now mine calls s = calls ∙ ap (λ l. l ++ mine ∷ []) (sym (ap (λ l. entries_by p (entries_in L.processes l)) s.seen ∙ push_batch L.processes p here.seen s.batch
+      ∙ ap (λ l. entries_by p (entries_in L.processes here.seen) ++ l) s.own ∙ append-nil (entries_by p (entries_in L.processes here.seen))))
 
   -- by the answer of a step
   by_answer : (events : List Event) (here : Caller) (mine : Entry) (given : StepAnswer) → calls_by p events ≡ entries_by p (entries_in L.processes here.seen) ++ mine ∷ []
@@ -147,7 +154,8 @@ module _ {R : Type 0} (L : Setting R) (Good : R → Type 0) (agrees : Agrees L G
     | inl same ↦ step_calls p events ∙ calls ∙ ap (λ l. entries_by p (entries_in L.processes l) ++ mine ∷ []) (sym same)
     | inr more ↦ sees_other events here (caller_of L (events ++ Step p ∷ []) p) mine (step_calls p events ∙ calls) more
   ]
-  by_answer events here mine (Answered slot response) calls s = step_calls p events ∙ calls ∙ sym (ap (λ l. entries_by p (entries_in L.processes l)) s.seen ∙ push_batch L.processes p here.seen s.batch ∙ ap (λ l. entries_by p (entries_in L.processes here.seen) ++ l) s.own)
+  by_answer events here mine (Answered slot response) calls s = step_calls p events ∙ calls
+      ∙ sym (ap (λ l. entries_by p (entries_in L.processes l)) s.seen ∙ push_batch L.processes p here.seen s.batch ∙ ap (λ l. entries_by p (entries_in L.processes here.seen) ++ l) s.own)
   by_answer events here mine Full calls s = sees_other events here (caller_of L (events ++ Step p ∷ []) p) mine (step_calls p events ∙ calls) s.seen
 
   pending_own : (events : List Event) (mine : Entry) → pending_in (caller_of L events p).phase ≡ Some mine → Own events → calls_by p events ≡ entries_by p (seen_of L events p) ++ mine ∷ []
@@ -219,8 +227,10 @@ module _ {R : Type 0} (L : Setting R) (Good : R → Type 0) (agrees : Agrees L G
 
     -- behind what the process has replayed stands no call of its own but the pending one
     is_pending : (k : ℕ) (x : Entry) → slice_get behind k ≡ Some x → x.process ≡ p → IsMine here.phase x
-    is_pending k x at own = go (there_of L Good agrees events may (length known + k) x (there k x at)).low (stands_there L Good agrees events may (length known + k) x (there_of L Good agrees events may (length known + k) x (there k x at))).batch
-        (fixed_begun L Good agrees w (holds_after L Good agrees events may) (there_of L Good agrees events may (length known + k) x (there k x at)).slot _ (stands_there L Good agrees events may (length known + k) x (there_of L Good agrees events may (length known + k) x (there k x at))).fixed)
+    is_pending k x at own = go (there_of L Good agrees events may (length known + k) x (there k x at)).low
+        (stands_there L Good agrees events may (length known + k) x (there_of L Good agrees events may (length known + k) x (there k x at))).batch
+        (fixed_begun L Good agrees w (holds_after L Good agrees events may) (there_of L Good agrees events may (length known + k) x (there k x at)).slot _
+        (stands_there L Good agrees events may (length known + k) x (there_of L Good agrees events may (length known + k) x (there k x at))).fixed)
         (stands_there L Good agrees events may (length known + k) x (there_of L Good agrees events may (length known + k) x (there k x at))).has
       where
         nothing : (bs : List Batch) (k : ℕ) (x : Entry) → length bs ≡ 0 → slice_get (entries_in L.processes bs) k ≡ Some x → ⊥

@@ -221,7 +221,8 @@ module _ {R : Type 0} (L : Setting R) (Good : R → Type 0) (agrees : Agrees L G
 -- what events count where a call counts nothing is the steps
 spent_steps : (p : ℕ) (events : List Event) → spent 0 p events ≡ steps_of p events
 spent_steps p [] = refl
-spent_steps p (Invoke q operation ∷ events) = let c : steps_of p (Invoke q operation ∷ events) ≡ 0 + steps_of p events = sum_by-cons (λ x. cond (is_step_of p x) 1 0) (Invoke q operation) events in let r = spent_steps p events in go (q == p) c r
+spent_steps p (Invoke q operation ∷ events) = let c : steps_of p (Invoke q operation ∷ events) ≡ 0 + steps_of p events = sum_by-cons (λ x. cond (is_step_of p x) 1 0) (Invoke q operation) events in
+    let r = spent_steps p events in go (q == p) c r
   where
     go : (b : Bool) → steps_of p (Invoke q operation ∷ events) ≡ 0 + steps_of p events → spent 0 p events ≡ steps_of p events → (if b then 0 else 0) + spent 0 p events ≡ steps_of p (Invoke q operation ∷ events)
     go true c r = omega (arith, c, r)
@@ -256,7 +257,8 @@ total_above (suc n) e events high =
 total_one : (n : ℕ) (e : Event) (events : List Event) → process_of e < n → total n (e ∷ events) ≡ 1 + total n events
 total_one zero e events low = absurd (omega (arith, low))
 total_one (suc n) e events low = elim (cases_eq (process_of e) n) [
-  | inl same ↦ (let t : (process_of e == n) ≡ true = grind (arith, nat_tests) in let w : weight 1 n e ≡ 1 = weight_one n e ∙ ap (λ (b : Bool). if b then 1 else 0) t in let r = total_above n e events (omega (arith, same)) in omega (arith, w, r))
+  | inl same ↦ (let t : (process_of e == n) ≡ true = grind (arith, nat_tests) in let w : weight 1 n e ≡ 1 = weight_one n e ∙ ap (λ (b : Bool). if b then 1 else 0) t in
+      let r = total_above n e events (omega (arith, same)) in omega (arith, w, r))
   | inr ne ↦ (let t : (process_of e == n) ≡ false = grind (arith, nat_tests) in let w : weight 1 n e ≡ 0 = weight_one n e ∙ ap (λ (b : Bool). if b then 1 else 0) t in let r = total_one n e events (grind arith) in omega (arith, w, r))
 ]
 
@@ -297,7 +299,8 @@ module _ {R : Type 0} (L : Setting R) (Good : R → Type 0) (agrees : Agrees L G
       let h : IsPending L w p mine = subst (PhaseHolds L w p) is (holds.phases p) in
       let b = holds.running p (subst IsRuns (sym is) tt) in
       let f = agrees.taken_low (w.round (length (w.caller p).seen)) p b.0 lt (holds.good (length (w.caller p).seen)) b.1 b.2 in
-      let y : way_of L a w p ≡ length (w.caller p).seen * cost1 a + (a + (L.processes + L.consensus.taken (w.round (length (w.caller p).seen)) p)) = ap (λ z. length (w.caller p).seen * cost1 a + steps_into L a w p (length (w.caller p).seen) z) is in
+      let y : way_of L a w p ≡ length (w.caller p).seen * cost1 a + (a + (L.processes + L.consensus.taken (w.round (length (w.caller p).seen)) p)) =
+      ap (λ z. length (w.caller p).seen * cost1 a + steps_into L a w p (length (w.caller p).seen) z) is in
       let m : (length (w.caller p).seen + 1) * cost1 a ≡ length (w.caller p).seen * cost1 a + 1 * cost1 a = add-mul (length (w.caller p).seen) 1 (cost1 a) in
       (omega (arith, y, m, f), h.room)
 
@@ -351,8 +354,11 @@ module _ {R : Type 0} (L : Setting R) (Good : R → Type 0) (agrees : Agrees L G
 
       go : (ph : Phase) → ((state_of L events).caller p).phase ≡ ph → way_of L a (state_of L events) p ≤ L.capacity * cost1 a
       go ph is = elim (idle_or ph) [
-        | inl idle ↦ (let y : way_of L a (state_of L events) p ≡ length ((state_of L events).caller p).seen * cost1 a + 0 = ap (λ z. length ((state_of L events).caller p).seen * cost1 a + steps_into L a (state_of L events) p (length ((state_of L events).caller p).seen) z) (is ∙ idle) in let m = mul-le-mul_right (cost1 a) (seen_few events may p) in omega (arith, y, m))
-        | inr busy ↦ (let h = way_pending a (state_of L events) (holds_after L Good agrees events may) p lt ph is busy in let r = h.1 in let m = mul-le-mul_right (cost1 a) (let l : length ((state_of L events).caller p).seen + 1 ≤ L.capacity = omega (arith, r) in l) in let l = h.0 in omega (arith, l, m))
+        | inl idle ↦ (let y : way_of L a (state_of L events) p ≡ length ((state_of L events).caller p).seen * cost1 a + 0 =
+            ap (λ z. length ((state_of L events).caller p).seen * cost1 a + steps_into L a (state_of L events) p (length ((state_of L events).caller p).seen) z) (is ∙ idle) in
+            let m = mul-le-mul_right (cost1 a) (seen_few events may p) in omega (arith, y, m))
+        | inr busy ↦ (let h = way_pending a (state_of L events) (holds_after L Good agrees events may) p lt ph is busy in let r = h.1 in
+            let m = mul-le-mul_right (cost1 a) (let l : length ((state_of L events).caller p).seen + 1 ≤ L.capacity = omega (arith, r) in l) in let l = h.0 in omega (arith, l, m))
       ]
 
   -- there is room for the events
@@ -406,7 +412,8 @@ module _ {R : Type 0} (L : Setting R) (Good : R → Type 0) (agrees : Agrees L G
     not_idle (Runs mine) h is = cc is
 
     low : length (caller_of L events p).seen ≤ since + 1
-    low = pending_low L Good agrees (state_of L events) (holds_after L Good agrees events may) (facts_after L Good agrees events may) p e lt (is_pending (caller_of L events p).phase refl pending ((holds_after L Good agrees events may).phases p)) since (call_noted L Good agrees events may i e c)
+    low = pending_low L Good agrees (state_of L events) (holds_after L Good agrees events may) (facts_after L Good agrees events may) p e lt
+        (is_pending (caller_of L events p).phase refl pending ((holds_after L Good agrees events may).phases p)) since (call_noted L Good agrees events may i e c)
 
     -- the process had replayed no more slots than were fixed
     pub k_low : k ≤ since
@@ -434,7 +441,8 @@ module _ {R : Type 0} (L : Setting R) (Good : R → Type 0) (agrees : Agrees L G
 
     pub ends_in_time : steps_of p (drop i events) < (since - k + 2) * (5 * L.processes - 4)
     ends_in_time =
-        let x : way_of L 0 (state_of L (take i events)) p + spent 0 p (made ∷ drop (suc i) events) ≤ way_of L 0 (state_of L (take i events ++ made ∷ drop (suc i) events)) p = paced L Good agrees 0 (take i events) (made ∷ drop (suc i) events) (subst (IsEventList L) whole may) p in
+        let x : way_of L 0 (state_of L (take i events)) p + spent 0 p (made ∷ drop (suc i) events) ≤ way_of L 0 (state_of L (take i events ++ made ∷ drop (suc i) events)) p =
+        paced L Good agrees 0 (take i events) (made ∷ drop (suc i) events) (subst (IsEventList L) whole may) p in
         let y : way_of L 0 (state_of L (take i events ++ made ∷ drop (suc i) events)) p ≡ way_of L 0 (state_of L events) p = ap (λ z. way_of L 0 (state_of L z) p) (sym whole) in
         let h = (way_pending 0 (state_of L events) (holds_after L Good agrees events may) p lt (caller_of L events p).phase refl (not_idle (caller_of L events p).phase pending)).0 in
         let d = dropped in

@@ -84,7 +84,8 @@ of_entries n (b ∷ bs) place e h = elim (get_cases (members n 0 b) (entries_in 
     there = r.there;
     low = r.low;
     at = r.at;
-    place_is = (let l : length (members n 0 b ++ entries_in n (take r.slot bs)) ≡ length (members n 0 b) + length (entries_in n (take r.slot bs)) = length-append (members n 0 b) (entries_in n (take r.slot bs)) in let p = r.place_is in let q = later.1 in omega (arith, l, p, q));
+    place_is = (let l : length (members n 0 b ++ entries_in n (take r.slot bs)) ≡ length (members n 0 b) + length (entries_in n (take r.slot bs)) =
+        length-append (members n 0 b) (entries_in n (take r.slot bs)) in let p = r.place_is in let q = later.1 in omega (arith, l, p, q));
   })
 ]
 
@@ -146,11 +147,21 @@ get_map f (y ∷ xs) zero x h = let same : y ≡ x = cc in ap (λ z. Some (f z))
 get_map f (y ∷ xs) (suc k) x h = get_map f xs k x h
 
 -- the slot told for a place is that of the entry there
-pub slot_of : (n base : ℕ) (bs : List Batch) (place : ℕ) (e : Entry) → slice_get (entries_in n bs) place ≡ Some e → (k : ℕ) × (b : Batch) × (q : ℕ) × (slice_get bs k ≡ Some b) × (q < n) × (entry_at b q ≡ Some e) × (place ≡ length (entries_in n (take k bs)) + length (members q 0 b)) × (slice_get (slots_from n base bs) place ≡ Some (base + k))
+pub slot_of : (n base : ℕ) (bs : List Batch) (place : ℕ) (e : Entry) → slice_get (entries_in n bs) place ≡ Some e → (k : ℕ) × (b : Batch) × (q : ℕ) × (slice_get bs k ≡ Some b) × (q < n)
+    × (entry_at b q ≡ Some e) × (place ≡ length (entries_in n (take k bs)) + length (members q 0 b)) × (slice_get (slots_from n base bs) place ≡ Some (base + k))
 slot_of n base [] place e h = absurd cc
 slot_of n base (b ∷ bs) place e h = elim (get_cases (members n 0 b) (entries_in n bs) place e h) [
-  | inl now ↦ (let m = of_members n 0 b place e now in let z : 0 + m.0 ≡ m.0 = omega arith in let y : base + 0 ≡ base = omega arith in
-      (0, b, m.0, refl, m.1, rw z at m.2, (let p = m.3 in omega (arith, p)), get_left (map (λ (x : Entry). base) (members n 0 b)) (slots_from n (suc base) bs) place base (get_map (λ (x : Entry). base) (members n 0 b) place e now) ∙ ap Some (sym y)))
+  | inl now ↦ (let m = of_members n 0 b place e now in let z : 0 + m.0 ≡ m.0 = omega arith in let y : base + 0 ≡ base = omega arith in (
+    0,
+    b,
+    m.0,
+    refl,
+    m.1,
+    rw z at m.2,
+    (let p = m.3 in omega (arith, p)),
+    get_left (map (λ (x : Entry). base) (members n 0 b)) (slots_from n (suc base) bs) place base
+        (get_map (λ (x : Entry). base) (members n 0 b) place e now) ∙ ap Some (sym y),
+  ))
   | inr later ↦ (let r = slot_of n (suc base) bs later.0 e later.2 in
       let l : length (members n 0 b ++ entries_in n (take r.0 bs)) ≡ length (members n 0 b) + length (entries_in n (take r.0 bs)) = length-append (members n 0 b) (entries_in n (take r.0 bs)) in
       let many : length (map (λ (x : Entry). base) (members n 0 b)) ≡ length (members n 0 b) = length-map (members n 0 b) (λ (x : Entry). base) in
@@ -176,7 +187,8 @@ pub slots_put : (n base : ℕ) (bs cs : List Batch) → slots_from n base (bs ++
 slots_put n base [] cs = let z : base + 0 ≡ base = omega arith in ap (λ i. slots_from n i cs) (sym z)
 slots_put n base (b ∷ bs) cs =
     let z : suc base + length bs ≡ base + suc (length bs) = omega arith in
-    ap (λ l. each_slot base (members n 0 b) ++ l) (slots_put n (suc base) bs cs ∙ ap (λ i. slots_from n (suc base) bs ++ slots_from n i cs) z) ∙ sym (append_assoc (each_slot base (members n 0 b)) (slots_from n (suc base) bs) (slots_from n (base + suc (length bs)) cs))
+    ap (λ l. each_slot base (members n 0 b) ++ l) (slots_put n (suc base) bs cs ∙ ap (λ i. slots_from n (suc base) bs ++ slots_from n i cs) z)
+    ∙ sym (append_assoc (each_slot base (members n 0 b)) (slots_from n (suc base) bs) (slots_from n (base + suc (length bs)) cs))
 
 pub slots_as_many : (n base : ℕ) (bs : List Batch) → length (slots_from n base bs) ≡ length (entries_in n bs)
 slots_as_many n base [] = refl

@@ -112,7 +112,8 @@ module _ {R : Type 0} (L : Setting R) where
   noted_not_replayed e since w p here mine None h = h
   noted_not_replayed e since w p here mine (Some x) h = noted_not_after e since here.seen mine x w.history h
 
-  noted_not_gathered : (e : Entry) (since : ℕ) (w : World R) (p : ℕ) (here : Caller) (mine : Entry) (q : ℕ) (batch : Batch) (b : Bool) → IsNoted (Called e since) (after_gathering L w p here mine q batch b).history → IsNoted (Called e since) w.history
+  noted_not_gathered : (e : Entry) (since : ℕ) (w : World R) (p : ℕ) (here : Caller) (mine : Entry) (q : ℕ) (batch : Batch) (b : Bool)
+      → IsNoted (Called e since) (after_gathering L w p here mine q batch b).history → IsNoted (Called e since) w.history
   noted_not_gathered e since w p here mine q batch true h = h
   noted_not_gathered e since w p here mine q batch false h = h
 

@@ -24,7 +24,8 @@ min_low a b h = grind arith
 -- what holds of every round and every plan, as their laws say it
 pub record RoundLaw : Type 0 where
   pub consensus : (P : Protocol) (n nodes : ℕ) (team : ℕ → Team) (schedule : List ℕ) (w : World Batch) → IsSound P n nodes team → IsReached P n nodes schedule w → KeepsConsensus P n schedule w
-  pub fixed : (P : Protocol) (n nodes : ℕ) (team : ℕ → Team) (schedule : List ℕ) (w : World Batch) → IsSound P n nodes team → IsReached P n nodes schedule w → (p : ℕ) (x : Batch) → p < n → fixed_value w ≡ Some x → fixed_value (after_step P p w) ≡ Some x
+  pub fixed : (P : Protocol) (n nodes : ℕ) (team : ℕ → Team) (schedule : List ℕ) (w : World Batch) → IsSound P n nodes team → IsReached P n nodes schedule w → (p : ℕ) (x : Batch) → p < n
+      → fixed_value w ≡ Some x → fixed_value (after_step P p w) ≡ Some x
   pub begun : (P : Protocol) (n nodes : ℕ) (team : ℕ → Team) (schedule : List ℕ) (w : World Batch) → IsSound P n nodes team → IsReached P n nodes schedule w → (p : ℕ) → p < n → (local_at w p ≡ NotBegun) ↔ (input_at w p ≡ None)
   pub sizes : (P : Protocol) (n nodes : ℕ) (team : ℕ → Team) (schedule : List ℕ) (w : World Batch) → IsSound P n nodes team → IsReached P n nodes schedule w → (length w.nodes ≡ nodes) × (length w.locals ≡ n) × (length w.inputs ≡ n)
   pub sound_plans : (p : Plan) → IsPlan p → IsSound (protocol_of p) (processes_of p) (nodes_of p) (team_of (length p.choice.a))
@@ -82,7 +83,8 @@ module _ (law : RoundLaw) (o : Opening) (plan : IsPlan o.plan) where
   taken_is w good p lt none =
       let k = keeps_of w good in
       let s = k.steps p lt in
-      let u : occurrences good.0 p < 4 * length (P.path p) = (let cases : (4 * length (P.path p) ≤ occurrences good.0 p) ⊎ (occurrences good.0 p < 4 * length (P.path p)) = grind arith in elim cases [ inl all ↦ absurd (not_some (decided (local_at w p)) none ((k.in_time p lt).1 all)) | inr few ↦ few ]) in
+      let u : occurrences good.0 p < 4 * length (P.path p) = (let cases : (4 * length (P.path p) ≤ occurrences good.0 p) ⊎ (occurrences good.0 p < 4 * length (P.path p)) = grind arith in
+      elim cases [ inl all ↦ absurd (not_some (decided (local_at w p)) none ((k.in_time p lt).1 all)) | inr few ↦ few ]) in
       (s ∙ min_low (occurrences good.0 p) (4 * length (P.path p)) (omega (arith, u)), u)
 
   taken_more : (w : World Batch) (good : Good w) → (p : ℕ) (v : Batch) → p < n → input_at w p ≡ Some v → decided (local_at w p) ≡ None → steps_taken P p (local_at (after_step P p w) p) ≡ steps_taken P p (local_at w p) + 1

@@ -192,7 +192,8 @@ module _ {R : Type 0} (L : Setting R) (Good : R → Type 0) (agrees : Agrees L G
       ];
       running = λ q runs. elim (cases_eq q p) [
         | inl e ↦ absurd (not_runs (rw (e, put_same w.caller p caller') at runs))
-        | inr ne ↦ (let r = holds.running q (rw (put_other w.caller p caller' q ne) at runs) in (r.0, rw (put_other w.caller p caller' q ne) (input_same (length (w.caller q).seen) q ∙ r.1), rw (put_other w.caller p caller' q ne) (decided_same (length (w.caller q).seen) q ne ∙ r.2)))
+        | inr ne ↦ (let r = holds.running q (rw (put_other w.caller p caller' q ne) at runs) in
+            (r.0, rw (put_other w.caller p caller' q ne) (input_same (length (w.caller q).seen) q ∙ r.1), rw (put_other w.caller p caller' q ne) (decided_same (length (w.caller q).seen) q ne ∙ r.2)))
       ];
       begun = λ k q u h. begun_kept w' refl called_kept k u (holds.begun k q u (sym (input_same k q) ∙ h));
       phases = λ q. elim (cases_eq q p) [
@@ -262,12 +263,14 @@ module _ {R : Type 0} (L : Setting R) (Good : R → Type 0) (agrees : Agrees L G
       reply = a.reply;
     }
 
-    gathers_kept : (w'' : World R) → w''.round ≡ round' → ((e : Entry) (since : ℕ) → IsNoted (Called e since) w''.history → IsNoted (Called e since) w.history) → (seen : List Batch) (ph : Phase) → HasGathered L w seen ph → HasGathered L w'' seen ph
+    gathers_kept : (w'' : World R) → w''.round ≡ round' → ((e : Entry) (since : ℕ) → IsNoted (Called e since) w''.history → IsNoted (Called e since) w.history) → (seen : List Batch) (ph : Phase)
+        → HasGathered L w seen ph → HasGathered L w'' seen ph
     gathers_kept w'' same less seen Idle h = tt
     gathers_kept w'' same less seen (Looks m i b) h = λ e since noted low at. elim (h e since (less e since noted) low at) [ inl has ↦ inl has | inr s ↦ inr (by_kept w'' same e (length seen) s) ]
     gathers_kept w'' same less seen (Runs m) h = tt
 
-    helps_kept : (w'' : World R) → w''.round ≡ round' → (e : Entry) (since : ℕ) → IsNoted (Called e since) w.history → e.process < L.processes → (k q : ℕ) (v : Batch) → since < k → k < L.capacity → L.consensus.input (round' k) q ≡ Some v → Has v e ⊎ StandsBy L w'' e k
+    helps_kept : (w'' : World R) → w''.round ≡ round' → (e : Entry) (since : ℕ) → IsNoted (Called e since) w.history → e.process < L.processes → (k q : ℕ) (v : Batch) → since < k → k < L.capacity
+        → L.consensus.input (round' k) q ≡ Some v → Has v e ⊎ StandsBy L w'' e k
     helps_kept w'' same e since noted low k q v less room h = elim (facts.helps e since noted low k q v less room (sym (input_same k q) ∙ h)) [ inl has ↦ inl has | inr s ↦ inr (by_kept w'' same e k s) ]
 
     none_facts : Facts L (record w { round = round' })
@@ -396,7 +399,8 @@ module _ {R : Type 0} (L : Setting R) (Good : R → Type 0) (agrees : Agrees L G
         ];
         gathers = λ i. elim (cases_eq i p) [
           | inl f ↦ rw (f, put_same w.caller p after') gathers_mine
-          | inr ne ↦ subst (λ (z : Caller). HasGathered L w2 z.seen z.phase) (sym (put_other w.caller p after' i ne)) (gathers_kept w2 refl (λ e since n. invoked_before e since w2.history more_now n) (w.caller i).seen (w.caller i).phase (facts.gathers i))
+          | inr ne ↦ subst (λ (z : Caller). HasGathered L w2 z.seen z.phase) (sym (put_other w.caller p after' i ne))
+              (gathers_kept w2 refl (λ e since n. invoked_before e since w2.history more_now n) (w.caller i).seen (w.caller i).phase (facts.gathers i))
         ];
         helps = λ e since noted. helps_kept w2 refl e since (invoked_before e since w2.history more_now noted);
         earlier = λ e since noted f c q less. (let g = facts.earlier e since (invoked_before e since w2.history more_now noted) f (called_before f c) q less in (g.0, g.1, stands_kept w2 refl f g.0 g.2));

@@ -55,7 +55,8 @@ module _ {R : Type 0} (L : Setting R) (Good : R → Type 0) (agrees : Agrees L G
     where
       drops : (xs : List Event) (j : ℕ) → slice_get xs j ≡ Some (Invoke e.process e.operation.0) → steps_of e.process (drop j xs) ≡ steps_of e.process (drop (suc j) xs)
       drops [] j h = absurd (cc h)
-      drops (x ∷ xs) zero h = let same : x ≡ Invoke e.process e.operation.0 = cc in ap (λ z. steps_of e.process (z ∷ xs)) same ∙ (let n : steps_of e.process (Invoke e.process e.operation.0 ∷ xs) ≡ 0 + steps_of e.process xs = steps_cons e.process (Invoke e.process e.operation.0) xs in omega (arith, n))
+      drops (x ∷ xs) zero h = let same : x ≡ Invoke e.process e.operation.0 = cc in ap (λ z. steps_of e.process (z ∷ xs)) same
+          ∙ (let n : steps_of e.process (Invoke e.process e.operation.0 ∷ xs) ≡ 0 + steps_of e.process xs = steps_cons e.process (Invoke e.process e.operation.0) xs in omega (arith, n))
       drops (x ∷ xs) (suc j) h = drops xs j h
 
   -- where a process takes enough steps, its call is over
@@ -70,7 +71,8 @@ module _ {R : Type 0} (L : Setting R) (Good : R → Type 0) (agrees : Agrees L G
     call_front j less = record { invoke = get_take events j i less ∙ c.invoke; number = c.number ∙ ap (calls_of e.process) (sym (take_take events j i (omega arith))) }
 
     still_front : (j : ℕ) → i < j → pending_in (caller_of L (take j events) e.process).phase ≡ Some e → steps_between e.process events i j < enough
-    still_front j less is = subst (λ (front : List Event). steps_between e.process events i j < (length (batches L front) + 2 - length (caller_of L front e.process).seen) * (5 * L.processes - 4)) (take_take events j i (omega arith)) (still (take j events) (may_front j) i e (call_front j less) is)
+    still_front j less is = subst (λ (front : List Event). steps_between e.process events i j < (length (batches L front) + 2 - length (caller_of L front e.process).seen) * (5 * L.processes - 4))
+        (take_take events j i (omega arith)) (still (take j events) (may_front j) i e (call_front j less) is)
 
     -- the call is over within enough steps
     abbrev Over : Type 0
@@ -86,7 +88,9 @@ module _ {R : Type 0} (L : Setting R) (Good : R → Type 0) (agrees : Agrees L G
         → (pending_in (caller_of L (take (suc j) events) e.process).phase ≡ Some e) ⊎ Over
     next_event j event less at is = elim (cases_eq (process_of event) e.process) [
       | inl mine ↦ own_event event mine at
-      | inr other ↦ inl (ap (λ (front : List Event). pending_in (caller_of L front e.process).phase) (take_next events j event at) ∙ ap (λ (w : World R). pending_in (w.caller e.process).phase) (run_append L (take j events) (event ∷ []) (first_world L)) ∙ ap (λ (here : Caller). pending_in here.phase) (other_event L (state_of L (take j events)) event e.process other) ∙ is)
+      | inr other ↦ inl (ap (λ (front : List Event). pending_in (caller_of L front e.process).phase) (take_next events j event at)
+          ∙ ap (λ (w : World R). pending_in (w.caller e.process).phase) (run_append L (take j events) (event ∷ []) (first_world L))
+          ∙ ap (λ (here : Caller). pending_in here.phase) (other_event L (state_of L (take j events)) event e.process other) ∙ is)
     ]
       where
         answered : (a : StepAnswer) → slice_get events j ≡ Some (Step e.process) → answer L (take j events) e.process ≡ a → IsStepped L e.process (caller_of L (take j events) e.process) e (caller_of L (take (suc j) events) e.process) a
@@ -111,7 +115,8 @@ module _ {R : Type 0} (L : Setting R) (Good : R → Type 0) (agrees : Agrees L G
             by Full given goes = inr (j, inr (record { step = record { call = i; before = less; is = c; last = last; step = step }; answers = given }), few)
 
         own_event : (event : Event) → process_of event ≡ e.process → slice_get events j ≡ Some event → (pending_in (caller_of L (take (suc j) events) e.process).phase ≡ Some e) ⊎ Over
-        own_event (Invoke q operation) mine at = absurd (busy (caller_of L (take j events) e.process).phase is (subst (λ (p : ℕ). (caller_of L (take j events) p).phase ≡ Idle) mine (event_may L Good agrees events may j (Invoke q operation) at).idle))
+        own_event (Invoke q operation) mine at = absurd (busy (caller_of L (take j events) e.process).phase is
+            (subst (λ (p : ℕ). (caller_of L (take j events) p).phase ≡ Idle) mine (event_may L Good agrees events may j (Invoke q operation) at).idle))
         own_event (Step q) mine at =
             let step : slice_get events j ≡ Some (Step e.process) = at ∙ ap (λ (p : ℕ). Some (Step p)) mine in
             let next : take (suc j) events ≡ take j events ++ Step e.process ∷ [] = take_next events j (Step e.process) step in

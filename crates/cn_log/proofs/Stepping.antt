@@ -1,7 +1,6 @@
 -- A step keeps the fields in step with the schedule.
 use Rattle.std.proofs.Common.{ℕ, ◌≡◌, ◌≢◌, inl, inr, Bool, true, false, ◌+◌, ◌*◌, ◌<◌, ◌≤◌, ◌==◌, List, [], ◌∷◌, ◌++◌, length, Option, Some, None, refl, sym, ap, ◌∙◌, arith, if◌then◌else◌, slice_index_or, slice_set, get_or, subst, length-set, get_or-set_same, get_or-set_other, length-append, append-nil}
 use Rattle.std.proofs.lemmas.Bool.{cases_eq}
-use Rattle.std.proofs.lemmas.Bool.Decides.{nat_tests}
 use Rattle.std.proofs.lemmas.List.{get_or_default}
 use Rattle.std.proofs.Math.Nat.{add-mul, mul-le-mul_right, mul_comm}
 use Rattle.cn_table.specs.TypeTable.{TypeTable, transition}
@@ -9,6 +8,7 @@ use Rattle.cn_table.specs.Run.{state_after}
 use Rattle.cn_log.specs.declared.batch.Batch.{Batch}
 use Rattle.cn_log.specs.declared.entry.Entry.{Entry}
 use Rattle.cn_log.specs.Batches.{has, and_entry, entry_at, members, entries_in, slots_from}
+use Rattle.cn_log.proofs.Members.{not_next}
 use Rattle.cn_log.proofs.Places.{entries_few_in, entries_put, slots_as_many, slots_put}
 use Rattle.cn_log.specs.declared.event.Event.{Event}
 use Rattle.cn_log.specs.declared.event.Event.TheVariants.{Step}
@@ -18,7 +18,7 @@ use Rattle.cn_log.specs.declared.progress.Phase.{Phase}
 use Rattle.cn_log.specs.declared.progress.Phase.TheVariants.{Idle, Looks, Runs}
 use Rattle.cn_log.specs.declared.progress.Progress.{Progress}
 use Rattle.cn_log.specs.Agreement.{Agrees}
-use Rattle.cn_log.specs.Fields.{count_at, gathered_by, next_batch, reply, IsProgressOf, Fits, Keeps, IsAt}
+use Rattle.cn_log.specs.Fields.{count_at, gathered_by, next_batch, reply, IsProgressOf, Kept, Fits, Keeps, IsAt}
 use Rattle.cn_log.specs.Log.{Setting, World, Caller, put, gathered, operations_of, object_after, after_step, after_gathering, after_decision, phase_after, state_of, fixed_from, batches_of, entries_of, MayStep, IsEventList, answer, answer_from, answer_with}
 use Rattle.cn_log.proofs.ListLemmas.{put_same, put_other}
 use Rattle.cn_log.proofs.Invariant.{IsRuns, IsPending, IsLooking, IsBegun, PhaseHolds, Holds, in_order, fixed_begun}
@@ -48,14 +48,12 @@ next_is bs k (Some b) = go (length bs == k)
 
 -- it is that of slot k, where there is one
 next_slot : (n many k : ℕ) (o : Option Batch) → slots_from n many (next_batch many k o) ≡ slots_from n k (next_batch many k o)
-next_slot n many k None = refl
-next_slot n many k (Some b) = elim (cases_eq many k) [
-  | inl e ↦ ap (λ i. slots_from n i (next_batch many k (Some b))) e
-  | inr ne ↦ (let t : (many == k) ≡ false = grind (arith, nat_tests) in rw t refl)
+next_slot n many k o = elim (cases_eq many k) [
+  | inl e ↦ ap (λ i. slots_from n i (next_batch many k o)) e
+  | inr ne ↦ rw (not_next many k o ne) refl
 ]
 
-module _ {R : Type 0} (L : Setting R) (Good : R → Type 0) (agrees : Agrees L Good)
-    (s : List Event) (rounds : List R) (announced : List (Option Entry)) (progress : List Progress) (entries : List Entry) (slots : List ℕ) (fixed : ℕ) (p : ℕ) where
+module _ {R : Type 0} {L : Setting R} {Good : R → Type 0} (agrees : Agrees L Good) (s : List Event) (kept : Kept R) (p : ℕ) where
   abbrev w : World R
   w = state_of L s
 
@@ -66,23 +64,23 @@ module _ {R : Type 0} (L : Setting R) (Good : R → Type 0) (agrees : Agrees L G
   k0 = length caller.seen
 
   -- what holds in either phase of a call
-  module _ (keeps : Keeps L s rounds announced progress entries slots fixed) (lt : p < L.processes) (mine : Entry) (pending : IsPending L w p mine) (here : Progress) (read : here ≡ get_or progress p here) where
+  module _ (keeps : Keeps L s kept) (lt : p < L.processes) (mine : Entry) (pending : IsPending L w p mine) (here : Progress) (read : here ≡ get_or kept.progress p here) where
     holds : Holds L Good w
     holds = holds_after L Good agrees s keeps.events
 
     pub progress_is : IsProgressOf L here caller
-    progress_is = progress_here L s rounds announced progress entries slots fixed keeps p lt here read
+    progress_is = progress_here L keeps lt read
 
     pub room : here.replayed < L.capacity
     room = let a = progress_is.replayed in let b = pending.room in omega arith
 
-    pub in_rounds : here.replayed < length rounds
+    pub in_rounds : here.replayed < length kept.rounds
     in_rounds = let a = room in let b = keeps.fits.rounds_many in omega arith
 
-    pub round_is : (r : R) → r ≡ get_or rounds here.replayed r → r ≡ w.round k0
-    round_is r e = e ∙ get_or_default rounds here.replayed r L.untouched in_rounds ∙ keeps.fits.round here.replayed room ∙ ap w.round progress_is.replayed
+    pub round_is : (r : R) → r ≡ get_or kept.rounds here.replayed r → r ≡ w.round k0
+    round_is r e = e ∙ get_or_default kept.rounds here.replayed r L.untouched in_rounds ∙ keeps.fits.round here.replayed room ∙ ap w.round progress_is.replayed
 
-    pub round_good : (r : R) → r ≡ get_or rounds here.replayed r → Good r
+    pub round_good : (r : R) → r ≡ get_or kept.rounds here.replayed r → Good r
     round_good r e = subst Good (sym (round_is r e)) (holds.good k0)
 
     pub fixed_front : BeginsWith (batches_of L w) caller.seen
@@ -91,28 +89,29 @@ module _ {R : Type 0} (L : Setting R) (Good : R → Type 0) (agrees : Agrees L G
     pub slots_low : k0 ≤ length (batches_of L w)
     slots_low = let f = fixed_front in let e : length (batches_of L w) ≡ k0 + length f.0 = ap length f.1 ∙ length-append caller.seen f.0 in omega (arith, e)
 
-    round_put : (r' : R) (k : ℕ) → k < L.capacity → slice_index_or (slice_set rounds here.replayed r') k L.untouched ≡ put w.round k0 r' k
+    round_put : (r' : R) (k : ℕ) → k < L.capacity → slice_index_or (slice_set kept.rounds here.replayed r') k L.untouched ≡ put w.round k0 r' k
     round_put r' k less = elim (cases_eq k k0) [
-      | inl f ↦ (let g : k ≡ here.replayed = f ∙ sym progress_is.replayed in rw (g, get_or-set_same rounds here.replayed r' L.untouched in_rounds, progress_is.replayed, put_same w.round k0 r') refl)
-      | inr ne ↦ (let g : k ≢ here.replayed = (λ same. ne (same ∙ progress_is.replayed)) in rw (put_other w.round k0 r' k ne, get_or-set_other rounds here.replayed k r' L.untouched g) (keeps.fits.round k less))
+      | inl f ↦ (let g : k ≡ here.replayed = f ∙ sym progress_is.replayed in rw (g, get_or-set_same kept.rounds here.replayed r' L.untouched in_rounds, progress_is.replayed, put_same w.round k0 r') refl)
+      | inr ne ↦ (let g : k ≢ here.replayed = (λ same. ne (same ∙ progress_is.replayed)) in rw (put_other w.round k0 r' k ne, get_or-set_other kept.rounds here.replayed k r' L.untouched g) (keeps.fits.round k less))
     ]
 
     -- the fields after a step that changes the round of the slot and where the process stands
     pub fits_put : (r' : R) (x : Progress) (c : Caller) → IsProgressOf L x c → (w' : World R) → w'.round ≡ put w.round k0 r' → w'.announced ≡ w.announced → w'.caller ≡ put w.caller p c
-        → (entries' : List Entry) (slots' : List ℕ) (fixed' : ℕ) → entries' ≡ entries_of L w' → slots' ≡ slots_from L.processes 0 (batches_of L w') → fixed' ≡ length (batches_of L w') → Fits L w' (slice_set rounds here.replayed r') announced (slice_set progress p x) entries' slots' fixed'
-    fits_put r' x c is w' a b d entries' slots' fixed' e f g = record {
-      rounds_many = length-set rounds here.replayed r' ∙ keeps.fits.rounds_many;
+        → (more : Kept R) → more.entries ≡ entries_of L w' → more.slots ≡ slots_from L.processes 0 (batches_of L w') → more.fixed ≡ length (batches_of L w')
+        → Fits L w' (record more { rounds = slice_set kept.rounds here.replayed r'; announced = kept.announced; progress = slice_set kept.progress p x })
+    fits_put r' x c is w' a b d more e f g = record {
+      rounds_many = length-set kept.rounds here.replayed r' ∙ keeps.fits.rounds_many;
       round = λ k less. round_put r' k less ∙ ap (λ (f : ℕ → R). f k) (sym a);
       announced_many = keeps.fits.announced_many;
       announcement = λ q less. keeps.fits.announcement q less ∙ ap (λ (f : ℕ → Option Entry). f q) (sym b);
-      progress_many = length-set progress p x ∙ keeps.fits.progress_many;
-      caller = λ q less. rw d (progress_put L w rounds announced progress entries slots fixed keeps.fits p lt x c is q less);
+      progress_many = length-set kept.progress p x ∙ keeps.fits.progress_many;
+      caller = λ q less. rw d (progress_put L keeps.fits lt x c is q less);
       entries_are = e;
       slots_are = f;
       fixed_is = g;
     }
 
-  module _ (mine : Entry) (at : IsAt L s rounds announced progress entries slots fixed p (Runs mine)) (here : Progress) (read : here ≡ get_or progress p here) where
+  module _ {mine : Entry} (at : IsAt L s kept p (Runs mine)) {here : Progress} (read : here ≡ get_or kept.progress p here) where
     runs_holds : Holds L Good w
     runs_holds = holds_after L Good agrees s at.keeps.events
 
@@ -125,16 +124,16 @@ module _ {R : Type 0} (L : Setting R) (Good : R → Type 0) (agrees : Agrees L G
     pub runs_room : here.replayed < L.capacity
     runs_room = room at.keeps at.process mine runs_pending here read
 
-    pub runs_in_rounds : here.replayed < length rounds
+    pub runs_in_rounds : here.replayed < length kept.rounds
     runs_in_rounds = in_rounds at.keeps at.process mine runs_pending here read
 
-    pub runs_good : (r : R) → r ≡ get_or rounds here.replayed r → Good r
+    pub runs_good : (r : R) → r ≡ get_or kept.rounds here.replayed r → Good r
     runs_good r e = round_good at.keeps at.process mine runs_pending here read r e
 
     has_begun : (v : Batch) × (L.consensus.input (w.round k0) p ≡ Some v) × (L.consensus.decided (w.round k0) p ≡ None)
     has_begun = runs_holds.running p (subst IsRuns (sym at.phase_is) tt)
 
-    pub runs_begun : (r : R) → r ≡ get_or rounds here.replayed r → (v : Batch) × (L.consensus.input r p ≡ Some v) × (L.consensus.decided r p ≡ None)
+    pub runs_begun : (r : R) → r ≡ get_or kept.rounds here.replayed r → (v : Batch) × (L.consensus.input r p ≡ Some v) × (L.consensus.decided r p ≡ None)
     runs_begun r e = subst (λ (z : R). (v : Batch) × (L.consensus.input z p ≡ Some v) × (L.consensus.decided z p ≡ None)) (sym (round_is at.keeps at.process mine runs_pending here read r e)) has_begun
 
     -- no more entries have been seen than so many slots can take
@@ -165,7 +164,7 @@ module _ {R : Type 0} (L : Setting R) (Good : R → Type 0) (agrees : Agrees L G
     mine_operation = known_operation L Good agrees s at.keeps.events mine runs_pending.called
 
     -- where slot k is the next one to be fixed, there is room for its entries
-    room_for : (many : ℕ) → many ≤ L.processes * length (batches_of L w) → fixed ≡ here.replayed → many + L.processes ≤ L.processes * L.capacity
+    room_for : (many : ℕ) → many ≤ L.processes * length (batches_of L w) → kept.fixed ≡ here.replayed → many + L.processes ≤ L.processes * L.capacity
     room_for many few next =
         let f = at.keeps.fits.fixed_is in
         let r = runs_room in
@@ -176,11 +175,11 @@ module _ {R : Type 0} (L : Setting R) (Good : R → Type 0) (agrees : Agrees L G
         let d = mul_comm L.processes L.capacity in
         omega (arith, few, m, a, b, d)
 
-    pub entries_room : fixed ≡ here.replayed → length entries + L.processes ≤ L.processes * L.capacity
-    entries_room next = let e = ap length at.keeps.fits.entries_are in let f = entries_few_in L.processes (batches_of L w) in room_for (length entries) (omega (arith, e, f)) next
+    pub entries_room : kept.fixed ≡ here.replayed → length kept.entries + L.processes ≤ L.processes * L.capacity
+    entries_room next = let e = ap length at.keeps.fits.entries_are in let f = entries_few_in L.processes (batches_of L w) in room_for (length kept.entries) (omega (arith, e, f)) next
 
-    pub slots_room : fixed ≡ here.replayed → length slots + L.processes ≤ L.processes * L.capacity
-    slots_room next = let e = ap length at.keeps.fits.slots_are in let m = slots_as_many L.processes 0 (batches_of L w) in let f = entries_few_in L.processes (batches_of L w) in room_for (length slots) (omega (arith, e, f, m)) next
+    pub slots_room : kept.fixed ≡ here.replayed → length kept.slots + L.processes ≤ L.processes * L.capacity
+    slots_room next = let e = ap length at.keeps.fits.slots_are in let m = slots_as_many L.processes 0 (batches_of L w) in let f = entries_few_in L.processes (batches_of L w) in room_for (length kept.slots) (omega (arith, e, f, m)) next
 
     may_step : MayStep L w p
     may_step = record { process = at.process; in_call = λ idle. (let f : Runs mine ≡ Idle = sym at.phase_is ∙ idle in cc f) }
@@ -188,7 +187,7 @@ module _ {R : Type 0} (L : Setting R) (Good : R → Type 0) (agrees : Agrees L G
     events_then : IsEventList L (s ++ Step p ∷ [])
     events_then = may_push L s (Step p) at.keeps.events may_step
 
-    module _ (r r' : R) (e : r ≡ get_or rounds here.replayed r) (e' : r' ≡ L.consensus.step p r) where
+    module _ {r r' : R} (e : r ≡ get_or kept.rounds here.replayed r) (e' : r' ≡ L.consensus.step p r) where
       stepped_is : r' ≡ L.consensus.step p (w.round k0)
       stepped_is = e' ∙ ap (L.consensus.step p) (round_is at.keeps at.process mine runs_pending here read r e)
 
@@ -202,7 +201,7 @@ module _ {R : Type 0} (L : Setting R) (Good : R → Type 0) (agrees : Agrees L G
       answer_is o is = ap (answer_from L w p caller) at.phase_is ∙ ap (answer_with L caller.seen mine) (ap (λ z. L.consensus.decided z p) (sym stepped_is) ∙ is)
 
       abbrev more : List Batch
-      more = next_batch fixed here.replayed (L.consensus.fixed r')
+      more = next_batch kept.fixed here.replayed (L.consensus.fixed r')
 
       -- the batches go on with that of the slot that has just been fixed
       batches_then : (w' : World R) → w'.round ≡ put w.round k0 r' → batches_of L w' ≡ batches_of L w ++ more
@@ -214,25 +213,37 @@ module _ {R : Type 0} (L : Setting R) (Good : R → Type 0) (agrees : Agrees L G
           (entries_few L w.round L.capacity 0)
           (λ j i y less h. in_order L Good agrees w runs_holds j i y less h)
           (λ y h. ap L.consensus.fixed stepped_is ∙ agrees.keeps (w.round k0) p y at.process (runs_holds.good k0) h) in
-          ap (fixed_from L L.capacity 0) is ∙ now ∙ next_is bs k0 (L.consensus.fixed r') ∙ ap (λ m. bs ++ next_batch m k0 (L.consensus.fixed r')) (sym at.keeps.fits.fixed_is) ∙ ap (λ k. bs ++ next_batch fixed k (L.consensus.fixed r')) (sym runs_is.replayed)
+          ap (fixed_from L L.capacity 0) is ∙ now ∙ next_is bs k0 (L.consensus.fixed r') ∙ ap (λ m. bs ++ next_batch m k0 (L.consensus.fixed r')) (sym at.keeps.fits.fixed_is)
+          ∙ ap (λ k. bs ++ next_batch kept.fixed k (L.consensus.fixed r')) (sym runs_is.replayed)
 
-      entries_then : (w' : World R) → w'.round ≡ put w.round k0 r' → entries ++ entries_in L.processes more ≡ entries_of L w'
+      entries_then : (w' : World R) → w'.round ≡ put w.round k0 r' → kept.entries ++ entries_in L.processes more ≡ entries_of L w'
       entries_then w' is = ap (λ l. l ++ entries_in L.processes more) at.keeps.fits.entries_are ∙ sym (ap (entries_in L.processes) (batches_then w' is) ∙ entries_put L.processes (batches_of L w) more)
 
-      slots_then : (w' : World R) → w'.round ≡ put w.round k0 r' → slots ++ slots_from L.processes here.replayed more ≡ slots_from L.processes 0 (batches_of L w')
+      slots_then : (w' : World R) → w'.round ≡ put w.round k0 r' → kept.slots ++ slots_from L.processes here.replayed more ≡ slots_from L.processes 0 (batches_of L w')
       slots_then w' is =
-          let z : 0 + length (batches_of L w) ≡ fixed = (let f = at.keeps.fits.fixed_is in omega (arith, f)) in
-          ap (λ l. l ++ slots_from L.processes here.replayed more) at.keeps.fits.slots_are ∙ ap (λ l. slots_from L.processes 0 (batches_of L w) ++ l) (sym (next_slot L.processes fixed here.replayed (L.consensus.fixed r')))
+          let z : 0 + length (batches_of L w) ≡ kept.fixed = (let f = at.keeps.fits.fixed_is in omega (arith, f)) in
+          ap (λ l. l ++ slots_from L.processes here.replayed more) at.keeps.fits.slots_are ∙ ap (λ l. slots_from L.processes 0 (batches_of L w) ++ l) (sym (next_slot L.processes kept.fixed here.replayed (L.consensus.fixed r')))
           ∙ sym (ap (slots_from L.processes 0) (batches_then w' is) ∙ slots_put L.processes 0 (batches_of L w) more ∙ ap (λ i. slots_from L.processes 0 (batches_of L w) ++ slots_from L.processes i more) z)
 
-      fixed_then : (w' : World R) → w'.round ≡ put w.round k0 r' → fixed + length more ≡ length (batches_of L w')
+      fixed_then : (w' : World R) → w'.round ≡ put w.round k0 r' → kept.fixed + length more ≡ length (batches_of L w')
       fixed_then w' is = let e : length (batches_of L w') ≡ length (batches_of L w) + length more = ap length (batches_then w' is) ∙ length-append (batches_of L w) more in let f = at.keeps.fits.fixed_is in omega (arith, e, f)
 
-      pub none_keeps : L.consensus.decided r' p ≡ None → Keeps L (s ++ Step p ∷ []) (slice_set rounds here.replayed r') announced progress (entries ++ entries_in L.processes more) (slots ++ slots_from L.processes here.replayed more) (fixed + length more)
+      -- what is kept after the step, with this progress of each process
+      abbrev pub kept_then : List Progress → Kept R
+      kept_then progresses = record {
+        rounds = slice_set kept.rounds here.replayed r';
+        announced = kept.announced;
+        progress = progresses;
+        entries = kept.entries ++ entries_in L.processes more;
+        slots = kept.slots ++ slots_from L.processes here.replayed more;
+        fixed = kept.fixed + length more;
+      }
+
+      pub none_keeps : L.consensus.decided r' p ≡ None → Keeps L (s ++ Step p ∷ []) (kept_then kept.progress)
       none_keeps is = let fits = at.keeps.fits in record {
         events = events_then;
-        fits = subst (λ v. Fits L v (slice_set rounds here.replayed r') announced progress (entries ++ entries_in L.processes more) (slots ++ slots_from L.processes here.replayed more) (fixed + length more)) (sym (after_is None is)) (record {
-          rounds_many = length-set rounds here.replayed r' ∙ fits.rounds_many;
+        fits = subst (λ v. Fits L v (kept_then kept.progress)) (sym (after_is None is)) (record {
+          rounds_many = length-set kept.rounds here.replayed r' ∙ fits.rounds_many;
           round = λ k less. round_put at.keeps at.process mine runs_pending here read r' k less ∙ ap (λ z. put w.round k0 z k) stepped_is;
           announced_many = fits.announced_many;
           announcement = fits.announcement;
@@ -247,13 +258,14 @@ module _ {R : Type 0} (L : Setting R) (Good : R → Type 0) (agrees : Agrees L G
       pub none_answer : L.consensus.decided r' p ≡ None → Working ≡ answer L s p
       none_answer is = sym (answer_is None is)
 
-      module _ (x : Batch) (is : L.consensus.decided r' p ≡ Some x) where
+      module _ {x : Batch} (is : L.consensus.decided r' p ≡ Some x) where
         -- what is decided was begun
         some_begun : IsBegun L (state_of L (s ++ Step p ∷ [])) k0 x
         some_begun =
             let v = has_begun.0 in
             let w' = state_of L (s ++ Step p ∷ []) in
-            let f : L.consensus.fixed (L.consensus.step p (w.round k0)) ≡ Some x = agrees.decides (L.consensus.step p (w.round k0)) p x at.process (agrees.good_step (w.round k0) p v at.process (runs_holds.good k0) has_begun.1) (ap (λ z. L.consensus.decided z p) (sym stepped_is) ∙ is) in
+            let f : L.consensus.fixed (L.consensus.step p (w.round k0)) ≡ Some x = agrees.decides (L.consensus.step p (w.round k0)) p x at.process
+            (agrees.good_step (w.round k0) p v at.process (runs_holds.good k0) has_begun.1) (ap (λ z. L.consensus.decided z p) (sym stepped_is) ∙ is) in
             let fixed' : L.consensus.fixed (w'.round k0) ≡ Some x = ap (λ (v : World R). L.consensus.fixed (v.round k0)) (after_is (Some x) is) ∙ ap L.consensus.fixed (put_same w.round k0 (L.consensus.step p (w.round k0))) ∙ f in
             fixed_begun L Good agrees w' (holds_after L Good agrees (s ++ Step p ∷ []) events_then) k0 x fixed'
 
@@ -263,12 +275,15 @@ module _ {R : Type 0} (L : Setting R) (Good : R → Type 0) (agrees : Agrees L G
             let b = some_begun in
             known_operation L Good agrees (s ++ Step p ∷ []) events_then e (b.called e (subst (λ i. entry_at x i ≡ Some e) (sym (b.shaped q e there)) there))
 
-        pub some_keeps : (here' : Progress) → here'.replayed ≡ here.replayed + 1 → here'.seen ≡ here.seen + length (members L.processes 0 x) → length here'.calls_seen.calls ≡ 8 → ((q : ℕ) → q < L.processes → count_at here'.calls_seen q ≡ count_at here.calls_seen q + length (and_entry (entry_at x q) [])) → here'.calls ≡ here.calls → here'.phase ≡ phase_after L here.replayed mine x
+        pub some_keeps : (here' : Progress) → here'.replayed ≡ here.replayed + 1 → here'.seen ≡ here.seen + length (members L.processes 0 x) → length here'.calls_seen.calls ≡ 8
+            → ((q : ℕ) → q < L.processes → count_at here'.calls_seen q ≡ count_at here.calls_seen q + length (and_entry (entry_at x q) [])) → here'.calls ≡ here.calls
+            → here'.phase ≡ phase_after L here.replayed mine x
             → here'.state.0 ≡ state_after L.object here.state.0 (operations_of (members L.processes 0 x)) → here'.state.0 < length L.object.states
-            → Keeps L (s ++ Step p ∷ []) (slice_set rounds here.replayed r') announced (slice_set progress p here') (entries ++ entries_in L.processes more) (slots ++ slots_from L.processes here.replayed more) (fixed + length more)
+            → Keeps L (s ++ Step p ∷ []) (kept_then (slice_set kept.progress p here'))
         some_keeps here' replayed seen places calls_seen calls phase state known =
             let c : Caller = record { seen = caller.seen ++ x ∷ []; calls = caller.calls; phase = phase_after L k0 mine x } in
-            let all : entries_in L.processes (caller.seen ++ x ∷ []) ≡ entries_in L.processes caller.seen ++ members L.processes 0 x = entries_put L.processes caller.seen (x ∷ []) ∙ ap (λ l. entries_in L.processes caller.seen ++ l) (append-nil (members L.processes 0 x)) in
+            let all : entries_in L.processes (caller.seen ++ x ∷ []) ≡ entries_in L.processes caller.seen ++ members L.processes 0 x = entries_put L.processes caller.seen (x ∷ [])
+            ∙ ap (λ l. entries_in L.processes caller.seen ++ l) (append-nil (members L.processes 0 x)) in
             let now : IsProgressOf L here' c = record {
               replayed = (let n : length (caller.seen ++ x ∷ []) ≡ length caller.seen + 1 = length-append caller.seen (x ∷ []) in let a = runs_is.replayed in omega arith);
               seen = (let n = ap length all ∙ length-append (entries_in L.processes caller.seen) (members L.processes 0 x) in let a = runs_is.seen in omega (arith, seen, n, a));
@@ -282,25 +297,28 @@ module _ {R : Type 0} (L : Setting R) (Good : R → Type 0) (agrees : Agrees L G
                   );
               calls = calls ∙ runs_is.calls;
               phase = phase ∙ ap (λ k. phase_after L k mine x) runs_is.replayed;
-              state = state ∙ ap (λ z. state_after L.object z (operations_of (members L.processes 0 x))) runs_is.state ∙ sym (run_join L.object L.start (entries_in L.processes caller.seen) (members L.processes 0 x)) ∙ ap (λ l. state_after L.object L.start (operations_of l)) (sym all);
+              state = state ∙ ap (λ z. state_after L.object z (operations_of (members L.processes 0 x))) runs_is.state
+                  ∙ sym (run_join L.object L.start (entries_in L.processes caller.seen) (members L.processes 0 x)) ∙ ap (λ l. state_after L.object L.start (operations_of l)) (sym all);
               known = known;
             } in
             record {
               events = events_then;
-              fits = subst (λ v. Fits L v (slice_set rounds here.replayed r') announced (slice_set progress p here') (entries ++ entries_in L.processes more) (slots ++ slots_from L.processes here.replayed more) (fixed + length more)) (sym (after_is (Some x) is))
-                  (fits_put at.keeps at.process mine runs_pending here read r' here' c now (after_with (Some x)) (ap (put w.round k0) (sym stepped_is)) refl refl _ _ _
-                  (entries_then (after_with (Some x)) (ap (put w.round k0) (sym stepped_is))) (slots_then (after_with (Some x)) (ap (put w.round k0) (sym stepped_is))) (fixed_then (after_with (Some x)) (ap (put w.round k0) (sym stepped_is))));
+              fits = subst (λ v. Fits L v (kept_then (slice_set kept.progress p here'))) (sym (after_is (Some x) is))
+                  (fits_put at.keeps at.process mine runs_pending here read r' here' c now (after_with (Some x)) (ap (put w.round k0) (sym stepped_is)) refl refl (kept_then kept.progress)
+                  (entries_then (after_with (Some x)) (ap (put w.round k0) (sym stepped_is))) (slots_then (after_with (Some x)) (ap (put w.round k0) (sym stepped_is)))
+                  (fixed_then (after_with (Some x)) (ap (put w.round k0) (sym stepped_is))));
             }
 
         -- what is answered is the response at its place in the batch
-        reply_at : transition L.object mine.operation.0 (state_after L.object (object_after L (entries_in L.processes caller.seen)) (operations_of (members mine.process 0 x))) ≡ transition L.object mine.operation.0 (object_after L (entries_in L.processes caller.seen ++ members mine.process 0 x))
+        reply_at : transition L.object mine.operation.0 (state_after L.object (object_after L (entries_in L.processes caller.seen)) (operations_of (members mine.process 0 x)))
+            ≡ transition L.object mine.operation.0 (object_after L (entries_in L.processes caller.seen ++ members mine.process 0 x))
         reply_at = ap (transition L.object mine.operation.0) (sym (run_join L.object L.start (entries_in L.processes caller.seen) (members mine.process 0 x)))
 
         pub some_answer : (a : StepAnswer) → a ≡ reply L here.replayed here.state.0 mine x → a ≡ answer L s p
         some_answer a h = h ∙ ap (λ k. reply L k here.state.0 mine x) runs_is.replayed ∙ ap (λ z. reply L k0 z mine x) runs_is.state
             ∙ ap (λ (z : ℕ × ℕ). if has x mine then Answered k0 (record { 0 = z.0 }) else (if k0 + 1 == L.capacity then Full else Working)) reply_at ∙ sym (answer_is (Some x) is)
 
-  module _ (mine : Entry) (q : ℕ) (batch : Batch) (at : IsAt L s rounds announced progress entries slots fixed p (Looks mine q batch)) (here : Progress) (read : here ≡ get_or progress p here) where
+  module _ {mine : Entry} {q : ℕ} {batch : Batch} (at : IsAt L s kept p (Looks mine q batch)) {here : Progress} (read : here ≡ get_or kept.progress p here) where
     looks_holds : Holds L Good w
     looks_holds = holds_after L Good agrees s at.keeps.events
 
@@ -313,13 +331,13 @@ module _ {R : Type 0} (L : Setting R) (Good : R → Type 0) (agrees : Agrees L G
     pub looks_next : q < L.processes
     looks_next = looking.next
 
-    pub looks_in_announced : q < length announced
+    pub looks_in_announced : q < length kept.announced
     looks_in_announced = let a = looking.next in let b = at.keeps.fits.announced_many in omega (arith, a, b)
 
-    pub looks_in_rounds : here.replayed < length rounds
+    pub looks_in_rounds : here.replayed < length kept.rounds
     looks_in_rounds = in_rounds at.keeps at.process mine looking.pending here read
 
-    pub looks_good : (r : R) → r ≡ get_or rounds here.replayed r → Good r
+    pub looks_good : (r : R) → r ≡ get_or kept.rounds here.replayed r → Good r
     looks_good r e = round_good at.keeps at.process mine looking.pending here read r e
 
     looks_may_step : MayStep L w p
@@ -329,48 +347,58 @@ module _ {R : Type 0} (L : Setting R) (Good : R → Type 0) (agrees : Agrees L G
     abbrev v : Batch
     v = gathered (w.announced q) (entries_in L.processes caller.seen) q batch
 
-    pub gathered_is : (b : Batch) → b ≡ gathered_by (get_or announced q None) (count_at here.calls_seen q) q batch → b ≡ v
+    pub gathered_is : (b : Batch) → b ≡ gathered_by (get_or kept.announced q None) (count_at here.calls_seen q) q batch → b ≡ v
     gathered_is b e = e ∙ ap (λ o. gathered_by o (count_at here.calls_seen q) q batch) (at.keeps.fits.announcement q looking.next) ∙ ap (λ c. gathered_by (w.announced q) c q batch) (looks_is.calls_seen q looking.next)
         ∙ gathered_by_number L Good agrees s at.keeps.events p q batch
 
     now_is : (last : Bool) → (q + 1 == L.processes) ≡ last → state_of L (s ++ Step p ∷ []) ≡ after_gathering L w p caller mine q v last
     now_is last e = state_push L s (Step p) ∙ ap (λ ph. after_step L w p caller ph) at.phase_is ∙ ap (after_gathering L w p caller mine q v) e
 
-    progress_now : (phase : Phase) → IsProgressOf L (record { replayed = here.replayed; seen = here.seen; calls_seen = here.calls_seen; calls = here.calls; phase = phase; state = here.state }) (record { seen = caller.seen; calls = caller.calls; phase = phase })
-    progress_now phase = record { replayed = looks_is.replayed; seen = looks_is.seen; calls_places = looks_is.calls_places; calls_seen = looks_is.calls_seen; calls = looks_is.calls; phase = refl; state = looks_is.state; known = looks_is.known }
+    progress_now : (phase : Phase) → IsProgressOf L (record here { phase = phase }) (record { seen = caller.seen; calls = caller.calls; phase = phase })
+    progress_now phase = record {
+      replayed = looks_is.replayed;
+      seen = looks_is.seen;
+      calls_places = looks_is.calls_places;
+      calls_seen = looks_is.calls_seen;
+      calls = looks_is.calls;
+      phase = refl;
+      state = looks_is.state;
+      known = looks_is.known;
+    }
 
     pub gather_keeps : (b : Batch) → b ≡ v → (q + 1 == L.processes) ≡ false
-        → Keeps L (s ++ Step p ∷ []) rounds announced (slice_set progress p (record { replayed = here.replayed; seen = here.seen; calls_seen = here.calls_seen; calls = here.calls; phase = Looks mine (q + 1) b; state = here.state })) entries slots fixed
+        → Keeps L (s ++ Step p ∷ []) (record kept { progress = slice_set kept.progress p (record here { phase = Looks mine (q + 1) b }) })
     gather_keeps b same last =
         let c : Caller = record { seen = caller.seen; calls = caller.calls; phase = Looks mine (q + 1) b } in
-        let x : Progress = record { replayed = here.replayed; seen = here.seen; calls_seen = here.calls_seen; calls = here.calls; phase = Looks mine (q + 1) b; state = here.state } in
+        let x : Progress = record here { phase = Looks mine (q + 1) b } in
         let fits = at.keeps.fits in
-        let now : state_of L (s ++ Step p ∷ []) ≡ record w { caller = put w.caller p c } = now_is false last ∙ ap (λ (z : Batch). record w { caller = put w.caller p (record { seen = caller.seen; calls = caller.calls; phase = Looks mine (q + 1) z }) }) (sym same) in
+        let now : state_of L (s ++ Step p ∷ []) ≡ record w { caller = put w.caller p c } = now_is false last
+        ∙ ap (λ (z : Batch). record w { caller = put w.caller p (record { seen = caller.seen; calls = caller.calls; phase = Looks mine (q + 1) z }) }) (sym same) in
         record {
           events = may_push L s (Step p) at.keeps.events looks_may_step;
-          fits = subst (λ z. Fits L z rounds announced (slice_set progress p x) entries slots fixed) (sym now) (record {
+          fits = subst (λ z. Fits L z (record kept { progress = slice_set kept.progress p x })) (sym now) (record {
             rounds_many = fits.rounds_many;
             round = fits.round;
             announced_many = fits.announced_many;
             announcement = fits.announcement;
-            progress_many = length-set progress p x ∙ fits.progress_many;
-            caller = λ i less. progress_put L w rounds announced progress entries slots fixed fits p at.process x c (progress_now (Looks mine (q + 1) b)) i less;
+            progress_many = length-set kept.progress p x ∙ fits.progress_many;
+            caller = λ i less. progress_put L fits at.process x c (progress_now (Looks mine (q + 1) b)) i less;
             entries_are = fits.entries_are;
             slots_are = fits.slots_are;
             fixed_is = fits.fixed_is;
           });
         }
 
-    pub looks_not_begun : (q + 1 == L.processes) ≡ true → (r : R) → r ≡ get_or rounds here.replayed r → L.consensus.input r p ≡ None
+    pub looks_not_begun : (q + 1 == L.processes) ≡ true → (r : R) → r ≡ get_or kept.rounds here.replayed r → L.consensus.input r p ≡ None
     looks_not_begun last r e = ap (λ z. L.consensus.input z p) (round_is at.keeps at.process mine looking.pending here read r e) ∙ not_begun L Good agrees w looks_holds p at.process mine q batch at.phase_is last
 
-    pub begin_keeps : (r r' : R) → r ≡ get_or rounds here.replayed r → (b : Batch) → b ≡ v → r' ≡ L.consensus.begin p b r → (q + 1 == L.processes) ≡ true
-        → Keeps L (s ++ Step p ∷ []) (slice_set rounds here.replayed r') announced (slice_set progress p (record { replayed = here.replayed; seen = here.seen; calls_seen = here.calls_seen; calls = here.calls; phase = Runs mine; state = here.state })) entries slots fixed
+    pub begin_keeps : (r r' : R) → r ≡ get_or kept.rounds here.replayed r → (b : Batch) → b ≡ v → r' ≡ L.consensus.begin p b r → (q + 1 == L.processes) ≡ true
+        → Keeps L (s ++ Step p ∷ []) (record kept { rounds = slice_set kept.rounds here.replayed r'; progress = slice_set kept.progress p (record here { phase = Runs mine }) })
     begin_keeps r r' e b chose e' last =
         let begun : R = L.consensus.begin p v (w.round k0) in
         let r'_is : r' ≡ begun = e' ∙ ap (λ c. L.consensus.begin p c r) chose ∙ ap (L.consensus.begin p v) (round_is at.keeps at.process mine looking.pending here read r e) in
         let c : Caller = record { seen = caller.seen; calls = caller.calls; phase = Runs mine } in
-        let x : Progress = record { replayed = here.replayed; seen = here.seen; calls_seen = here.calls_seen; calls = here.calls; phase = Runs mine; state = here.state } in
+        let x : Progress = record here { phase = Runs mine } in
         let same : (k : ℕ) → L.consensus.fixed (put w.round k0 begun k) ≡ L.consensus.fixed (w.round k) = λ k. elim (cases_eq k k0) [
           | inl f ↦ rw (f, put_same w.round k0 begun) (agrees.quiet (w.round k0) p v)
           | inr ne ↦ ap L.consensus.fixed (put_other w.round k0 begun k ne)
@@ -378,7 +406,7 @@ module _ {R : Type 0} (L : Setting R) (Good : R → Type 0) (agrees : Agrees L G
         let bs : batches_of L (after_gathering L w p caller mine q v true) ≡ batches_of L w = fixed_from_same L w.round (put w.round k0 begun) same L.capacity 0 in
         record {
           events = may_push L s (Step p) at.keeps.events looks_may_step;
-          fits = subst (λ z. Fits L z (slice_set rounds here.replayed r') announced (slice_set progress p x) entries slots fixed) (sym (now_is true last))
-              (fits_put at.keeps at.process mine looking.pending here read r' x c (progress_now (Runs mine)) (after_gathering L w p caller mine q v true) (ap (put w.round k0) (sym r'_is)) refl refl entries slots fixed
+          fits = subst (λ z. Fits L z (record kept { rounds = slice_set kept.rounds here.replayed r'; progress = slice_set kept.progress p x })) (sym (now_is true last))
+              (fits_put at.keeps at.process mine looking.pending here read r' x c (progress_now (Runs mine)) (after_gathering L w p caller mine q v true) (ap (put w.round k0) (sym r'_is)) refl refl kept
               (at.keeps.fits.entries_are ∙ ap (entries_in L.processes) (sym bs)) (at.keeps.fits.slots_are ∙ ap (slots_from L.processes 0) (sym bs)) (at.keeps.fits.fixed_is ∙ ap length (sym bs)));
         }

@@ -1,4 +1,5 @@
--- What makes an event of a log atomic: it touches one announcement, or one object or one register in the round of one slot, and what its process does next rests on nothing else that is shared.
+-- What makes an event of a log atomic: it touches one announcement, or one object or one register in the round of one slot, and what its process does next
+-- rests on nothing else that is shared.
 use Rattle.std.specs.Prelude.{ℕ, ◌≡◌, ◌≢◌, ◌+◌, ◌==◌, Bool, true, false, List, [], ◌∷◌, ◌++◌, length, Option, Some, None}
 use Rattle.cn_proto.specs.Plan.{protocol_of, processes_of}
 use Rattle.cn_proto.specs.Protocol.{place_of}
@@ -47,7 +48,8 @@ module _ (o : Opening) where
   -- what process p touches in the round of slot k, by its local state there: what its next action touches
   abbrev pub touched_in : ℕ → ℕ → Local Batch → Option LogPart
   touched_in p k NotBegun = None
-  touched_in p k (Active i x stage) = Some (InRound k (place_of (protocol_of o.plan) p i).node (touched (protocol_of o.plan) (place_of (protocol_of o.plan) p i) stage))
+  touched_in p k (Active i x stage) = Some (InRound k (place_of (protocol_of o.plan) p i).node
+      (touched (protocol_of o.plan) (place_of (protocol_of o.plan) p i) stage))
   touched_in p k (Decided y) = None
 
   -- what a step touches: a look the announcement that it reads, and else what the next action in the round of the slot touches
@@ -67,7 +69,8 @@ module _ (o : Opening) where
     pub rounds : (k : ℕ) → w'.round k ≡ w.round k
     pub caller : w'.caller p ≡ record { seen = (w.caller p).seen; calls = (w.caller p).calls + 1; phase = first_look (call_of p operation (w.caller p).calls) }
 
-  -- after a look, by whether it was the last: process p looks on with what it has gathered, and no round changes; or it begins with that in the round of its slot, which is no step of the round, and runs there from now on
+  -- after a look, by whether it was the last: process p looks on with what it has gathered, and no round changes; or it begins with that in the round of
+  -- its slot, which is no step of the round, and runs there from now on
   abbrev pub LooksOn : LogWorld → ℕ → Caller → Entry → ℕ → Batch → Bool → LogWorld → Type 0
   LooksOn w p here mine q batch false w' = (w'.round (length here.seen) ≡ w.round (length here.seen))
       × (w'.caller p ≡ record here { phase = Looks mine (q + 1) batch })
@@ -120,7 +123,8 @@ module _ (o : Opening) where
     pub other_parts : (part : LogPart) → touched_by (after events) e ≢ Some part → log_content (after (events ++ e ∷ [])) part ≡ log_content (after events) part
     pub other_processes : (q : ℕ) → q ≢ process_of e → IsSameLocally q (after (events ++ e ∷ [])) (after events)
     pub happens : Happens (after events) e (after (events ++ e ∷ []))
-    -- it can come in every log that looks alike to its process, and there it leads the process to the same local state, leaves the same in what it touches and answers the same
+    -- it can come in every log that looks alike to its process, and there it leads the process to the same local state, leaves the same in what it touches
+    -- and answers the same
     pub comes : (others : List Event) → IsEventList (setting_of o) others → LogsLookAlike events others e → IsEventList (setting_of o) (others ++ e ∷ [])
     pub local : (others : List Event) → IsEventList (setting_of o) others → LogsLookAlike events others e
         → IsSameLocally (process_of e) (after (events ++ e ∷ [])) (after (others ++ e ∷ []))

@@ -6,7 +6,8 @@ use Rattle.cn_agree.specs.Steps.{begun, after_step}
 use Rattle.cn_agree.specs.Rounds.{decision_at, fixed_value, steps_taken}
 use Rattle.cn_log.specs.declared.batch.Batch.{Batch}
 
--- consensus on a batch: a process begins with a batch, or takes a step; what it began with, what it has decided, what the round has fixed, and how many steps it has taken
+-- consensus on a batch: a process begins with a batch, or takes a step; what it began with, what it has decided, what the round has fixed, and how many
+-- steps it has taken
 pub record Consensus (R : Type 0) : Type 0 where
   pub begin : ℕ → Batch → R → R
   pub step : ℕ → R → R

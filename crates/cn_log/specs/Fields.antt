@@ -16,6 +16,7 @@ use Rattle.cn_log.specs.declared.log_state.LogState.{LogState}
 use Rattle.cn_log.specs.declared.progress.Progress.{Progress}
 use Rattle.cn_log.specs.Opening.{Opening, setting_of}
 use Rattle.cn_proto.specs.Plan.{processes_of}
+use Rattle.cn_agree.specs.World.{World as RoundWorld}
 use Rattle.std.specs.Vec.{vec_capacity}
 use Rattle.cn_log.specs.Log.{Setting, World, Caller, object_after, operations_of, batches_of, entries_of, entries_of_batches, state_of, IsEventList}
 
@@ -39,6 +40,16 @@ abbrev pub next_batch : ℕ → ℕ → Option Batch → List Batch
 next_batch many k None = []
 next_batch many k (Some b) = if many == k then b ∷ [] else []
 
+-- what is kept of a log: the round of each slot, the announcement register of each process, how far each process has come, the entries of the
+-- fixed slots, each with its slot, and how many slots are fixed
+pub record Kept (R : Type 0) : Type 0 where
+  pub rounds : List R
+  pub announced : List (Option Entry)
+  pub progress : List Progress
+  pub entries : List Entry
+  pub slots : List ℕ
+  pub fixed : ℕ
+
 module _ {R : Type 0} (L : Setting R) where
   -- what a process answers with this call pending that replays batch x in slot k, where its copy of the object is in this state
   abbrev pub reply : ℕ → ℕ → Entry → Batch → StepAnswer
@@ -58,36 +69,47 @@ module _ {R : Type 0} (L : Setting R) where
     pub state : progress.state.0 ≡ object_after L (entries_of_batches L caller.seen)
     pub known : progress.state.0 < length L.object.states
 
-  -- the fields are this state
-  pub record Fits (w : World R) (rounds : List R) (announced : List (Option Entry)) (progress : List Progress) (entries : List Entry) (slots : List ℕ) (fixed : ℕ) : Type 0 where
-    pub rounds_many : length rounds ≡ L.capacity
-    pub round : (k : ℕ) → k < L.capacity → slice_index_or rounds k L.untouched ≡ w.round k
-    pub announced_many : length announced ≡ L.processes
-    pub announcement : (p : ℕ) → p < L.processes → slice_index_or announced p None ≡ w.announced p
-    pub progress_many : length progress ≡ L.processes
-    pub caller : (p : ℕ) → p < L.processes → IsProgressOf (slice_index_or progress p no_progress) (w.caller p)
-    pub entries_are : entries ≡ entries_of L w
-    pub slots_are : slots ≡ slots_from L.processes 0 (batches_of L w)
-    pub fixed_is : fixed ≡ length (batches_of L w)
+  -- this state is kept
+  pub record Fits (w : World R) (kept : Kept R) : Type 0 where
+    pub rounds_many : length kept.rounds ≡ L.capacity
+    pub round : (k : ℕ) → k < L.capacity → slice_index_or kept.rounds k L.untouched ≡ w.round k
+    pub announced_many : length kept.announced ≡ L.processes
+    pub announcement : (p : ℕ) → p < L.processes → slice_index_or kept.announced p None ≡ w.announced p
+    pub progress_many : length kept.progress ≡ L.processes
+    pub caller : (p : ℕ) → p < L.processes → IsProgressOf (slice_index_or kept.progress p no_progress) (w.caller p)
+    pub entries_are : kept.entries ≡ entries_of L w
+    pub slots_are : kept.slots ≡ slots_from L.processes 0 (batches_of L w)
+    pub fixed_is : kept.fixed ≡ length (batches_of L w)
 
-  -- the fields are the state after the schedule
-  pub record Keeps (schedule : List Event) (rounds : List R) (announced : List (Option Entry)) (progress : List Progress) (entries : List Entry) (slots : List ℕ) (fixed : ℕ) : Type 0 where
+  -- the state after the schedule is kept
+  pub record Keeps (schedule : List Event) (kept : Kept R) : Type 0 where
     pub events : IsEventList L schedule
-    pub fits : Fits (state_of L schedule) rounds announced progress entries slots fixed
+    pub fits : Fits (state_of L schedule) kept
 
   -- and process p is in this phase
-  pub record IsAt (schedule : List Event) (rounds : List R) (announced : List (Option Entry)) (progress : List Progress) (entries : List Entry) (slots : List ℕ) (fixed : ℕ) (p : ℕ) (phase : Phase) : Type 0 where
-    pub keeps : Keeps schedule rounds announced progress entries slots fixed
+  pub record IsAt (schedule : List Event) (kept : Kept R) (p : ℕ) (phase : Phase) : Type 0 where
+    pub keeps : Keeps schedule kept
     pub process : p < L.processes
     pub phase_is : ((state_of L schedule).caller p).phase ≡ phase
 
+-- what the fields of a core keep
+abbrev pub kept_in : LogState → Kept (RoundWorld Batch)
+kept_in state = record {
+  rounds = state.rounds.items;
+  announced = state.announced.items;
+  progress = state.progress.items;
+  entries = state.entries.items;
+  slots = state.slots.items;
+  fixed = state.fixed;
+}
+
 -- the state of a core is that after the schedule
 abbrev pub IsStateAfter : Opening → List Event → LogState → Type 0
-IsStateAfter o schedule state = Keeps (setting_of o) schedule state.rounds.items state.announced.items state.progress.items state.entries.items state.slots.items state.fixed
+IsStateAfter o schedule state = Keeps (setting_of o) schedule (kept_in state)
 
 -- and process p is in this phase
 abbrev pub IsStateAt : Opening → List Event → LogState → ℕ → Phase → Type 0
-IsStateAt o schedule state p phase = IsAt (setting_of o) schedule state.rounds.items state.announced.items state.progress.items state.entries.items state.slots.items state.fixed p phase
+IsStateAt o schedule state p phase = IsAt (setting_of o) schedule (kept_in state) p phase
 
 -- the state has room for an entry of each process in each slot
 pub record HasRoom (o : Opening) (state : LogState) : Type 0 where

@@ -2,6 +2,7 @@ pub mod Agreement
 pub mod AtomicEvent
 pub mod Batches
 pub mod Bypass
+pub mod CallEnds
 pub mod Callers
 pub mod Consensus
 pub mod FaultText

@@ -14,7 +14,8 @@ use Rattle.cn_log.specs.declared.event.StepAnswer.TheVariants.{Working, Answered
 use Rattle.cn_log.specs.declared.progress.Phase.{Phase}
 use Rattle.cn_log.specs.declared.progress.Phase.TheVariants.{Idle, Looks, Runs}
 
--- what a log runs by: consensus in each slot and a round in which nothing has happened, how many processes and slots there are, and the object with its start state
+-- what a log runs by: consensus in each slot and a round in which nothing has happened, how many processes and slots there are, and the object with its
+-- start state
 pub record Setting (R : Type 0) : Type 0 where
   pub consensus : Consensus R
   pub untouched : R
@@ -54,7 +55,8 @@ has_entry entries e = list_any (λ f. same_entry f e) entries
 abbrev pub operations_of : List Entry → List ℕ
 operations_of entries = map (λ e. e.operation.0) entries
 
--- what a process has gathered that has read the announcement of process q: also the call that it finds there, unless that stands in the slots that it has replayed
+-- what a process has gathered that has read the announcement of process q: also the call that it finds there, unless that stands in the slots that it has
+-- replayed
 abbrev pub gathered : Option Entry → List Entry → ℕ → Batch → Batch
 gathered None seen q batch = batch
 gathered (Some other) seen q batch = if has_entry seen other then batch else with_entry batch q other
@@ -81,7 +83,8 @@ module _ {R : Type 0} (L : Setting R) where
   abbrev pub entries_of_batches : List Batch → List Entry
   entries_of_batches batches = entries_in L.processes batches
 
-  -- the response of the object to a call in this batch, behind these batches: that after the entries of the batches, and those of the processes before in its own batch
+  -- the response of the object to a call in this batch, behind these batches: that after the entries of the batches, and those of the processes before in
+  -- its own batch
   abbrev pub response_in : List Batch → Batch → Entry → ℕ
   response_in batches batch e = response_after (entries_of_batches batches ++ members e.process 0 batch) e.operation.0
 
@@ -108,7 +111,8 @@ module _ {R : Type 0} (L : Setting R) where
         history = Called e (length (batches_of w)) ∷ w.history;
       }
 
-  -- process p, with this call pending, has read the announcement of process q and gathered this batch; after the last it begins with the batch in the round of its slot
+  -- process p, with this call pending, has read the announcement of process q and gathered this batch; after the last it begins with the batch in the round
+  -- of its slot
   abbrev pub after_gathering : World R → ℕ → Caller → Entry → ℕ → Batch → Bool → World R
   after_gathering w p here mine q batch false = record w { caller = put w.caller p (record here { phase = Looks mine (q + 1) batch }) }
   after_gathering w p here mine q batch true =
@@ -209,7 +213,8 @@ module _ {R : Type 0} (L : Setting R) where
   abbrev pub entries : List Event → List Entry
   entries events = entries_of (state_of events)
 
-  -- what a process that has replayed these batches answers, with this call pending, once it has decided: the call is answered with its slot and its response where it is in what was decided
+  -- what a process that has replayed these batches answers, with this call pending, once it has decided: the call is answered with its slot and its
+  -- response where it is in what was decided
   abbrev pub answer_with : List Batch → Entry → Option Batch → StepAnswer
   answer_with seen mine None = Working
   answer_with seen mine (Some x) =

@@ -21,7 +21,8 @@ steps_of p events = count_by (is_step_of p) events
 abbrev pub steps_between : ℕ → List Event → ℕ → ℕ → ℕ
 steps_between p events i j = steps_of p (drop (suc i) (take j events))
 
--- a slot costs a process n looks and at most 4 (n - 1) steps of the round, and so many slots at most a call each beside; and one event more for each of n processes
+-- a slot costs a process n looks and at most 4 (n - 1) steps of the round, and so many slots at most a call each beside; and one event more for each of n
+-- processes
 abbrev pub event_room : ℕ → ℕ → ℕ
 event_room n slots = n * (slots * (5 * n - 3) + 1)
 

@@ -1,5 +1,5 @@
 //! What a slot of the log takes.
-ghost use Rattle.std.specs.Prelude.{◌≡◌, ◌≤◌, ◌<◌, ◌+◌, ◌++◌, ℕ, Some, length, map};
+ghost use Rattle.std.specs.Prelude.{◌≡◌, ◌≤◌, ◌<◌, ◌+◌, ◌++◌, ℕ, Some, length};
 ghost use Rattle.cn_log.specs.Batches.{no_entries, each_slot, entry_at, has, members, with_entry};
 ghost use Rattle.cn_log.specs.declared.entry.Entry.{Entry as EntryOf};
 ghost use Rattle.std.specs.Vec.{vec_len, vec_capacity};

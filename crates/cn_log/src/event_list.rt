@@ -1,19 +1,19 @@
 //! A core of a list of events.
-ghost use Rattle.std.specs.Prelude.{◌≡◌, ◌≢◌, ◌<◌, ◌≤◌, ◌++◌, ◌∷◌, [], List, length, IfErr, IfOk, OnErr, OnOk, None};
+ghost use Rattle.std.specs.Prelude.{◌≡◌, ◌≢◌, ◌<◌, ◌≤◌, ◌++◌, List, length, IfErr, IfOk, OnOk};
 ghost use Rattle.cn_log.specs.declared.event.Event.{Event as EventOf};
 ghost use Rattle.cn_log.specs.declared.fault.ReplayFault.TheVariants.{OutOfMemory};
 ghost use Rattle.cn_log.specs.Bypass.{IsBypassBounded};
-ghost use Rattle.cn_log.specs.Faults.{IsFirstFault, event_fault};
+ghost use Rattle.cn_log.specs.Faults.{IsFirstFault};
 ghost use Rattle.cn_log.specs.Linearized.{BeginsInTurn, Grows, IsLinearized};
-ghost use Rattle.cn_log.specs.Log.{MayCome, IsEventList, state_of};
-ghost use Rattle.cn_log.specs.Opening.{opening_of, setting, setting_of};
+ghost use Rattle.cn_log.specs.Log.{IsEventList};
+ghost use Rattle.cn_log.specs.Opening.{opening_of, setting_of};
 ghost use Rattle.cn_log.specs.OwnSteps.{IsWaitFree};
 
 use crate::event::Event;
 use crate::fault::ReplayFault;
 use crate::log_core::LogCore;
 use cn_proto::Plan;
-use cn_table::{Operation, State, Table};
+use cn_table::{State, Table};
 use std::alloc::Global;
 
 /// The core in which these events happened, one after the other.
@@ -49,57 +49,9 @@ pub fn replay(
     ensures wait_free { OnOk result (IsWaitFree (setting_of (opening_of plan.now object.now start.0 capacity)) events.now) }
 {
     let mut core = LogCore::new(alloc, plan, object, start, capacity)?;
-    for (place, event) in events.iter().enumerate() {
-        if let Some(fault) = fault_of(&core, place as u64, *event) {
-            return Err(fault);
-        }
-        come(&mut core, *event);
+    for event in events {
+        core.take(*event)?;
     }
     core.is_linearized();
     Ok(core)
-}
-
-/// Why the event cannot come as event `place`, if it cannot.
-fn fault_of(core: &LogCore, place: u64, event: Event) -> Option<ReplayFault>
-    ensures fault { result ≡ event_fault (setting core.now) (state_of (setting core.now) core.now.schedule) place event }
-    ensures events { IsEventList (setting core.now) core.now.schedule }
-{
-    core.is_linearized();
-    let (Event::Invoke(p, _) | Event::Step(p)) = event;
-    if p >= core.processes() {
-        return Some(ReplayFault::NoSuchProcess(place));
-    }
-    match event {
-        Event::Invoke(p, operation) => {
-            if operation >= core.operations() {
-                Some(ReplayFault::NoSuchOperation(place))
-            } else if !core.is_idle(p) {
-                Some(ReplayFault::NotIdle(place))
-            } else if core.at_end(p) {
-                Some(ReplayFault::AtEnd(place))
-            } else {
-                None
-            }
-        }
-        Event::Step(p) => {
-            if core.is_idle(p) {
-                Some(ReplayFault::Idle(place))
-            } else {
-                None
-            }
-        }
-    }
-}
-
-/// The event comes.
-fn come(core: &mut LogCore, event: Event)
-    requires { MayCome (setting core.old) (state_of (setting core.old) core.old.schedule) event }
-    ensures { core.new ≡ record core.old { schedule = core.old.schedule ++ event ∷ [] } }
-{
-    match event {
-        Event::Invoke(p, operation) => core.invoke(p, Operation(operation)),
-        Event::Step(p) => {
-            core.step(p);
-        }
-    }
 }

@@ -1,6 +1,10 @@
 //! Laws of the log. A law is a function that does nothing: its contract is the law.
 ghost use Rattle.std.specs.Prelude.{◌≡◌, ◌<◌, ◌↔◌, ◌+◌, ◌++◌, ◌∷◌, [], ℕ, List, length, None, Some};
-ghost use Rattle.cn_proto.specs.Plan.{processes_of};
+ghost use Rattle.cn_proto.specs.Plan.{nodes_of, processes_of, IsPlan};
+ghost use Rattle.cn_agree.specs.Rounds.{RunsBy};
+ghost use Rattle.cn_agree.specs.World.{World as RoundWorld, input_at, local_at};
+ghost use Rattle.cn_agree.specs.declared.local.Local.TheVariants.{NotBegun};
+ghost use Rattle.cn_log.specs.Agreement.{Agrees};
 ghost use Rattle.cn_log.specs.AtomicEvent.{IsAtomicEvent};
 ghost use Rattle.cn_log.specs.Bypass.{IsBypassBounded};
 ghost use Rattle.cn_log.specs.Callers.{BeginsWith, HasReplayedBy, HasReplayedItsOwn, IsPendingCall, IsStepped, Without, call_of, caller_of, calls_by, entries_by, pending_in, seen_of};
@@ -9,6 +13,7 @@ ghost use Rattle.cn_log.specs.Faults.{event_fault};
 ghost use Rattle.cn_log.specs.Log.{IsEventList, MayCome, answer, batches, entries, first_look, state_of};
 ghost use Rattle.cn_log.specs.Opening.{IsOpening, Opening as OpeningOf, setting_of};
 ghost use Rattle.cn_log.specs.OwnSteps.{IsWaitFree, event_room};
+ghost use Rattle.cn_log.specs.declared.batch.Batch.{Batch as BatchOf};
 ghost use Rattle.cn_log.specs.declared.entry.Entry.{Entry as EntryOf};
 ghost use Rattle.cn_log.specs.declared.event.Event.{Event as EventOf};
 ghost use Rattle.cn_log.specs.declared.event.Event.TheVariants.{Invoke, Step};
@@ -16,6 +21,19 @@ ghost use Rattle.cn_log.specs.declared.event.Event.TheVariants.{Invoke, Step};
 use crate::batch::Batch;
 use cn_agree::laws::{atomic_steps, every_round};
 use cn_proto::laws::every_plan;
+
+/// The law of rounds: `agrees`, those of a plan are what a log needs; `begun` and `sizes`, what stands
+/// in them for each process.
+pub(crate) fn rounds_agree()
+    ensures agrees { (o : OpeningOf) → IsPlan o.plan → Agrees (setting_of o) (RunsBy o.plan) }
+    ensures begun { (o : OpeningOf) → IsPlan o.plan → (w : RoundWorld BatchOf) → RunsBy o.plan w → (p : ℕ) → p < processes_of o.plan
+        → (local_at w p ≡ NotBegun) ↔ (input_at w p ≡ None) }
+    ensures sizes { (o : OpeningOf) → IsPlan o.plan → (w : RoundWorld BatchOf) → RunsBy o.plan w → (length w.nodes ≡ nodes_of o.plan)
+        × (length w.locals ≡ processes_of o.plan) × (length w.inputs ≡ processes_of o.plan) }
+{
+    every_plan();
+    every_round::<Batch>();
+}
 
 /// The law of logs, for every plan, object, start state, number of slots and list of events:
 /// `linearized`, the answers are those of one sequential run of the calls in the order of the log;
@@ -33,8 +51,7 @@ pub fn every_log()
     ensures room { (o : OpeningOf) (events : List EventOf) → IsOpening o → IsEventList (setting_of o) events
         → length events < event_room (processes_of o.plan) o.capacity }
 {
-    every_plan();
-    every_round::<Batch>();
+    rounds_agree();
 }
 
 /// The law of faults: after any list of events, an event has a fault exactly where it cannot come.
@@ -64,8 +81,7 @@ pub fn every_caller()
     ensures replayed { (o : OpeningOf) (events : List EventOf) (p : ℕ) → IsOpening o → IsEventList (setting_of o) events
         → BeginsWith (batches (setting_of o) events) (caller_of (setting_of o) events p).seen }
 {
-    every_plan();
-    every_round::<Batch>();
+    rounds_agree();
 }
 
 /// The law of the calls of a process: `grow`, `stay`, `called`, a call is an event of its process,
@@ -88,8 +104,7 @@ pub fn every_call()
     ensures seen_made { (o : OpeningOf) (events : List EventOf) (p q : ℕ) → IsOpening o → IsEventList (setting_of o) events
         → BeginsWith (calls_by p events) (entries_by p (seen_of (setting_of o) events q)) }
 {
-    every_plan();
-    every_round::<Batch>();
+    rounds_agree();
 }
 
 /// Every event of a log is atomic. A call writes the announcement of its process, and nothing else

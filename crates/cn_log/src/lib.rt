@@ -9,12 +9,14 @@
 //! by call in the order of processes. Its call is answered when it replays it.
 //!
 //! What happens is a list of [`Event`]s: a process makes a call, or takes one step. A core is what
-//! its own list of events makes of it, and [`replay`] makes a core of a list. For every list the
+//! its own list of events makes of it; [`LogCore::take`] does one event, whatever it is, or says why
+//! it cannot come, and [`replay`] makes a core of a list. For every list the
 //! answers are those of one sequential run of the calls, in the order of the log ([`laws`]).
 #![tactic(auto)]
 
 mod batch;
 mod call_counts;
+mod checked;
 mod entry;
 mod event;
 mod event_list;
@@ -27,7 +29,7 @@ mod progress;
 
 pub use batch::Batch;
 pub use entry::Entry;
-pub use event::{Event, StepAnswer};
+pub use event::{CallEnd, Event, StepAnswer};
 pub use event_list::replay;
 pub use fault::ReplayFault;
 pub use log_core::LogCore;

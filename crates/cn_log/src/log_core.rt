@@ -1,19 +1,23 @@
 //! The core of a log.
-ghost use Rattle.std.specs.Prelude.{◌≡◌, ◌<◌, ◌≤◌, ◌↔◌, ◌++◌, ◌∷◌, [], ℕ, List, Some, length, slice_get, IfOk, OnErr, IsFalse, IsTrue};
+ghost use Rattle.std.specs.Prelude.{◌≡◌, ◌<◌, ◌≤◌, ◌↔◌, ◌++◌, ◌∷◌, [], List, Some, length, slice_get, IfErr, IfOk, IfSome, OnErr, OnOk, IsFalse, IsTrue};
 ghost use Rattle.std.specs.Vec.{vec_capacity};
 ghost use Rattle.cn_proto.specs.Plan.{processes_of};
 ghost use Rattle.cn_log.specs.declared.event.Event.{Event as EventOf};
 ghost use Rattle.cn_log.specs.declared.event.Event.TheVariants.{Invoke, Step};
 ghost use Rattle.cn_log.specs.declared.progress.Phase.TheVariants.{Idle};
 ghost use Rattle.cn_log.specs.Bypass.{IsBypassBounded};
+ghost use Rattle.cn_log.specs.CallEnds.{call_end, EndsWithResponse};
 ghost use Rattle.cn_log.specs.Callers.{HasResponse, seen_of};
+ghost use Rattle.cn_log.specs.Faults.{IsFirstFault, event_fault};
 ghost use Rattle.cn_log.specs.Linearized.{BeginsInTurn, Grows, IsLinearized, entry_slots};
 ghost use Rattle.cn_log.specs.Log.{MayCome, IsEventList, answer, batches, entries, state_of};
 ghost use Rattle.cn_log.specs.Opening.{IsOpening, opening_of, setting, setting_of};
 ghost use Rattle.cn_log.specs.OwnSteps.{IsWaitFree, event_room};
 
+use crate::checked::{come, fault_of};
 use crate::entry::Entry;
-use crate::event::{Event, StepAnswer};
+use crate::event::{CallEnd, Event, StepAnswer};
+use crate::fault::ReplayFault;
 use crate::log_state::LogState;
 use crate::opening::Opening;
 use crate::progress::Phase;
@@ -122,6 +126,30 @@ impl LogCore {
     {
         put_event(&mut self.schedule, &self.opening, Event::Step(p));
         self.state.step(&self.opening, p)
+    }
+
+    /// Any event comes next, if it can: how it ended a call, if it did.
+    ///
+    /// # Errors
+    ///
+    /// The fault of the event, with the number of events so far for its place; of several the one
+    /// with the least number. The core is as it was. Want of memory is none of them.
+    pub fn take(&mut self, event: Event) -> Result<Option<CallEnd>, ReplayFault>
+        ensures came { OnOk result (MayCome (setting self.old) (state_of (setting self.old) self.old.schedule) event) }
+        ensures core { OnOk result (self.new ≡ record self.old { schedule = self.old.schedule ++ event ∷ [] }) }
+        ensures end { IfOk result (λ end. end ≡ call_end (setting self.old) self.old.schedule event) }
+        ensures range { IfOk result (λ end. IfSome end (EndsWithResponse self.old.opening.object)) }
+        ensures fault { IfErr result (λ fault.
+            event_fault (setting self.old) (state_of (setting self.old) self.old.schedule) (length self.old.schedule) event ≡ Some fault) }
+        ensures first { IfErr result (λ fault. (rest : List EventOf) → IsFirstFault (setting self.old) (self.old.schedule ++ event ∷ rest) fault) }
+        ensures same { OnErr result (self.new ≡ self.old) }
+    {
+        self.is_linearized();
+        crate::laws::every_fault();
+        match fault_of(self, event) {
+            Some(fault) => Err(fault),
+            None => Ok(come(self, event)),
+        }
     }
 
     /// The entries of the fixed slots, by slot, then by process.

@@ -1,9 +1,10 @@
 //! The fields that events change, and the steps of a process.
-ghost use Rattle.std.specs.Prelude.{◌≡◌, ◌<◌, ◌≤◌, ◌+◌, ◌*◌, Some, [], ◌∷◌, ◌++◌, ℕ, length, slice_index_or, IfOk, None, List, replicate};
+ghost use Rattle.std.specs.Prelude.{◌≡◌, ◌<◌, ◌≤◌, ◌+◌, ◌*◌, Some, [], ◌∷◌, ◌++◌, ℕ, length, IfOk, None, List, replicate};
 ghost use Rattle.std.specs.Vec.{vec_capacity};
 ghost use Rattle.std.specs.Vec.{vec_len};
 ghost use Rattle.cn_table.specs.Run.{state_after as run_of};
 ghost use Rattle.cn_proto.specs.Plan.{processes_of};
+ghost use Rattle.cn_agree.specs.Rounds.{fixed_value};
 ghost use Rattle.cn_log.specs.Batches.{and_entry, entry_at, members, entries_in, slots_from};
 ghost use Rattle.cn_log.specs.declared.entry.Entry.{Entry as EntryOf};
 ghost use Rattle.cn_log.specs.declared.event.Event.{Event as EventOf};
@@ -142,7 +143,6 @@ impl LogState {
         let slot = usize::from(here.replayed);
         let round = &mut self.rounds[slot];
         let decision = round.step(&opening.plan, p);
-        let fixed = round.fixed();
         let processes = opening.plan.processes();
         enter(
             &mut self.entries,
@@ -150,7 +150,7 @@ impl LogState {
             &mut self.fixed,
             processes,
             here.replayed,
-            fixed,
+            round,
         );
         match decision {
             None => StepAnswer::Working,
@@ -200,27 +200,28 @@ fn gathered(announced: Option<Entry>, calls_seen: u16, q: u8, batch: Batch) -> B
     }
 }
 
-/// Where the next slot has just been fixed, its entries go behind the others.
+/// Where the slot is the next one and its round has just fixed a batch, the entries of that go behind
+/// the others.
 fn enter(
     entries: &mut Vec<Entry>,
     slots: &mut Vec<u16>,
     fixed: &mut u16,
     processes: u8,
     slot: u16,
-    batch: Option<Batch>,
+    round: &Round<Batch>,
 )
     requires processes { processes ≤ 8 }
     requires slot { slot < 1024 }
     requires room { fixed.old ≡ slot → vec_len entries.old + processes ≤ vec_capacity entries.old }
     requires slots_room { fixed.old ≡ slot → vec_len slots.old + processes ≤ vec_capacity slots.old }
-    ensures entries { entries.new.items ≡ entries.old.items ++ entries_in processes (next_batch fixed.old slot batch) }
-    ensures slots { slots.new.items ≡ slots.old.items ++ slots_from processes slot (next_batch fixed.old slot batch) }
-    ensures fixed { fixed.new ≡ fixed.old + length (next_batch fixed.old slot batch) }
+    ensures entries { entries.new.items ≡ entries.old.items ++ entries_in processes (next_batch fixed.old slot (fixed_value round.now)) }
+    ensures slots { slots.new.items ≡ slots.old.items ++ slots_from processes slot (next_batch fixed.old slot (fixed_value round.now)) }
+    ensures fixed { fixed.new ≡ fixed.old + length (next_batch fixed.old slot (fixed_value round.now)) }
     ensures room { vec_capacity entries.new ≡ vec_capacity entries.old }
     ensures slots_room { vec_capacity slots.new ≡ vec_capacity slots.old }
 {
-    if let Some(batch) = batch
-        && *fixed == slot
+    if *fixed == slot
+        && let Some(batch) = round.fixed()
     {
         put_batch(entries, slots, processes, slot, batch);
         *fixed += 1;

@@ -8,10 +8,8 @@ ghost use Rattle.cn_agree.specs.Rounds.{RunsBy};
 ghost use Rattle.cn_log.specs.Agreement.{Agrees};
 ghost use Rattle.cn_log.specs.Opening.{IsOpening, setting_of};
 
-use crate::batch::Batch;
-use cn_agree::laws::every_round;
+use crate::laws::rounds_agree;
 use cn_proto::Plan;
-use cn_proto::laws::every_plan;
 use cn_table::{State, Table};
 use std::alloc::{AllocError, Global};
 use std::marker::Model;
@@ -71,7 +69,6 @@ impl Opening {
             × (length w.locals ≡ processes_of self.now.plan) × (length w.inputs ≡ processes_of self.now.plan) }
     {
         self.plan.is_sound();
-        every_plan();
-        every_round::<Batch>();
+        rounds_agree();
     }
 }

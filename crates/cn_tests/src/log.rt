@@ -3,7 +3,7 @@ ghost use Rattle.std.specs.Prelude.{◌≤◌};
 
 use crate::fixtures::{plan_for, table_of};
 use crate::types::*;
-use cn_log::{Entry, Event, LogCore, ReplayFault, StepAnswer, replay};
+use cn_log::{CallEnd, Entry, Event, LogCore, ReplayFault, StepAnswer, replay};
 use cn_table::{Operation, Response, State};
 use std::alloc::{AllocError, Global};
 use std::process::Abort;
@@ -109,6 +109,39 @@ fn a_call_ends_where_all_slots_are_fixed(rt: HostRuntime) -> Result<(), Fail> {
     assert!(rt; rests(&rt, &core, 0) == (false, false) && rests(&rt, &core, 1) == (true, true));
     assert!(rt; core.entries() == [entry(0, 0)].as_slice() && core.fixed_slots() == 1);
     assert!(rt; step(&rt, &mut core, 0, 2) == answered(0, 0));
+    Ok(())
+}
+
+/// So many steps of the process, none of which may end its call: how the next one ends it.
+fn take_steps(core: &mut LogCore, p: u8, working: u8) -> Result<Option<CallEnd>, ReplayFault> {
+    for _step in 0..working {
+        if let Some(end) = core.take(Event::Step(p))? {
+            return Ok(Some(end));
+        }
+    }
+    core.take(Event::Step(p))
+}
+
+/// One event at a time, whatever it is. What is refused leaves the core as it was.
+#[test]
+fn events_are_taken_or_refused(rt: HostRuntime) -> Result<(), Fail> {
+    let mut core = opened(&rt, rt.alloc(), 1)?;
+    assert!(rt; core.take(Event::Step(0)) == Err(ReplayFault::Idle(0)));
+    assert!(rt; core.take(Event::Step(2)) == Err(ReplayFault::NoSuchProcess(0)));
+    assert!(rt; core.take(Event::Invoke(0, 1)) == Err(ReplayFault::NoSuchOperation(0)));
+    assert!(rt; core.take(Event::Invoke(1, 0)) == Ok(None));
+    assert!(rt; core.take(Event::Invoke(1, 0)) == Err(ReplayFault::NotIdle(1)));
+    let answered = CallEnd::Answered {
+        process: 1,
+        slot: 0,
+        response: Response(0),
+    };
+    assert!(rt; take_steps(&mut core, 1, 4) == Ok(None));
+    assert!(rt; take_steps(&mut core, 1, 0) == Ok(Some(answered)));
+    assert!(rt; core.take(Event::Invoke(0, 0)) == Ok(None));
+    assert!(rt; take_steps(&mut core, 0, 5) == Ok(Some(CallEnd::Full { process: 0 })));
+    assert!(rt; core.take(Event::Invoke(1, 0)) == Err(ReplayFault::AtEnd(14)));
+    assert!(rt; core.schedule().len() == 14 && core.entries() == [entry(1, 0)].as_slice());
     Ok(())
 }
 

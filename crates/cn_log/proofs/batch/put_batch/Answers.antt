@@ -16,7 +16,8 @@ pub push_reserved-requires-in-Some : goal.push_reserved-requires-in-Some
 push_reserved-requires-in-Some c =
     let few = members_few c.loop-p.p 0 c.args.batch in
     let i = c.loop-p.invariant in
-    let many = ap length i.slots ∙ length-append c.args.slots.now.items (each_slot c.args.slot (members c.loop-p.p 0 c.args.batch)) ∙ ap (λ z. length c.args.slots.now.items + z) (slots_many c.args.slot (members c.loop-p.p 0 c.args.batch)) in
+    let many = ap length i.slots ∙ length-append c.args.slots.now.items (each_slot c.args.slot (members c.loop-p.p 0 c.args.batch))
+    ∙ ap (λ z. length c.args.slots.now.items + z) (slots_many c.args.slot (members c.loop-p.p 0 c.args.batch)) in
     omega (arith, few, i.slots_room, many, c.loop-p-test.true, c.requires.slots_room, c.loop-p.slots.ok, c.args.slots.now.ok)
 
 pub loop-p-preserved : goal.loop-p-preserved

@@ -17,7 +17,8 @@ loop-p-preserved c =
           let e = w.in-Some.call in
           let n = next_some c.loop-p.p c.args.batch e (sym c.of.ensures ∙ w.in-Some.is) in
           record {
-            state = ap (λ s. s.0) w.state-is ∙ ap (λ x. x.1) w.apply.ensures.value ∙ ap (λ s. (transition t e.operation.0 s).1) i.state ∙ sym (run_push t c.args.start.0 done e) ∙ ap (λ l. state_after t c.args.start.0 (operations_of l)) (sym n);
+            state = ap (λ s. s.0) w.state-is ∙ ap (λ x. x.1) w.apply.ensures.value ∙ ap (λ s. (transition t e.operation.0 s).1) i.state ∙ sym (run_push t c.args.start.0 done e)
+                ∙ ap (λ l. state_after t c.args.start.0 (operations_of l)) (sym n);
             known = subst (λ s. s.0 < length t.states) (sym w.state-is) w.apply.ensures.next;
           }
           )

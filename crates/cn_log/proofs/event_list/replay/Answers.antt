@@ -1,9 +1,15 @@
 use Rattle.std.proofs.Common.{subst}
-use Rattle.cn_log.proofs.FaultLemmas.{first_fault}
+use Rattle.std.proofs.lemmas.Result.{err_from_is_err_and}
+use Rattle.cn_log.proofs.FaultLemmas.{first_in}
 use Rattle.cn_log.specs.Faults.{IsFirstFault}
-use Rattle.cn_log.specs.Opening.{Opening, setting_of}
+use Rattle.cn_log.specs.Opening.{Opening, setting, setting_of}
 use Rattle.cn_log.proofs.event_list.replay.Goals as goal
 
-pub returns-in-Some-clause-fault : goal.returns-in-Some-clause-fault
-returns-in-Some-clause-fault c = λ memory. subst (λ (o : Opening). IsFirstFault (setting_of o) c.args.events.now c.in-Some.fault) c.loop-place.invariant.opening
-    (first_fault _ c.loop-place.core.schedule c.args.events.now c.loop-place.place _ c.fault_of.result c.in-Some.fault c.loop-place.invariant.schedule c.loop-place-test.true c.fault_of.ensures.events c.fault_of.ensures.fault c.in-Some.is)
+pub returns-in_err-take-clause-fault : goal.returns-in_err-take-clause-fault
+returns-in_err-take-clause-fault c =
+    let p = err_from_is_err_and c.from_residual-in_err-take.result c.from_residual-in_err-take.ensures.1 in
+    let i = c.loop-event.invariant in
+    let core = c.loop-event.core in
+    let fault = c.in_err-take.field-0.0 in
+    rw (p.1, p.2) (λ memory. subst (λ (o : Opening). IsFirstFault (setting_of o) c.args.events.now fault) i.opening
+    (first_in (setting core) c.args.events.now c.loop-event.event-index _ core.schedule fault i.schedule c.loop-event-test.true c.in_err-take.ensures.first))

@@ -1,5 +1,4 @@
 use Rattle.cn_log.proofs.OwnCalls.{calls_grow, calls_stay, called, own, own_stepped, made, seen_made}
-use Rattle.cn_log.proofs.RoundLemmas.{agrees_of}
 use Rattle.cn_log.specs.Opening.{setting_of}
 use Rattle.cn_log.proofs.laws.every_call.Goals as goal
 
@@ -13,13 +12,13 @@ pub returns-clause-called : goal.returns-clause-called
 returns-clause-called c = λ o events p operation. called (setting_of o) events p operation
 
 pub returns-clause-own : goal.returns-clause-own
-returns-clause-own c = λ o events p opening may. own (setting_of o) _ (agrees_of (record { consensus = c.every_round.ensures.consensus; fixed = c.every_round.ensures.fixed; begun = c.every_round.ensures.begun; sizes = c.every_round.ensures.sizes; sound_plans = c.every_plan.ensures.sound; short_paths = c.every_plan.ensures.short }) o opening.plan) p events may
+returns-clause-own c = λ o events p opening may. own (setting_of o) _ (c.rounds_agree.ensures.agrees o opening.plan) p events may
 
 pub returns-clause-own_stepped : goal.returns-clause-own_stepped
-returns-clause-own_stepped c = λ o events p mine opening may is. own_stepped (setting_of o) _ (agrees_of (record { consensus = c.every_round.ensures.consensus; fixed = c.every_round.ensures.fixed; begun = c.every_round.ensures.begun; sizes = c.every_round.ensures.sizes; sound_plans = c.every_plan.ensures.sound; short_paths = c.every_plan.ensures.short }) o opening.plan) p events mine may is
+returns-clause-own_stepped c = λ o events p mine opening may is. own_stepped (setting_of o) _ (c.rounds_agree.ensures.agrees o opening.plan) p events mine may is
 
 pub returns-clause-made : goal.returns-clause-made
-returns-clause-made c = λ o events p opening may. made (setting_of o) _ (agrees_of (record { consensus = c.every_round.ensures.consensus; fixed = c.every_round.ensures.fixed; begun = c.every_round.ensures.begun; sizes = c.every_round.ensures.sizes; sound_plans = c.every_plan.ensures.sound; short_paths = c.every_plan.ensures.short }) o opening.plan) p events may
+returns-clause-made c = λ o events p opening may. made (setting_of o) _ (c.rounds_agree.ensures.agrees o opening.plan) p events may
 
 pub returns-clause-seen_made : goal.returns-clause-seen_made
-returns-clause-seen_made c = λ o events p q opening may. seen_made (setting_of o) _ (agrees_of (record { consensus = c.every_round.ensures.consensus; fixed = c.every_round.ensures.fixed; begun = c.every_round.ensures.begun; sizes = c.every_round.ensures.sizes; sound_plans = c.every_plan.ensures.sound; short_paths = c.every_plan.ensures.short }) o opening.plan) p events may q
+returns-clause-seen_made c = λ o events p q opening may. seen_made (setting_of o) _ (c.rounds_agree.ensures.agrees o opening.plan) p events may q

@@ -1,6 +1,5 @@
 use Rattle.cn_log.proofs.EventLists.{may_left}
 use Rattle.cn_log.proofs.Knowing.{stays, invoked, pending, stepped, replayed_batches}
-use Rattle.cn_log.proofs.RoundLemmas.{agrees_of}
 use Rattle.cn_log.specs.Log.{first_world}
 use Rattle.cn_log.specs.Opening.{setting_of}
 use Rattle.cn_log.proofs.laws.every_caller.Goals as goal
@@ -15,10 +14,10 @@ pub returns-clause-invoked : goal.returns-clause-invoked
 returns-clause-invoked c = λ o events p operation. invoked (setting_of o) events p operation
 
 pub returns-clause-pending : goal.returns-clause-pending
-returns-clause-pending c = λ o events p mine opening may is. pending (setting_of o) _ (agrees_of (record { consensus = c.every_round.ensures.consensus; fixed = c.every_round.ensures.fixed; begun = c.every_round.ensures.begun; sizes = c.every_round.ensures.sizes; sound_plans = c.every_plan.ensures.sound; short_paths = c.every_plan.ensures.short }) o opening.plan) events p may mine is
+returns-clause-pending c = λ o events p mine opening may is. pending (setting_of o) _ (c.rounds_agree.ensures.agrees o opening.plan) events p may mine is
 
 pub returns-clause-stepped : goal.returns-clause-stepped
-returns-clause-stepped c = λ o events p mine opening may is. stepped (setting_of o) _ (agrees_of (record { consensus = c.every_round.ensures.consensus; fixed = c.every_round.ensures.fixed; begun = c.every_round.ensures.begun; sizes = c.every_round.ensures.sizes; sound_plans = c.every_plan.ensures.sound; short_paths = c.every_plan.ensures.short }) o opening.plan) events p may mine is
+returns-clause-stepped c = λ o events p mine opening may is. stepped (setting_of o) _ (c.rounds_agree.ensures.agrees o opening.plan) events p may mine is
 
 pub returns-clause-replayed : goal.returns-clause-replayed
-returns-clause-replayed c = λ o events p opening may. replayed_batches (setting_of o) _ (agrees_of (record { consensus = c.every_round.ensures.consensus; fixed = c.every_round.ensures.fixed; begun = c.every_round.ensures.begun; sizes = c.every_round.ensures.sizes; sound_plans = c.every_plan.ensures.sound; short_paths = c.every_plan.ensures.short }) o opening.plan) events p may
+returns-clause-replayed c = λ o events p opening may. replayed_batches (setting_of o) _ (c.rounds_agree.ensures.agrees o opening.plan) events p may

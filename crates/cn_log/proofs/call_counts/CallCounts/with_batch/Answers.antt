@@ -21,7 +21,8 @@ loop-p-preserved c =
           record {
             places = ap length e ∙ length-set c.loop-p.calls c.loop-p.p _ ∙ i.places;
             counted = λ q less. ap (λ l. slice_index_or l q 0) e ∙ elim (cases_eq q c.loop-p.p) [
-              | inl f ↦ subst (λ k. slice_index_or (slice_set c.loop-p.calls c.loop-p.p (slice_index_or c.loop-p.calls c.loop-p.p 0 + 1)) k 0 ≡ count_at c.args.self k + length (and_entry (entry_at c.args.batch k) [])) (sym f) (same ∙ (omega (arith, now, one)))
+              | inl f ↦ subst (λ k. slice_index_or (slice_set c.loop-p.calls c.loop-p.p (slice_index_or c.loop-p.calls c.loop-p.p 0 + 1)) k 0 ≡ count_at c.args.self k + length
+                  (and_entry (entry_at c.args.batch k) [])) (sym f) (same ∙ (omega (arith, now, one)))
               | inr ne ↦ get_or-set_other c.loop-p.calls c.loop-p.p q _ 0 ne ∙ i.counted q (grind arith)
             ];
             left = λ q high. (

@@ -21,4 +21,5 @@ returns c =
     let n = processes_of c.self.inside.opening.value.plan in
     let r : c.args.i < length (entries_in n bs) = rw (← c.self.view_is) at c.requires in
     let low : c.args.i < length c.deref.result.now.slots.items = omega (arith, r, ap length (ap (λ (s : LogState). s.slots.items) c.deref.ensures ∙ c.self.invariant.0.fits.slots_are), slots_as_many n 0 bs) in
-    rw (← c.self.view_is) (ap Some c.index.ensures ∙ sym (slice_get-get_or c.deref.result.now.slots.items c.args.i c.index.result.now low) ∙ ap (λ l. slice_get l c.args.i) (ap (λ (s : LogState). s.slots.items) c.deref.ensures ∙ c.self.invariant.0.fits.slots_are))
+    rw (← c.self.view_is) (ap Some c.index.ensures ∙ sym (slice_get-get_or c.deref.result.now.slots.items c.args.i c.index.result.now low)
+    ∙ ap (λ l. slice_get l c.args.i) (ap (λ (s : LogState). s.slots.items) c.deref.ensures ∙ c.self.invariant.0.fits.slots_are))
