@@ -1,30 +1,26 @@
--- What the steps among events answer.
-use Rattle.std.specs.Prelude.{List, [], ◌∷◌, ◌++◌, Bool, true, false}
+-- How events end calls.
+use Rattle.std.specs.Prelude.{List, [], ◌∷◌, ◌++◌, Bool, true, false, option_to_list}
 use Rattle.std.specs.List.{All}
 use Rattle.cn_table.specs.TypeTable.{TypeTable}
-use Rattle.cn_log.specs.Log.{Setting, answer}
-use Rattle.cn_log.specs.Callers.{HasResponse}
+use Rattle.cn_log.specs.CallEnds.{call_end, EndsWithResponse}
+use Rattle.cn_log.specs.Log.{Setting}
+use Rattle.cn_log.specs.declared.event.CallEnd.{CallEnd}
+use Rattle.cn_log.specs.declared.event.CallEnd.TheVariants.{Answered, Full}
 use Rattle.cn_log.specs.declared.event.Event.{Event}
-use Rattle.cn_log.specs.declared.event.Event.TheVariants.{Invoke, Step}
-use Rattle.cn_log.specs.declared.event.StepAnswer.{StepAnswer}
-use Rattle.cn_log.specs.declared.event.StepAnswer.TheVariants.{Working, Answered, Full}
-use Rattle.cn_app.specs.declared.answers.Told.{Told}
 
--- what an event answers that comes after these, if it is a step
-abbrev pub told_by : {R : Type 0} → Setting R → List Event → Event → List Told
-told_by L before (Invoke p operation) = []
-told_by L before (Step p) = record { process = p; answer = answer L before p } ∷ []
+-- how an event ends a call that comes after these, if it ends one
+abbrev pub ends_by : {R : Type 0} → Setting R → List Event → Event → List CallEnd
+ends_by L before e = option_to_list (call_end L before e)
 
--- what the steps among the events answer, in order, where the others came before
-abbrev pub told_after : {R : Type 0} → Setting R → List Event → List Event → List Told
-told_after L before [] = []
-told_after L before (e ∷ es) = told_by L before e ++ told_after L (before ++ e ∷ []) es
+-- how the events end calls, in order, where the others came before
+abbrev pub ends_after : {R : Type 0} → Setting R → List Event → List Event → List CallEnd
+ends_after L before [] = []
+ends_after L before (e ∷ es) = ends_by L before e ++ ends_after L (before ++ e ∷ []) es
 
--- the response of each answer is one of the object's
-abbrev pub HaveResponses : TypeTable → List Told → Type 0
-HaveResponses object told = All (λ t. HasResponse object t.answer) told
+-- each response is one of the object's
+abbrev pub HaveResponses : TypeTable → List CallEnd → Type 0
+HaveResponses object ends = All (EndsWithResponse object) ends
 
-abbrev pub is_full : StepAnswer → Bool
-is_full Working = false
-is_full (Answered slot response) = false
-is_full Full = true
+abbrev pub is_full : CallEnd → Bool
+is_full (Answered p slot response) = false
+is_full (Full p) = true

@@ -1,50 +1,42 @@
-//! What the steps among events answer, one event after the other.
-ghost use Rattle.std.specs.Prelude.{◌≡◌, ◌<◌, ◌≤◌, ◌+◌, ◌++◌, ◌∷◌, [], length, vec_capacity, vec_len, IfOk};
-ghost use Rattle.cn_log.specs.Log.{IsEventList, MayCome, state_of};
+//! What comes of events, one after the other.
+ghost use Rattle.std.specs.Prelude.{◌≡◌, ◌≢◌, ◌<◌, ◌≤◌, ◌+◌, ◌++◌, ◌∷◌, [], List, length, vec_capacity, vec_len, IfErr, IfOk, OnOk};
+ghost use Rattle.cn_log.specs.Faults.{IsFirstFault};
+ghost use Rattle.cn_log.specs.Linearized.{IsLinearized};
+ghost use Rattle.cn_log.specs.Log.{IsEventList};
 ghost use Rattle.cn_log.specs.Opening.{opening_of, setting, setting_of};
-ghost use Rattle.cn_app.specs.Answers.{is_full, told_after, told_by, HaveResponses};
+ghost use Rattle.cn_log.specs.declared.event.Event.{Event as EventOf};
+ghost use Rattle.cn_log.specs.declared.fault.ReplayFault.TheVariants.{OutOfMemory};
+ghost use Rattle.cn_app.specs.Answers.{ends_after, ends_by, HaveResponses};
 
-use cn_log::{Event, LogCore, StepAnswer};
+use cn_log::{CallEnd, Event, LogCore, ReplayFault};
 use cn_proto::Plan;
-use cn_table::{Operation, State, Table};
-use std::alloc::{AllocError, Global};
+use cn_table::{State, Table};
+use std::alloc::Global;
 
-/// What a step answered, and the process that took it.
-#[derive(Clone, Copy, Debug, PartialEq, Eq)]
-pub(crate) struct Told {
-    pub process: u8,
-    pub answer: StepAnswer,
+/// The core in which the events happened, and how they ended calls, in order.
+#[derive(Drop)]
+pub(crate) struct Replayed {
+    pub core: LogCore,
+    pub ends: Vec<CallEnd>,
 }
 
-impl Told {
-    /// Whether the call found no slot.
-    pub fn is_full(&self) -> bool
-        ensures { result ≡ is_full self.now.answer }
-    {
-        matches!(self.answer, StepAnswer::Full)
-    }
-}
-
-/// The event comes. If it is a step, its answer goes behind the others.
-fn tell(core: &mut LogCore, event: Event, told: &mut Vec<Told>)
-    requires may_come { MayCome (setting core.old) (state_of (setting core.old) core.old.schedule) event }
-    requires room { vec_len told.old < vec_capacity told.old }
-    ensures core { core.new ≡ record core.old { schedule = core.old.schedule ++ event ∷ [] } }
-    ensures told { told.new.items ≡ told.old.items ++ told_by (setting core.old) core.old.schedule event }
-    ensures responses { HaveResponses core.old.opening.object (told_by (setting core.old) core.old.schedule event) }
-    ensures few { length told.new.items ≤ length told.old.items + 1 }
-    ensures room { vec_capacity told.new ≡ vec_capacity told.old }
+/// The event comes, if it can. If it ends a call, that goes behind the others.
+fn come(core: &mut LogCore, event: Event, ends: &mut Vec<CallEnd>) -> Result<(), ReplayFault>
+    requires room { vec_len ends.old < vec_capacity ends.old }
+    ensures core { OnOk result (core.new ≡ record core.old { schedule = core.old.schedule ++ event ∷ [] }) }
+    ensures ends { OnOk result (ends.new.items ≡ ends.old.items ++ ends_by (setting core.old) core.old.schedule event) }
+    ensures responses { OnOk result (HaveResponses core.old.opening.object (ends_by (setting core.old) core.old.schedule event)) }
+    ensures first { IfErr result (λ fault. (rest : List EventOf) → IsFirstFault (setting core.old) (core.old.schedule ++ event ∷ rest) fault) }
+    ensures few { length ends.new.items ≤ length ends.old.items + 1 }
+    ensures room { vec_capacity ends.new ≡ vec_capacity ends.old }
 {
-    match event {
-        Event::Invoke(process, operation) => core.invoke(process, Operation(operation)),
-        Event::Step(process) => {
-            let answer = core.step(process);
-            told.push_reserved(Told { process, answer });
-        }
+    if let Some(end) = core.take(event)? {
+        ends.push_reserved(end);
     }
+    Ok(())
 }
 
-/// What the steps among the events answer, in order, in a log in which nothing has happened before.
+/// What comes of the events, one after the other, in a log in which nothing has happened before.
 pub(crate) fn answers_of(
     alloc: Global,
     plan: &Plan,
@@ -52,18 +44,23 @@ pub(crate) fn answers_of(
     start: State,
     capacity: u16,
     events: &[Event],
-) -> Result<Vec<Told>, AllocError>
+) -> Result<Replayed, ReplayFault>
     requires start { start.0 < length object.now.states }
     requires some { 1 ≤ capacity }
     requires few { capacity ≤ 1024 }
-    requires may_come { IsEventList (setting_of (opening_of plan.now object.now start.0 capacity)) events.now }
-    ensures told { IfOk result (λ told. told.items ≡ told_after (setting_of (opening_of plan.now object.now start.0 capacity)) [] events.now) }
-    ensures responses { IfOk result (λ told. HaveResponses object.now told.items) }
+    ensures opening { IfOk result (λ replayed. replayed.core.opening ≡ opening_of plan.now object.now start.0 capacity) }
+    ensures schedule { IfOk result (λ replayed. replayed.core.schedule ≡ events.now) }
+    ensures ends { IfOk result (λ replayed. replayed.ends.items ≡ ends_after (setting_of (opening_of plan.now object.now start.0 capacity)) [] events.now) }
+    ensures responses { IfOk result (λ replayed. HaveResponses object.now replayed.ends.items) }
+    ensures fault { IfErr result (λ fault. fault ≢ OutOfMemory → IsFirstFault (setting_of (opening_of plan.now object.now start.0 capacity)) events.now fault) }
+    ensures events { OnOk result (IsEventList (setting_of (opening_of plan.now object.now start.0 capacity)) events.now) }
+    ensures linearized { OnOk result (IsLinearized (setting_of (opening_of plan.now object.now start.0 capacity)) events.now) }
 {
     let mut core = LogCore::new(alloc, plan, object, start, capacity)?;
-    let mut told = Vec::with_capacity(alloc, events.len())?;
+    let mut ends = Vec::with_capacity(alloc, events.len())?;
     for event in events {
-        tell(&mut core, *event, &mut told);
+        come(&mut core, *event, &mut ends)?;
     }
-    Ok(told)
+    core.is_linearized();
+    Ok(Replayed { core, ends })
 }

@@ -1,17 +1,21 @@
 -- Events and entries, one at a time.
-use Rattle.std.proofs.Common.{◌≡◌, ℕ, zero, suc, ◌<◌, List, [], ◌∷◌, ◌++◌, drop, length, take, slice_get, slice_index_or, Some, subst}
+use Rattle.std.proofs.Common.{◌≡◌, ◌∙◌, ℕ, zero, suc, ◌<◌, List, [], ◌∷◌, ◌++◌, ap, drop, length, take, slice_get, slice_index_or, Some, subst, sym}
+use Rattle.std.proofs.Math.Seq.{drop-cons}
+use Rattle.std.proofs.lemmas.List.{take-append-drop}
 use Rattle.std.proofs.lemmas.List.Elements.{All-append}
 use Rattle.std.proofs.lemmas.Option.{slice_get-get_or}
 use Rattle.cn_table.specs.TypeTable.{TypeTable, transition}
-use Rattle.cn_log.specs.Callers.{HasResponse}
+use Rattle.cn_log.specs.CallEnds.{EndsWithResponse}
 use Rattle.cn_log.specs.declared.entry.Entry.{Entry}
+use Rattle.cn_log.specs.declared.event.CallEnd.{CallEnd}
 use Rattle.cn_log.specs.declared.event.Event.{Event}
 use Rattle.cn_log.specs.declared.event.Event.TheVariants.{Invoke}
+use Rattle.cn_log.specs.declared.fault.ReplayFault.{ReplayFault}
+use Rattle.cn_log.specs.Faults.{IsFirstFault}
 use Rattle.cn_log.specs.Linearized.{IsLinearized}
 use Rattle.cn_log.specs.Log.{Setting, World, IsEventList, MayAllCome, MayCome, after_event, after_events, entries, first_world, state_of}
 use Rattle.cn_app.specs.Lines.Log.{entry_line, entry_lines}
 use Rattle.cn_app.specs.Answers.{HaveResponses}
-use Rattle.cn_app.specs.declared.answers.Told.{Told}
 
 module _ {R : Type 0} (L : Setting R) where
   may_come_from : (events : List Event) (w : World R) (i : ℕ) (e : Event) → MayAllCome L events w → slice_get events i ≡ Some e → MayCome L (after_events L (take i events) w) e
@@ -31,9 +35,17 @@ module _ {R : Type 0} (L : Setting R) where
       let called = linearized.called k e (slice_get-get_or (entries L events) k d less) in
       (may_come_at events called.0 (Invoke e.process e.operation.0) may called.1.invoke).operation
 
--- what is told more has responses too
-pub responses_more : (object other : TypeTable) (told more : List Told) → other ≡ object → HaveResponses object told → HaveResponses other more → HaveResponses object (told ++ more)
-responses_more object other told more same have here = All-append (λ t. HasResponse object t.answer) told more have (subst (λ (o : TypeTable). HaveResponses o more) same here)
+-- the fault of an event behind the first of a list, in whatever list it stands so, is that of the first event of the list that cannot come
+pub first_in_list : {R : Type 0} (L : Setting R) (events : List Event) (k : ℕ) (d : Event) (s : List Event) (fault : ReplayFault) → s ≡ take k events → k < length events
+    → ((rest : List Event) → IsFirstFault L (s ++ slice_index_or events k d ∷ rest) fault) → IsFirstFault L events fault
+first_in_list L events k d s fault is less first =
+    let e : Event = slice_index_or events k d in
+    let parted = ap (λ front. front ++ e ∷ drop (suc k) events) is ∙ ap (λ rest. take k events ++ rest) (sym (drop-cons events k d less)) ∙ take-append-drop k events in
+    subst (λ (es : List Event). IsFirstFault L es fault) parted (first (drop (suc k) events))
+
+-- more calls that ended have responses too
+pub responses_more : (object other : TypeTable) (ends more : List CallEnd) → other ≡ object → HaveResponses object ends → HaveResponses other more → HaveResponses object (ends ++ more)
+responses_more object other ends more same have here = All-append (EndsWithResponse object) ends more have (subst (λ (o : TypeTable). HaveResponses o more) same here)
 
 -- the line of the entry at a place, and then those of the entries behind it
 pub lines_at : (object : TypeTable) (state : ℕ) (es : List Entry) (slots : List ℕ) (k slot : ℕ) (e : Entry) → slice_get es k ≡ Some e → slice_get slots k ≡ Some slot

@@ -1,24 +1,21 @@
--- The lines of a log: of what its steps answered, and of its entries.
+-- The lines of a log: of the calls that ended, and of its entries.
 use Rattle.std.specs.Prelude.{ℕ, List, [], ◌++◌, codes, ◌∷◌}
 use Rattle.std.specs.Fmt.{decimal}
 use Rattle.cn_table.specs.TypeTable.{TypeTable, operation_names, transition}
 use Rattle.cn_proto.specs.PlanText.{name_at}
-use Rattle.cn_log.specs.Log.{answer}
-use Rattle.cn_log.specs.declared.event.StepAnswer.{StepAnswer}
-use Rattle.cn_log.specs.declared.event.StepAnswer.TheVariants.{Working, Answered, Full}
+use Rattle.cn_log.specs.declared.event.CallEnd.{CallEnd}
+use Rattle.cn_log.specs.declared.event.CallEnd.TheVariants.{Answered, Full}
 use Rattle.cn_log.specs.declared.entry.Entry.{Entry}
-use Rattle.cn_app.specs.declared.answers.Told.{Told}
 
--- the line of a call that a step answers with this, if it ends one
-abbrev pub answer_line : TypeTable → ℕ → StepAnswer → List ℕ
-answer_line object p Working = []
-answer_line object p (Answered slot response) = codes "answer " ++ decimal p ++ codes " " ++ decimal slot ++ codes " " ++ name_at object.responses response.0
+-- the line of a call that ended
+abbrev pub answer_line : TypeTable → CallEnd → List ℕ
+answer_line object (Answered p slot response) = codes "answer " ++ decimal p ++ codes " " ++ decimal slot ++ codes " " ++ name_at object.responses response.0
     ++ codes "\n"
-answer_line object p Full = codes "full " ++ decimal p ++ codes "\n"
+answer_line object (Full p) = codes "full " ++ decimal p ++ codes "\n"
 
-abbrev pub answer_lines : TypeTable → List Told → List ℕ
+abbrev pub answer_lines : TypeTable → List CallEnd → List ℕ
 answer_lines object [] = []
-answer_lines object (told ∷ rest) = answer_line object told.process told.answer ++ answer_lines object rest
+answer_lines object (end ∷ ends) = answer_line object end ++ answer_lines object ends
 
 -- the line of an entry: its slot, process and operation, and what the object answers there, with the state after it
 abbrev pub entry_line : TypeTable → ℕ → Entry → ℕ × ℕ → List ℕ

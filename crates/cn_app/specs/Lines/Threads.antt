@@ -8,7 +8,7 @@ use Rattle.cn_log.specs.Log.{entries}
 use Rattle.cn_log.specs.Opening.{Log, setting}
 use Rattle.cn_log.specs.declared.event.Event.{Event}
 use Rattle.cn_log.specs.declared.event.Event.TheVariants.{Invoke, Step}
-use Rattle.cn_log.specs.declared.event.StepAnswer.TheVariants as answer
+use Rattle.cn_log.specs.declared.event.CallEnd.TheVariants as ended
 use Rattle.cn_hall.specs.declared.call.Reply.{Reply}
 use Rattle.cn_app.specs.Lines.Log.{answer_line, entry_lines}
 use Rattle.cn_app.specs.declared.threads.workers.End.{End}
@@ -31,12 +31,12 @@ events_line events = codes "events " ++ events_text events ++ codes "\n"
 -- the lines of the replies to the calls of a process, in order
 abbrev pub reply_lines : TypeTable → ℕ → List Reply → List ℕ
 reply_lines object p [] = []
-reply_lines object p (reply ∷ replies) = answer_line object p (answer.Answered reply.slot reply.response) ++ reply_lines object p replies
+reply_lines object p (reply ∷ replies) = answer_line object (ended.Answered p reply.slot reply.response) ++ reply_lines object p replies
 
 -- the line of the call that has no reply, if there is one
 abbrev pub end_line : TypeTable → ℕ → End → List ℕ
 end_line object p Whole = []
-end_line object p Full = answer_line object p answer.Full
+end_line object p Full = answer_line object (ended.Full p)
 end_line object p Stopped = codes "stopped " ++ decimal p ++ codes "\n"
 
 -- the lines of the calls of a process, in order

@@ -11,30 +11,37 @@ ghost use Rattle.cn_app.specs.Texts.Services.{FailsObject, GivesObject, StartFai
 ghost use Rattle.cn_app.specs.Streams.SourceBytes.{HasRead, IsUnread, MayHaveRead};
 ghost use Rattle.cn_app.specs.Streams.Writing.{HasWritten, IfHandedOver, IsUnwritten};
 
-use crate::answers::{Told, answers_of};
+use crate::answers::answers_of;
 use crate::arguments::events::{read_capacity, read_events};
 use crate::fault::{AppFault, Part, Source};
 use crate::lines::log::{answer_lines, entry_lines};
 use crate::streams::output::{Outcome, Output};
 use crate::streams::text::Text;
 use crate::texts::service::{Served, Service, read_service};
-use cn_log::Event;
+use cn_log::{CallEnd, Event};
 use cn_table::{State, Table};
 use std::alloc::Global;
 use std::io::{Read, Write};
 
-/// Whether some call found no slot.
-fn has_full(told: &[Told]) -> bool
-    ensures { result ≡ list_any (λ t. is_full t.answer) told.now }
+/// Whether the call found no slot.
+fn is_full(end: CallEnd) -> bool
+    ensures { result ≡ is_full end }
 {
-    told.iter().any(|step| step.is_full())
+    matches!(end, CallEnd::Full { .. })
+}
+
+/// Whether some call found no slot.
+fn has_full(ends: &[CallEnd]) -> bool
+    ensures { result ≡ list_any is_full ends.now }
+{
+    ends.iter().any(|end| is_full(*end))
 }
 
 /// Cut where some call found no slot.
-fn outcome_of_answers(told: &[Told]) -> Outcome
-    ensures { result ≡ outcome_of_answers told.now }
+fn outcome_of_answers(ends: &[CallEnd]) -> Outcome
+    ensures { result ≡ outcome_of_answers ends.now }
 {
-    if has_full(told) {
+    if has_full(ends) {
         Outcome::Cut
     } else {
         Outcome::Whole
@@ -55,7 +62,7 @@ fn replay_from_state(
     ensures served { IfOk result (λ s. IsServed service.now.plan service.now.object start.0 capacity events.now (string_bytes s.lines) s.outcome) }
     ensures refused { IfErr result (λ e. (e ≡ AppFault.OutOfMemory) ⊎ IsEventFault service.now.plan service.now.object start.0 capacity events.now e) }
 {
-    let core = cn_log::replay(
+    let replayed = answers_of(
         alloc,
         &service.plan,
         &service.object,
@@ -63,20 +70,12 @@ fn replay_from_state(
         capacity,
         events,
     )?;
-    let told = answers_of(
-        alloc,
-        &service.plan,
-        &service.object,
-        start,
-        capacity,
-        events,
-    )?;
-    let mut lines = answer_lines(alloc, &service.object, &told)?;
-    let entries = entry_lines(alloc, &service.object, start, &core)?;
+    let mut lines = answer_lines(alloc, &service.object, &replayed.ends)?;
+    let entries = entry_lines(alloc, &service.object, start, &replayed.core)?;
     lines.push_str(&entries)?;
     Ok(Served {
         lines,
-        outcome: outcome_of_answers(&told),
+        outcome: outcome_of_answers(&replayed.ends),
     })
 }
 

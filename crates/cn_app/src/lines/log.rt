@@ -1,44 +1,45 @@
-//! The lines of a log: of what its steps answered, and of its entries.
+//! The lines of a log: of the calls that ended, and of its entries.
 ghost use Rattle.std.specs.Prelude.{◌≡◌, ◌<◌, length, string_bytes, All, IfOk};
-ghost use Rattle.cn_log.specs.Callers.{HasResponse};
+ghost use Rattle.cn_log.specs.CallEnds.{EndsWithResponse};
 ghost use Rattle.cn_log.specs.Linearized.{entry_slots};
 ghost use Rattle.cn_log.specs.Log.{entries};
 ghost use Rattle.cn_log.specs.Opening.{setting};
 ghost use Rattle.cn_app.specs.Lines.Log.{answer_line, answer_lines, entry_line, entry_lines};
 ghost use Rattle.cn_app.specs.Answers.{HaveResponses};
 
-use crate::answers::Told;
-use cn_log::{Entry, LogCore, StepAnswer};
+use cn_log::{CallEnd, Entry, LogCore};
 use cn_table::{Response, State, Table};
 use std::alloc::{AllocError, Global};
 
-/// The line of what a step answered, which is empty where no call is over.
-pub(crate) fn answer_line(alloc: Global, object: &Table, told: Told) -> Result<String, AllocError>
-    requires { HasResponse object.now told.answer }
-    ensures { IfOk result (λ line. string_bytes line ≡ answer_line object.now told.process told.answer) }
+/// The line of a call that ended.
+pub(crate) fn answer_line(alloc: Global, object: &Table, end: CallEnd) -> Result<String, AllocError>
+    requires { EndsWithResponse object.now end }
+    ensures { IfOk result (λ line. string_bytes line ≡ answer_line object.now end) }
 {
-    let process = told.process;
-    match told.answer {
-        StepAnswer::Working => Ok(String::new(alloc)),
-        StepAnswer::Answered { slot, response } => {
+    match end {
+        CallEnd::Answered {
+            process,
+            slot,
+            response,
+        } => {
             let name = object.response_name(response);
             format!(in alloc; "answer {process} {slot} {name}\n")
         }
-        StepAnswer::Full => format!(in alloc; "full {process}\n"),
+        CallEnd::Full { process } => format!(in alloc; "full {process}\n"),
     }
 }
 
 pub(crate) fn answer_lines(
     alloc: Global,
     object: &Table,
-    told: &[Told],
+    ends: &[CallEnd],
 ) -> Result<String, AllocError>
-    requires { HaveResponses object.now told.now }
-    ensures { IfOk result (λ lines. string_bytes lines ≡ answer_lines object.now told.now) }
+    requires { HaveResponses object.now ends.now }
+    ensures { IfOk result (λ lines. string_bytes lines ≡ answer_lines object.now ends.now) }
 {
     let mut lines = String::new(alloc);
-    for step in told {
-        let line = answer_line(alloc, object, *step)?;
+    for end in ends {
+        let line = answer_line(alloc, object, *end)?;
         lines.push_str(&line)?;
     }
     Ok(lines)

@@ -3,12 +3,11 @@
 ghost use Rattle.std.specs.Prelude.{◌≡◌, ◌≤◌, length, string_bytes, IfOk, ◌<◌};
 ghost use Rattle.cn_app.specs.Lines.Threads.{call_lines, end_line, event_text, events_line, events_text, reply_lines, worked_lines, EachHasResponses, RepliesHaveResponses, left_lines};
 
-use crate::answers::Told;
 use crate::lines::log::{answer_line, entry_lines};
 use crate::threads::serving::Left;
 use crate::threads::workers::{End, Worked};
 use cn_hall::Reply;
-use cn_log::{Event, StepAnswer};
+use cn_log::{CallEnd, Event};
 use cn_table::{State, Table};
 use std::alloc::{AllocError, Global};
 
@@ -56,11 +55,12 @@ fn reply_lines(
 {
     let mut lines = String::new(alloc);
     for reply in replies {
-        let answer = StepAnswer::Answered {
+        let end = CallEnd::Answered {
+            process,
             slot: reply.slot,
             response: reply.response,
         };
-        let line = answer_line(alloc, object, Told { process, answer })?;
+        let line = answer_line(alloc, object, end)?;
         lines.push_str(&line)?;
     }
     Ok(lines)
@@ -72,10 +72,7 @@ fn end_line(alloc: Global, object: &Table, process: u8, end: End) -> Result<Stri
 {
     match end {
         End::Whole => Ok(String::new(alloc)),
-        End::Full => {
-            let answer = StepAnswer::Full;
-            answer_line(alloc, object, Told { process, answer })
-        }
+        End::Full => answer_line(alloc, object, CallEnd::Full { process }),
         End::Stopped => format!(in alloc; "stopped {process}\n"),
     }
 }

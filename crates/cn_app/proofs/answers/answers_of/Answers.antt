@@ -1,26 +1,30 @@
-use Rattle.std.proofs.Common.{ap, arith, rules}
+use Rattle.std.proofs.Common.{ap, arith, rules, subst}
 use Rattle.std.proofs.lemmas.Grind.{common_steps}
-use Rattle.std.proofs.lemmas.Option.{slice_get-get_or}
-use Rattle.cn_log.specs.Opening.{Opening, opening_of, setting_of}
-use Rattle.cn_app.proofs.LineLemmas.Log.{may_come_at, responses_more}
+use Rattle.std.proofs.lemmas.Result.{err_from_is_err_and}
+use Rattle.cn_log.specs.Faults.{IsFirstFault}
+use Rattle.cn_log.specs.Opening.{Opening, setting, setting_of}
+use Rattle.cn_app.proofs.LineLemmas.Log.{first_in_list, responses_more}
 use Rattle.cn_app.proofs.answers.answers_of.Goals as goal
 
-pub tell-requires-clause-may_come : goal.tell-requires-clause-may_come
-tell-requires-clause-may_come c =
-    rw (c.loop-event.invariant.opening, c.loop-event.invariant.schedule)
-    (may_come_at (setting_of (opening_of c.args.plan.now c.args.object.now c.args.start.0 c.args.capacity)) c.args.events.now c.loop-event.event-index _ c.requires.may_come
-    (slice_get-get_or c.args.events.now c.loop-event.event-index _ c.loop-event-test.true))
-
-pub tell-requires-clause-room : goal.tell-requires-clause-room
-tell-requires-clause-room c = let i = c.loop-event.invariant in omega (arith, i.few, i.room, c.loop-event-test.true, c.loop-event.told.ok)
+pub come-requires : goal.come-requires
+come-requires c = let i = c.loop-event.invariant in omega (arith, i.few, i.room, c.loop-event-test.true, c.loop-event.ends.ok)
 
 pub loop-event-preserved : goal.loop-event-preserved
 loop-event-preserved c = record {
   opening = search rules;
   schedule = grind (arith, common_steps);
-  told = grind (arith, common_steps);
-  responses = rw c.tell.ensures.told (responses_more c.args.object.now c.loop-event.core.opening.object c.loop-event.told.items _
-      (ap (λ (o : Opening). o.object) c.loop-event.invariant.opening) c.loop-event.invariant.responses c.tell.ensures.responses);
-  few = omega (arith, c.tell.ensures.few, c.loop-event.invariant.few);
+  ends = grind (arith, common_steps);
+  responses = rw c.in_ok-come.ensures.ends (responses_more c.args.object.now c.loop-event.core.opening.object c.loop-event.ends.items _
+      (ap (λ (o : Opening). o.object) c.loop-event.invariant.opening) c.loop-event.invariant.responses c.in_ok-come.ensures.responses);
+  few = omega (arith, c.come.ensures.few, c.loop-event.invariant.few);
   room = search rules;
 }
+
+pub returns-in_err-come-clause-fault : goal.returns-in_err-come-clause-fault
+returns-in_err-come-clause-fault c =
+    let p = err_from_is_err_and c.from_residual-in_err-come.result c.from_residual-in_err-come.ensures.1 in
+    let i = c.loop-event.invariant in
+    let core = c.loop-event.core in
+    let fault = c.in_err-come.field-0.0 in
+    rw (p.1, p.2) (λ memory. subst (λ (o : Opening). IsFirstFault (setting_of o) c.args.events.now fault) i.opening
+    (first_in_list (setting core) c.args.events.now c.loop-event.event-index _ core.schedule fault i.schedule c.loop-event-test.true c.in_err-come.ensures.first))

@@ -6,8 +6,9 @@ use Rattle.cn_app.proofs.commands.replay_events.replay_from_state.Goals as goal
 
 pub entry_lines-requires-clause-known : goal.entry_lines-requires-clause-known
 entry_lines-requires-clause-known c =
-    rw (c.in_ok-core.ensures.opening, c.in_ok-core.ensures.schedule)
-    (known_entries (setting_of (opening_of c.args.service.now.plan c.args.service.now.object c.args.start.0 c.args.capacity)) c.args.events.now c.in_ok-core.ensures.events c.in_ok-core.ensures.linearized)
+    rw (c.in_ok-replayed.ensures.opening, c.in_ok-replayed.ensures.schedule)
+    (known_entries (setting_of (opening_of c.args.service.now.plan c.args.service.now.object c.args.start.0 c.args.capacity)) c.args.events.now
+    c.in_ok-replayed.ensures.events c.in_ok-replayed.ensures.linearized)
 
 pub returns-in_err-push_str-clause-refused : goal.returns-in_err-push_str-clause-refused
 returns-in_err-push_str-clause-refused c =
