@@ -1,5 +1,5 @@
 -- The parts of the headline.
-use Rattle.std.proofs.Common.{◌≡◌, ℕ, ◌+◌, ◌≤◌, ◌<◌, ◌↔◌, List, ◌∷◌, ◌++◌, length, Contains, Option, Some, None, IsSomeAnd, MatchOption, ap, arith, sym, ◌∙◌, subst, length-append}
+use Rattle.std.proofs.Common.{◌≡◌, ℕ, ◌+◌, ◌↔◌, List, length, Contains, Option, Some, None, IsSomeAnd, MatchOption, ap, sym, ◌∙◌, subst, length-append}
 use Rattle.cn_table.proofs.Lists.{Contains-between}
 use Rattle.cn_table.specs.TypeTable.{TypeTable}
 use Rattle.cn_choice.specs.Canonical.{Choice, IsCanonical, raw_choice_of}

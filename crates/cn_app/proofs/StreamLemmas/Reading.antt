@@ -1,5 +1,5 @@
 -- Texts that were read, where the work with them ends.
-use Rattle.std.proofs.Common.{◌≡◌, inl, inr, ℕ, List, Option, Some, None, Result, Ok, Err, IfErr, ap, sym, ◌∙◌}
+use Rattle.std.proofs.Common.{◌≡◌, inr, ℕ, List, Option, Some, None, Result, Ok, Err, IfErr, ap, sym, ◌∙◌}
 use Rattle.cn_app.specs.FaultText.{IsOfWork, text_of}
 use Rattle.cn_app.specs.Streams.SourceBytes.{HasRead, MayHaveRead}
 use Rattle.cn_app.specs.declared.fault.AppFault.{AppFault}

@@ -1,6 +1,6 @@
 -- Commands over a caller's readers and writer: there are bytes that they gave and took.
-use Rattle.std.proofs.Common.{◌≡◌, ◌⊎◌, inl, inr, ℕ, List, Option, Result, Ok, Err, MatchResult, IfErr, IfOk, ap, sym, ◌∙◌}
-use Rattle.cn_app.specs.Streams.SourceBytes.{HasGiven, HasRead, MayBeRead, MayHaveRead, WasRead}
+use Rattle.std.proofs.Common.{◌≡◌, inl, inr, ℕ, List, Option, Result, Ok, Err, MatchResult, IfErr, IfOk, ap, sym, ◌∙◌}
+use Rattle.cn_app.specs.Streams.SourceBytes.{HasRead, MayBeRead, MayHaveRead, WasRead}
 use Rattle.cn_app.specs.Streams.Writing.{HasWritten, WasWritten}
 use Rattle.cn_app.specs.declared.fault.AppFault.{AppFault}
 use Rattle.cn_app.specs.declared.fault.Source.{Source}

@@ -1,5 +1,5 @@
 -- From seats at work to the log that they leave.
-use Rattle.std.proofs.Common.{◌≡◌, ◌≢◌, ℕ, zero, suc, ◌+◌, ◌≤◌, ◌<◌, List, [], ◌∷◌, ◌++◌, Option, Some, None, All, length, refl, sym, ap, ◌∙◌, append-nil, length-append, subst, arith}
+use Rattle.std.proofs.Common.{◌≡◌, ℕ, zero, suc, ◌≤◌, ◌<◌, List, [], ◌∷◌, ◌++◌, Option, Some, None, All, length, sym, ap, ◌∙◌, append-nil, length-append, subst, arith}
 use Rattle.cn_log.specs.Callers.{BeginsWith}
 use Rattle.cn_log.specs.Log.{Setting, batches, fixed_from, state_of, up_to_open}
 use Rattle.cn_log.specs.Opening.{Log, Opening, setting, setting_of}

@@ -2,7 +2,6 @@
 use Rattle.std.specs.Prelude.{ℕ, List, IsSomeAnd, ◌≡◌, MatchOption}
 use Rattle.cn_table.specs.Names.{number_of}
 use Rattle.cn_table.specs.TypeTable.{TypeTable}
-use Rattle.cn_table.specs.Faults as table
 use Rattle.cn_cert.specs.Certificate.{Certificate}
 use Rattle.cn_check.specs.Verdict.{IsAccepted}
 use Rattle.cn_app.specs.Texts.Contents.{certificate_in, table_in, Gives, object_in, Fails}

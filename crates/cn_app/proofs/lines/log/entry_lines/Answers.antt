@@ -2,7 +2,6 @@ use Rattle.std.proofs.Common.{◌≡◌, ◌+◌, ◌++◌, ◌∙◌, ℕ, List
 use Rattle.std.proofs.lemmas.List.{drop_all}
 use Rattle.std.proofs.lemmas.Option.{slice_get-get_or}
 use Rattle.std.specs.List.{slice_get}
-use Rattle.cn_table.specs.TypeTable.{transition}
 use Rattle.cn_log.specs.Linearized.{entry_slots}
 use Rattle.cn_log.specs.Log.{entries}
 use Rattle.cn_log.specs.Opening.{setting}

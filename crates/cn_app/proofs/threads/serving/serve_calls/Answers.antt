@@ -1,4 +1,4 @@
-use Rattle.std.proofs.Common.{◌≡◌, false, List, length, sym, ap, ◌∙◌, arith}
+use Rattle.std.proofs.Common.{◌≡◌, length, sym, ap, ◌∙◌, arith}
 use Rattle.cn_proto.specs.Plan.{processes_of}
 use Rattle.cn_log.specs.Opening.{Opening}
 use Rattle.cn_app.proofs.ThreadLemmas.Left.{left_of, may_all_work, one_gate_each, same_opening, serve_all}
