@@ -12,7 +12,7 @@ use Rattle.cn_table.specs.TypeTable.{TypeTable, transition}
 use Rattle.cn_choice.specs.OutcomeSets.{Has}
 use Rattle.cn_choice.specs.RawChoices.{RawChoice}
 use Rattle.cn_choice.specs.Subsets.{answer_of, next_of}
-use Rattle.cn_choice.specs.Tails.{AreDead, BeginsWithin, Ends, Hits, IsFirstWay, IsFresh, IsKept, IsTried, IsWay, NoWay, moved, seen_after}
+use Rattle.cn_choice.specs.Tails.{AreDead, BeginsWithin, Ends, Hits, IsFirstWay, IsFresh, IsKept, IsTried, IsTurn, IsWay, NoWay, moved, seen_after}
 use Rattle.cn_choice.proofs.BitSets.{pow_set, union_set}
 use Rattle.cn_choice.proofs.Exchange.{IsExchanged, exchange, exchange_first, exchange_other, exchange_second, exchange_twice, which}
 use Rattle.cn_choice.proofs.LastProcess.{same_or_not, set_from}
@@ -205,6 +205,33 @@ module _ (t : TypeTable) (c : RawChoice) (j : ℕ) (set : List ℕ) (size low hi
               (subst (λ (k : ℕ). Hits t c j set state seen (k ∷ qs)) same hits)
           | inr apart ↦ elim apart [ inl less ↦ dead q way.begins.0 less qs way hits | inr more ↦ absurd (not_above q p qs tail more before) ]
         ]
+
+-- ---- turns
+
+module _ (t : TypeTable) (c : RawChoice) (j : ℕ) (set : List ℕ) (left low high n used state : ℕ) (seen : Option ℕ) (turn : IsTurn j left seen n low high) where
+  narrow : (x : List ℕ) → IsWay (length c.operations) left 0 n used x → Hits t c j set state seen x → IsWay (length c.operations) left low high used x
+  narrow [] way hits = record { long = way.long; begins = tt; fresh = way.fresh }
+  narrow (p ∷ ps) way hits = elim turn [
+    | inl a ↦ record { long = way.long; begins = (omega (arith, a.0), omega (arith, a.1, way.begins.1)); fresh = way.fresh }
+    | inr b ↦ elim (same_or_not p j) [
+      | inl e ↦ record { long = way.long; begins = (omega (arith, b.2, e), omega (arith, b.3, e)); fresh = way.fresh }
+      | inr m ↦ absurd (dead_late t c j set left 0 n used state seen p m b.0 b.1 ps way hits)
+    ]
+  ]
+
+  widen : (x : List ℕ) → IsWay (length c.operations) left low high used x → IsWay (length c.operations) left 0 n used x
+  widen [] way = record { long = way.long; begins = tt; fresh = way.fresh }
+  widen (p ∷ ps) way = record {
+    long = way.long;
+    begins = (omega arith, elim turn [ inl a ↦ omega (arith, a.1, way.begins.1) | inr b ↦ omega (arith, b.3, b.4, way.begins.1) ]);
+    fresh = way.fresh;
+  }
+
+  pub turn_none : NoWay t c j set left low high used state seen → NoWay t c j set left 0 n used state seen
+  turn_none none x way hits = none x (narrow x way hits) hits
+
+  pub turn_first : (ps : List ℕ) (pair : ℕ × ℕ) → IsFirstWay t c j set left low high used state seen ps pair → IsFirstWay t c j set left 0 n used state seen ps pair
+  turn_first ps pair f = record { way = widen ps f.way; ends = f.ends; has = f.has; earlier = λ x way before hits. f.earlier x (narrow x way hits) before hits }
 
 -- ---- dead ends
 

@@ -81,6 +81,10 @@ pub record IsFirstWay (t : TypeTable) (c : RawChoice) (j : ℕ) (set : List ℕ)
   pub has : Has set pair.0 pair.1
   pub earlier : (x : List ℕ) → IsWay (length c.operations) size low high used x → slice_cmp nat_cmp x ps ≡ Less → ¬ Hits t c j set state seen x
 
+-- the next process is from low on and below high: any of n, or j alone where there is no time for another
+abbrev pub IsTurn : ℕ → ℕ → Option ℕ → ℕ → ℕ → ℕ → Type 0
+IsTurn j left seen n low high = ((low ≡ 0) × (high ≡ n)) ⊎ ((left ≡ 1) × (seen ≡ None) × (low ≡ j) × (high ≡ j + 1) × (j < n))
+
 -- a process from low on and below the end, not j, that has not moved has this operation
 abbrev pub IsTried : RawChoice → ℕ → ℕ → ℕ → ℕ → ℕ → Type 0
 IsTried c j low end used operation = (p : ℕ) × (low ≤ p) × (p < end) × (p ≢ j) × ¬ IsBitSet used p × (slice_index c.operations p ≡ operation)

@@ -5,7 +5,7 @@ ghost use Rattle.std.specs.Int.Bits.{bit_or};
 ghost use Rattle.cn_choice.specs.OutcomeSets.{Has};
 ghost use Rattle.cn_choice.specs.RawChoices.{IsRawChoice};
 ghost use Rattle.cn_choice.specs.Subsets.{answer_of, next_of};
-ghost use Rattle.cn_choice.specs.Tails.{AreDead, IsFirstWay, IsPassed, NoWay, StayDead, moved, seen_after};
+ghost use Rattle.cn_choice.specs.Tails.{AreDead, IsFirstWay, IsPassed, IsTurn, NoWay, StayDead, moved, seen_after};
 
 use crate::bits::{contains, with};
 use crate::dead_ends::DeadEnds;
@@ -123,6 +123,18 @@ fn tried_after(choice: &RawChoice, j: u8, tried: u16, process: u8) -> u16
     }
 }
 
+/// From which process on, and below which, the next one is tried: j alone where there is no time for
+/// another.
+fn turns(j: u8, place: Place, n: u8) -> (u8, u8)
+    ensures { IsTurn j place.left place.seen n result.0 result.1 }
+{
+    if place.left == 1 && place.seen.is_none() && j < n {
+        (j, j + 1)
+    } else {
+        (0, n)
+    }
+}
+
 /// The first way to go on to the end that leads into the set, and its pair. The first process of it
 /// is from low on and below high; of those with the same operation only the first is tried. The dead
 /// ends of orders of this length are kept, but for the last two processes.
@@ -167,7 +179,8 @@ pub(crate) fn way_into(
         if dead.has(next) {
             continue;
         }
-        let found = way_into(table, choice, j, set, dead, 0, n, next);
+        let (from, end) = turns(j, next, n);
+        let found = way_into(table, choice, j, set, dead, from, end, next);
         if let Some((mut tail, pair)) = found {
             tail.insert(0, process);
             return Some((tail, pair));

@@ -3,7 +3,7 @@ use Rattle.cn_choice.specs.RawChoices.{RawChoice}
 use Rattle.std.specs.Int.Bits.{bit_or}
 use Rattle.cn_choice.specs.Subsets.{answer_of, next_of}
 use Rattle.cn_choice.specs.Tails.{AreDead, moved, seen_after}
-use Rattle.cn_choice.proofs.TailLemmas.{dead_closed, dead_here, dead_kept, dead_more, dead_unwanted, first_way, long_after, tried_more, tried_next}
+use Rattle.cn_choice.proofs.TailLemmas.{dead_closed, dead_here, dead_kept, dead_more, dead_unwanted, first_way, long_after, tried_more, tried_next, turn_first, turn_none}
 use Rattle.cn_choice.proofs.tails.+way_into.Goals as goal
 
 pub loop-process-preserved-then-not-is_open : goal.loop-process-preserved-then-not-is_open
@@ -63,7 +63,7 @@ way_into-found-requires t c =
           (
             omega (arith, next.left, c.requires.left),
             (
-              omega (arith, every),
+              elim (rw (next.left, next.seen) at c.turns-from.ensures) [ inl a ↦ omega (arith, every, a.1) | inr b ↦ omega (arith, every, b.3, b.4) ],
               (
                 next.small,
                 (
@@ -85,7 +85,10 @@ returns-in-Some-clause-first t c =
     let a = c.args in
     let next = c.place_after-next.ensures in
     let every : c.len-n.result ≡ length a.choice.now.operations = omega (arith, ap (λ (r : RawChoice). length r.operations) c.choice.view_is, c.len-n.ensures.value) in
-    let rest = rw (next.used, next.state, next.seen, next.left) at c.in-Some.ensures.first in
+    let turn = rw (next.seen, next.left) at c.turns-from.ensures in
+    let rest = turn_first a.table.now a.choice.now a.j a.set.now (a.place.left - 1) c.turns-from.result.0 c.turns-from.result.1 c.len-n.result (bit_or a.place.used (2 ^ c.loop-process.process)) (next_of a.table.now a.choice.now c.loop-process.process a.place.state.0)
+    (seen_after a.j c.loop-process.process (answer_of a.table.now a.choice.now c.loop-process.process a.place.state.0) a.place.seen) turn c.in-Some.tail.items c.in-Some.pair
+    (rw (next.used, next.state, next.seen, next.left) at c.in-Some.ensures.first) in
     rw c.insert.ensures.items (first_way a.table.now a.choice.now a.j a.set.now a.place.left a.low a.high a.place.used a.place.state.0 a.place.seen c.loop-process.process c.len-n.result every (omega (arith, c.if-place-eq0.false))
     c.in-Some.tail.items c.in-Some.pair (omega (arith, c.requires.high, c.loop-process-test.true)) c.loop-process.auto.process c.loop-process-test.true (c.if-not-is_open.ensures.open refl) c.loop-process.invariant.dead rest)
 
@@ -107,7 +110,9 @@ loop-process-preserved t c =
     let free = c.if-not-is_open.ensures.open refl in
     let some : 1 ≤ a.place.left = omega (arith, c.if-place-eq0.false) in
     let sum = long_after a.place.used p a.place.left (omega (arith, c.loop-process-test.true, c.requires.high, c.requires.few)) free some in
-    let none = rw (next.used, next.state, next.seen, next.left) at c.in_default.ensures.none in
+    let turn = rw (next.seen, next.left) at c.turns-from.ensures in
+    let none = turn_none a.table.now a.choice.now a.j a.set.now (a.place.left - 1) c.turns-from.result.0 c.turns-from.result.1 c.len-n.result (bit_or a.place.used (2 ^ p)) (next_of a.table.now a.choice.now p a.place.state.0)
+    (seen_after a.j p (answer_of a.table.now a.choice.now p a.place.state.0) a.place.seen) turn (rw (next.used, next.state, next.seen, next.left) at c.in_default.ensures.none) in
     let added = rw (next.used, next.state, next.seen) at c.add.ensures in
     let more = rw (next.used, next.left) at c.way_into-found.ensures.dead in
     let here = dead_here a.table.now a.choice.now a.j a.set.now a.place.left a.low a.high a.place.used a.place.state.0 a.place.seen p c.len-n.result every some none in
