@@ -4,7 +4,7 @@ ghost use Rattle.cn_proto.specs.Plan.{processes_of};
 ghost use Rattle.cn_agree.specs.Beginning.{AllHaveBegun};
 ghost use Rattle.cn_agree.specs.Rounds.{RunsBy, decision_at};
 
-use crate::fixtures::plan_for;
+use crate::fixtures::{assert_texts, plan_for};
 use crate::types::*;
 use cn_agree::{Round, ScheduleFault, laws, run_schedule};
 use cn_proto::Plan;
@@ -23,12 +23,8 @@ fn fault_texts() -> [(ScheduleFault, &'static str); 3] {
 }
 
 #[test]
-fn prints_every_fault(rt: HostRuntime) -> Result<(), Fail> {
-    for (fault, expected) in fault_texts() {
-        let text = format!(in rt.alloc(); "{fault}")?;
-        assert_eq!(rt; text.as_str(), expected);
-    }
-    Ok(())
+fn prints_each_fault(rt: HostRuntime) -> Result<(), Fail> {
+    assert_texts(&rt, rt.alloc(), &fault_texts())
 }
 
 /// Process 7 of eight, with seven places on its path, runs alone, so many steps; and then the

@@ -1,5 +1,6 @@
 //! Certificates of worked types, written and read, and what is wrong with other texts.
 use crate::certificates::*;
+use crate::fixtures::assert_texts;
 use cn_cert::{CertFault, read_certificate, write_certificate};
 use std::alloc::{AllocError, Global};
 use std::test::Fail;
@@ -102,9 +103,5 @@ fn fault_texts() -> [(CertFault, &'static str); 5] {
 
 #[test]
 fn prints_each_fault(rt: HostRuntime) -> Result<(), Fail> {
-    for (fault, expected) in fault_texts() {
-        let text = format!(in rt.alloc(); "{fault}")?;
-        assert_eq!(rt; text.as_str(), expected);
-    }
-    Ok(())
+    assert_texts(&rt, rt.alloc(), &fault_texts())
 }

@@ -1,5 +1,5 @@
 //! Verdicts on the certificates of worked types, and on certificates with something wrong.
-use crate::fixtures::table_of;
+use crate::fixtures::{assert_texts, table_of};
 use crate::types::*;
 use cn_cert::Certificate;
 use cn_check::{CheckFault, check};
@@ -71,9 +71,5 @@ fn fault_texts() -> [(CheckFault, &'static str); 8] {
 
 #[test]
 fn prints_each_fault(rt: HostRuntime) -> Result<(), Fail> {
-    for (fault, expected) in fault_texts() {
-        let text = format!(in rt.alloc(); "{fault}")?;
-        assert_eq!(rt; text.as_str(), expected);
-    }
-    Ok(())
+    assert_texts(&rt, rt.alloc(), &fault_texts())
 }

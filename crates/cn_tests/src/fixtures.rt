@@ -7,10 +7,10 @@ use cn_log::Event;
 use cn_proto::Plan;
 use cn_table::{Table, TableFault, read_table};
 use std::alloc::{AllocError, Global};
+use std::fmt::Display;
 use std::process::Abort;
 use std::test::Fail;
 
-/// The list of these numbers.
 pub(super) fn list_of(numbers: &[u8]) -> ArrayVec<u8, 8>
     requires { length numbers.now ≤ 8 }
     ensures { result.items ≡ numbers.now }
@@ -22,7 +22,6 @@ pub(super) fn list_of(numbers: &[u8]) -> ArrayVec<u8, 8>
     list
 }
 
-/// Whether each of the numbers is below the limit.
 pub(super) fn are_below(numbers: &[u8], limit: u8) -> bool
     ensures { IsTrue result ↔ All (λ x. x < limit) numbers.now }
 {
@@ -43,6 +42,19 @@ pub(super) fn events_of(alloc: Global, parts: &[(Event, u8)]) -> Result<Vec<Even
         }
     }
     Ok(events)
+}
+
+/// Asserts that each fault reads as the text beside it.
+pub(super) fn assert_texts<F: Display>(
+    rt: &impl Abort,
+    alloc: Global,
+    faults: &[(F, &str)],
+) -> Result<(), Fail> {
+    for (fault, expected) in faults {
+        let text = format!(in alloc; "{fault}")?;
+        assert_eq!(rt; text.as_str(), *expected);
+    }
+    Ok(())
 }
 
 /// The plan of the first canonical witness for n processes: `[0,[0],[0]]` of test_and_set for two,

@@ -6,7 +6,7 @@ ghost use Rattle.std.specs.Vec.{vec_capacity};
 ghost use Rattle.cn_hall.specs.Seats.{IsSeatOf};
 ghost use Rattle.cn_hall.specs.declared.call.Go.TheVariants.{On};
 
-use crate::fixtures::{events_of, plan_for, table_of};
+use crate::fixtures::{assert_texts, events_of, plan_for, table_of};
 use crate::gates::{AlwaysOn, Holds, StopsAt, WritesDown, comes_to};
 use crate::types::*;
 use cn_hall::{CallFault, Gate, Go, Hall, OpenFault, Reply, Seat, open};
@@ -129,6 +129,18 @@ fn close<R: Wait + Abort>(
     Ok(())
 }
 
+/// A call of one process, so many steps, a call of the other, so many, and the steps that are left to
+/// the first.
+fn one_within_another(outer: u8, before: u8, inner: u8, steps: u8, after: u8) -> [(Event, u8); 5] {
+    [
+        (Event::Invoke(outer, 0), 1),
+        (Event::Step(outer), before),
+        (Event::Invoke(inner, 0), 1),
+        (Event::Step(inner), steps),
+        (Event::Step(outer), after),
+    ]
+}
+
 /// Call 1 is stopped before this step, then comes call 0, and then the rest of call 1, where it was
 /// stopped. The replies of both, and how much they have seen, are these, and each slot costs call 0
 /// six steps.
@@ -155,13 +167,8 @@ fn stops_at<R: Wait + Abort>(
     };
     assert!(rt; first == replies.0 && second == replies.1);
     assert!(rt; hall.meet(rt, &mut zero, &mut one) == order);
-    let parts = [
-        (Event::Invoke(1, 0), 1),
-        (Event::Step(1), stop.saturating_sub(1)),
-        (Event::Invoke(0, 0), 1),
-        (Event::Step(0), slots.saturating_mul(6)),
-        (Event::Step(1), 7u8.saturating_sub(stop)),
-    ];
+    let (before, after) = (stop.saturating_sub(1), 7u8.saturating_sub(stop));
+    let parts = one_within_another(1, before, 0, slots.saturating_mul(6), after);
     close(rt, alloc, hall, zero, one, seats, &parts)?;
     Ok(())
 }
@@ -236,13 +243,7 @@ fn calls_overlap(rt: HostRuntime) -> Result<(), Fail> {
     assert!(rt; first == reply(0, 0) && second == reply(0, 1));
     assert!(rt; zero.seen_len() == 2 && one.seen_len() == 2);
     assert!(rt; hall.meet(&rt, &mut zero, &mut one) == Order::Equal);
-    let parts = [
-        (Event::Invoke(1, 0), 1),
-        (Event::Step(1), 2),
-        (Event::Invoke(0, 0), 1),
-        (Event::Step(0), 6),
-        (Event::Step(1), 4),
-    ];
+    let parts = one_within_another(1, 2, 0, 6, 4);
     close(&rt, alloc, hall, zero, one, seats, &parts)?;
     Ok(())
 }
@@ -276,13 +277,7 @@ fn opens_over_a_core_in_a_call(rt: HostRuntime) -> Result<(), Fail> {
     assert!(rt; zero.in_call() && zero.seen_slots() == 0 && !one.in_call());
     assert!(rt; call(&rt, &hall, &mut one, &mut AlwaysOn) == reply(0, 1));
     assert!(rt; resume(&rt, &hall, &mut zero, &mut AlwaysOn) == reply(0, 0));
-    let parts = [
-        (Event::Invoke(0, 0), 1),
-        (Event::Step(0), 3),
-        (Event::Invoke(1, 0), 1),
-        (Event::Step(1), 6),
-        (Event::Step(0), 3),
-    ];
+    let parts = one_within_another(0, 3, 1, 6, 3);
     close(&rt, alloc, hall, zero, one, seats, &parts)?;
     Ok(())
 }
@@ -349,12 +344,9 @@ fn fault_texts() -> [(CallFault, &'static str); 2] {
 }
 
 #[test]
-fn prints_every_fault(rt: HostRuntime) -> Result<(), Fail> {
+fn prints_each_fault(rt: HostRuntime) -> Result<(), Fail> {
     let alloc = rt.alloc();
-    for (fault, expected) in fault_texts() {
-        let text = format!(in alloc; "{fault}")?;
-        assert_eq!(rt; text.as_str(), expected);
-    }
+    assert_texts(&rt, alloc, &fault_texts())?;
     let fault = OpenFault::OutOfMemory(core_after(&rt, alloc, 4, &[])?);
     let text = format!(in alloc; "{fault}")?;
     assert_eq!(rt; text.as_str(), "1 OutOfMemory");

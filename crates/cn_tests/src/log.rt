@@ -1,7 +1,7 @@
 //! Cores by hand, and the greatest logs.
 ghost use Rattle.std.specs.Prelude.{◌≤◌};
 
-use crate::fixtures::{plan_for, table_of};
+use crate::fixtures::{assert_texts, plan_for, table_of};
 use crate::types::*;
 use cn_log::{CallEnd, Entry, Event, LogCore, ReplayFault, StepAnswer, replay};
 use cn_table::{Operation, Response, State};
@@ -158,12 +158,8 @@ fn fault_texts() -> [(ReplayFault, &'static str); 6] {
 }
 
 #[test]
-fn prints_every_fault(rt: HostRuntime) -> Result<(), Fail> {
-    for (fault, expected) in fault_texts() {
-        let text = format!(in rt.alloc(); "{fault}")?;
-        assert_eq!(rt; text.as_str(), expected);
-    }
-    Ok(())
+fn prints_each_fault(rt: HostRuntime) -> Result<(), Fail> {
+    assert_texts(&rt, rt.alloc(), &fault_texts())
 }
 
 /// These processes of eight make a call each, and then each takes the steps that a slot costs it: 8

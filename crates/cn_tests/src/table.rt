@@ -1,4 +1,5 @@
 //! Look-ups in a table, and files that are cut.
+use crate::fixtures::assert_texts;
 use crate::types::test_and_set;
 use cn_table::{Operation, Response, State, Table, TableFault, read_table};
 use std::process::Abort;
@@ -71,9 +72,5 @@ fn fault_texts() -> [(TableFault, &'static str); 10] {
 
 #[test]
 fn prints_each_fault(rt: HostRuntime) -> Result<(), Fail> {
-    for (fault, expected) in fault_texts() {
-        let text = format!(in rt.alloc(); "{fault}")?;
-        assert_eq!(rt; text.as_str(), expected);
-    }
-    Ok(())
+    assert_texts(&rt, rt.alloc(), &fault_texts())
 }
