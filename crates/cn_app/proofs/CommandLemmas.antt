@@ -3,3 +3,5 @@ pub mod FailingLogs
 pub mod FailingRuns
 pub mod FailingServices
 pub mod FailingStarts
+pub mod Numbers
+pub mod SeveralTables

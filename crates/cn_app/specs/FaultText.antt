@@ -1,5 +1,5 @@
 -- The text of each fault, as it stands behind `cnum: ` on standard error, and its exit status.
-use Rattle.std.specs.Prelude.{ℕ, List, codes, ◌++◌, [], Option, Some, None, ◌≡◌, ◌≢◌}
+use Rattle.std.specs.Prelude.{ℕ, List, codes, ◌++◌, [], Bool, true, false, Option, Some, None, ◌≡◌, ◌≢◌}
 use Rattle.cn_table.specs.FaultText.{table_fault_text}
 use Rattle.cn_table.specs.declared.fault.TableFault.TheVariants as table
 use Rattle.cn_table.specs.declared.fault.TableFault.{TableFault}
@@ -163,3 +163,9 @@ IsOfWork e = (text_of e ≡ None) × (e ≢ fault.Write)
 abbrev pub of_serving : ServeFault → AppFault
 of_serving serving.Thread = Thread
 of_serving serving.OutOfMemory = fault.OutOfMemory
+
+-- a fault of the limit or of the writer would be that of every table
+abbrev pub is_of_every_table : AppFault → Bool
+is_of_every_table (fault.Find f) = true
+is_of_every_table fault.Write = true
+is_of_every_table f = false

@@ -6,6 +6,7 @@
 
 mod agree_by_schedule;
 mod check_certificate;
+mod classify_table;
 mod find_number;
 mod replay_events;
 mod serve_by_threads;
@@ -13,6 +14,7 @@ mod show_plan;
 
 pub use agree_by_schedule::agree;
 pub use check_certificate::check;
+pub use classify_table::classify;
 pub use find_number::find;
 pub use replay_events::replay;
 pub use serve_by_threads::serve;

@@ -234,7 +234,7 @@ impl fmt::Display for Part {
 }
 
 impl AppFault {
-    ghost use Rattle.cn_app.specs.FaultText.{head_of, plain_of, status_of, tail_of};
+    ghost use Rattle.cn_app.specs.FaultText.{head_of, is_of_every_table, plain_of, status_of, tail_of};
 
     /// The same fault, with want of memory in whatever layer as `OutOfMemory`.
     pub fn plain(&self) -> AppFault
@@ -303,6 +303,14 @@ impl AppFault {
             AppFault::Read(_) | AppFault::Write | AppFault::Thread => 4,
             AppFault::OutOfMemory => 5,
         }
+    }
+
+    /// Whether it would be the fault of every table that is classified: it is one of the limit or of
+    /// the writer.
+    pub fn is_of_every_table(&self) -> bool
+        ensures { result ≡ is_of_every_table self.now }
+    {
+        matches!(self, AppFault::Find(_) | AppFault::Write)
     }
 }
 

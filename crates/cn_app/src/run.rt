@@ -13,6 +13,7 @@ ghost use Rattle.cn_app.specs.Commands.Agree.{IsAgreed, RunFails};
 ghost use Rattle.cn_app.specs.Arguments.Lists.{ListsFail, ListsGive};
 ghost use Rattle.cn_app.specs.Texts.Checked.{FailsChecked, GivesChecked};
 ghost use Rattle.cn_app.specs.Arguments.Events.{capacity_of, EventsFail, EventsGive};
+ghost use Rattle.cn_app.specs.Commands.Classify.{IsClassified, LimitFails};
 ghost use Rattle.cn_app.specs.Commands.Find.{IsFound, SearchFails};
 ghost use Rattle.cn_app.specs.Texts.Plans.{IsPlanOf, PlanFails};
 ghost use Rattle.cn_app.specs.Texts.Services.{FailsObject, GivesObject, StartFails, StartGives};
@@ -57,6 +58,34 @@ pub fn run_find<T: Threads + Sync, R: Read, W: Write>(
     let mut output = Output::new(alloc, writer);
     let outcome = commands::find(rt, alloc, &mut table, &mut output, limit);
     // No effect at run time: a proof reads from these what became of the reader and the writer.
+    let _ = &*table.into_reader();
+    let _ = &*output.into_writer();
+    outcome
+}
+
+/// [`classify`](commands::classify) over a reader and a writer.
+///
+/// # Errors
+///
+/// Those of [`classify`](commands::classify).
+pub fn run_classify<T: Threads + Sync, R: Read, W: Write>(
+    rt: &T,
+    alloc: Global,
+    table: &mut R,
+    writer: &mut W,
+    limit: u8,
+) -> Result<Outcome, AppFault>
+    ensures whole { IfOk result (λ outcome. outcome ≡ Outcome.Whole) }
+    ensures classified { OnOk result (WasRead Source.Table result R.remaining table.old table.new (λ bytes.
+        WasWritten W.contents writer.old writer.new (λ line. Gives bytes table_in (λ t. IsClassified t limit line)))) }
+    ensures refused { IfErr result (λ e. MayBeRead Source.Table result R.remaining table.old table.new (λ bytes.
+        (e ≡ AppFault.OutOfMemory) ⊎ LimitFails limit e (Fails Source.Table bytes table_in e (λ _. e ≡ AppFault.Write)))) }
+    ensures silent { IfErr result (λ e. (e ≡ AppFault.Write) ⊎ (writer.new ≡ writer.old)) }
+{
+    let mut table = Text::new(alloc, table);
+    let mut output = Output::new(alloc, writer);
+    let outcome = commands::classify(rt, alloc, &mut table, &mut output, limit);
+    // As in `run_find`.
     let _ = &*table.into_reader();
     let _ = &*output.into_writer();
     outcome

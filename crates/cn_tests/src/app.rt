@@ -3,6 +3,7 @@
 mod arguments;
 mod calls;
 mod check;
+mod classify;
 mod faults;
 mod find;
 mod kept;
@@ -12,7 +13,7 @@ mod streams;
 
 use cn_app::{
     AppFault, Outcome, Part, Source, read_calls, read_events, read_inputs, read_schedule,
-    run_check, run_find, run_replay, run_serve,
+    run_check, run_classify, run_find, run_replay, run_serve,
 };
 use std::alloc::Global;
 use std::process::Abort;

@@ -3,6 +3,8 @@
 #![tactic(auto)]
 
 mod always_on;
+mod faults;
+mod given;
 mod lazy_file;
 mod words;
 
@@ -11,10 +13,12 @@ ghost use Rattle.cn_app.specs.Streams.Writing.{IsUnwritten};
 
 use always_on::AlwaysOn;
 use clap::{ArgMatches, Error};
-use cn_app::{AppFault, Outcome, Output, Text, commands};
+use cn_app::{AppFault, Named, Outcome, Output, Tell, Text, classify_each, commands};
+use faults::Faults;
+use given::Given;
 use lazy_file::LazyFile;
 use std::alloc::Global;
-use std::io::{ErrorKind, Read, Write};
+use std::io::{ErrorKind, Read, Stdin, Write};
 use std::process::ExitCode;
 use std::rt::Files;
 use std::sync::Wait;
@@ -102,16 +106,46 @@ fn run<T: Threads + Wait + Sync + Files, I: Read, O: Write>(
     }
 }
 
-// Says a fault on standard error; the status tells it too, so that it is not lost where that
-// stream is closed.
+// Classifies the tables of the files, and answers the first fault, which is told.
+fn classify<T: Threads + Sync + Files + Eprint, O: Write>(
+    rt: &T,
+    alloc: Global,
+    stdin: &Stdin,
+    output: &mut O,
+    words: &ArgMatches<'_>,
+) -> Result<Option<AppFault>, AppFault> {
+    let limit = words.get_one::<u8>("limit").ok_or(AppFault::Words)?;
+    let names = words.get_strs("FILE").ok_or(AppFault::Words)?;
+    let mut tables = Vec::with_capacity(alloc, names.len())?;
+    for name in names.iter().copied() {
+        let reader = match name {
+            "-" => Given::Standard(stdin),
+            path => Given::File(LazyFile::new(rt, path)),
+        };
+        tables.push(Named { name, reader })?;
+    }
+    let mut faults = Faults { rt };
+    Ok(classify_each(rt, alloc, tables, output, &mut faults, limit))
+}
+
+// Tells a fault; how the program ends.
 fn ended(rt: &impl Eprint, outcome: Result<Outcome, AppFault>) -> ExitCode {
     match outcome {
         Ok(Outcome::Whole) => ExitCode::SUCCESS,
         Ok(Outcome::Cut) => ExitCode::FAILURE,
         Err(fault) => {
-            let _ = eprintln!(rt; "cnum: {fault}");
+            Faults { rt }.tell(None, fault);
             ExitCode::from(fault.status())
         }
+    }
+}
+
+// The same of several tables, of which the first fault is known and each is told.
+fn all_ended(rt: &impl Eprint, first: Result<Option<AppFault>, AppFault>) -> ExitCode {
+    match first {
+        Ok(None) => ExitCode::SUCCESS,
+        Ok(Some(fault)) => ExitCode::from(fault.status()),
+        Err(fault) => ended(rt, Err(fault)),
     }
 }
 
@@ -148,6 +182,10 @@ fn main(rt: HostRuntime) -> ExitCode {
     match command.try_get_matches_from(given.as_slice()) {
         Ok(matches) => {
             let (mut input, mut output) = (rt.stdin(), rt.stdout());
+            if let Some(words) = matches.subcommand_matches("classify") {
+                let first = classify(&rt, alloc, &input, &mut output, words);
+                return all_ended(&rt, first);
+            }
             let mut table = Text::new(alloc, &mut input);
             let mut output = Output::new(alloc, &mut output);
             let outcome = run(&rt, alloc, &mut table, &mut output, &matches);

@@ -7,7 +7,8 @@ const ABOUT: &str = "Finds and checks the consensus number of a shared object ty
 const AFTER: &str = "\
 Input: a type table in TOML on standard input, at most 65536 bytes; CERT is a file that holds a
 certificate, at most 16777216 bytes, OBJECT one that holds the table of an object, at most 65536.
-Output: on standard output, whole or not at all; a fault is one line on standard error.
+Output: on standard output, whole or not at all; a fault is one line on standard error. classify
+reads a table from each FILE, and each has a line of output or of a fault.
 
 Exit status:
   0  done
@@ -39,6 +40,27 @@ refused, 4 reading or writing failed, 5 out of memory.
 Example:
   cnum find --limit 3 < types/test_and_set.toml
 writes a certificate with \"number\":2.";
+
+const CLASSIFY_ABOUT: &str = "Writes the consensus number of each of several types";
+
+const CLASSIFY_AFTER: &str = "\
+Reads a type table in TOML from each FILE, one after the other; - is standard input. Looks for the
+greatest n from 2 to N for which the type is n-discerning, whatever the count of choices. N is from
+2 to 8.
+
+Writes for each type a line as soon as its number is known: its name, a colon, and the number; 1
+where it is n-discerning for no such n; at least N where the number is N, since a greater limit may
+show a greater number. A number without at least is that for every greater limit too.
+
+A table that cannot be read or is refused has a line on standard error that begins with the name of
+its file, and the others go on.
+
+Exit status: 0 done; else that of the first fault: 2 a table is refused, 3 the words or the limit
+are refused, 4 reading or writing failed, 5 out of memory.
+
+Example:
+  cnum classify types/test_and_set.toml types/sticky_bit.toml
+writes test_and_set: 2 and sticky_bit: at least 8.";
 
 const CHECK_ABOUT: &str = "Checks a certificate against the type";
 
@@ -141,18 +163,34 @@ Example:
   cnum serve tests/cli/check_ok/cert.json types/counter_3.toml 0 4 0/none < types/test_and_set.toml
 writes answer 0 0 0, entry 0 0 inc 0 1 and events i0:0,s0,s0,s0,s0,s0,s0.";
 
-fn find<'a>(alloc: Global) -> Result<Command<'a>, AllocError> {
-    let limit = Arg::new(alloc, "limit")
+/// The limit of a search.
+fn limit<'a>(alloc: Global) -> Arg<'a> {
+    Arg::new(alloc, "limit")
         .long("limit")
         .value_name("N")
         .help("The greatest number looked for, from 2 to 8")
-        .required(true)
         .action(ArgAction::Set)
-        .value_parser(value_parser!(u8));
+        .value_parser(value_parser!(u8))
+}
+
+fn find<'a>(alloc: Global) -> Result<Command<'a>, AllocError> {
     Command::new(alloc, "find")
         .about(FIND_ABOUT)
         .after_help(FIND_AFTER)
-        .arg(limit)
+        .arg(limit(alloc).required(true))
+}
+
+fn classify<'a>(alloc: Global) -> Result<Command<'a>, AllocError> {
+    let files = Arg::new(alloc, "FILE")
+        .help("The files that hold the type tables")
+        .required(true)
+        .num_args(1..)
+        .action(ArgAction::Set);
+    Command::new(alloc, "classify")
+        .about(CLASSIFY_ABOUT)
+        .after_help(CLASSIFY_AFTER)
+        .arg(limit(alloc).default_value("8"))?
+        .arg(files)
 }
 
 /// A word that has to stand there.
@@ -224,6 +262,7 @@ pub fn command<'a>(alloc: Global) -> Result<Command<'a>, AllocError> {
         .after_help(AFTER)
         .subcommand_required(true)
         .subcommand(find(alloc)?)?
+        .subcommand(classify(alloc)?)?
         .subcommand(with_certificate(alloc, "check", CHECK_ABOUT, CHECK_AFTER)?)?
         .subcommand(with_certificate(alloc, "show", SHOW_ABOUT, SHOW_AFTER)?)?
         .subcommand(agree(alloc)?)?

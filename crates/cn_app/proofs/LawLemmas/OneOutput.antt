@@ -1,12 +1,14 @@
 -- What a command writes is one text.
-use Rattle.std.proofs.Common.{◌≡◌, ℕ, List, ◌++◌, codes, Some, ap, sym, ◌∙◌}
+use Rattle.std.proofs.Common.{◌≡◌, ℕ, List, ◌++◌, codes, Option, Some, ap, sym, ◌∙◌}
 use Rattle.cn_table.specs.TypeTable.{TypeTable}
 use Rattle.cn_choice.specs.Canonical.{Choice}
+use Rattle.cn_choice.specs.Discerning.{IsNumberUpTo}
 use Rattle.cn_search.specs.Evidence.{IsFindingFor}
 use Rattle.cn_search.specs.Finding.{Finding}
 use Rattle.cn_cert.specs.Certificate.{Certificate, certificate_of}
 use Rattle.cn_cert.specs.CertificateText.{certificate_text}
 use Rattle.cn_proto.specs.Plan.{Plan, IsPlan}
+use Rattle.cn_app.specs.Commands.Classify.{IsClassified, class_line}
 use Rattle.cn_app.specs.Commands.Find.{IsFound}
 use Rattle.cn_app.specs.Texts.Plans.{IsPlanOf}
 
@@ -21,3 +23,11 @@ same_choice v w e = cc
 pub one_plan_of : ((p q : Plan) → IsPlan p → IsPlan q → p.table ≡ q.table → p.choice ≡ q.choice → p ≡ q)
     → (t : TypeTable) (c : Certificate) (p q : Plan) → IsPlanOf t c p → IsPlanOf t c q → p ≡ q
 one_plan_of one t c p q f g = one p q f.is_plan g.is_plan (f.table ∙ sym g.table) (same_choice p.choice q.choice (sym f.witness ∙ g.witness))
+
+pub one_classified : ((t : TypeTable) (limit : ℕ) (m n : Option ℕ) → IsNumberUpTo t limit m → IsNumberUpTo t limit n → m ≡ n)
+    → (t : TypeTable) (limit : ℕ) (x y : List ℕ) → IsClassified t limit x → IsClassified t limit y → x ≡ y
+one_classified one t limit x y f g = f.written ∙ ap (class_line t.name limit) (one t limit f.number g.number f.up_to g.up_to) ∙ sym g.written
+
+pub classified_as_found : ((t : TypeTable) (limit : ℕ) (number : Option ℕ) (f : Finding) → IsFindingFor t limit f → IsNumberUpTo t limit number → number ≡ f.number)
+    → (t : TypeTable) (limit : ℕ) (line : List ℕ) (f : Finding) → IsClassified t limit line → IsFindingFor t limit f → line ≡ class_line t.name limit f.number
+classified_as_found one t limit line f is found = is.written ∙ ap (class_line t.name limit) (one t limit is.number f found is.up_to)

@@ -1,0 +1,45 @@
+-- Numbers with no evidence, from what was tried.
+use Rattle.std.proofs.Common.{◌≡◌, ◌≢◌, ◌⊎◌, inl, inr, ◌↔◌, ℕ, ◌+◌, ◌≤◌, ◌<◌, Contains, IsTrue, Option, Some, None, is_some, arith, ap, refl, sym, subst, true≢false}
+use Rattle.std.proofs.Math.Nat.{eq-or-lt_of_le}
+use Rattle.cn_table.specs.TypeTable.{TypeTable}
+use Rattle.cn_choice.specs.Canonical.{Choice, raw_choice_of}
+use Rattle.cn_choice.specs.Discerning.{IsDiscerning, IsNumberUpTo, IsWitness}
+use Rattle.cn_search.specs.Evidence.{IsFirstAmong, NoneIsWitness, choices_for}
+use Rattle.cn_search.proofs.ListLemmas.{Contains-between}
+
+-- before n processes are tried: the number up to n - 1
+abbrev pub HasTried : TypeTable → ℕ → Option ℕ → Type 0
+HasTried t n None = n ≡ 2
+HasTried t n (Some m) = (n ≡ m + 1) × (2 ≤ m) × IsDiscerning t m
+
+-- a first witness, or that there is none, tells whether the type is discerning
+pub discerning_by_witness : (t : TypeTable) (n : ℕ) → (NoneIsWitness t (choices_for t n) → ¬ IsDiscerning t n)
+    → ((c : Choice) → Contains (choices_for t n) c → IsWitness t (raw_choice_of c) → IsDiscerning t n)
+    → (found : Option Choice) → IsFirstAmong t (choices_for t n) found → IsTrue (is_some found) ↔ IsDiscerning t n
+discerning_by_witness t n refuted shown None h = ((λ some. absurd (true≢false (sym some))), (λ is. absurd (refuted h is)))
+discerning_by_witness t n refuted shown (Some w) h = ((λ _. shown w (Contains-between _ h.before h.after w (sym h.listed)) h.witness), (λ _. refl))
+
+-- a type and a limit, and what the law of numbers says of them
+module _ (t : TypeTable) (limit : ℕ)
+    (number_found : (n : ℕ) → 2 ≤ n → n ≤ limit → IsDiscerning t n → (n < limit → ¬ IsDiscerning t (n + 1)) → IsNumberUpTo t limit (Some n))
+    (no_number : ¬ IsDiscerning t 2 → IsNumberUpTo t limit None) where
+  -- the type is not n-discerning
+  pub number_refuted : (n : ℕ) (number : Option ℕ) → HasTried t n number → n ≤ limit → ¬ IsDiscerning t n → IsNumberUpTo t limit number
+  number_refuted n None two within fails = no_number (subst (λ (k : ℕ). ¬ IsDiscerning t k) two fails)
+  number_refuted n (Some m) (next, two, is) within fails = number_found m two (omega (arith, next, within)) is (λ _. subst (λ (k : ℕ). ¬ IsDiscerning t k) next fails)
+
+  -- it is for as many processes as the limit
+  pub number_at_limit : (n : ℕ) (number : Option ℕ) → HasTried t n number → 2 ≤ limit → n ≡ limit + 1 → IsNumberUpTo t limit number
+  number_at_limit n None two some past = absurd (omega (arith, two, past, some))
+  number_at_limit n (Some m) (next, two, is) some past =
+      let all : limit ≤ m = omega (arith, next, past) in
+      number_found m two (omega (arith, next, past)) is (λ less. absurd (omega (arith, all, less)))
+
+  -- the number up to a lower limit, below that
+  pub number_of_lower : (lower : ℕ) (number : Option ℕ) → 2 ≤ lower → lower ≤ limit → IsNumberUpTo t lower number → number ≢ Some lower → IsNumberUpTo t limit number
+  number_of_lower lower None some within none below = no_number (none 2 (omega arith) some)
+  number_of_lower lower (Some m) some within (two, up_to, is, above) below = by_place (eq-or-lt_of_le up_to)
+    where
+      by_place : (m ≡ lower) ⊎ (m < lower) → IsNumberUpTo t limit (Some m)
+      by_place (inl same) = absurd (below (ap Some same))
+      by_place (inr less) = number_found m two (omega (arith, up_to, within)) is (λ _. above (m + 1) (omega arith) (omega (arith, less)))

@@ -1,0 +1,82 @@
+//! The number alone, one number of processes after the other.
+ghost use Rattle.std.specs.Prelude.{◌≡◌, ◌≤◌, ◌⊎◌, ◌↔◌, Err, IfErr, IfOk, IsTrue, None, OnOk, Some};
+ghost use Rattle.cn_choice.specs.Discerning.{IsDiscerning, IsNumberUpTo};
+ghost use Rattle.cn_search.specs.Faults.{number_fault};
+ghost use Rattle.cn_search.specs.declared.fault.FindFault.{FindFault};
+ghost use Rattle.cn_search.specs.declared.fault.FindFault.TheVariants.{OutOfMemory};
+
+use crate::FindFault;
+use crate::search::{blocks_for, first_witness};
+use cn_choice::laws;
+use cn_table::Table;
+use std::alloc::{AllocError, Global};
+use std::thread::Threads;
+
+/// Whether the type is n-discerning.
+fn is_discerning<T: Threads + Sync>(
+    rt: &T,
+    alloc: Global,
+    table: &Table,
+    n: u8,
+) -> Result<bool, AllocError>
+    requires some { 2 ≤ n }
+    requires few { n ≤ 8 }
+    ensures { IfOk result (λ yes. IsTrue yes ↔ IsDiscerning table.now n) }
+{
+    laws::block_list();
+    laws::live_choices_decide();
+    let blocks = blocks_for(alloc, table, n)?;
+    let witness = first_witness(rt, alloc, table, blocks.as_slice())?;
+    Ok(witness.is_some())
+}
+
+/// The number up to the limit. What is refuted for one process more than the number is refuted for
+/// every greater number of processes, so that the search ends there.
+fn number_up_to<T: Threads + Sync>(
+    rt: &T,
+    alloc: Global,
+    table: &Table,
+    limit: u8,
+) -> Result<Option<u8>, AllocError>
+    requires some { 2 ≤ limit }
+    requires few { limit ≤ 8 }
+    ensures { IfOk result (IsNumberUpTo table.now limit) }
+{
+    laws::number_before_failure();
+    let mut number = None;
+    for n in 2..limit + 1 {
+        if !is_discerning(rt, alloc, table, n)? {
+            return Ok(number);
+        }
+        number = Some(n);
+    }
+    Ok(number)
+}
+
+/// The number of a type up to a limit, from 2 to 8, with no evidence for it: the greatest n from 2
+/// to the limit for which the type is n-discerning, if there is one.
+///
+/// It is the number of the [`Finding`](crate::Finding) of the type and the limit
+/// ([`laws::number_of_finding`](crate::laws::number_of_finding)), and of a type with any number of
+/// choices. The blocks of choices are searched in several threads, and of each number of processes
+/// as far as the first witness.
+///
+/// # Errors
+///
+/// `BadLimit` where the limit is below 2 or above 8. `OutOfMemory` can stand in place of a number.
+pub fn number<T: Threads + Sync>(
+    rt: &T,
+    alloc: Global,
+    table: &Table,
+    limit: u8,
+) -> Result<Option<u8>, FindFault>
+    ensures number { IfOk result (IsNumberUpTo table.now limit) }
+    ensures searched { OnOk result (number_fault limit ≡ None) }
+    ensures told { (e : FindFault) → number_fault limit ≡ Some e → result ≡ Err e }
+    ensures refused { IfErr result (λ e. (e ≡ OutOfMemory) ⊎ (number_fault limit ≡ Some e)) }
+{
+    if let Some(fault) = FindFault::of_limit(limit) {
+        return Err(fault);
+    }
+    Ok(number_up_to(rt, alloc, table, limit)?)
+}

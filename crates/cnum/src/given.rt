@@ -1,0 +1,21 @@
+//! The tables that the command line names.
+use crate::lazy_file::LazyFile;
+use std::io;
+use std::io::{Read, Stdin};
+use std::rt::Files;
+
+/// What reads a table that is named: standard input by the name `-`, else a file of the name.
+#[derive(Drop)]
+pub enum Given<'a, R: Files> {
+    Standard(&'a Stdin),
+    File(LazyFile<'a, R>),
+}
+
+impl<'a, R: Files> Read for Given<'a, R> {
+    fn read(&mut self, buffer: &mut [u8]) -> io::Result<usize> {
+        match self {
+            Given::Standard(stdin) => stdin.read(buffer),
+            Given::File(file) => file.read(buffer),
+        }
+    }
+}
