@@ -62,7 +62,7 @@ fn a_fault_of_one_table_leaves_the_others(rt: HostRuntime) -> Result<(), Fail> {
     let first = three(&rt, alloc, &mut written, &mut kept)?;
     let fault = AppFault::Read(Source::Table);
     assert_eq!(rt; first, Some(fault));
-    assert!(rt; kept.told.as_slice() == &[(true, fault)]);
+    assert!(rt; kept.told.as_slice() == [(true, fault)].as_slice());
     assert!(rt; written.as_slice() == "test_and_set: 2\nsticky_bit: at least 8\n".as_bytes());
     Ok(())
 }
