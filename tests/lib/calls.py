@@ -9,11 +9,10 @@ import subprocess
 import sys
 import threading
 import time
-import tomllib
 
 TOP = pathlib.Path(__file__).resolve().parents[2]
 PROGRAM = str(pathlib.Path(sys.argv[1]).resolve())
-CERTIFICATES = tomllib.loads((TOP / "tests/rows/texts.toml").read_text())
+CERTIFICATES = {it.stem: it.read_text().removesuffix("\n") for it in (TOP / "tests/certificates").glob("*.json")}
 TYPES = {path.stem: path.read_text() for folder in ("types", "tests/types") for path in (TOP / folder).glob("*.toml")}
 POOL = concurrent.futures.ThreadPoolExecutor(2)
 
