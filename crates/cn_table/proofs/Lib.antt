@@ -1,7 +1,12 @@
 pub mod ListLemmas
 pub mod Lists
 pub mod KeyLemmas
+pub mod FlawLemmas
+pub mod FlawLaws
 pub mod KindLemmas
 pub mod NameLists
 pub mod Rows
+pub mod ReachLemmas
+pub mod Lines
+pub mod GridLemmas
 pub mod Faultless

@@ -15,11 +15,11 @@ ghost use Rattle.cn_table.specs.Faults.{has_other_key, lacks_a_key, some_table, 
 
 use toml::{Table, Value};
 
-const ROOT_KEYS: [&str; 4] = ["name", "states", "responses", "operation"];
+pub(crate) const ROOT_KEYS: [&str; 4] = ["name", "states", "responses", "operation"];
 
-const OPERATION_KEYS: [&str; 3] = ["name", "response", "next"];
+pub(crate) const OPERATION_KEYS: [&str; 3] = ["name", "response", "next"];
 
-fn value_at<'a>(table: &'a Table, key: &str) -> Option<&'a Value>
+pub(crate) fn value_at<'a>(table: &'a Table, key: &str) -> Option<&'a Value>
     ensures { option_map (λ v. view v.now) result ≡ get_member key.now (table_view table.now) }
 {
     table.get(key)
@@ -40,7 +40,7 @@ pub(crate) fn array_at<'a>(table: &'a Table, key: &str) -> Option<&'a [Value]>
     Some(items.as_slice())
 }
 
-fn is_one_of(keys: &[&str], key: &str) -> bool
+pub(crate) fn is_one_of(keys: &[&str], key: &str) -> bool
     ensures { result ≡ list_any (λ k. bytes_eq k.now key.now) keys.now }
 {
     keys.iter().any(|k| *k == key)

@@ -5,20 +5,29 @@
 //! of a file, or says by a [`TableFault`] what is wrong with them.
 #![tactic(auto)]
 
+mod all_flaws;
 mod document;
+mod document_flaws;
 mod draft;
 mod draft_faults;
+mod draft_flaws;
 mod elements;
 mod fault;
+mod flaw;
+mod flaw_text;
+mod grid;
 mod keys;
 mod limits;
 mod names;
+mod reach;
 mod read;
 mod resolve;
 mod table;
 
+pub use all_flaws::flaws;
 pub use elements::{Operation, Response, State};
 pub use fault::TableFault;
+pub use flaw::Flaw;
 pub use limits::{LONGEST_NAME, MOST_OPERATIONS, MOST_RESPONSES, MOST_STATES};
 pub use names::is_name;
 pub use read::read_table;

@@ -55,7 +55,7 @@ pub(crate) fn are_named<T: Named>(things: &[T]) -> bool
     all_go_by_names(things)
 }
 
-fn has_namesake<T: Named>(things: &[T], name: &str) -> bool
+pub(crate) fn has_namesake<T: Named>(things: &[T], name: &str) -> bool
     ensures { result ≡ list_any (λ x. bytes_eq (T.name_of x) name.now) things.now }
 {
     things.iter().any(|thing| thing.name() == name)

@@ -1,0 +1,50 @@
+-- Flaws that are found in one thing after another.
+use Rattle.std.proofs.Common.{◌≡◌, ℕ, ◌<◌, ◌≤◌, ◌+◌, List, [], ◌∷◌, ◌++◌, length, drop, get_or, map, true, false, Bor, Vec, Global, Result, Ok, Err, IfOk, append_assoc, sym, ◌∙◌}
+use Rattle.std.specs.Prelude.{OnOk, if◌then◌else◌}
+use Rattle.std.specs.List.{list_any}
+use Rattle.std.specs.Str.{bytes_eq}
+use Rattle.std.proofs.lemmas.List.{drop_more}
+use Rattle.cn_table.specs.FlawText.{other_key_text, repeated_text}
+use Rattle.cn_table.specs.Flaws.{Flaw, flaw, flaws_view, each, other_keys, repeats, text_flaws}
+use Rattle.cn_table.specs.declared.flaw.Flaw as code_flaw
+use Rattle.cn_table.specs.declared.fault.TableFault.TheVariants.{UnknownKey, Repeated}
+use Rattle.cn_table.proofs.ListLemmas.{list_any-map}
+
+-- two parts, one put behind the other
+pub two_parts : {T E A : Type 0} (r : Result T E) (old mid new a b : List A) → mid ≡ old ++ a → OnOk r (new ≡ mid ++ b) → OnOk r (new ≡ old ++ (a ++ b))
+two_parts (Ok x) old mid new a b first second = second ∙ rw first (append_assoc old a b)
+two_parts (Err e) old mid new a b first second = tt
+
+-- what is found in one more thing stands behind what was found before
+pub each_more : {V X : Type 0} (find : ℕ → X → List Flaw) (f : V → X) (old new all : List Flaw) (vs : List V) (i : ℕ) (v : V) → i < length vs → v ≡ get_or vs i v
+    → new ≡ old ++ find i (f v) → old ++ each find i (map f (drop i vs)) ≡ all → new ++ each find (i + 1) (map f (drop (i + 1) vs)) ≡ all
+each_more find f old new all vs i v within is step before =
+    let split = rw (drop_more vs i v within, ← is) at before in
+    rw step (append_assoc old (find i (f v)) _ ∙ split)
+
+-- a key that is one of those known, and one that is not
+pub other_key_passed : (before after : List ℕ) (known : List (Bor (List ℕ))) (key : List ℕ) (keys : List (List ℕ)) (old all : List Flaw)
+    → list_any (λ k. bytes_eq k.now key) known ≡ true → old ++ other_keys before after (map (λ k. k.now) known) (key ∷ keys) ≡ all
+    → old ++ other_keys before after (map (λ k. k.now) known) keys ≡ all
+other_key_passed before after known key keys old all one so_far = rw (list_any-map (λ k. bytes_eq k key) (λ k. k.now) known, one) at so_far
+
+pub other_key_more : (before after : List ℕ) (known : List (Bor (List ℕ))) (key : List ℕ) (keys : List (List ℕ)) (old new all : List Flaw)
+    → list_any (λ k. bytes_eq k.now key) known ≡ false → new ≡ old ++ flaw UnknownKey (other_key_text before after key)
+    → old ++ other_keys before after (map (λ k. k.now) known) (key ∷ keys) ≡ all → new ++ other_keys before after (map (λ k. k.now) known) keys ≡ all
+other_key_more before after known key keys old new all none step so_far =
+    let split = rw (list_any-map (λ k. bytes_eq k key) (λ k. k.now) known, none) at so_far in
+    rw step (append_assoc old (flaw UnknownKey (other_key_text before after key)) _ ∙ split)
+
+-- a thing whose name stands again behind it, or does not
+pub repeats_more : {V : Type 0} (what name : List ℕ) (f : V → List ℕ) (old new all : List Flaw) (vs : List V) (i : ℕ) (v : V) → i < length vs → v ≡ get_or vs i v
+    → name ≡ f v → new ≡ old ++ (if list_any (λ x. bytes_eq (f x) name) (drop (i + 1) vs) then flaw Repeated (repeated_text what name) else [])
+    → old ++ repeats what (map f (drop i vs)) ≡ all → new ++ repeats what (map f (drop (i + 1) vs)) ≡ all
+repeats_more what name f old new all vs i v within is named step before =
+    let split = rw (drop_more vs i v within, ← is, list_any-map (λ u. bytes_eq u (f v)) f (drop (i + 1) vs), ← named) at before in
+    rw step (append_assoc old _ _ ∙ split)
+
+-- flaws that are those of a text at some place
+pub placed : {E : Type 0} (r : Result (Vec code_flaw.Flaw Global) E) (there : List Flaw) (place : ℕ) (text : List ℕ) → place ≤ length text → text_flaws place text ≡ there
+    → IfOk r (λ v. flaws_view v ≡ there) → IfOk r (λ v. (p : ℕ) × (p ≤ length text) × (flaws_view v ≡ text_flaws p text))
+placed (Ok v) there place text within are found = (place, within, found ∙ sym are)
+placed (Err e) there place text within are found = tt

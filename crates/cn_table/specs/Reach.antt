@@ -1,0 +1,15 @@
+-- Where the operations of a type lead.
+use Rattle.std.specs.Prelude.{◌≡◌, ◌↔◌, ℕ, ◌<◌, List, length, get_or, Bool, true, false}
+use Rattle.std.specs.List.{AllByRecursion}
+use Rattle.cn_table.specs.TypeTable.{TypeTable}
+use Rattle.cn_table.specs.Run.{state_after}
+
+-- operations of the type, one after the other, lead from one state to the other
+pub record Leads (t : TypeTable) (from to : ℕ) : Type 0 where
+  pub operations : List ℕ
+  pub known : AllByRecursion (λ o. o < length t.operations) operations
+  pub last : state_after t from operations ≡ to
+
+-- for each state, whether operations lead to it from the first
+abbrev pub AreReached : TypeTable → List Bool → Type 0
+AreReached t reached = (q : ℕ) → q < length t.states → (get_or reached q false ≡ true) ↔ Leads t 0 q

@@ -1,0 +1,300 @@
+//! The flaws of a document: keys that should not be there, keys that should, and values that are
+//! not of their kind.
+ghost use Rattle.std.specs.Prelude.{◌≡◌, ◌++◌, OnOk, IfOk, [], codes, map, string_bytes};
+ghost use Rattle.std.specs.List.{list_all};
+ghost use Rattle.std.specs.Map.{keys_of};
+ghost use Rattle.toml.specs.Data.{get_member};
+ghost use Rattle.toml.specs.View.{table_view, view};
+ghost use Rattle.cn_table.specs.Document.{keys_in};
+ghost use Rattle.cn_table.specs.Faults.{is_text, is_array_of};
+ghost use Rattle.cn_table.specs.Flaws.{flaws_view, each, other_keys, missing_keys, wrong_kind, wrong_text, wrong_texts, table_text, is_array};
+ghost use Rattle.cn_table.specs.Flaws.{table_flaws, no_table_flaws, item_flaws, operation_flaws, root_flaws, flaws_by};
+ghost use Rattle.cn_table.specs.FlawText.{other_key_text, missing_key_text, kind_text, no_operation_text};
+
+use crate::fault::TableFault;
+use crate::flaw::{Flaw, push_flaw};
+use crate::flaw_text::{operation_text, quoted};
+use crate::keys::{OPERATION_KEYS, ROOT_KEYS, array_at, is_one_of, text_at, value_at};
+use std::alloc::{AllocError, Global};
+use toml::{Table, Value};
+
+/// What is looked for in a document.
+#[derive(Clone, Copy)]
+pub(crate) enum Look {
+    OtherKeys,
+    MissingKeys,
+    Kinds,
+}
+
+fn other_key_text(alloc: Global, before: &str, after: &str, key: &str) -> Result<String, AllocError>
+    ensures { IfOk result (λ s. string_bytes s ≡ other_key_text before.now after.now key.now) }
+{
+    let key = quoted(alloc, key)?;
+    format!(in alloc; "{before}{key}{after}")
+}
+
+fn push_other_entries(
+    alloc: Global,
+    flaws: &mut Vec<Flaw>,
+    before: &str,
+    after: &str,
+    known: &[&str],
+    table: &Table,
+) -> Result<(), AllocError>
+    ensures { OnOk result (flaws_view flaws.new ≡ flaws_view flaws.old
+        ++ other_keys before.now after.now (map (λ k. k.now) known.now) (map (λ k. string_bytes k) (keys_of table.now.entries))) }
+{
+    for key in table.keys() {
+        if !is_one_of(known, key.as_str()) {
+            let text = other_key_text(alloc, before, after, key.as_str())?;
+            push_flaw(flaws, TableFault::UnknownKey, text)?;
+        }
+    }
+    Ok(())
+}
+
+/// The keys of the table that are none of these.
+
+fn push_other_keys(
+    alloc: Global,
+    flaws: &mut Vec<Flaw>,
+    before: &str,
+    after: &str,
+    known: &[&str],
+    table: &Table,
+) -> Result<(), AllocError>
+    ensures { OnOk result (flaws_view flaws.new ≡ flaws_view flaws.old
+        ++ other_keys before.now after.now (map (λ k. k.now) known.now) (keys_in (table_view table.now))) }
+{
+    push_other_entries(alloc, flaws, before, after, known, table)
+}
+
+fn missing_key_text(alloc: Global, place: &str, key: &str) -> Result<String, AllocError>
+    ensures { IfOk result (λ s. string_bytes s ≡ missing_key_text place.now key.now) }
+{
+    format!(in alloc; "{place} has no \"{key}\"")
+}
+
+/// Those of these keys that the table has not.
+fn push_missing_keys(
+    alloc: Global,
+    flaws: &mut Vec<Flaw>,
+    place: &str,
+    known: &[&str],
+    table: &Table,
+) -> Result<(), AllocError>
+    ensures { OnOk result (flaws_view flaws.new ≡ flaws_view flaws.old ++ missing_keys place.now (map (λ k. k.now) known.now) (table_view table.now)) }
+{
+    for key in known {
+        if value_at(table, *key).is_none() {
+            let text = missing_key_text(alloc, place, *key)?;
+            push_flaw(flaws, TableFault::MissingKey, text)?;
+        }
+    }
+    Ok(())
+}
+
+fn kind_text(alloc: Global, before: &str, key: &str, kind: &str) -> Result<String, AllocError>
+    ensures { IfOk result (λ s. string_bytes s ≡ kind_text before.now key.now kind.now) }
+{
+    format!(in alloc; "{before}\"{key}\": not {kind}")
+}
+
+fn is_text(value: &Value) -> bool
+    ensures { result ≡ is_text (view value.now) }
+{
+    value.as_str().is_some()
+}
+
+fn all_are_texts(values: &[Value]) -> bool
+    ensures { result ≡ list_all (λ v. is_text (view v)) values.now }
+{
+    values.iter().all(|value| is_text(value))
+}
+
+fn is_texts(value: &Value) -> bool
+    ensures { result ≡ is_array_of is_text (view value.now) }
+{
+    match value.as_array() {
+        Some(items) => all_are_texts(items.as_slice()),
+        None => false,
+    }
+}
+
+fn push_wrong_text(
+    alloc: Global,
+    flaws: &mut Vec<Flaw>,
+    before: &str,
+    key: &str,
+    table: &Table,
+) -> Result<(), AllocError>
+    ensures { OnOk result (flaws_view flaws.new ≡ flaws_view flaws.old ++ wrong_text before.now key.now (table_view table.now)) }
+{
+    if let Some(value) = value_at(table, key) {
+        if !is_text(value) {
+            let text = kind_text(alloc, before, key, "a text")?;
+            push_flaw(flaws, TableFault::WrongKind, text)?;
+        }
+    }
+    Ok(())
+}
+
+fn push_wrong_texts(
+    alloc: Global,
+    flaws: &mut Vec<Flaw>,
+    before: &str,
+    key: &str,
+    table: &Table,
+) -> Result<(), AllocError>
+    ensures { OnOk result (flaws_view flaws.new ≡ flaws_view flaws.old ++ wrong_texts before.now key.now (table_view table.now)) }
+{
+    if let Some(value) = value_at(table, key) {
+        if !is_texts(value) {
+            let text = kind_text(alloc, before, key, "an array of texts")?;
+            push_flaw(flaws, TableFault::WrongKind, text)?;
+        }
+    }
+    Ok(())
+}
+
+fn push_no_array(alloc: Global, flaws: &mut Vec<Flaw>, document: &Table) -> Result<(), AllocError>
+    ensures { OnOk result (flaws_view flaws.new ≡ flaws_view flaws.old
+        ++ wrong_kind is_array [] (codes "operation") (codes "an array of tables") (table_view document.now)) }
+{
+    if let Some(value) = value_at(document, "operation") {
+        if value.as_array().is_none() {
+            let text = kind_text(alloc, "", "operation", "an array of tables")?;
+            push_flaw(flaws, TableFault::WrongKind, text)?;
+        }
+    }
+    Ok(())
+}
+
+fn table_text(alloc: Global, i: usize, table: &Table) -> Result<String, AllocError>
+    ensures { IfOk result (λ s. string_bytes s ≡ table_text i (table_view table.now)) }
+{
+    operation_text(alloc, i, text_at(table, "name").unwrap_or(""))
+}
+
+fn push_table_kinds(
+    alloc: Global,
+    flaws: &mut Vec<Flaw>,
+    before: &str,
+    table: &Table,
+) -> Result<(), AllocError>
+    ensures { OnOk result (flaws_view flaws.new ≡ flaws_view flaws.old ++ (wrong_text before.now (codes "name") (table_view table.now)
+        ++ (wrong_texts before.now (codes "response") (table_view table.now) ++ wrong_texts before.now (codes "next") (table_view table.now)))) }
+{
+    push_wrong_text(alloc, flaws, before, "name", table)?;
+    push_wrong_texts(alloc, flaws, before, "response", table)?;
+    push_wrong_texts(alloc, flaws, before, "next", table)
+}
+
+fn push_table_flaws(
+    alloc: Global,
+    flaws: &mut Vec<Flaw>,
+    look: Look,
+    i: usize,
+    table: &Table,
+) -> Result<(), AllocError>
+    ensures { OnOk result (flaws_view flaws.new ≡ flaws_view flaws.old ++ table_flaws look i (table_view table.now)) }
+{
+    let place = table_text(alloc, i, table)?;
+    let before = format!(in alloc; "{place}, ")?;
+    match look {
+        Look::OtherKeys => {
+            let after = ": an operation has name, response, next";
+            push_other_keys(alloc, flaws, before.as_str(), after, &OPERATION_KEYS, table)
+        }
+        Look::MissingKeys => {
+            push_missing_keys(alloc, flaws, place.as_str(), &OPERATION_KEYS, table)
+        }
+        Look::Kinds => push_table_kinds(alloc, flaws, before.as_str(), table),
+    }
+}
+
+fn no_operation_text(alloc: Global, i: usize) -> Result<String, AllocError>
+    ensures { IfOk result (λ s. string_bytes s ≡ no_operation_text i) }
+{
+    format!(in alloc; "operation[{i}]: not a table")
+}
+
+fn push_no_table(alloc: Global, flaws: &mut Vec<Flaw>, i: usize) -> Result<(), AllocError>
+    ensures { OnOk result (flaws_view flaws.new ≡ flaws_view flaws.old ++ no_table_flaws Look.Kinds i) }
+{
+    let text = no_operation_text(alloc, i)?;
+    push_flaw(flaws, TableFault::WrongKind, text)
+}
+
+fn push_item_flaws(
+    alloc: Global,
+    flaws: &mut Vec<Flaw>,
+    look: Look,
+    i: usize,
+    value: &Value,
+) -> Result<(), AllocError>
+    ensures { OnOk result (flaws_view flaws.new ≡ flaws_view flaws.old ++ item_flaws look i (view value.now)) }
+{
+    match (value.as_table(), look) {
+        (Some(table), _) => push_table_flaws(alloc, flaws, look, i, table),
+        (None, Look::Kinds) => push_no_table(alloc, flaws, i),
+        (None, _) => Ok(()),
+    }
+}
+
+fn push_items_flaws(
+    alloc: Global,
+    flaws: &mut Vec<Flaw>,
+    look: Look,
+    values: &[Value],
+) -> Result<(), AllocError>
+    ensures { OnOk result (flaws_view flaws.new ≡ flaws_view flaws.old ++ each (item_flaws look) 0 (map view values.now)) }
+{
+    for (i, value) in values.iter().enumerate() {
+        push_item_flaws(alloc, flaws, look, i, value)?;
+    }
+    Ok(())
+}
+
+fn push_root_kinds(alloc: Global, flaws: &mut Vec<Flaw>, document: &Table) -> Result<(), AllocError>
+    ensures { OnOk result (flaws_view flaws.new ≡ flaws_view flaws.old ++ root_flaws Look.Kinds (table_view document.now)) }
+{
+    push_wrong_text(alloc, flaws, "", "name", document)?;
+    push_wrong_texts(alloc, flaws, "", "states", document)?;
+    push_wrong_texts(alloc, flaws, "", "responses", document)?;
+    push_no_array(alloc, flaws, document)
+}
+
+fn push_root_flaws(
+    alloc: Global,
+    flaws: &mut Vec<Flaw>,
+    look: Look,
+    document: &Table,
+) -> Result<(), AllocError>
+    ensures { OnOk result (flaws_view flaws.new ≡ flaws_view flaws.old ++ root_flaws look (table_view document.now)) }
+{
+    match look {
+        Look::OtherKeys => {
+            let after = ": the root has name, states, responses, operation";
+            push_other_keys(alloc, flaws, "", after, &ROOT_KEYS, document)
+        }
+        Look::MissingKeys => push_missing_keys(alloc, flaws, "the root", &ROOT_KEYS, document),
+        Look::Kinds => push_root_kinds(alloc, flaws, document),
+    }
+}
+
+/// Puts what is looked for in a document behind the others: in the root, then in each operation.
+pub(crate) fn push_flaws_by(
+    alloc: Global,
+    flaws: &mut Vec<Flaw>,
+    look: Look,
+    document: &Table,
+) -> Result<(), AllocError>
+    ensures { OnOk result (flaws_view flaws.new ≡ flaws_view flaws.old ++ flaws_by look (table_view document.now)) }
+{
+    push_root_flaws(alloc, flaws, look, document)?;
+    if let Some(values) = array_at(document, "operation") {
+        push_items_flaws(alloc, flaws, look, values)?;
+    }
+    Ok(())
+}

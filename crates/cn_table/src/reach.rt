@@ -1,0 +1,76 @@
+//! Where the operations of a table lead.
+ghost use Rattle.std.specs.Prelude.{◌≡◌, ◌↔◌, ◌<◌, ℕ, MatchOption, false, get_or, length, true};
+ghost use Rattle.cn_table.specs.TypeTable.{transition, IsTypeTable};
+ghost use Rattle.cn_table.specs.declared.limits.TheConstants.{MOST_STATES};
+ghost use Rattle.cn_table.specs.Reach.{AreReached};
+
+use crate::elements::{Operation, State};
+use crate::limits::MOST_STATES;
+use crate::table::Table;
+
+impl Table {
+    /// The state to which an operation leads.
+    fn next(&self, operation: Operation, state: State) -> State
+        requires operation { operation.0 < length self.now.operations }
+        requires state { state.0 < length self.now.states }
+        ensures value { result.0 ≡ (transition self.now operation.0 state.0).1 }
+        ensures range { result.0 < length self.now.states }
+        ensures small { result.0 < MOST_STATES }
+    {
+        // No effect at run time: a proof reads from it what every table is.
+        let _ = &self.name;
+        self.apply(operation, state).1
+    }
+
+    /// A state that is not marked, to which an operation leads from this one.
+    fn way_from(&self, marked: &[bool; MOST_STATES], from: State) -> Option<State>
+        requires { from.0 < length self.now.states }
+        ensures { MatchOption result
+            ((o : ℕ) → o < length self.now.operations → get_or marked.now (transition self.now o from.0).1 false ≡ true)
+            (λ q. (q.0 < length self.now.states) × (q.0 < MOST_STATES) × (get_or marked.now q.0 false ≡ false)
+            × ((o : ℕ) × (o < length self.now.operations) × ((transition self.now o from.0).1 ≡ q.0))) }
+    {
+        for o in 0..self.operations() {
+            let next = self.next(Operation(o), from);
+            if !marked[next.0 as usize] {
+                return Some(next);
+            }
+        }
+        None
+    }
+
+    /// A state that is not marked, to which an operation leads from a marked one.
+    fn way_out(&self, marked: &[bool; MOST_STATES]) -> Option<State>
+        ensures way { MatchOption result
+            ((p : ℕ) → p < length self.now.states → get_or marked.now p false ≡ true
+            → (o : ℕ) → o < length self.now.operations → get_or marked.now (transition self.now o p).1 false ≡ true)
+            (λ q. (q.0 < length self.now.states) × (q.0 < MOST_STATES) × (get_or marked.now q.0 false ≡ false)
+            × ((p : ℕ) × (p < length self.now.states) × (get_or marked.now p false ≡ true)
+            × ((o : ℕ) × (o < length self.now.operations) × ((transition self.now o p).1 ≡ q.0)))) }
+        ensures table { IsTypeTable self.now }
+    {
+        for p in 0..self.states() {
+            if marked[p as usize] {
+                if let Some(q) = self.way_from(marked, State(p)) {
+                    return Some(q);
+                }
+            }
+        }
+        None
+    }
+
+    /// For each state, by its number, whether operations lead to it from the first one.
+    pub fn reached(&self) -> [bool; MOST_STATES]
+        ensures { AreReached self.now result }
+    {
+        let mut marked = [false; MOST_STATES];
+        marked[0] = true;
+        for _round in 0..MOST_STATES {
+            match self.way_out(&marked) {
+                Some(q) => marked[q.0 as usize] = true,
+                None => return marked,
+            }
+        }
+        unreachable!()
+    }
+}
