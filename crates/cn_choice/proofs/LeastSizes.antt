@@ -39,17 +39,17 @@ min_least a b = elim (cases_order b a) [
 ]
 
 -- the least size so far, and that of one more where it counts
-pub least_more : (counts : ℕ → Type 0) (k least new : ℕ) → ((s : ℕ) → s < k → counts s → least ≤ count_below 8 s) → new ≡ ord_min nat_cmp least (count_below 8 k)
-    → (s : ℕ) → s < k + 1 → counts s → new ≤ count_below 8 s
-least_more counts k least new g m s u c =
-    let l = min_least least (count_below 8 k) in
+pub least_more : (size : ℕ → ℕ) (counts : ℕ → Type 0) (k least new : ℕ) → ((s : ℕ) → s < k → counts s → least ≤ size s) → new ≡ ord_min nat_cmp least (size k)
+    → (s : ℕ) → s < k + 1 → counts s → new ≤ size s
+least_more size counts k least new g m s u c =
+    let l = min_least least (size k) in
     elim (below_or_last s k u) [
       | inl b ↦ omega (arith, g s b c, l.0, m)
-      | inr e ↦ subst (λ (i : ℕ). new ≤ count_below 8 i) (sym e) (omega (arith, l.1, m))
+      | inr e ↦ subst (λ (i : ℕ). new ≤ size i) (sym e) (omega (arith, l.1, m))
     ]
 
-pub least_passed : (counts : ℕ → Type 0) (k least : ℕ) → ((s : ℕ) → s < k → counts s → least ≤ count_below 8 s) → ¬ counts k → (s : ℕ) → s < k + 1 → counts s → least ≤ count_below 8 s
-least_passed counts k least g n s u c = elim (below_or_last s k u) [ inl b ↦ g s b c | inr e ↦ absurd (n (subst counts e c)) ]
+pub least_passed : (size : ℕ → ℕ) (counts : ℕ → Type 0) (k least : ℕ) → ((s : ℕ) → s < k → counts s → least ≤ size s) → ¬ counts k → (s : ℕ) → s < k + 1 → counts s → least ≤ size s
+least_passed size counts k least g n s u c = elim (below_or_last s k u) [ inl b ↦ g s b c | inr e ↦ absurd (n (subst counts e c)) ]
 
 module _ (t : TypeTable) (c : RawChoice) (team : Team) (j links : ℕ) (linked : AreLinks c links) (first : ¬ IsBitSet links j) (few : length c.operations ≤ 8) where
   pub none_shorter : (rows : List (List ℕ)) → ArePairRows t c team j links (2 ^ length c.operations) rows → (pair : ℕ × ℕ) (single : List ℕ) → ((r q : ℕ) → Has single r q ↔ ((r ≡ pair.0) × (q ≡ pair.1)))

@@ -1,8 +1,9 @@
 -- The rows for one response of a process, by the last process of an order.
-use Rattle.std.proofs.Common.{◌^◌, List, length, get_or, get_or-set_other, get_or-set_same, length-set, ◌≡◌, ◌≢◌, ℕ, ◌+◌, ◌<◌, ◌≤◌, ◌⊎◌, inl, inr, ◌↔◌, refl, sym, ap, ◌∙◌, subst, arith, Some, [], ◌∷◌, suc}
+use Rattle.std.proofs.Common.{◌^◌, ◌*◌, ◌-◌, ◌%◌, List, length, get_or, get_or-set_other, get_or-set_same, length-set, ◌≡◌, ◌≢◌, ℕ, ◌+◌, ◌<◌, ◌≤◌, ◌⊎◌, inl, inr, ◌↔◌, refl, sym, ap, ◌∙◌, subst, arith, Some, [], ◌∷◌, suc}
 use Rattle.std.specs.Prelude.{IsBitSet, slice_get}
 use Rattle.std.specs.Int.Bits.{bit_or}
-use Rattle.std.proofs.lemmas.Nat.{or_lt, pow_below}
+use Rattle.std.proofs.lemmas.Nat.{one_shl, or_lt, pow_below}
+use Rattle.std.proofs.Math.Nat.{pow-suc}
 use Rattle.std.proofs.Math.ListN.{set}
 use Rattle.cn_table.specs.TypeTable.{TypeTable}
 use Rattle.cn_choice.specs.declared.team.Team.{Team}
@@ -14,14 +15,14 @@ use Rattle.cn_choice.specs.ResultSets.{InResultSet}
 use Rattle.cn_choice.specs.Subsets.{Below, Finds, Gives, IsWithout, Leaves, answer_of, next_of}
 use Rattle.cn_choice.specs.Tails.{count_below}
 use Rattle.cn_choice.specs.Twins.{AreLinks, IsMover, IsPacked}
-use Rattle.cn_choice.proofs.BitSets.{cleared, cleared_is, filled, member_below, pow_set, union_set, without_less, without_one}
+use Rattle.cn_choice.proofs.BitSets.{cleared, cleared_is, even_not, filled, member_below, odd_has, pow_set, union_set, without_less, without_one}
 use Rattle.cn_choice.proofs.LastAnswers.{exactly_subset, gives_from, gives_member, gives_to, outcome_subset, subset_below, subset_of}
 use Rattle.cn_choice.proofs.LastProcess.{exactly_from, exactly_to, known_from, leaves_some, same_or_not, zero_has_none}
 use Rattle.cn_choice.proofs.LeastSizes.{size_of_list}
 use Rattle.cn_choice.proofs.Packing.{below_or_last, gives_by_mover, packing, rest_less, rest_packed}
 use Rattle.cn_choice.proofs.Sizes.{count_more}
 use Rattle.cn_choice.proofs.TailLemmas.{in_pow}
-use Rattle.cn_choice.proofs.Unions.{GathersFrom, Gathers, from_more}
+use Rattle.cn_choice.proofs.Unions.{GathersFrom, Gathers, from_more, gathers_more, gathers_none, subsets_of}
 
 -- ---- the rows, one after the other
 
@@ -62,6 +63,63 @@ module _ (links j : ℕ) (wanted : ℕ → ℕ → Type 0) (bound : ℕ) where
     where
       below : (s : ℕ) → s < k + 1 → IsOthers links j s → s < k
       below s u p = elim (below_or_last s k u) [ inl l ↦ l | inr e ↦ absurd (n (subst (IsOthers links j) e p)) ]
+
+-- the even numbers are the subsets without process 0: each is followed by one with it
+not_odd : (links k : ℕ) → ¬ IsOthers links 0 (2 * k + 1)
+not_odd links k o = o.1 (odd_has k)
+
+two_more : (k : ℕ) → 2 * k + 1 + 1 ≡ 2 * (k + 1)
+two_more k = omega arith
+
+module _ (links : ℕ) (wanted : ℕ → ℕ → Type 0) (bound : ℕ) where
+  pub evens_first : (rows : List ℕ) → length rows ≡ 256 → get_or rows 0 0 ≡ 0 → ((q : ℕ) → ¬ wanted 0 q) → AreRowsOf links 0 wanted bound 2 rows
+  evens_first rows e z n = others_passed links 0 wanted bound rows 1 (not_odd links 0) (others_first links 0 wanted bound rows e z n)
+
+  pub evens_more : (rows : List ℕ) (k part : ℕ) → 2 * k < length rows → AreRowsOf links 0 wanted bound (2 * k) rows → ((q : ℕ) → IsBitSet part q ↔ wanted (2 * k) q) → Below bound part
+      → AreRowsOf links 0 wanted bound (2 * (k + 1)) (set rows (2 * k) part)
+  evens_more rows k part l r h b =
+      subst (λ (end : ℕ). AreRowsOf links 0 wanted bound end (set rows (2 * k) part)) (two_more k)
+      (others_passed links 0 wanted bound (set rows (2 * k) part) (2 * k + 1) (not_odd links k) (others_more links 0 wanted bound rows (2 * k) part l r h b))
+
+  pub evens_passed : (rows : List ℕ) (k : ℕ) → ¬ IsOthers links 0 (2 * k) → AreRowsOf links 0 wanted bound (2 * k) rows → AreRowsOf links 0 wanted bound (2 * (k + 1)) rows
+  evens_passed rows k n r =
+      subst (λ (end : ℕ). AreRowsOf links 0 wanted bound end rows) (two_more k)
+      (others_passed links 0 wanted bound rows (2 * k + 1) (not_odd links k) (others_passed links 0 wanted bound rows (2 * k) n r))
+
+  -- the parts of these subsets together
+  abbrev part_of : ℕ → ℕ → Type 0
+  part_of s q = IsOthers links 0 s × wanted s q
+
+  pub evens_none : ((q : ℕ) → ¬ wanted 0 q) → Gathers part_of 2 0
+  evens_none n =
+      gathers_none part_of 1 0 (λ q. (
+        λ b. absurd (zero_has_none q b),
+        λ h. absurd (n q (let e : h.0 ≡ 0 = omega (arith, h.1) in subst (λ (s : ℕ). wanted s q) e h.2.1)),
+      )) (λ q p. not_odd links 0 p.0)
+
+  pub evens_gather : (k all more row : ℕ) → IsPacked links (2 * k) → ((q : ℕ) → IsBitSet row q ↔ wanted (2 * k) q) → Gathers part_of (2 * k) all → ((q : ℕ) → IsBitSet more q ↔ (IsBitSet all q ⊎ IsBitSet row q))
+      → Gathers part_of (2 * (k + 1)) more
+  evens_gather k all more row packed h g m =
+      subst (λ (end : ℕ). Gathers part_of end more) (two_more k)
+      (gathers_none part_of (2 * k + 1) more (gathers_more part_of (2 * k) all more g (λ q. (
+        λ b. elim ((m q).0 b) [ inl x ↦ inl x | inr x ↦ inr ((packed, even_not k), (h q).0 x) ],
+        λ b. (m q).1 (elim b [ inl x ↦ inl x | inr x ↦ inr ((h q).1 x.1) ]),
+      ))) (λ q p. not_odd links k p.0))
+
+  pub evens_gather_none : (k all : ℕ) → ¬ IsOthers links 0 (2 * k) → Gathers part_of (2 * k) all → Gathers part_of (2 * (k + 1)) all
+  evens_gather_none k all n g =
+      subst (λ (end : ℕ). Gathers part_of end all) (two_more k)
+      (gathers_none part_of (2 * k + 1) all (gathers_none part_of (2 * k) all g (λ q p. n p.0)) (λ q p. not_odd links k p.0))
+
+-- twice the count of the subsets of all but one of n processes
+pub half_count : (n : ℕ) → 1 ≤ n → n ≤ 8 → (2 * (1 * 2 ^ (n - 1) % 65536) ≡ 2 ^ n) × (1 * 2 ^ (n - 1) % 65536 ≤ 128)
+half_count n some few =
+    let e : n ≡ suc (n - 1) = omega (arith, some) in
+    let one : 1 * 2 ^ (n - 1) % 2 ^ 16 ≡ 2 ^ (n - 1) = one_shl (n - 1) 16 (omega (arith, few)) in
+    let two : 2 ^ n ≡ 2 ^ suc (n - 1) = ap (λ (i : ℕ). 2 ^ i) e in
+    let double = pow-suc 2 (n - 1) in
+    let most = (subsets_of n few).1 in
+    (omega (arith, one, two, double), omega (arith, one, two, double, most))
 
 -- such a subset without one of its movers
 pub rest_others : (links j subset p rest : ℕ) → IsPacked links subset → ¬ IsBitSet subset j → IsMover links subset p → IsWithout subset p rest → IsOthers links j rest
@@ -200,7 +258,7 @@ module _ (t : TypeTable) (c : RawChoice) (team : Team) (links j r : ℕ) where
     -- no order is shorter than the least subset that gives the pair, with j
     pub none_shorter_with : ¬ IsBitSet links (j + 1) → length c.operations ≤ 8 → (rows : List ℕ) → AreGivenRows t c team links j r (2 ^ length c.operations) rows → (state : ℕ) (single : List ℕ)
         → ((x y : ℕ) → Has single x y ↔ ((x ≡ r) × (y ≡ state)))
-        → (least : ℕ) → ((s : ℕ) → s < 2 ^ length c.operations → IsPacked links s → IsBitSet (get_or rows s 0) state → least ≤ count_below 8 s)
+        → (least : ℕ) → ((s : ℕ) → s < 2 ^ length c.operations → IsOthers links j s → IsBitSet (get_or rows s 0) state → least ≤ count_below 8 s)
         → (k : ℕ) → k < least + 1 → NoneOfLength t c team j single k
     none_shorter_with alone few rows are state single only least lower k l x o long leads =
         let known = known_from (length c.operations) x o in
@@ -209,7 +267,7 @@ module _ (t : TypeTable) (c : RawChoice) (team : Team) (links j r : ℕ) where
         let wanted : Gives t c team j (subset_of x) r state = subst (λ (a : ℕ). Gives t c team j (subset_of x) a state) same.0 (subst (λ (b : ℕ). Gives t c team j (subset_of x) leads.0.0 b) same.1 gives) in
         let y = by_others alone few (subset_of x) state (subset_below (length c.operations) x known.below) wanted in
         let size = size_of_list x (λ q i. (let b = known.below q i in omega (arith, b, few))) known.differ in
-        absurd (omega (arith, lower y.0 y.1 y.2.0 ((are.same y.0 y.1 y.2 state).1 y.3), y.4, size, long, l))
+        absurd (omega (arith, lower y.0 y.1 y.2 ((are.same y.0 y.1 y.2 state).1 y.3), y.4, size, long, l))
 
 -- one process more that moved last of the subset and j
 pub other_with_more : (t : TypeTable) (c : RawChoice) (team : Team) (j r subset of left k after set more rest from new : ℕ) → ((p : ℕ) → IsBitSet of p → IsBitSet subset p) → GathersFrom (OtherWith t c team j r subset) of left set

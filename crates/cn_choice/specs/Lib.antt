@@ -8,6 +8,7 @@ pub mod Discerning
 pub mod EarlyPairs
 pub mod Examination
 pub mod FirstCollision
+pub mod Images
 pub mod Led
 pub mod Live
 pub mod LiveLeft

@@ -67,7 +67,8 @@ IsKept kept used seen state =
 -- no way to an order of this length goes on from a place that is kept
 abbrev pub AreDead : TypeTable → RawChoice → ℕ → List ℕ → ℕ → List Bool × List (List ℕ) → Type 0
 AreDead t c j set long kept =
-    (used state left : ℕ) (seen : Option ℕ) → IsKept kept used seen state → left + moved used ≡ long → NoWay t c j set left 0 (length c.operations) used state seen
+    (used state left : ℕ) (seen : Option ℕ) → IsKept kept used seen state → left + moved used ≡ long
+    → NoWay t c j set left 0 (length c.operations) used state seen
 
 -- where this holds of the old places, it holds of the new ones
 abbrev pub StayDead : TypeTable → RawChoice → ℕ → List ℕ → ℕ → List Bool × List (List ℕ) → List Bool × List (List ℕ) → Type 0

@@ -14,7 +14,7 @@ use crate::response_rows::{asked_first, least_with, response_rows};
 use crate::result_sets::OutcomeSet;
 use crate::subset_rows::is_in;
 use crate::tails::{Place, way_into};
-use crate::{Choice, Team};
+use crate::{Choice, Images, Team};
 use arrayvec::ArrayVec;
 use cn_table::Table;
 
@@ -55,8 +55,10 @@ pub(crate) fn led_collision(
     choice: &Choice,
     raw: &RawChoice,
     links: u16,
+    images: &Images,
     dead: &mut DeadEnds,
 ) -> Option<(ArrayVec<u8, 8>, ArrayVec<u8, 8>)>
+    requires images { images.now ≡ table.now }
     requires some { 1 ≤ length choice.now.a + length choice.now.b }
     requires few { length choice.now.a + length choice.now.b ≤ 8 }
     requires same { raw.now ≡ raw_choice_of choice.now }
@@ -70,12 +72,13 @@ pub(crate) fn led_collision(
     }
     let links = minus(links, with(0, 1));
     let n = raw.operations.len() as u8;
+    let count = 1u16 << (n - 1);
     let asked = asked_first(table, raw, 0);
-    let rows = response_rows(table, raw, Team::B, 0, asked, links);
+    let rows = response_rows(table, raw, Team::B, asked, links, count, images);
     let from_b = OutcomeSet::of_response(asked.response, rows.all);
     let (alpha, (response, state)) = led_alpha(table, raw, &from_b, dead)?;
     let pair = OutcomeSet::only(response, state);
-    let first = least_with(links, n, &rows.given, state) + 1;
+    let first = least_with(&rows.given, count, state) + 1;
     let (beta, _) = first_order_into(table, choice, raw, Team::B, 0, &pair, first, n + 1, dead)?;
     Some((alpha, beta))
 }

@@ -1,5 +1,5 @@
 //! Rows for one process and one response of it, by the subsets of the other processes.
-ghost use Rattle.std.specs.Prelude.{◌≡◌, ◌≢◌, ◌<◌, ◌≤◌, ◌↔◌, ◌+◌, ◌^◌, ℕ, length, slice_get, slice_index, IsBitSet, Some};
+ghost use Rattle.std.specs.Prelude.{◌≡◌, ◌≢◌, ◌<◌, ◌≤◌, ◌↔◌, ◌*◌, ◌^◌, ℕ, length, slice_get, slice_index, IsBitSet, Some};
 ghost use Rattle.cn_table.specs.TypeTable.{transition};
 ghost use Rattle.cn_choice.specs.RawChoices.{IsRawChoice};
 ghost use Rattle.cn_choice.specs.ResponseRows.{AreAsked, AreGivenRows, AreRowsWithout, GivesWith};
@@ -8,11 +8,11 @@ ghost use Rattle.cn_choice.specs.Subsets.{Below, Leaves};
 ghost use Rattle.cn_choice.specs.Tails.{count_below};
 ghost use Rattle.cn_choice.specs.Twins.{AreLinks, IsPacked};
 
-use crate::Team;
 use crate::bits::{common, contains, least, size, union, with, without};
 use crate::laws::RawChoice;
-use crate::subset_rows::{found, image, operation_of};
+use crate::subset_rows::{found, operation_of};
 use crate::twins::{is_packed, movers};
+use crate::{Images, Team};
 use cn_table::{Operation, Response, State, Table};
 
 /// A response of a process, and the states in which it gets it.
@@ -75,7 +75,9 @@ fn both_rows(
     rows: &[u16; 256],
     given: &[u16; 256],
     subset: u16,
+    images: &Images,
 ) -> (u16, u16)
+    requires images { images.now ≡ table.now }
     requires few { length choice.now.operations ≤ 8 }
     requires fits { IsRawChoice table.now (length choice.now.operations) choice.now }
     requires j { j < length choice.now.operations }
@@ -102,48 +104,52 @@ fn both_rows(
         let rest = without(subset, process);
         let operation = operation_of(choice, process);
         let from = found(table, choice, team, rows, process, rest);
-        let moved = image(table, operation, from);
+        let moved = images.of(operation, from);
         row = union(row, moved);
-        let passed = image(table, operation, given[rest as usize]);
+        let passed = images.of(operation, given[rest as usize]);
         gets = union(gets, passed);
     }
     let asking = common(row, asked.states);
-    let own = image(table, operation_of(choice, j), asking);
+    let own = images.of(operation_of(choice, j), asking);
     (row, union(gets, own))
 }
 
-/// The rows for process j and the response, where orders begin in the other team. Neither j nor the
-/// process behind it is linked.
+/// The rows for process 0 and the response, where orders begin in the other team. Process 1 is not
+/// linked. The subsets of the other processes are the even numbers, and the count says how many
+/// there are.
 pub(crate) fn response_rows(
     table: &Table,
     choice: &RawChoice,
     team: Team,
-    j: u8,
     asked: Asked,
     links: u16,
+    count: u16,
+    images: &Images,
 ) -> ResponseRows
+    requires images { images.now ≡ table.now }
+    requires some { 1 ≤ length choice.now.operations }
     requires few { length choice.now.operations ≤ 8 }
     requires fits { IsRawChoice table.now (length choice.now.operations) choice.now }
-    requires j { j < length choice.now.operations }
-    requires other { ¬ (slice_get choice.now.marks j ≡ Some team) }
-    requires first { ¬ IsBitSet links j }
-    requires alone { ¬ IsBitSet links (j + 1) }
+    requires other { ¬ (slice_get choice.now.marks 0 ≡ Some team) }
+    requires alone { ¬ IsBitSet links 1 }
     requires links { AreLinks choice.now links }
-    requires asked { AreAsked table.now choice.now j asked.response asked.states }
-    ensures all { (q : ℕ) → IsBitSet result.all q ↔ InResultSet table.now choice.now team j (asked.response, q) }
-    ensures given { AreGivenRows table.now choice.now team links j asked.response (2 ^ length choice.now.operations) result.given }
+    requires asked { AreAsked table.now choice.now 0 asked.response asked.states }
+    requires count { 2 * count ≡ 2 ^ length choice.now.operations }
+    requires small { count ≤ 128 }
+    ensures all { (q : ℕ) → IsBitSet result.all q ↔ InResultSet table.now choice.now team 0 (asked.response, q) }
+    ensures given { AreGivenRows table.now choice.now team links 0 asked.response (2 ^ length choice.now.operations) result.given }
 {
     let mut rows = [0; 256];
     let mut given = [0; 256];
     let mut all = 0;
-    for subset in 1..1u16 << choice.operations.len() {
-        if contains(subset, j) {
-            continue;
-        }
+    for place in 1..count {
+        let subset = 2 * place;
         if !is_packed(links, subset) {
             continue;
         }
-        let (row, gets) = both_rows(table, choice, team, j, asked, links, &rows, &given, subset);
+        let (row, gets) = both_rows(
+            table, choice, team, 0, asked, links, &rows, &given, subset, images,
+        );
         rows[subset as usize] = row;
         given[subset as usize] = gets;
         all = union(all, gets);
@@ -151,19 +157,18 @@ pub(crate) fn response_rows(
     ResponseRows { given, all }
 }
 
-/// The size of the least packed subset of n processes whose row has the state, or 9 if none has it.
-pub(crate) fn least_with(links: u16, n: u8, given: &[u16; 256], state: u8) -> u8
-    requires few { n ≤ 8 }
+/// The size of the least subset without process 0 whose row has the state, or 9 if none has it. The
+/// count says how many such subsets there are.
+pub(crate) fn least_with(given: &[u16; 256], count: u16, state: u8) -> u8
+    requires small { count ≤ 128 }
     requires state { state < 16 }
-    ensures least { (subset : ℕ) → subset < 2 ^ n → IsPacked links subset → IsBitSet (slice_index given.now subset) state → result ≤ count_below 8 subset }
+    ensures least { (subset : ℕ) → subset < 2 * count → ¬ IsBitSet subset 0 → IsBitSet (slice_index given.now subset) state → result ≤ count_below 8 subset }
     ensures most { result ≤ 9 }
 {
     let mut least = 9;
-    for subset in 0..1u16 << n {
+    for place in 0..count {
+        let subset = 2 * place;
         if !contains(given[subset as usize], state) {
-            continue;
-        }
-        if !is_packed(links, subset) {
             continue;
         }
         least = least.min(size(subset));

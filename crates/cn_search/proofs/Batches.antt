@@ -4,7 +4,9 @@ use Rattle.std.specs.List.{AllByRecursion, AllZip, flat_map}
 use Rattle.std.proofs.lemmas.Grind.{flat_map-append}
 use Rattle.std.proofs.lemmas.List.Elements.{All-append, All-from_recursion, recursion_from_All}
 use Rattle.std.proofs.lemmas.List.{get_or_default}
+use Rattle.rayon.specs.Lists.{chunks_of}
 use Rattle.rayon.proofs.ListFacts.{AllZip-append}
+use Rattle.rayon.proofs.ToStd.{chunks_of-concat}
 use Rattle.cn_table.specs.TypeTable.{TypeTable}
 use Rattle.cn_choice.specs.Blocks.{Block, IsBlockOf}
 use Rattle.cn_choice.specs.Canonical.{Choice, raw_choice_of}
@@ -102,37 +104,52 @@ module _ (t : TypeTable) where
       go [] s h = search_done blocks s
       go (k ∷ after) s h = absurd h
 
-  -- the collisions so far are those of some blocks, and these are the collisions of those behind them
-  pub record IsGathering {P : Type 0} (items : P → List Collision) (blocks : List Block) (collisions : List Collision) (left : List P) : Type 0 where
-    pub before : List Block
-    pub after : List Block
-    pub all : blocks ≡ before ++ after
-    pub done : AreRecordedFor t (choices_of_all t before) collisions
-    pub parts : AllZip (λ k part. AreRecordedFor t (choices_in t k) (items part)) after left
+  -- the collisions of one item more
+  pub recorded_more : {X : Type 0} (choices : X → List Choice) (before : List X) (x : X) (collisions part : List Collision) → AreRecordedFor t (flat_map choices before) collisions → AreRecordedFor t (choices x) part
+      → AreRecordedFor t (flat_map choices (before ++ x ∷ [])) (collisions ++ part)
+  recorded_more choices before x collisions part done here =
+      subst (λ l. AreRecordedFor t l (collisions ++ part)) (sym (flat_map-append choices before (x ∷ []) ∙ ap (λ l. flat_map choices before ++ l) (append-nil (choices x))))
+      (AllZip-append (IsRecordedFor t) (flat_map choices before) (choices x) collisions part done here)
 
-  pub gather_start : {P : Type 0} (items : P → List Collision) (blocks : List Block) (left : List P) → AllZip (λ k part. AreRecordedFor t (choices_in t k) (items part)) blocks left → IsGathering items blocks [] left
-  gather_start items blocks left h = record { before = []; after = blocks; all = refl; done = tt; parts = h }
+  -- the collisions so far are those of some items, and these are the collisions of those behind them
+  pub record IsGathering {X P : Type 0} (choices : X → List Choice) (items : P → List Collision) (all : List X) (collisions : List Collision) (left : List P) : Type 0 where
+    pub before : List X
+    pub after : List X
+    pub whole : all ≡ before ++ after
+    pub done : AreRecordedFor t (flat_map choices before) collisions
+    pub parts : AllZip (λ x part. AreRecordedFor t (choices x) (items part)) after left
 
-  pub gather_on : {P : Type 0} (items : P → List Collision) (blocks : List Block) (collisions : List Collision) (left rest : List P) (part : P) → IsGathering items blocks collisions left → left ≡ part ∷ rest → IsGathering items blocks (collisions ++ items part) rest
-  gather_on items blocks collisions left rest part g e = go g.after g.all (subst (λ l. AllZip (λ k p. AreRecordedFor t (choices_in t k) (items p)) g.after l) e g.parts)
+  module _ {X P : Type 0} (choices : X → List Choice) (items : P → List Collision) (all : List X) where
+    pub gather_start : (left : List P) → AllZip (λ x part. AreRecordedFor t (choices x) (items part)) all left → IsGathering choices items all [] left
+    gather_start left h = record { before = []; after = all; whole = refl; done = tt; parts = h }
+
+    pub gather_on : (collisions : List Collision) (left rest : List P) (part : P) → IsGathering choices items all collisions left → left ≡ part ∷ rest → IsGathering choices items all (collisions ++ items part) rest
+    gather_on collisions left rest part g e = go g.after g.whole (subst (λ l. AllZip (λ x p. AreRecordedFor t (choices x) (items p)) g.after l) e g.parts)
+      where
+        go : (after : List X) → all ≡ g.before ++ after → AllZip (λ x p. AreRecordedFor t (choices x) (items p)) after (part ∷ rest) → IsGathering choices items all (collisions ++ items part) rest
+        go [] whole h = absurd h
+        go (x ∷ after) whole h = record {
+          before = g.before ++ x ∷ [];
+          after = after;
+          whole = whole ∙ sym (append_assoc g.before (x ∷ []) after);
+          done = recorded_more choices g.before x collisions (items part) g.done h.0;
+          parts = h.1;
+        }
+
+    pub gather_done : (collisions : List Collision) (left : List P) → IsGathering choices items all collisions left → left ≡ [] → AreRecordedFor t (flat_map choices all) collisions
+    gather_done collisions left g e = go g.after g.whole (subst (λ l. AllZip (λ x p. AreRecordedFor t (choices x) (items p)) g.after l) e g.parts)
+      where
+        go : (after : List X) → all ≡ g.before ++ after → AllZip (λ x p. AreRecordedFor t (choices x) (items p)) after [] → AreRecordedFor t (flat_map choices all) collisions
+        go [] whole h = subst (λ l. AreRecordedFor t (flat_map choices l) collisions) (sym (whole ∙ append-nil g.before)) g.done
+        go (x ∷ after) whole h = absurd h
+
+  -- the choices of parts of a list of blocks, one part after the other, are those of the list
+  pub choices_by_part : (size : ℕ) (blocks : List Block) → 0 < size → flat_map (choices_of_all t) (chunks_of size blocks) ≡ choices_of_all t blocks
+  choices_by_part size blocks pos = by_list (chunks_of size blocks) ∙ ap (choices_of_all t) (chunks_of-concat size blocks pos)
     where
-      go : (after : List Block) → blocks ≡ g.before ++ after → AllZip (λ k p. AreRecordedFor t (choices_in t k) (items p)) after (part ∷ rest) → IsGathering items blocks (collisions ++ items part) rest
-      go [] all h = absurd h
-      go (k ∷ after) all h = record {
-        before = g.before ++ k ∷ [];
-        after = after;
-        all = all ∙ sym (append_assoc g.before (k ∷ []) after);
-        done = subst (λ l. AreRecordedFor t l (collisions ++ items part)) (sym (flat_map-append (choices_in t) g.before (k ∷ []) ∙ ap (λ l. choices_of_all t g.before ++ l) (one_block k)))
-            (AllZip-append (IsRecordedFor t) (choices_of_all t g.before) (choices_in t k) collisions (items part) g.done h.0);
-        parts = h.1;
-      }
-
-  pub gather_done : {P : Type 0} (items : P → List Collision) (blocks : List Block) (collisions : List Collision) (left : List P) → IsGathering items blocks collisions left → left ≡ [] → AreRecordedFor t (choices_of_all t blocks) collisions
-  gather_done items blocks collisions left g e = go g.after g.all (subst (λ l. AllZip (λ k p. AreRecordedFor t (choices_in t k) (items p)) g.after l) e g.parts)
-    where
-      go : (after : List Block) → blocks ≡ g.before ++ after → AllZip (λ k p. AreRecordedFor t (choices_in t k) (items p)) after [] → AreRecordedFor t (choices_of_all t blocks) collisions
-      go [] all h = subst (λ l. AreRecordedFor t (choices_of_all t l) collisions) (sym (all ∙ append-nil g.before)) g.done
-      go (k ∷ after) all h = absurd h
+      by_list : (parts : List (List Block)) → flat_map (choices_of_all t) parts ≡ choices_of_all t (flat_map (λ l. l) parts)
+      by_list [] = refl
+      by_list (part ∷ parts) = ap (λ l. choices_of_all t part ++ l) (by_list parts) ∙ sym (flat_map-append (choices_in t) part (flat_map (λ l. l) parts))
 
 -- an empty list
 pub nil_from_length : {X : Type 0} (xs : List X) → length xs ≡ 0 → xs ≡ []
@@ -142,6 +159,15 @@ nil_from_length (x ∷ xs) e = absurd (omega arith)
 parts_of : {X : Type 0} (P : X → Type 0) (xs ys : List X) → AllByRecursion P (xs ++ ys) → AllByRecursion P xs × AllByRecursion P ys
 parts_of P [] ys h = (tt, h)
 parts_of P (x ∷ xs) ys h = let r = parts_of P xs ys h.1 in ((h.0, r.0), r.1)
+
+-- what holds of each item holds of each item of each part
+pub all_by_part : {X : Type 0} (P : X → Type 0) (size : ℕ) (xs : List X) → 0 < size → All P xs → All (λ (part : List X). All P part) (chunks_of size xs)
+all_by_part {X = X} P size xs pos h =
+    All-from_recursion (λ (part : List X). All P part) (chunks_of size xs) (go (chunks_of size xs) (subst (AllByRecursion P) (sym (chunks_of-concat size xs pos)) (recursion_from_All P xs h)))
+  where
+    go : (parts : List (List X)) → AllByRecursion P (flat_map (λ l. l) parts) → AllByRecursion (λ (part : List X). All P part) parts
+    go [] h = tt
+    go (part ∷ parts) h = let p = parts_of P part (flat_map (λ l. l) parts) h in (All-from_recursion P part p.0, go parts p.1)
 
 -- each block is listed, and where no choice is a witness each is refuted
 pub all_listed : (t : TypeTable) (n : ℕ) → 2 ≤ n → n ≤ 8 → ((k : Block) → n ≤ 8 → Contains (blocks_for t n) k → IsBlockOf t k × (k.n ≡ n)) → (blocks : List Block) → blocks ≡ blocks_for t n → All (IsListedBlock t) blocks
