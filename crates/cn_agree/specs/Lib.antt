@@ -7,3 +7,4 @@ pub mod Rounds
 pub mod Schedules
 pub mod Beginning
 pub mod FaultText
+pub mod Turns

@@ -1,6 +1,7 @@
 //! The four actions of a process at a place of its path.
 ghost use Rattle.std.specs.Prelude.{◌≡◌, ◌<◌, length};
 ghost use Rattle.cn_proto.specs.Plan.{protocol_of, processes_of};
+ghost use Rattle.cn_agree.specs.declared.local.Local.TheVariants.{Active};
 ghost use Rattle.cn_agree.specs.Steps.{node_after, local_after, first_after as record_after, onward as way_on};
 
 use crate::local::{Local, Stage};
@@ -9,63 +10,49 @@ use cn_choice::Team;
 use cn_proto::{Place, Plan};
 
 /// A process about to act: where it stands, which place of its path that is and how many there
-/// are, its value and its next action.
+/// are, and its next action.
 #[derive(Clone, Copy, Drop)]
-pub(crate) struct Turn<V> {
+pub(crate) struct Turn {
     pub here: Place,
     pub place: usize,
     pub places: usize,
-    pub value: V,
     pub stage: Stage,
 }
 
-/// One action at a node, and the local state of the process after it.
-pub(crate) fn act<V: Copy>(plan: &Plan, turn: Turn<V>, node: &mut Node<V>) -> Local<V>
+/// One action at a node, and what the process knows after it. Of the value that it has only what is
+/// written or taken is copied.
+pub(crate) fn act<V: Copy>(plan: &Plan, turn: Turn, node: &mut Node<V>, local: &mut Local<V>)
     requires role { turn.here.role < processes_of plan.now }
     requires place { turn.place < turn.places }
     requires state { node.old.state.0 < length plan.now.table.states }
-    ensures node { node.new ≡ node_after (protocol_of plan.now) turn.here turn.value turn.stage node.old }
-    ensures local { result ≡ local_after (protocol_of plan.now) turn.places turn.place turn.here turn.value turn.stage node.old }
+    requires local { (x : V) × (local.old ≡ Active turn.place x turn.stage) }
+    ensures node { (x : V) → local.old ≡ Active turn.place x turn.stage → node.new ≡ node_after (protocol_of plan.now) turn.here x turn.stage node.old }
+    ensures local { (x : V) → local.old ≡ Active turn.place x turn.stage
+        → local.new ≡ local_after (protocol_of plan.now) turn.places turn.place turn.here x turn.stage node.old }
 {
     let Turn {
         here,
         place,
         places,
-        value,
         stage,
     } = turn;
     match stage {
         Stage::Write => {
-            node.write(here.team, value);
-            Local::Active {
-                place,
-                value,
-                stage: Stage::Apply,
+            if let Local::Active { value, .. } = local {
+                node.write(here.team, *value);
             }
+            local.go_on(Stage::Apply);
         }
         Stage::Apply => {
             let (response, next) = plan.act(here.role, node.state);
             node.state = next;
-            Local::Active {
-                place,
-                value,
-                stage: Stage::Read(response),
-            }
+            local.go_on(Stage::Read(response));
         }
-        Stage::Read(response) => Local::Active {
-            place,
-            value,
-            stage: Stage::Take(response, node.state),
-        },
+        Stage::Read(response) => local.go_on(Stage::Take(response, node.state)),
         Stage::Take(response, state) => {
-            match node.register(plan.judge(here.role, response, state)) {
-                // Who has applied finds the register of the first team written.
-                None => Local::Active {
-                    place,
-                    value,
-                    stage,
-                },
-                Some(found) => onward(places, place, found),
+            // Who has applied finds the register of the first team written.
+            if let Some(found) = node.register(plan.judge(here.role, response, state)) {
+                *local = onward(places, place, found);
             }
         }
     }

@@ -1,6 +1,7 @@
 //! What one process of a round knows.
 ghost use Rattle.std.specs.Prelude.{◌≡◌};
 ghost use Rattle.cn_agree.specs.Rounds.{decided as decision_of};
+ghost use Rattle.cn_agree.specs.Turns.{gone_on, turn_of};
 
 use cn_table::{Response, State};
 
@@ -33,12 +34,33 @@ pub enum Local<V> {
     Decided(V),
 }
 
-/// What a local state tells of a decision.
-pub(crate) fn decided<V: Copy>(local: Local<V>) -> Option<V>
-    ensures { result ≡ decision_of local }
-{
-    match local {
-        Local::Decided(value) => Some(value),
-        Local::NotBegun | Local::Active { .. } => None,
+impl<V: Copy> Local<V> {
+    /// Its place and its next action, where it is at a place.
+    pub(crate) fn turn(&self) -> Option<(usize, Stage)>
+        ensures { result ≡ turn_of self.now }
+    {
+        match self {
+            Local::Active { place, stage, .. } => Some((*place, *stage)),
+            Local::NotBegun | Local::Decided(_) => None,
+        }
+    }
+
+    /// With another next action, where it is at a place.
+    pub(crate) fn go_on(&mut self, next: Stage)
+        ensures { self.new ≡ gone_on next self.old }
+    {
+        if let Local::Active { stage, .. } = self {
+            *stage = next;
+        }
+    }
+
+    /// What it tells of a decision.
+    pub(crate) fn decided(&self) -> Option<V>
+        ensures { result ≡ decision_of self.now }
+    {
+        match self {
+            Local::Decided(value) => Some(*value),
+            Local::NotBegun | Local::Active { .. } => None,
+        }
     }
 }

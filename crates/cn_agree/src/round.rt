@@ -9,7 +9,7 @@ ghost use Rattle.cn_agree.specs.declared.local.Local.TheVariants.{NotBegun};
 ghost use Rattle.cn_agree.specs.World.{local_at, input_at};
 
 use crate::action::{Turn, act, first_after};
-use crate::local::{Local, Stage, decided};
+use crate::local::{Local, Stage};
 use crate::node::Node;
 use cn_choice::Team;
 use cn_proto::Plan;
@@ -117,28 +117,24 @@ impl<V: Copy> Round<V> {
         ensures fixed { (x : V) → fixed_value self.old ≡ Some x → fixed_value self.new ≡ Some x }
     {
         plan.is_sound();
-        match self.locals[usize::from(p)] {
-            Local::Active {
-                place,
-                value,
-                stage,
-            } => {
+        match self.locals[usize::from(p)].turn() {
+            Some((place, stage)) => {
                 let path = plan.path(p);
                 let here = path[place];
                 let turn = Turn {
                     here,
                     place,
                     places: path.len(),
-                    value,
                     stage,
                 };
-                let next = act(plan, turn, &mut self.nodes[usize::from(here.node)]);
-                self.locals[usize::from(p)] = next;
+                let node = &mut self.nodes[usize::from(here.node)];
+                let local = &mut self.locals[usize::from(p)];
+                act(plan, turn, node, local);
                 self.first = first_after(self.first, here, stage);
-                decided(next)
+                local.decided()
             }
             // It has begun and not decided.
-            Local::NotBegun | Local::Decided(_) => unreachable!(),
+            None => unreachable!(),
         }
     }
 
@@ -150,7 +146,7 @@ impl<V: Copy> Round<V> {
         ensures in_time { (plan : PlanOf) (schedule : List ℕ) → IsRoundOf plan schedule self.now
             → IsSome result ↔ (4 * length ((protocol_of plan).path p) ≤ occurrences schedule p) }
     {
-        decided(self.locals[usize::from(p)])
+        self.locals[usize::from(p)].decided()
     }
 
     /// The value that the round has fixed: that of the team which came first at the root, from the
@@ -162,7 +158,7 @@ impl<V: Copy> Round<V> {
         ensures since { (plan : PlanOf) (schedule : List ℕ) → IsRoundOf plan schedule self.now
             → IsSome result ↔ IsAppliedAtRoot (protocol_of plan) (processes_of plan) self.now }
     {
-        let root = self.nodes[0];
+        let root = &self.nodes[0];
         root.register(self.first?)
     }
 }

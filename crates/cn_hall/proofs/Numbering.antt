@@ -10,7 +10,7 @@ use Rattle.cn_proto.specs.Plan.{processes_of}
 use Rattle.cn_log.specs.Batches.{entries_in, members}
 use Rattle.cn_log.proofs.Places.{in_entries}
 use Rattle.cn_hall.specs.Calls.{IsUnseen, next_call}
-use Rattle.cn_hall.specs.Seats.{SeatState, IsLog, caller, placed, seen, slots_seen}
+use Rattle.cn_hall.specs.Seats.{SeatState, IsLog, caller, own_entries_seen, entries_seen, slots_seen}
 use Rattle.cn_hall.proofs.LogLaws.{Called, Owned}
 
 -- calls are numbered in order
@@ -48,9 +48,9 @@ next_unseen owned called s operation log lt k b at has =
     let calls : List Entry = calls_by p events in
     let n : ℕ = processes_of s.core.opening.plan in
     let place : ℕ = length (entries_in n (take k (slots_seen s))) + length (members p 0 b) in
-    let there = filtered p (seen s) place next refl (in_entries n (slots_seen s) k b p next at lt has) in
+    let there = filtered p (entries_seen s) place next refl (in_entries n (slots_seen s) k b p next at lt has) in
     let h = owned s.core.opening events p log.opening log.events in
-    let standing : slice_get calls there.0 ≡ Some next = ap (λ l. slice_get l there.0) h.1 ∙ get_front (placed s) h.0 there.0 next there.1 in
+    let standing : slice_get calls there.0 ≡ Some next = ap (λ l. slice_get l there.0) h.1 ∙ get_front (own_entries_seen s) h.0 there.0 next there.1 in
     let low : there.0 < length calls = get_low calls there.0 next standing in
     let number : (caller s).calls ≡ 0 + there.0 = numbered p 0 events there.0 next standing in
     let last = ap (λ l. slice_get l (length calls)) (called s.core.opening events p operation) ∙ get_push_new calls (call_of p operation (caller s).calls) in

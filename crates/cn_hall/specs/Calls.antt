@@ -9,7 +9,7 @@ use Rattle.cn_log.specs.declared.event.Event.{Event}
 use Rattle.cn_log.specs.declared.event.Event.TheVariants.{Invoke, Step}
 use Rattle.cn_log.specs.Callers.{BeginsWith, Without, entries_by}
 use Rattle.cn_log.specs.Callers.{IsUnseen as IsIn}
-use Rattle.cn_hall.specs.Seats.{SeatState, IsInvoke, caller, made, pending, placed, seen, slots_seen}
+use Rattle.cn_hall.specs.Seats.{SeatState, IsInvoke, caller, calls_made, pending, own_entries_seen, entries_seen, slots_seen}
 use Rattle.cn_hall.specs.declared.call.CallFault.{CallFault}
 use Rattle.cn_hall.specs.declared.call.CallFault.TheVariants.{LogFull, Stopped}
 use Rattle.cn_hall.specs.declared.call.Go.{Go}
@@ -43,11 +43,11 @@ next_call s operation = record { process = s.process; operation = record { 0 = o
 abbrev pub IsReply : Entry → SeatState → Reply → Type 0
 IsReply mine s r = (pending s ≡ None) × (front : List Batch) × (batch : Batch) × (slots_seen s ≡ front ++ batch ∷ [])
     × (entry_at batch s.process ≡ Some mine) × (r.slot ≡ length front) × (r.response.0 ≡ response_in (setting s.core) front batch mine)
-    × (made s ≡ placed s)
+    × (calls_made s ≡ own_entries_seen s)
 
 -- the entries of the seat's process that it has seen are the calls that it has made, but the last, which is this one
 abbrev pub AllButLast : Entry → SeatState → Type 0
-AllButLast mine s = made s ≡ placed s ++ mine ∷ []
+AllButLast mine s = calls_made s ≡ own_entries_seen s ++ mine ∷ []
 
 -- the seat has not seen the call in any slot
 abbrev pub IsUnseen : Entry → SeatState → Type 0
@@ -72,8 +72,8 @@ CallFails operation Stopped old new = Called old.process operation old.core new.
 -- after a call with this answer, the entries of the seat's process that it has seen are the calls that it has made, each once and in order; where there was
 -- no reply, perhaps without the last
 abbrev pub HasPlaced : SeatState → Result Reply CallFault → Type 0
-HasPlaced s (Ok r) = made s ≡ placed s
-HasPlaced s (Err e) = (made s ≡ placed s) ⊎ ((mine : Entry) × AllButLast mine s)
+HasPlaced s (Ok r) = calls_made s ≡ own_entries_seen s
+HasPlaced s (Err e) = (calls_made s ≡ own_entries_seen s) ⊎ ((mine : Entry) × AllButLast mine s)
 
 -- what the gate has said after a call with this answer
 abbrev pub said_after : Result Reply CallFault → Go
@@ -88,4 +88,4 @@ HaveMet a b = ((rest : List Event) × (b.core.schedule ≡ a.core.schedule ++ re
 
 -- of the process of the second seat, the first has seen only calls that it has made, the first of them, in order
 abbrev pub HasOnlyMade : SeatState → SeatState → Type 0
-HasOnlyMade a b = BeginsWith (made b) (entries_by b.process (seen a))
+HasOnlyMade a b = BeginsWith (calls_made b) (entries_by b.process (entries_seen a))

@@ -55,16 +55,16 @@ abbrev pub slots_seen : SeatState → List Batch
 slots_seen s = (caller s).seen
 
 -- the entries of these slots, in log order
-abbrev pub seen : SeatState → List Entry
-seen s = seen_of (setting s.core) s.core.schedule s.process
+abbrev pub entries_seen : SeatState → List Entry
+entries_seen s = seen_of (setting s.core) s.core.schedule s.process
 
 -- the calls that the seat's process has made, in order
-abbrev pub made : SeatState → List Entry
-made s = calls_by s.process s.core.schedule
+abbrev pub calls_made : SeatState → List Entry
+calls_made s = calls_by s.process s.core.schedule
 
 -- those of the entries that the seat has seen that are of its process, in order
-abbrev pub placed : SeatState → List Entry
-placed s = entries_by s.process (seen s)
+abbrev pub own_entries_seen : SeatState → List Entry
+own_entries_seen s = entries_by s.process (entries_seen s)
 
 -- the call that the seat's process has pending, with its operation and its number
 abbrev pub pending : SeatState → Option Entry

@@ -6,7 +6,7 @@ ghost use Rattle.cn_hall.specs.Calls.{CallFails, Called, EndsBy, GoesOn, HasOnly
 ghost use Rattle.cn_log.specs.Callers.{BeginsWith, HasResponse};
 ghost use Rattle.cn_hall.specs.Gates.{IsAsked, asked_times, steps_since};
 ghost use Rattle.cn_hall.specs.Rule.{Carries};
-ghost use Rattle.cn_hall.specs.Seats.{IsInvoke, IsSeatOf, IsStep, caller, caller_at, pending, seen, slots_seen};
+ghost use Rattle.cn_hall.specs.Seats.{IsInvoke, IsSeatOf, IsStep, caller, caller_at, pending, entries_seen, slots_seen};
 ghost use Rattle.cn_log.specs.Bypass.{IsBypassBounded};
 ghost use Rattle.cn_log.specs.Linearized.{IsLinearized};
 ghost use Rattle.cn_log.specs.Log.{batches, entries};
@@ -90,7 +90,7 @@ impl Hall {
         requires gate { G.says gate.old ≡ On }
         ensures same { IsSameSeat seat.old seat.new }
         ensures events { GoesOn seat.old.process seat.old.core seat.new.core }
-        ensures seen { BeginsWith (seen seat.new) (seen seat.old) }
+        ensures seen { BeginsWith (entries_seen seat.new) (entries_seen seat.old) }
         ensures reply { IfOk result (λ r. (mine : Entry) → pending seat.old ≡ Some mine → IsReply mine seat.new r) }
         ensures fault { IfErr result (λ e. (mine : Entry) → pending seat.old ≡ Some mine → EndsBy mine e seat.new) }
         ensures own { Adds (own seat.old) (own seat.new) result }
@@ -139,7 +139,7 @@ impl Hall {
         requires operation { operation.0 < length seat.old.core.opening.object.operations }
         requires gate { G.says gate.old ≡ On }
         ensures same { IsSameSeat seat.old seat.new }
-        ensures seen { BeginsWith (seen seat.new) (seen seat.old) }
+        ensures seen { BeginsWith (entries_seen seat.new) (entries_seen seat.old) }
         ensures reply { IfOk result (λ r. Called seat.old.process operation.0 seat.old.core seat.new.core
             × IsReply (next_call seat.old operation.0) seat.new r) }
         ensures fault { IfErr result (λ e. CallFails operation.0 e seat.old seat.new) }
@@ -168,8 +168,8 @@ impl Hall {
         ensures opening { second.old.core.opening ≡ first.old.core.opening }
         ensures met { HaveMet first.old second.old }
         ensures made { HasOnlyMade first.old second.old × HasOnlyMade second.old first.old }
-        ensures seen { BeginsWith (seen second.old) (seen first.old) ⊎ BeginsWith (seen first.old) (seen second.old) }
-        ensures order { result ≡ nat_cmp (length (seen first.old)) (length (seen second.old)) }
+        ensures seen { BeginsWith (entries_seen second.old) (entries_seen first.old) ⊎ BeginsWith (entries_seen first.old) (entries_seen second.old) }
+        ensures order { result ≡ nat_cmp (length (entries_seen first.old)) (length (entries_seen second.old)) }
     {
         let (one, two) = (first.process, second.process);
         events::look(rt, &self.queue, &mut first.pass, &mut second.pass, one);
@@ -192,7 +192,7 @@ impl Hall {
         ensures bypass { IsBypassBounded (setting result) result.schedule }
         ensures wait_free { IsWaitFree (setting result) result.schedule }
         ensures slots { All (λ s. BeginsWith (batches (setting result) result.schedule) (slots_seen s)) seats.items }
-        ensures entries { All (λ s. BeginsWith (entries (setting result) result.schedule) (seen s)) seats.items }
+        ensures entries { All (λ s. BeginsWith (entries (setting result) result.schedule) (entries_seen s)) seats.items }
         ensures answers { All (λ s. BeginsWith (replies_from (setting result) s.process [] (batches (setting result) result.schedule)) (own s)) seats.items }
     {
         let Hall { queue } = self;

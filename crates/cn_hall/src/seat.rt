@@ -2,7 +2,7 @@
 ghost use Rattle.std.specs.Prelude.{◌≡◌, ◌≢◌, ◌≤◌, ◌↔◌, IsFalse, IsTrue, None, length};
 ghost use Rattle.cn_log.specs.Callers.{HasReplayedItsOwn};
 ghost use Rattle.cn_log.specs.Opening.{setting};
-ghost use Rattle.cn_hall.specs.Seats.{IsLog, pending, seen, slots_seen};
+ghost use Rattle.cn_hall.specs.Seats.{IsLog, pending, entries_seen, slots_seen};
 
 use crate::hands::Standing;
 use crate::rule::Pass;
@@ -61,7 +61,7 @@ impl Seat {
 
     /// How many entries the seat has seen, in the slots that its process has replayed.
     pub fn seen_len(&self) -> u16
-        ensures number { result ≡ length (seen self.now) }
+        ensures number { result ≡ length (entries_seen self.now) }
     {
         self.standing.seen
     }

@@ -6,6 +6,7 @@ use Rattle.cn_agree.specs.World.{World as RoundWorld}
 use Rattle.cn_agree.specs.Reached.{first_world}
 use Rattle.cn_log.specs.declared.batch.Batch.{Batch}
 use Rattle.cn_log.specs.declared.event.Event.{Event}
+use Rattle.cn_log.specs.declared.limits.TheConstants.{MOST_SLOTS}
 use Rattle.cn_log.specs.Consensus.{consensus_by}
 use Rattle.cn_log.specs.Log.{Setting}
 
@@ -38,9 +39,9 @@ setting_of o = record {
 abbrev pub setting : Log → Setting (RoundWorld Batch)
 setting c = setting_of c.opening
 
--- the plan is one, the start state is one of the object, and there are 1 to 1024 slots
+-- the plan is one, the start state is one of the object, and there are 1 to MOST_SLOTS slots
 pub record IsOpening (o : Opening) : Type 0 where
   pub plan : IsPlan o.plan
   pub start : o.start < length o.object.states
   pub some : 1 ≤ o.capacity
-  pub few : o.capacity ≤ 1024
+  pub few : o.capacity ≤ MOST_SLOTS

@@ -1,12 +1,13 @@
 //! A core of a list of events.
-ghost use Rattle.std.specs.Prelude.{◌≡◌, ◌≢◌, ◌<◌, ◌≤◌, ◌++◌, List, length, IfErr, IfOk, OnOk};
+ghost use Rattle.std.specs.Prelude.{◌≡◌, ◌≢◌, ◌<◌, ◌≤◌, ◌++◌, List, length, IfErr, IfOk};
 ghost use Rattle.cn_log.specs.declared.event.Event.{Event as EventOf};
 ghost use Rattle.cn_log.specs.declared.fault.ReplayFault.TheVariants.{OutOfMemory};
+ghost use Rattle.cn_log.specs.declared.limits.TheConstants.{MOST_SLOTS};
 ghost use Rattle.cn_log.specs.Bypass.{IsBypassBounded};
 ghost use Rattle.cn_log.specs.Faults.{IsFirstFault};
 ghost use Rattle.cn_log.specs.Linearized.{BeginsInTurn, Grows, IsLinearized};
 ghost use Rattle.cn_log.specs.Log.{IsEventList};
-ghost use Rattle.cn_log.specs.Opening.{opening_of, setting_of};
+ghost use Rattle.cn_log.specs.Opening.{opening_of, setting, setting_of};
 ghost use Rattle.cn_log.specs.OwnSteps.{IsWaitFree};
 
 use crate::event::Event;
@@ -18,7 +19,8 @@ use std::alloc::Global;
 
 /// The core in which these events happened, one after the other.
 ///
-/// The object starts in a state of its table, and there are 1 to 1024 slots.
+/// The object starts in a state of its table, and there are 1 to
+/// [`MOST_SLOTS`](crate::MOST_SLOTS) slots.
 ///
 /// # Errors
 ///
@@ -34,19 +36,18 @@ pub fn replay(
 ) -> Result<LogCore, ReplayFault>
     requires start { start.0 < length object.now.states }
     requires some { 1 ≤ capacity }
-    requires few { capacity ≤ 1024 }
+    requires few { capacity ≤ MOST_SLOTS }
     ensures opening { IfOk result (λ core. core.opening ≡ opening_of plan.now object.now start.0 capacity) }
     ensures schedule { IfOk result (λ core. core.schedule ≡ events.now) }
     ensures fault { IfErr result (λ fault. fault ≢ OutOfMemory → IsFirstFault (setting_of (opening_of plan.now object.now start.0 capacity)) events.now fault) }
 
     // Where there is no fault, these are events that can come, and the log is as it should be.
-    ensures events { OnOk result (IsEventList (setting_of (opening_of plan.now object.now start.0 capacity)) events.now) }
-    ensures linearized { OnOk result (IsLinearized (setting_of (opening_of plan.now object.now start.0 capacity)) events.now) }
-    ensures grows { OnOk result ((before after : List EventOf) → events.now ≡ before ++ after
-        → Grows (setting_of (opening_of plan.now object.now start.0 capacity)) before after) }
-    ensures in_turn { OnOk result (BeginsInTurn (setting_of (opening_of plan.now object.now start.0 capacity)) events.now) }
-    ensures bypass { OnOk result (IsBypassBounded (setting_of (opening_of plan.now object.now start.0 capacity)) events.now) }
-    ensures wait_free { OnOk result (IsWaitFree (setting_of (opening_of plan.now object.now start.0 capacity)) events.now) }
+    ensures events { IfOk result (λ core. IsEventList (setting core) core.schedule) }
+    ensures linearized { IfOk result (λ core. IsLinearized (setting core) core.schedule) }
+    ensures grows { IfOk result (λ core. (before after : List EventOf) → core.schedule ≡ before ++ after → Grows (setting core) before after) }
+    ensures in_turn { IfOk result (λ core. BeginsInTurn (setting core) core.schedule) }
+    ensures bypass { IfOk result (λ core. IsBypassBounded (setting core) core.schedule) }
+    ensures wait_free { IfOk result (λ core. IsWaitFree (setting core) core.schedule) }
 {
     let mut core = LogCore::new(alloc, plan, object, start, capacity)?;
     for event in events {

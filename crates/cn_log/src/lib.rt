@@ -1,12 +1,12 @@
 //! The universal log: a server for any tabulated object, by rounds of consensus among the
 //! processes of a plan.
 //!
-//! A [`LogCore`] has so many slots, and a round of consensus for each. A process that makes a call
-//! announces it, and then goes through the slots, one after the other: it looks at the
-//! announcement of each process in turn, and gathers the calls that do not stand in the log yet,
-//! its own among them, in a [`Batch`]. With that it begins in the round of the slot, and takes steps
-//! until it has decided. The batch that it decides it replays on its own copy of the object, call
-//! by call in the order of processes. Its call is answered when it replays it.
+//! A [`LogCore`] is made of an [`Opening`]. It has so many slots, and a round of consensus for each.
+//! A process that makes a call announces it, and then goes through the slots, one after the other:
+//! it looks at the announcement of each process in turn, and gathers the calls that do not stand in
+//! the log yet, its own among them, in a [`Batch`]. With that it begins in the round of the slot, and
+//! takes steps until it has decided. The batch that it decides it replays on its own copy of the
+//! object, call by call in the order of processes. Its call is answered when it replays it.
 //!
 //! What happens is a list of [`Event`]s: a process makes a call, or takes one step. A core is what
 //! its own list of events makes of it; [`LogCore::take`] does one event, whatever it is, or says why
@@ -22,6 +22,7 @@ mod event;
 mod event_list;
 mod fault;
 pub mod laws;
+mod limits;
 mod log_core;
 mod log_state;
 mod opening;
@@ -32,4 +33,6 @@ pub use entry::Entry;
 pub use event::{CallEnd, Event, StepAnswer};
 pub use event_list::replay;
 pub use fault::ReplayFault;
+pub use limits::MOST_SLOTS;
 pub use log_core::LogCore;
+pub use opening::Opening;

@@ -4,6 +4,7 @@ ghost use Rattle.std.specs.Vec.{vec_capacity};
 ghost use Rattle.cn_proto.specs.Plan.{processes_of};
 ghost use Rattle.cn_log.specs.declared.event.Event.{Event as EventOf};
 ghost use Rattle.cn_log.specs.declared.event.Event.TheVariants.{Invoke, Step};
+ghost use Rattle.cn_log.specs.declared.limits.TheConstants.{MOST_SLOTS};
 ghost use Rattle.cn_log.specs.declared.progress.Phase.TheVariants.{Idle};
 ghost use Rattle.cn_log.specs.Bypass.{IsBypassBounded};
 ghost use Rattle.cn_log.specs.CallEnds.{call_end, EndsWithResponse};
@@ -56,7 +57,7 @@ impl Model for LogCore {
 
 impl LogCore {
     /// A core in which nothing has happened, with a plan and a table of its own: the object starts
-    /// in a state of its table, and there are 1 to 1024 slots.
+    /// in a state of its table, and there are 1 to [`MOST_SLOTS`](crate::MOST_SLOTS) slots.
     ///
     /// # Errors
     ///
@@ -70,11 +71,23 @@ impl LogCore {
     ) -> Result<LogCore, AllocError>
         requires start { start.0 < length object.now.states }
         requires some { 1 ≤ capacity }
-        requires few { capacity ≤ 1024 }
+        requires few { capacity ≤ MOST_SLOTS }
         ensures opening { IfOk result (λ core. core.opening ≡ opening_of plan.now object.now start.0 capacity) }
         ensures empty { IfOk result (λ core. core.schedule ≡ []) }
     {
-        let opening = Opening::new(alloc, plan, object, start, capacity)?;
+        let (plan, object) = (plan.copy(alloc)?, object.copy(alloc)?);
+        LogCore::open(alloc, Opening::new(plan, object, start, capacity))
+    }
+
+    /// A core of this opening, in which nothing has happened.
+    ///
+    /// # Errors
+    ///
+    /// Fails only for want of memory.
+    pub fn open(alloc: Global, opening: Opening) -> Result<LogCore, AllocError>
+        ensures opening { IfOk result (λ core. core.opening ≡ opening) }
+        ensures empty { IfOk result (λ core. core.schedule ≡ []) }
+    {
         let state = LogState::new(alloc, &opening)?;
         let schedule = empty_schedule(alloc, &opening)?;
         Ok(LogCore {
@@ -85,12 +98,12 @@ impl LogCore {
     }
 
     /// The law of cores, however they came to be: `opening`, the plan is one, the start state is one
-    /// of the object, and there are 1 to 1024 slots; `events`, each event of the schedule could come
-    /// where it stands; `linearized`, the answers are those of one sequential run of the calls in
-    /// the order of the log; `grows`, entries stay, and new ones come behind them; `in_turn`, a slot
-    /// begins only after those before it are fixed; `bypass`, a call stands in the slot after those
-    /// fixed when it was made or in the next; `wait_free`, it is over within so many steps of its
-    /// process.
+    /// of the object, and there are 1 to [`MOST_SLOTS`](crate::MOST_SLOTS) slots; `events`, each
+    /// event of the schedule could come where it stands; `linearized`, the answers are those of one
+    /// sequential run of the calls in the order of the log; `grows`, entries stay, and new ones come
+    /// behind them; `in_turn`, a slot begins only after those before it are fixed; `bypass`, a call
+    /// stands in the slot after those fixed when it was made or in the next; `wait_free`, it is over
+    /// within so many steps of its process.
     pub fn is_linearized(&self)
         ensures opening { IsOpening self.now.opening }
         ensures events { IsEventList (setting self.now) self.now.schedule }
@@ -181,6 +194,13 @@ impl LogCore {
         self.schedule.as_slice()
     }
 
+    /// What the log was opened with.
+    pub fn opening(&self) -> &Opening
+        ensures { result.now ≡ self.now.opening }
+    {
+        &self.opening
+    }
+
     /// How many processes there are: 2 to 8.
     pub fn processes(&self) -> u8
         ensures number { result ≡ processes_of self.now.opening.plan }
@@ -189,10 +209,10 @@ impl LogCore {
         self.opening.plan.processes()
     }
 
-    /// How many slots there are: 1 to 1024.
+    /// How many slots there are: 1 to [`MOST_SLOTS`](crate::MOST_SLOTS).
     pub fn capacity(&self) -> u16
         ensures number { result ≡ self.now.opening.capacity }
-        ensures range { (1 ≤ result) × (result ≤ 1024) }
+        ensures range { (1 ≤ result) × (result ≤ MOST_SLOTS) }
     {
         self.opening.is_opening();
         self.opening.capacity

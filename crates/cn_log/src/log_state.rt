@@ -9,6 +9,7 @@ ghost use Rattle.cn_log.specs.Batches.{and_entry, entry_at, members, entries_in,
 ghost use Rattle.cn_log.specs.declared.entry.Entry.{Entry as EntryOf};
 ghost use Rattle.cn_log.specs.declared.event.Event.{Event as EventOf};
 ghost use Rattle.cn_log.specs.declared.event.Event.TheVariants.{Invoke, Step};
+ghost use Rattle.cn_log.specs.declared.limits.TheConstants.{MOST_SLOTS};
 ghost use Rattle.cn_log.specs.declared.progress.Phase.TheVariants.{Idle, Looks, Runs};
 ghost use Rattle.cn_log.specs.Callers.{HasResponse};
 ghost use Rattle.cn_log.specs.Fields.{count_at, gathered_by, next_batch, reply, HasRoom, HasSameRoom, IsStateAfter, IsStateAt};
@@ -139,7 +140,7 @@ impl LogState {
         ensures range { HasResponse opening.now.object result }
     {
         opening.is_opening();
-        let here = self.progress[usize::from(p)];
+        let here = &self.progress[usize::from(p)];
         let slot = usize::from(here.replayed);
         let round = &mut self.rounds[slot];
         let decision = round.step(&opening.plan, p);
@@ -155,7 +156,7 @@ impl LogState {
         match decision {
             None => StepAnswer::Working,
             Some(batch) => {
-                let outcome = replay_batch(opening, here, mine, batch);
+                let outcome = replay_batch(opening, *here, mine, batch);
                 self.progress[usize::from(p)] = outcome.progress;
                 outcome.answer
             }
@@ -211,7 +212,7 @@ fn enter(
     round: &Round<Batch>,
 )
     requires processes { processes ≤ 8 }
-    requires slot { slot < 1024 }
+    requires slot { slot < MOST_SLOTS }
     requires room { fixed.old ≡ slot → vec_len entries.old + processes ≤ vec_capacity entries.old }
     requires slots_room { fixed.old ≡ slot → vec_len slots.old + processes ≤ vec_capacity slots.old }
     ensures entries { entries.new.items ≡ entries.old.items ++ entries_in processes (next_batch fixed.old slot (fixed_value round.now)) }
@@ -238,7 +239,7 @@ struct Outcome {
 /// The process, with a call of its own pending, replays the batch of its next slot.
 fn replay_batch(opening: &Opening, here: Progress, mine: Entry, batch: Batch) -> Outcome
     requires slot { here.replayed < opening.now.capacity }
-    requires few { opening.now.capacity ≤ 1024 }
+    requires few { opening.now.capacity ≤ MOST_SLOTS }
     requires seen { here.seen ≤ 8192 }
     requires calls_places { length here.calls_seen.calls ≡ 8 }
     requires calls_seen { (q : ℕ) → q < processes_of opening.now.plan → count_at here.calls_seen q ≤ 8192 }

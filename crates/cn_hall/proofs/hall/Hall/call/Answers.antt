@@ -1,6 +1,6 @@
 use Rattle.std.proofs.Common.{◌≡◌, ◌<◌, List, length, inl, refl, ap, sym, ◌∙◌, Some, None, subst}
 use Rattle.cn_log.specs.declared.entry.Entry.{Entry}
-use Rattle.cn_hall.specs.Seats.{SeatState, pending, seen, slots_seen}
+use Rattle.cn_hall.specs.Seats.{SeatState, pending, entries_seen, slots_seen}
 use Rattle.cn_proto.specs.Plan.{processes_of}
 use Rattle.cn_hall.specs.Answers.{own}
 use Rattle.cn_hall.specs.Calls.{Called, CallFails, EndsBy, IsReply, next_call}
@@ -16,7 +16,7 @@ resume-requires-clause-in_call g c none = let h : Some (next_call c.args.seat.no
     sym (call_pending c.every_caller.ensures.stays c.every_caller.ensures.invoked c.args.seat.now c.invoke.new.seat c.args.operation.0 c.invoke.ensures.same c.invoke.ensures.invoked) ∙ none in cc
 
 pub returns-clause-seen : goal.returns-clause-seen
-returns-clause-seen g c = subst (λ (l : List Entry). BeginsWith (seen c.resume.new.seat) l)
+returns-clause-seen g c = subst (λ (l : List Entry). BeginsWith (entries_seen c.resume.new.seat) l)
     (call_seen c.every_caller.ensures.stays c.every_caller.ensures.invoked c.args.seat.now c.invoke.new.seat c.args.operation.0 c.invoke.ensures.same c.invoke.ensures.invoked) c.resume.ensures.seen
 
 pub returns-clause-reply : goal.returns-clause-reply

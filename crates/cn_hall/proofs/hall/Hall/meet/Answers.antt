@@ -1,7 +1,7 @@
 use Rattle.std.proofs.Common.{◌≡◌, sym, ap, ◌∙◌, length, rules}
 use Rattle.crossbeam_queue.specs.Passes.{view}
 use Rattle.cn_hall.specs.declared.rule.View.{View}
-use Rattle.cn_hall.specs.Seats.{SeatState, core_of, seen}
+use Rattle.cn_hall.specs.Seats.{SeatState, core_of, entries_seen}
 use Rattle.cn_hall.proofs.Meeting.{both_see, one_opening, have_met, log_of, met_seen, only_made}
 use Rattle.cn_hall.proofs.hall.Hall.meet.Goals as goal
 
@@ -33,6 +33,6 @@ returns-clause-seen g c = let see = both_see _ _ c.args.first.now c.args.second.
 
 pub returns-clause-order : goal.returns-clause-order
 returns-clause-order g c =
-    let one : c.first.inside.standing.seen ≡ length (seen c.args.first.now) = c.first.invariant.4.0 ∙ ap (λ (s : SeatState). length (seen s)) c.first.view_is in
-    let two : c.second.inside.standing.seen ≡ length (seen c.args.second.now) = c.second.invariant.4.0 ∙ ap (λ (s : SeatState). length (seen s)) c.second.view_is in
+    let one : c.first.inside.standing.seen ≡ length (entries_seen c.args.first.now) = c.first.invariant.4.0 ∙ ap (λ (s : SeatState). length (entries_seen s)) c.first.view_is in
+    let two : c.second.inside.standing.seen ≡ length (entries_seen c.args.second.now) = c.second.invariant.4.0 ∙ ap (λ (s : SeatState). length (entries_seen s)) c.second.view_is in
     rw (← one, ← two) (search rules)

@@ -1,0 +1,17 @@
+-- What a process does next at its place.
+use Rattle.std.specs.Prelude.{ℕ, Option, Some, None}
+use Rattle.cn_agree.specs.declared.local.Stage.{Stage}
+use Rattle.cn_agree.specs.declared.local.Local.{Local}
+use Rattle.cn_agree.specs.declared.local.Local.TheVariants.{NotBegun, Active, Decided}
+
+-- its place and its next action, where it is at one
+abbrev pub turn_of : {V : Type 0} → Local V → Option (ℕ × Stage)
+turn_of NotBegun = None
+turn_of (Active i x stage) = Some (i, stage)
+turn_of (Decided y) = None
+
+-- the same with this next action
+abbrev pub gone_on : {V : Type 0} → Stage → Local V → Local V
+gone_on next NotBegun = NotBegun
+gone_on next (Active i x stage) = Active i x next
+gone_on next (Decided y) = Decided y
