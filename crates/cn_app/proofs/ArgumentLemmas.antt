@@ -1,5 +1,7 @@
 -- Arguments.
 pub mod Calls
 pub mod Events
+pub mod Files
 pub mod Numbers
 pub mod Pairs
+pub mod ShortEvents

@@ -1,3 +1,8 @@
 -- What is written of a log.
 pub mod Log
+pub mod Names
+pub mod Pairs
+pub mod Pieces
 pub mod Threads
+pub mod Numbers
+pub mod Told

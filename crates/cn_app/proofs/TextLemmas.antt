@@ -1,5 +1,6 @@
 -- What the texts give a command, and how it fails where they do not.
+pub mod AcceptedEntries
 pub mod AcceptedWitnesses
 pub mod Checked
+pub mod Openings
 pub mod Plans
-pub mod Services

@@ -1,4 +1,5 @@
 -- Arguments that are read from their texts.
 pub mod Calls
 pub mod Events
+pub mod Files
 pub mod Lists

@@ -26,11 +26,6 @@ use Rattle.cn_app.specs.declared.fault.AppFault.TheVariants as fault
 use Rattle.cn_app.specs.declared.threads.serving.ServeFault.{ServeFault}
 use Rattle.cn_app.specs.declared.threads.serving.ServeFault.TheVariants as serving
 
-abbrev pub source_text : Source → List ℕ
-source_text source.Table = codes "table"
-source_text source.Certificate = codes "certificate"
-source_text source.Object = codes "object"
-
 abbrev pub part_text : Part → List ℕ
 part_text part.Inputs = codes "INPUTS"
 part_text part.Schedule = codes "SCHEDULE"
@@ -38,6 +33,12 @@ part_text part.Start = codes "START"
 part_text part.Capacity = codes "CAPACITY"
 part_text part.Events = codes "EVENTS"
 part_text part.Calls = codes "CALLS"
+
+abbrev pub source_text : Source → List ℕ
+source_text source.Table = codes "table"
+source_text source.Certificate = codes "certificate"
+source_text source.Object = codes "object"
+source_text (source.Argument p) = part_text p
 
 -- want of memory reads the same in whatever layer it was met
 abbrev pub fault_text : AppFault → List ℕ

@@ -1,5 +1,5 @@
 -- The headline: what the number that is found for a type says, and what the plan of its witness does.
-use Rattle.std.specs.Prelude.{◌≡◌, ℕ, ◌<◌, List, length, ◌≤◌, Some}
+use Rattle.std.specs.Prelude.{◌≡◌, ℕ, ◌<◌, List, length, Some}
 use Rattle.std.specs.List.{AllByRecursion}
 use Rattle.cn_table.specs.TypeTable.{TypeTable}
 use Rattle.cn_choice.specs.Canonical.{Choice}
@@ -10,7 +10,7 @@ use Rattle.cn_agree.specs.Consensus.{IsConsensus}
 use Rattle.cn_agree.specs.Schedules.{decisions_after}
 use Rattle.cn_log.specs.Linearized.{IsLinearized}
 use Rattle.cn_log.specs.Log.{IsEventList}
-use Rattle.cn_log.specs.Opening.{opening_of, setting_of}
+use Rattle.cn_log.specs.Opening.{IsOpening, Opening, setting_of}
 use Rattle.cn_log.specs.declared.event.Event.{Event}
 
 -- whatever the inputs, one for each process, and whatever the schedule: all decisions are equal, they are the input of a participant, and a process has decided
@@ -20,11 +20,9 @@ ReachesConsensus V plan =
     (inputs : List V) (schedule : List ℕ) → length inputs ≡ processes_of plan → AllByRecursion (λ p. p < processes_of plan) schedule
     → IsConsensus (protocol_of plan) (processes_of plan) inputs schedule (decisions_after plan inputs schedule)
 
--- whatever the object, its start state, the number of slots and the events: the answers are those of one sequential run in the order of the log
+-- whatever the opening with the plan, and whatever the events: the answers are those of one sequential run in the order of the log
 abbrev pub ServesObjects : Plan → Type 0
-ServesObjects plan =
-    (object : TypeTable) (start capacity : ℕ) (events : List Event) → start < length object.states → 1 ≤ capacity → capacity ≤ 1024
-    → IsEventList (setting_of (opening_of plan object start capacity)) events → IsLinearized (setting_of (opening_of plan object start capacity)) events
+ServesObjects plan = (o : Opening) (events : List Event) → IsOpening o → o.plan ≡ plan → IsEventList (setting_of o) events → IsLinearized (setting_of o) events
 
 -- a plan for the witness is one for as many processes as the number says; it reaches consensus, and serves objects
 pub record IsPlanOfNumber (V : Type 0) (f : Finding) (plan : Plan) : Type 0 where

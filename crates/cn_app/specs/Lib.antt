@@ -2,6 +2,7 @@ pub mod Answers
 pub mod Arguments
 pub mod Commands
 pub mod FaultText
+pub mod Forms
 pub mod Headline
 pub mod Lines
 pub mod Streams

@@ -3,14 +3,12 @@ ghost use Rattle.std.specs.Prelude.{◌≡◌, ◌≢◌, ◌<◌, ◌≤◌, �
 ghost use Rattle.cn_log.specs.Faults.{IsFirstFault};
 ghost use Rattle.cn_log.specs.Linearized.{IsLinearized};
 ghost use Rattle.cn_log.specs.Log.{IsEventList};
-ghost use Rattle.cn_log.specs.Opening.{opening_of, setting, setting_of};
+ghost use Rattle.cn_log.specs.Opening.{setting, setting_of};
 ghost use Rattle.cn_log.specs.declared.event.Event.{Event as EventOf};
 ghost use Rattle.cn_log.specs.declared.fault.ReplayFault.TheVariants.{OutOfMemory};
 ghost use Rattle.cn_app.specs.Answers.{ends_after, ends_by, HaveResponses};
 
-use cn_log::{CallEnd, Event, LogCore, ReplayFault};
-use cn_proto::Plan;
-use cn_table::{State, Table};
+use cn_log::{CallEnd, Event, LogCore, Opening, ReplayFault};
 use std::alloc::Global;
 
 /// The core in which the events happened, and how they ended calls, in order.
@@ -36,27 +34,22 @@ fn come(core: &mut LogCore, event: Event, ends: &mut Vec<CallEnd>) -> Result<(),
     Ok(())
 }
 
-/// What comes of the events, one after the other, in a log in which nothing has happened before.
+/// What comes of the events, one after the other, in a log of this opening in which nothing has
+/// happened before.
 pub(crate) fn answers_of(
     alloc: Global,
-    plan: &Plan,
-    object: &Table,
-    start: State,
-    capacity: u16,
+    opening: Opening,
     events: &[Event],
 ) -> Result<Replayed, ReplayFault>
-    requires start { start.0 < length object.now.states }
-    requires some { 1 ≤ capacity }
-    requires few { capacity ≤ 1024 }
-    ensures opening { IfOk result (λ replayed. replayed.core.opening ≡ opening_of plan.now object.now start.0 capacity) }
+    ensures opening { IfOk result (λ replayed. replayed.core.opening ≡ opening) }
     ensures schedule { IfOk result (λ replayed. replayed.core.schedule ≡ events.now) }
-    ensures ends { IfOk result (λ replayed. replayed.ends.items ≡ ends_after (setting_of (opening_of plan.now object.now start.0 capacity)) [] events.now) }
-    ensures responses { IfOk result (λ replayed. HaveResponses object.now replayed.ends.items) }
-    ensures fault { IfErr result (λ fault. fault ≢ OutOfMemory → IsFirstFault (setting_of (opening_of plan.now object.now start.0 capacity)) events.now fault) }
-    ensures events { OnOk result (IsEventList (setting_of (opening_of plan.now object.now start.0 capacity)) events.now) }
-    ensures linearized { OnOk result (IsLinearized (setting_of (opening_of plan.now object.now start.0 capacity)) events.now) }
+    ensures ends { IfOk result (λ replayed. replayed.ends.items ≡ ends_after (setting_of opening) [] events.now) }
+    ensures responses { IfOk result (λ replayed. HaveResponses opening.object replayed.ends.items) }
+    ensures fault { IfErr result (λ fault. fault ≢ OutOfMemory → IsFirstFault (setting_of opening) events.now fault) }
+    ensures events { OnOk result (IsEventList (setting_of opening) events.now) }
+    ensures linearized { OnOk result (IsLinearized (setting_of opening) events.now) }
 {
-    let mut core = LogCore::new(alloc, plan, object, start, capacity)?;
+    let mut core = LogCore::open(alloc, opening)?;
     let mut ends = Vec::with_capacity(alloc, events.len())?;
     for event in events {
         come(&mut core, *event, &mut ends)?;

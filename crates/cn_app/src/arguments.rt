@@ -2,4 +2,7 @@
 
 pub mod calls;
 pub mod events;
+pub mod files;
+pub mod listed;
 pub mod lists;
+pub mod short;

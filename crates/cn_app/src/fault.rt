@@ -22,6 +22,8 @@ pub enum Source {
     Certificate,
     /// The table of the object that is served.
     Object,
+    /// A file that holds the text of an argument.
+    Argument(Part),
 }
 
 /// An argument that a command reads from its text.
@@ -191,6 +193,7 @@ impl Source {
             Source::Table => "table",
             Source::Certificate => "certificate",
             Source::Object => "object",
+            Source::Argument(part) => part.name(),
         }
     }
 }

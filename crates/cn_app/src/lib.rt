@@ -8,6 +8,7 @@ mod answers;
 mod arguments;
 pub mod commands;
 mod fault;
+mod forms;
 pub mod laws;
 mod limits;
 mod lines;
@@ -19,10 +20,20 @@ mod threads;
 
 pub use arguments::calls::read_calls;
 pub use arguments::events::read_events;
+pub use arguments::files::read_argument;
+pub use arguments::listed::Listed;
 pub use arguments::lists::{read_inputs, read_schedule};
+pub use commands::Linted;
 pub use fault::{AppFault, Part, Source};
-pub use limits::{MOST_CALLS, MOST_CERTIFICATE_BYTES, MOST_DIGITS, MOST_ITEMS, MOST_TABLE_BYTES};
-pub use run::{run_agree, run_check, run_classify, run_find, run_replay, run_serve, run_show};
+pub use forms::Form;
+pub use limits::{
+    MOST_ARGUMENT_BYTES, MOST_CALLS, MOST_CERTIFICATE_BYTES, MOST_DIGITS, MOST_FILE_ITEMS,
+    MOST_ITEMS, MOST_TABLE_BYTES,
+};
+pub use run::{
+    run_agree, run_check, run_classify, run_draw, run_explain, run_find, run_lint, run_replay,
+    run_serve, run_show, run_show_as,
+};
 pub use several::{Named, Tell, classify_each};
 pub use streams::output::{Outcome, Output};
 pub use streams::progress::Progress;

@@ -6,8 +6,15 @@ pub const MOST_TABLE_BYTES: usize = 65_536;
 /// How many bytes the text of a certificate may have.
 pub const MOST_CERTIFICATE_BYTES: usize = 16_777_216;
 
-/// How many items a list in an argument may have.
+/// How many bytes a file may have that holds the text of an argument.
+pub const MOST_ARGUMENT_BYTES: usize = 1_048_576;
+
+/// How many items a list on the command line may have.
 pub const MOST_ITEMS: usize = 65_536;
+
+/// How many items a list in a file may have: more than a log of 8 processes and 1,024 slots has
+/// events.
+pub const MOST_FILE_ITEMS: usize = 303_112;
 
 /// How many digits a number in an argument may have.
 pub const MOST_DIGITS: usize = 20;

@@ -10,13 +10,17 @@ ghost use Rattle.cn_proto.specs.Plan.{Plan};
 ghost use Rattle.cn_proto.specs.PlanText.{plan_text};
 ghost use Rattle.cn_hall.specs.declared.call.Go.TheVariants.{On};
 ghost use Rattle.cn_app.specs.Commands.Agree.{IsAgreed, RunFails};
-ghost use Rattle.cn_app.specs.Arguments.Lists.{ListsFail, ListsGive};
+ghost use Rattle.cn_app.specs.Arguments.Lists.{ListsFail, ListsGive, inputs_of, schedule_of};
 ghost use Rattle.cn_app.specs.Texts.Checked.{FailsChecked, GivesChecked};
-ghost use Rattle.cn_app.specs.Arguments.Events.{capacity_of, EventsFail, EventsGive};
+ghost use Rattle.cn_app.specs.Arguments.Events.{capacity_of, events_of, EventsFail, EventsGive};
 ghost use Rattle.cn_app.specs.Commands.Classify.{IsClassified, LimitFails};
+ghost use Rattle.cn_app.specs.Commands.Explain.{IsExplained};
 ghost use Rattle.cn_app.specs.Commands.Find.{IsFound, SearchFails};
+ghost use Rattle.cn_app.specs.Forms.Diagram.{diagram};
+ghost use Rattle.cn_app.specs.Forms.PlanForms.{form_text};
+ghost use Rattle.cn_app.specs.Commands.Lint.{IsReport, LintFails, Tells};
 ghost use Rattle.cn_app.specs.Texts.Plans.{IsPlanOf, PlanFails};
-ghost use Rattle.cn_app.specs.Texts.Services.{FailsObject, GivesObject, StartFails, StartGives};
+ghost use Rattle.cn_app.specs.Texts.Openings.{FailsOpening, GivesOpening};
 ghost use Rattle.cn_app.specs.Commands.Replay.{IsServed, ServingFails};
 ghost use Rattle.cn_app.specs.Threads.Workers.{EachHasOneGate};
 ghost use Rattle.cn_app.specs.Arguments.Calls.{CallsFail, CallsGive};
@@ -25,8 +29,11 @@ ghost use Rattle.cn_app.specs.Streams.SourceBytes.{MayBeRead, WasRead};
 ghost use Rattle.cn_app.specs.Texts.Contents.{table_in, Fails, Gives};
 ghost use Rattle.cn_app.specs.Streams.Writing.{WasWritten};
 
-use crate::commands;
+use crate::arguments::listed::Listed;
+use crate::commands::{self, Linted};
 use crate::fault::{AppFault, Part, Source};
+use crate::forms::Form;
+use crate::limits::MOST_ITEMS;
 use crate::streams::output::{Outcome, Output};
 use crate::streams::text::Text;
 use cn_hall::Gate;
@@ -91,6 +98,59 @@ pub fn run_classify<T: Threads + Sync, R: Read, W: Write>(
     outcome
 }
 
+/// [`lint`](commands::lint) over a reader and a writer.
+///
+/// # Errors
+///
+/// Those of [`lint`](commands::lint).
+pub fn run_lint<T, R: Read, W: Write>(
+    _rt: &T,
+    alloc: Global,
+    table: &mut R,
+    writer: &mut W,
+) -> Result<Linted, AppFault>
+    ensures linted { IfOk result (λ linted. WasRead Source.Table result R.remaining table.old table.new (λ bytes. Tells linted bytes)) }
+    ensures report { OnOk result (WasRead Source.Table result R.remaining table.old table.new (λ bytes.
+        WasWritten W.contents writer.old writer.new (λ text. IsReport bytes text))) }
+    ensures refused { IfErr result (λ e. WasRead Source.Table result R.remaining table.old table.new (λ bytes. LintFails bytes e)) }
+    ensures silent { IfErr result (λ e. (e ≡ AppFault.Write) ⊎ (writer.new ≡ writer.old)) }
+{
+    let mut table = Text::new(alloc, table);
+    let mut output = Output::new(alloc, writer);
+    let outcome = commands::lint(alloc, &mut table, &mut output);
+    // As in `run_find`.
+    let _ = &*table.into_reader();
+    let _ = &*output.into_writer();
+    outcome
+}
+
+/// [`draw`](commands::draw) over a reader and a writer.
+///
+/// # Errors
+///
+/// Those of [`draw`](commands::draw).
+pub fn run_draw<T, R: Read, W: Write>(
+    _rt: &T,
+    alloc: Global,
+    table: &mut R,
+    writer: &mut W,
+) -> Result<Outcome, AppFault>
+    ensures whole { IfOk result (λ outcome. outcome ≡ Outcome.Whole) }
+    ensures drawn { OnOk result (WasRead Source.Table result R.remaining table.old table.new (λ bytes.
+        WasWritten W.contents writer.old writer.new (λ text. Gives bytes table_in (λ t. text ≡ diagram t)))) }
+    ensures refused { IfErr result (λ e. WasRead Source.Table result R.remaining table.old table.new
+        (λ bytes. (e ≡ AppFault.OutOfMemory) ⊎ Fails Source.Table bytes table_in e (λ _. e ≡ AppFault.Write))) }
+    ensures silent { IfErr result (λ e. (e ≡ AppFault.Write) ⊎ (writer.new ≡ writer.old)) }
+{
+    let mut table = Text::new(alloc, table);
+    let mut output = Output::new(alloc, writer);
+    let outcome = commands::draw(alloc, &mut table, &mut output);
+    // As in `run_find`.
+    let _ = &*table.into_reader();
+    let _ = &*output.into_writer();
+    outcome
+}
+
 /// [`check`](commands::check) over two readers and a writer.
 ///
 /// # Errors
@@ -124,13 +184,46 @@ pub fn run_check<T, R: Read, C: Read, W: Write>(
     outcome
 }
 
+/// [`explain`](commands::explain) over two readers and a writer.
+///
+/// # Errors
+///
+/// Those of [`explain`](commands::explain).
+pub fn run_explain<T, R: Read, C: Read, W: Write>(
+    _rt: &T,
+    alloc: Global,
+    table: &mut R,
+    certificate: &mut C,
+    writer: &mut W,
+    all: bool,
+) -> Result<Outcome, AppFault>
+    ensures whole { IfOk result (λ outcome. outcome ≡ Outcome.Whole) }
+    ensures written { OnOk result (WasRead Source.Table result R.remaining table.old table.new
+        (λ x. WasRead Source.Certificate result C.remaining certificate.old certificate.new (λ y.
+        WasWritten W.contents writer.old writer.new (λ text. GivesChecked x y (λ t c. IsExplained t c all text))))) }
+    ensures refused { IfErr result (λ e. WasRead Source.Table result R.remaining table.old table.new
+        (λ x. MayBeRead Source.Certificate result C.remaining certificate.old certificate.new (λ y.
+        (e ≡ AppFault.OutOfMemory) ⊎ FailsChecked x y e (λ _ _. e ≡ AppFault.Write)))) }
+    ensures silent { IfErr result (λ e. (e ≡ AppFault.Write) ⊎ (writer.new ≡ writer.old)) }
+{
+    let mut table = Text::new(alloc, table);
+    let mut certificate = Text::new(alloc, certificate);
+    let mut output = Output::new(alloc, writer);
+    let outcome = commands::explain(alloc, &mut table, &mut certificate, &mut output, all);
+    // As in `run_find`.
+    let _ = &*table.into_reader();
+    let _ = &*certificate.into_reader();
+    let _ = &*output.into_writer();
+    outcome
+}
+
 /// [`show`](commands::show) over two readers and a writer.
 ///
 /// # Errors
 ///
 /// Those of [`show`](commands::show).
 pub fn run_show<T, R: Read, C: Read, W: Write>(
-    _rt: &T,
+    rt: &T,
     alloc: Global,
     table: &mut R,
     certificate: &mut C,
@@ -145,10 +238,35 @@ pub fn run_show<T, R: Read, C: Read, W: Write>(
         (e ≡ AppFault.OutOfMemory) ⊎ FailsChecked x y e (λ t c. PlanFails t c e (λ _. e ≡ AppFault.Write))))) }
     ensures silent { IfErr result (λ e. (e ≡ AppFault.Write) ⊎ (writer.new ≡ writer.old)) }
 {
+    run_show_as(rt, alloc, table, certificate, writer, Form::Text)
+}
+
+/// [`show_as`](commands::show_as) over two readers and a writer.
+///
+/// # Errors
+///
+/// Those of [`show_as`](commands::show_as).
+pub fn run_show_as<T, R: Read, C: Read, W: Write>(
+    _rt: &T,
+    alloc: Global,
+    table: &mut R,
+    certificate: &mut C,
+    writer: &mut W,
+    form: Form,
+) -> Result<Outcome, AppFault>
+    ensures whole { IfOk result (λ outcome. outcome ≡ Outcome.Whole) }
+    ensures written { OnOk result (WasRead Source.Table result R.remaining table.old table.new
+        (λ x. WasRead Source.Certificate result C.remaining certificate.old certificate.new (λ y.
+        WasWritten W.contents writer.old writer.new (λ text. GivesChecked x y (λ t c. (plan : Plan) × IsPlanOf t c plan × (text ≡ form_text form plan)))))) }
+    ensures refused { IfErr result (λ e. WasRead Source.Table result R.remaining table.old table.new
+        (λ x. MayBeRead Source.Certificate result C.remaining certificate.old certificate.new (λ y.
+        (e ≡ AppFault.OutOfMemory) ⊎ FailsChecked x y e (λ t c. PlanFails t c e (λ _. e ≡ AppFault.Write))))) }
+    ensures silent { IfErr result (λ e. (e ≡ AppFault.Write) ⊎ (writer.new ≡ writer.old)) }
+{
     let mut table = Text::new(alloc, table);
     let mut certificate = Text::new(alloc, certificate);
     let mut output = Output::new(alloc, writer);
-    let outcome = commands::show(alloc, &mut table, &mut certificate, &mut output);
+    let outcome = commands::show_as(alloc, &mut table, &mut certificate, &mut output, form);
     // As in `run_find`.
     let _ = &*table.into_reader();
     let _ = &*certificate.into_reader();
@@ -156,7 +274,8 @@ pub fn run_show<T, R: Read, C: Read, W: Write>(
     outcome
 }
 
-/// [`agree`](commands::agree) over two readers and a writer.
+/// [`agree`](commands::agree) over two readers and a writer, of lists of at most [`MOST_ITEMS`]
+/// items.
 ///
 /// # Errors
 ///
@@ -173,24 +292,28 @@ pub fn run_agree<T, R: Read, C: Read, W: Write>(
     ensures whole { IfOk result (λ outcome. outcome ≡ Outcome.Whole) }
     ensures written { OnOk result (WasRead Source.Table result R.remaining table.old table.new
         (λ x. WasRead Source.Certificate result C.remaining certificate.old certificate.new (λ y.
-        WasWritten W.contents writer.old writer.new (λ lines. ListsGive inputs.now schedule.now (λ xs s. GivesChecked x y (λ t c. (plan : Plan)
-        × IsPlanOf t c plan × IsAgreed plan xs s lines)))))) }
+        WasWritten W.contents writer.old writer.new (λ lines. ListsGive (inputs_of inputs.now) (schedule_of schedule.now)
+        (λ xs s. GivesChecked x y (λ t c. (plan : Plan) × IsPlanOf t c plan × IsAgreed plan xs s lines)))))) }
     ensures refused { IfErr result (λ e. MayBeRead Source.Table result R.remaining table.old table.new
         (λ x. MayBeRead Source.Certificate result C.remaining certificate.old certificate.new (λ y.
-        (e ≡ AppFault.OutOfMemory) ⊎ ListsFail inputs.now schedule.now e
+        (e ≡ AppFault.OutOfMemory) ⊎ ListsFail (inputs_of inputs.now) (schedule_of schedule.now) e
         (λ xs s. FailsChecked x y e (λ t c. PlanFails t c e (λ plan. RunFails plan xs s e)))))) }
     ensures silent { IfErr result (λ e. (e ≡ AppFault.Write) ⊎ (writer.new ≡ writer.old)) }
 {
     let mut table = Text::new(alloc, table);
     let mut certificate = Text::new(alloc, certificate);
     let mut output = Output::new(alloc, writer);
+    let most = MOST_ITEMS;
     let outcome = commands::agree(
         alloc,
         &mut table,
         &mut certificate,
         &mut output,
-        inputs,
-        schedule,
+        Listed { text: inputs, most },
+        Listed {
+            text: schedule,
+            most,
+        },
     );
     // As in `run_find`.
     let _ = &*table.into_reader();
@@ -199,7 +322,7 @@ pub fn run_agree<T, R: Read, C: Read, W: Write>(
     outcome
 }
 
-/// [`replay`](commands::replay) over three readers and a writer.
+/// [`replay`](commands::replay) over three readers and a writer, of at most [`MOST_ITEMS`] events.
 ///
 /// # Errors
 ///
@@ -218,13 +341,12 @@ pub fn run_replay<T, R: Read, C: Read, O: Read, W: Write>(
     ensures written { IfOk result (λ outcome. WasRead Source.Table result R.remaining table.old table.new
         (λ x. WasRead Source.Certificate result C.remaining certificate.old certificate.new (λ y.
         WasRead Source.Object result O.remaining object.old object.new (λ z. WasWritten W.contents writer.old writer.new (λ lines.
-        EventsGive capacity.now events.now (λ k es. GivesObject x y z (λ t c o. (plan : Plan)
-        × IsPlanOf t c plan × StartGives o start.now (λ q. IsServed plan o q k es lines outcome)))))))) }
+        EventsGive capacity.now (events_of events.now) (λ k es. GivesOpening x y z start.now k (λ o. IsServed o es lines outcome))))))) }
     ensures refused { IfErr result (λ e. MayBeRead Source.Table result R.remaining table.old table.new
         (λ x. MayBeRead Source.Certificate result C.remaining certificate.old certificate.new (λ y.
         MayBeRead Source.Object result O.remaining object.old object.new
-        (λ z. (e ≡ AppFault.OutOfMemory) ⊎ EventsFail capacity.now events.now e (λ k es. FailsObject x y z e (λ t c o.
-        PlanFails t c e (λ plan. StartFails o start.now e (λ q. ServingFails plan o q k es e)))))))) }
+        (λ z. (e ≡ AppFault.OutOfMemory)
+        ⊎ EventsFail capacity.now (events_of events.now) e (λ k es. FailsOpening x y z start.now k e (λ o. ServingFails o es e)))))) }
     ensures told { capacity_of capacity.now ≡ None → result ≡ Err (AppFault.Argument Part.Capacity) }
     ensures silent { IfErr result (λ e. (e ≡ AppFault.Write) ⊎ (writer.new ≡ writer.old)) }
 {
@@ -232,6 +354,7 @@ pub fn run_replay<T, R: Read, C: Read, O: Read, W: Write>(
     let mut certificate = Text::new(alloc, certificate);
     let mut object = Text::new(alloc, object);
     let mut output = Output::new(alloc, writer);
+    let most = MOST_ITEMS;
     let outcome = commands::replay(
         alloc,
         &mut table,
@@ -240,7 +363,7 @@ pub fn run_replay<T, R: Read, C: Read, O: Read, W: Write>(
         &mut output,
         start,
         capacity,
-        events,
+        Listed { text: events, most },
     );
     // As in `run_find`.
     let _ = &*table.into_reader();
@@ -276,14 +399,13 @@ where
     ensures written { IfOk result (λ outcome. WasRead Source.Table result R.remaining table.old table.new
         (λ x. WasRead Source.Certificate result C.remaining certificate.old certificate.new (λ y.
         WasRead Source.Object result O.remaining object.old object.new (λ z. WasWritten W.contents writer.old writer.new (λ lines.
-        CallsGive capacity.now calls.now (λ k cs. GivesObject x y z (λ t c o. (plan : Plan)
-        × IsPlanOf t c plan × StartGives o start.now (λ q.
-        IsServedByThreads (EachHasOneGate G.asks G.says (λ p g. F.post make_gate p g)) plan o q k cs lines outcome)))))))) }
+        CallsGive capacity.now calls.now (λ k cs. GivesOpening x y z start.now k
+        (λ o. IsServedByThreads (EachHasOneGate G.asks G.says (λ p g. F.post make_gate p g)) o cs lines outcome))))))) }
     ensures refused { IfErr result (λ e. MayBeRead Source.Table result R.remaining table.old table.new
         (λ x. MayBeRead Source.Certificate result C.remaining certificate.old certificate.new (λ y.
         MayBeRead Source.Object result O.remaining object.old object.new
-        (λ z. (e ≡ AppFault.OutOfMemory) ⊎ CallsFail capacity.now calls.now e (λ k cs. FailsObject x y z e (λ t c o.
-        PlanFails t c e (λ plan. StartFails o start.now e (λ _. ThreadsFail plan o cs e)))))))) }
+        (λ z. (e ≡ AppFault.OutOfMemory)
+        ⊎ CallsFail capacity.now calls.now e (λ k cs. FailsOpening x y z start.now k e (λ o. ThreadsFail o cs e)))))) }
     ensures told { capacity_of capacity.now ≡ None → result ≡ Err (AppFault.Argument Part.Capacity) }
     ensures silent { IfErr result (λ e. (e ≡ AppFault.Write) ⊎ (writer.new ≡ writer.old)) }
 {

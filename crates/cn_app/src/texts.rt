@@ -2,5 +2,5 @@
 
 pub mod checked;
 pub mod contents;
+pub mod opening;
 pub mod plan;
-pub mod service;

@@ -101,13 +101,13 @@ fn decision_of<V: Copy>(plan: &Plan, round: &Round<V>, p: u8) -> Option<V>
 }
 
 /// The round after a schedule; a process that has decided takes no step.
-fn replay<V: Copy>(
+pub(super) fn replay<V: Copy>(
     rt: &impl Abort,
     alloc: Global,
     plan: &Plan,
     inputs: &[V],
     schedule: &[u8],
-) -> Result<Round<V>, Fail>
+) -> Result<Round<V>, AllocError>
     ensures { IfOk result (RunsBy plan.now) }
 {
     assert!(rt; inputs.len() == usize::from(plan.processes()));

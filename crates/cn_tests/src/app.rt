@@ -5,9 +5,9 @@ mod calls;
 mod check;
 mod classify;
 mod faults;
-mod find;
 mod kept;
-mod replay;
+pub(crate) mod replay;
+pub(crate) mod runs;
 mod serve;
 mod streams;
 

@@ -42,7 +42,7 @@ fn core_after(
 
 /// A hall over a core for two processes after these events, its seats 0 and 1, and the vector that
 /// they came from.
-fn opened<R: Wait + Abort>(
+pub(super) fn opened<R: Wait + Abort>(
     rt: &R,
     alloc: Global,
     capacity: u16,
@@ -68,7 +68,7 @@ fn opened<R: Wait + Abort>(
 }
 
 /// A call of the seat's process, which is in none.
-fn call<R: Wait + Abort, G: Gate>(
+pub(super) fn call<R: Wait + Abort, G: Gate>(
     rt: &R,
     hall: &Hall,
     seat: &mut Seat,
@@ -85,7 +85,7 @@ fn call<R: Wait + Abort, G: Gate>(
 }
 
 /// The rest of the call that the seat's process is in.
-fn resume<R: Wait + Abort, G: Gate>(
+pub(super) fn resume<R: Wait + Abort, G: Gate>(
     rt: &R,
     hall: &Hall,
     seat: &mut Seat,
@@ -100,7 +100,7 @@ fn resume<R: Wait + Abort, G: Gate>(
 }
 
 /// The slot of this number, and the response of this number.
-fn reply(slot: u16, response: u8) -> Result<Reply, CallFault> {
+pub(super) fn reply(slot: u16, response: u8) -> Result<Reply, CallFault> {
     Ok(Reply {
         slot,
         response: Response(response),
@@ -131,7 +131,13 @@ fn close<R: Wait + Abort>(
 
 /// A call of one process, so many steps, a call of the other, so many, and the steps that are left to
 /// the first.
-fn one_within_another(outer: u8, before: u8, inner: u8, steps: u8, after: u8) -> [(Event, u8); 5] {
+pub(super) fn one_within_another(
+    outer: u8,
+    before: u8,
+    inner: u8,
+    steps: u8,
+    after: u8,
+) -> [(Event, u8); 5] {
     [
         (Event::Invoke(outer, 0), 1),
         (Event::Step(outer), before),
@@ -314,24 +320,6 @@ fn asks_before_each_step_of_two_slots(rt: HostRuntime) -> Result<(), Fail> {
     };
     assert!(rt; call(&rt, &hall, &mut one, &mut gate) == reply(1, 1));
     assert!(rt; gate.times == 12 && gate.asked.as_slice() == questions().as_slice());
-    Ok(())
-}
-
-/// Where memory runs out the core comes back as it was: under a refused growth this says so, and
-/// with memory the hall opens.
-#[test]
-fn opens_or_hands_the_core_back(rt: HostRuntime) -> Result<(), Fail> {
-    let alloc = rt.alloc();
-    let events = [Event::Invoke(1, 0), Event::Step(1)];
-    let core = core_after(&rt, alloc, 4, &events)?;
-    let core = match open(&rt, alloc, core) {
-        Ok((hall, seats)) => {
-            assert!(rt; seats.len() == 2 && !seats[0].in_call() && seats[1].in_call());
-            hall.close(&rt, seats)
-        }
-        Err(OpenFault::OutOfMemory(core)) => core,
-    };
-    assert!(rt; core.schedule() == events.as_slice());
     Ok(())
 }
 

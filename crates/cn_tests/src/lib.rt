@@ -2,7 +2,8 @@
 //!
 //! Each module is named after the crate that it tests. A test calls the public functions on worked
 //! values, whose answers come from outside the program: numbers and texts of worked types, fakes
-//! that fail, and threads that overlap. What the program shows stands in `tests/rows`.
+//! that fail, and threads that overlap. What the program shows stands in `tests/rows`. `refused` has
+//! those in which allocations are refused, once `tests/memory` runs them.
 #![tactic(auto)]
 
 #[cfg(test)]
@@ -27,6 +28,8 @@ mod hall;
 mod log;
 #[cfg(test)]
 mod proto;
+#[cfg(test)]
+mod refused;
 #[cfg(test)]
 mod search;
 #[cfg(test)]

@@ -3,7 +3,7 @@ ghost use Rattle.std.specs.Prelude.{◌≤◌};
 
 use crate::fixtures::{assert_texts, plan_for, table_of};
 use crate::types::*;
-use cn_log::{CallEnd, Entry, Event, LogCore, ReplayFault, StepAnswer, replay};
+use cn_log::{CallEnd, Entry, Event, LogCore, Opening, ReplayFault, StepAnswer, replay};
 use cn_table::{Operation, Response, State};
 use std::alloc::{AllocError, Global};
 use std::process::Abort;
@@ -17,7 +17,11 @@ fn opened(rt: &impl Abort, alloc: Global, capacity: u16) -> Result<LogCore, Fail
     let plan = plan_for(rt, alloc, test_and_set(), 2)?;
     let object = table_of(alloc, counter_3())?;
     assert!(rt; object.states() >= 1);
-    Ok(LogCore::new(alloc, &plan, &object, State(0), capacity)?)
+    let core = LogCore::open(alloc, Opening::new(plan, object, State(0), capacity))?;
+    let opening = core.opening();
+    assert!(rt; opening.plan().processes() == 2 && opening.object().states() == 3);
+    assert!(rt; opening.start() == State(0));
+    Ok(core)
 }
 
 /// The process makes a call.

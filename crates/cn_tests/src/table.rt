@@ -6,7 +6,7 @@ use std::process::Abort;
 use std::test::Fail;
 
 /// Asserts what the table of test-and-set says of its parts.
-fn assert_parts(rt: &impl Abort, table: &Table) {
+pub(super) fn assert_parts(rt: &impl Abort, table: &Table) {
     assert!(rt; table.states() == 2 && table.operations() == 1 && table.responses() == 2);
     assert!(rt; table.name() == "test_and_set" && table.state_name(State(1)) == "one");
     assert!(rt; table.operation_name(Operation(0)) == "tas");

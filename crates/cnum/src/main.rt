@@ -5,6 +5,7 @@
 mod always_on;
 mod faults;
 mod given;
+mod given_list;
 mod lazy_file;
 mod words;
 
@@ -13,11 +14,14 @@ ghost use Rattle.cn_app.specs.Streams.Writing.{IsUnwritten};
 
 use always_on::AlwaysOn;
 use clap::{ArgMatches, Error};
-use cn_app::{AppFault, Named, Outcome, Output, Tell, Text, classify_each, commands};
+use cn_app::{
+    AppFault, Form, Linted, Named, Outcome, Output, Part, Tell, Text, classify_each, commands,
+};
 use faults::Faults;
 use given::Given;
+use given_list::GivenList;
 use lazy_file::LazyFile;
-use std::alloc::Global;
+use std::alloc::{AllocError, Global};
 use std::io::{ErrorKind, Read, Stdin, Write};
 use std::process::ExitCode;
 use std::rt::Files;
@@ -27,6 +31,17 @@ use std::thread::Threads;
 // The text of a word that has to stand there.
 fn text<'a>(words: &ArgMatches<'a>, name: &str) -> Result<&'a str, AppFault> {
     words.get_str(name).ok_or(AppFault::Words)
+}
+
+// The form of a plan that the word names.
+fn form_of(word: &str) -> Result<Form, AppFault> {
+    match word {
+        "text" => Ok(Form::Text),
+        "json" => Ok(Form::Json),
+        "dot" => Ok(Form::Dot),
+        "promela" => Ok(Form::Promela),
+        _ => Err(AppFault::Words),
+    }
 }
 
 // Serves an object, by events or by threads.
@@ -47,7 +62,7 @@ fn run_on_object<T: Threads + Wait + Sync + Files, I: Read, C: Read, O: Write>(
     let mut object = Text::new(alloc, &mut file);
     let (start, capacity) = (text(words, "START")?, text(words, "CAPACITY")?);
     if command == "replay" {
-        let events = text(words, "EVENTS")?;
+        let events = GivenList::read(rt, alloc, text(words, "EVENTS")?, Part::Events)?;
         return commands::replay(
             alloc,
             table,
@@ -56,10 +71,10 @@ fn run_on_object<T: Threads + Wait + Sync + Files, I: Read, C: Read, O: Write>(
             output,
             start,
             capacity,
-            events,
+            events.listed(),
         );
     }
-    let calls = text(words, "CALLS")?;
+    let calls = GivenList::read(rt, alloc, text(words, "CALLS")?, Part::Calls)?;
     commands::serve(
         rt,
         alloc,
@@ -69,7 +84,7 @@ fn run_on_object<T: Threads + Wait + Sync + Files, I: Read, C: Read, O: Write>(
         output,
         start,
         capacity,
-        calls,
+        calls.listed().text,
         |_| AlwaysOn,
     )
 }
@@ -90,13 +105,25 @@ fn run<T: Threads + Wait + Sync + Files, I: Read, O: Write>(
         let limit = words.get_one::<u8>("limit").ok_or(AppFault::Words)?;
         return commands::find(rt, alloc, table, output, limit);
     }
+    if command == "draw" {
+        return commands::draw(alloc, table, output);
+    }
     let mut file = LazyFile::new(rt, text(words, "CERT")?);
     let mut certificate = Text::new(alloc, &mut file);
     match command {
         "check" => commands::check(alloc, table, &mut certificate, output),
-        "show" => commands::show(alloc, table, &mut certificate, output),
+        "explain" => {
+            let all = words.get_flag("all");
+            commands::explain(alloc, table, &mut certificate, output, all)
+        }
+        "show" => {
+            let form = form_of(text(words, "as")?)?;
+            commands::show_as(alloc, table, &mut certificate, output, form)
+        }
         "agree" => {
-            let (inputs, schedule) = (text(words, "INPUTS")?, text(words, "SCHEDULE")?);
+            let inputs = GivenList::read(rt, alloc, text(words, "INPUTS")?, Part::Inputs)?;
+            let schedule = GivenList::read(rt, alloc, text(words, "SCHEDULE")?, Part::Schedule)?;
+            let (inputs, schedule) = (inputs.listed(), schedule.listed());
             commands::agree(alloc, table, &mut certificate, output, inputs, schedule)
         }
         "replay" | "serve" => {
@@ -149,10 +176,42 @@ fn all_ended(rt: &impl Eprint, first: Result<Option<AppFault>, AppFault>) -> Exi
     }
 }
 
+// The same of a table that was gone over: a refused one ends as with every command.
+fn linted_ended(rt: &impl Eprint, linted: Result<Linted, AppFault>) -> ExitCode {
+    match linted {
+        Ok(Linted::Accepted) => ExitCode::SUCCESS,
+        Ok(Linted::Refused(fault)) => ended(rt, Err(AppFault::from(fault))),
+        Err(fault) => ended(rt, Err(fault)),
+    }
+}
+
+// What clap says of a word too many, with a tip where the word may name the file of the table.
+fn with_tip(alloc: Global, error: &Error, given: &[String]) -> Result<Option<String>, AllocError> {
+    let text = format!(in alloc; "{error}")?;
+    let Some(command) = given.get(1) else {
+        return Ok(None);
+    };
+    match (words::word_too_many(&text), text.split_once("\n\n")) {
+        (Some(word), Some((refused, usage))) if words::reads_input(command) => {
+            let tip = format!(in alloc; "  tip: the table is read from standard input: < {word}")?;
+            Ok(Some(format!(in alloc; "{refused}\n\n{tip}\n\n{usage}")?))
+        }
+        _ => Ok(None),
+    }
+}
+
 // Help and the version are asked for; all else that clap answers refuses the words.
-fn told(rt: &HostRuntime, error: &Error) -> ExitCode {
+fn told(rt: &HostRuntime, error: &Error, given: &[String]) -> ExitCode {
     if error.kind() == clap::error::ErrorKind::OutOfMemory {
         return ended(rt, Err(AppFault::OutOfMemory));
+    }
+    match with_tip(rt.alloc(), error, given) {
+        Ok(Some(text)) => {
+            let _ = eprint!(rt; "{text}");
+            return ExitCode::from(AppFault::Words.status());
+        }
+        Ok(None) => {}
+        Err(_) => return ended(rt, Err(AppFault::OutOfMemory)),
     }
     match (error.print(rt), error.use_stderr()) {
         (Ok(()), false) => ExitCode::SUCCESS,
@@ -188,9 +247,12 @@ fn main(rt: HostRuntime) -> ExitCode {
             }
             let mut table = Text::new(alloc, &mut input);
             let mut output = Output::new(alloc, &mut output);
+            if matches.subcommand_matches("lint").is_some() {
+                return linted_ended(&rt, commands::lint(alloc, &mut table, &mut output));
+            }
             let outcome = run(&rt, alloc, &mut table, &mut output, &matches);
             ended(&rt, outcome)
         }
-        Err(error) => told(&rt, &error),
+        Err(error) => told(&rt, &error, &given),
     }
 }

@@ -1,4 +1,5 @@
 //! The words of the command line, and the help on them.
+use clap::builder::ValueParser;
 use clap::{Arg, ArgAction, Command, value_parser};
 use std::alloc::{AllocError, Global};
 
@@ -7,8 +8,13 @@ const ABOUT: &str = "Finds and checks the consensus number of a shared object ty
 const AFTER: &str = "\
 Input: a type table in TOML on standard input, at most 65536 bytes; CERT is a file that holds a
 certificate, at most 16777216 bytes, OBJECT one that holds the table of an object, at most 65536.
-Output: on standard output, whole or not at all; a fault is one line on standard error. classify
-reads a table from each FILE, and each has a line of output or of a fault.
+classify reads a table from each FILE. INPUTS, SCHEDULE, EVENTS and CALLS are lists, or @ and the
+name of a file that holds the list, at most 1048576 bytes.
+Output: on standard output, whole or not at all; a fault is one line on standard error. In classify
+each table has a line of output or of a fault.
+Limits: a table has 1 to 16 states, 1 to 16 responses and 1 to 8 operations; a name is 1 to 32
+bytes, each a to z, 0 to 9 or an underscore.
+Codes: man cnum and docs/FORMATS.md explain the code of a fault, as that of table: 8 RowLength.
 
 Exit status:
   0  done
@@ -28,11 +34,18 @@ Reads a type table in TOML from standard input: the keys name, states, responses
 operation, name, response and next. Looks for the greatest n from 2 to N for which the type is
 n-discerning, that is, the number of processes that the type with registers can bring to
 agreement, as far as N shows. N is from 2 to 8. A search of more than 100000 choices for N
-processes is refused.
+processes is refused. Processes can read the whole state of an object, in a step that changes
+nothing; the table need not have such an operation.
 
 Writes a certificate, one line of JSON: the number, or null; a witness for it; and for each
 choice of operations and teams for one process more in which every operation leads away from the
-start state a collision, which shows that it is none.
+start state a collision, which shows that it is none. \"number\":null stands for 1: the type is
+n-discerning for no n. A number equal to N stands for at least N; a smaller one is that for every
+greater limit too.
+
+Limits: a table has 1 to 16 states, 1 to 16 responses and 1 to 8 operations, and at most 65536
+bytes; a name is 1 to 32 bytes, each a to z, 0 to 9 or an underscore. man cnum and docs/FORMATS.md
+explain the code of a fault, as that of table: 8 RowLength.
 
 Exit status: 0 done, 2 the table is refused, 3 the words, the limit or the count of choices are
 refused, 4 reading or writing failed, 5 out of memory.
@@ -55,12 +68,38 @@ show a greater number. A number without at least is that for every greater limit
 A table that cannot be read or is refused has a line on standard error that begins with the name of
 its file, and the others go on.
 
+Limits: a table has 1 to 16 states, 1 to 16 responses and 1 to 8 operations, and at most 65536
+bytes; a name is 1 to 32 bytes, each a to z, 0 to 9 or an underscore. man cnum and docs/FORMATS.md
+explain the code of a fault, as that of table: 8 RowLength.
+
 Exit status: 0 done; else that of the first fault: 2 a table is refused, 3 the words or the limit
 are refused, 4 reading or writing failed, 5 out of memory.
 
 Example:
   cnum classify types/test_and_set.toml types/sticky_bit.toml
 writes test_and_set: 2 and sticky_bit: at least 8.";
+
+const LINT_ABOUT: &str = "Writes the table as a grid, or all that is wrong with it";
+
+const LINT_AFTER: &str = "\
+Reads a type table in TOML from standard input. Writes a table as a grid: a line for each operation,
+a column for each state, and in it the response and the next state; then a line for each state to
+which no operations lead from the first one, and for each operation that changes nothing.
+
+Of a table that is refused, writes a line for each thing that is wrong with it, and not only for the
+first, each with its place; then the fault stands on standard error, as with every command. Names,
+counts and rows are looked at where no key is missing and each value is of its kind.
+
+Limits: a table has 1 to 16 states, 1 to 16 responses and 1 to 8 operations, and at most 65536
+bytes; a name is 1 to 32 bytes, each a to z, 0 to 9 or an underscore. man cnum and docs/FORMATS.md
+explain the code of a fault, as that of table: 8 RowLength.
+
+Exit status: 0 done, 2 the table is refused, 3 the words are refused, 4 reading or writing failed, 5
+out of memory.
+
+Example:
+  cnum lint < types/test_and_set.toml
+writes three lines; the last is of tas, with zero>one below zero and one>one below one.";
 
 const CHECK_ABOUT: &str = "Checks a certificate against the type";
 
@@ -70,12 +109,36 @@ Writes ok where the certificate is of this type and shows its number: its witnes
 has a collision for each choice for one process more, in order. What find writes is accepted, and
 so is a certificate with another witness or other collisions.
 
+Limits: a table has 1 to 16 states, 1 to 16 responses and 1 to 8 operations, and at most 65536
+bytes; a name is 1 to 32 bytes, each a to z, 0 to 9 or an underscore. man cnum and docs/FORMATS.md
+explain the code of a fault, as that of table: 8 RowLength.
+
 Exit status: 0 done, 1 the check refuses the certificate, 2 the text of the table or of the
 certificate is refused, 3 the words are refused, 4 reading or writing failed, 5 out of memory.
 
 Example:
-  cnum check tests/cli/check_ok/cert.json < types/test_and_set.toml
+  cnum check tests/certificates/test_and_set_at_3.json < types/test_and_set.toml
 writes ok.";
+
+const EXPLAIN_ABOUT: &str = "Tells why the number of a certificate is what it is";
+
+const EXPLAIN_AFTER: &str = "\
+Reads a type table in TOML from standard input and a certificate in JSON from the file CERT, and
+checks the certificate. Writes the number; the table as a grid; who does what in the witness, and
+what each process got and reads where team A was first and where team B was; and for each choice
+for one process more two runs by which one of its processes cannot tell which team was first. Of
+these choices the first 12 are told, with --all all of them.
+
+Limits: a table has 1 to 16 states, 1 to 16 responses and 1 to 8 operations, and at most 65536
+bytes; a name is 1 to 32 bytes, each a to z, 0 to 9 or an underscore. man cnum and docs/FORMATS.md
+explain the code of a fault, as that of table: 8 RowLength.
+
+Exit status: 0 done, 1 the check refuses the certificate, 2 the text of the table or of the
+certificate is refused, 3 the words are refused, 4 reading or writing failed, 5 out of memory.
+
+Example:
+  cnum explain tests/certificates/test_and_set_at_3.json < types/test_and_set.toml
+writes first test_and_set: consensus number 2 (for processes that can read the whole state).";
 
 const SHOW_ABOUT: &str = "Writes the plan of a certificate's witness";
 
@@ -84,15 +147,48 @@ Reads a type table in TOML from standard input and a certificate in JSON from th
 checks the certificate. Writes how the processes come to agree by its witness: a line on the type,
 a line for each role with its team, its operation and the pairs response/state by which it knows
 that team A came first, and a line for each process with its places, from its lowest node to the
-root.
+root. Behind its operation a process reads the whole state of the object, in a step that changes
+nothing; the table need not have such an operation.
+
+A certificate with \"number\":null stands for the number 1: it has no witness, and so no plan. A
+number equal to its limit stands for at least so many: there is a plan for as many processes.
+
+Limits: a table has 1 to 16 states, 1 to 16 responses and 1 to 8 operations, and at most 65536
+bytes; a name is 1 to 32 bytes, each a to z, 0 to 9 or an underscore. man cnum and docs/FORMATS.md
+explain the code of a fault, as that of table: 8 RowLength.
+
+With --as json this is one JSON object; with --as dot, the tournament as a picture in the language
+DOT, for Graphviz; with --as promela, a model in Promela, in which the model checker spin finds that
+all decisions are equal, are the value of a process that has moved, and come in time.
 
 Exit status: 0 done, 1 the check refuses the certificate, or it has no witness, 2 the text of the
 table or of the certificate is refused, 3 the words are refused, 4 reading or writing failed, 5 out
 of memory.
 
 Example:
-  cnum show tests/cli/check_ok/cert.json < types/test_and_set.toml
+  cnum show tests/certificates/test_and_set_at_3.json < types/test_and_set.toml
 writes five lines, the last of which is process 1: node 0 B role 1.";
+
+/// The forms in which `show` writes a plan.
+const FORMS: [&str; 4] = ["text", "json", "dot", "promela"];
+
+const DRAW_ABOUT: &str = "Draws the states of the type";
+
+const DRAW_AFTER: &str = "\
+Reads a type table in TOML from standard input. Writes a picture of it in the language DOT, which
+the program dot of Graphviz draws: the states, and an arrow from one to another where some operation
+leads there, with a line operation/response for each such operation.
+
+Limits: a table has 1 to 16 states, 1 to 16 responses and 1 to 8 operations, and at most 65536
+bytes; a name is 1 to 32 bytes, each a to z, 0 to 9 or an underscore. man cnum and docs/FORMATS.md
+explain the code of a fault, as that of table: 8 RowLength.
+
+Exit status: 0 done, 2 the table is refused, 3 the words are refused, 4 reading or writing failed, 5
+out of memory.
+
+Example:
+  cnum draw < types/test_and_set.toml
+writes digraph \"test_and_set\" with two arrows.";
 
 const AGREE_ABOUT: &str = "Runs the plan of a certificate's witness by a schedule";
 
@@ -105,13 +201,19 @@ that the schedule names.
 
 A list is numbers with a comma and no space between two, at most 65536 of them, or the word none.
 INPUTS are from 0 to 18446744073709551615, one for each process, SCHEDULE is processes from 0 on.
+@ and the name of a file stand for the list in that file: at most 1048576 bytes, with a line feed at
+the end or none, and at most 303112 items.
+
+Limits: a table has 1 to 16 states, 1 to 16 responses and 1 to 8 operations, and at most 65536
+bytes; a name is 1 to 32 bytes, each a to z, 0 to 9 or an underscore. man cnum and docs/FORMATS.md
+explain the code of a fault, as that of table: 8 RowLength.
 
 Exit status: 0 done, 1 the check refuses the certificate, or it has no witness, 2 the text of the
 table or of the certificate is refused, 3 the words, an argument or the schedule are refused, 4
 reading or writing failed, 5 out of memory.
 
 Example:
-  cnum agree tests/cli/check_ok/cert.json 10,20 1,1,0,0,0,0 < types/test_and_set.toml
+  cnum agree tests/certificates/test_and_set_at_3.json 10,20 1,1,0,0,0,0 < types/test_and_set.toml
 writes 0: 20 and 1: undecided.";
 
 const REPLAY_ABOUT: &str = "Serves an object by a list of events, with a certificate's witness";
@@ -121,7 +223,9 @@ Reads a type table in TOML from standard input, a certificate in JSON from the f
 table of an object in TOML from the file OBJECT, and checks the certificate. The processes of the
 plan serve the object, which starts in the state START, by a log of CAPACITY slots, from 1 to 1024.
 EVENTS are iP:O, process P calls operation number O, and sP, process P takes a step, with a comma
-and no space between two, at most 65536 of them, or the word none.
+and no space between two, at most 65536 of them, or the word none. @ and the name of a file stand
+for the list in that file: at most 1048576 bytes, with a line feed at the end or none, and at most
+303112 events. Those of every run of serve fit: serve .. | sed -n 's/^events //p' > FILE
 
 Writes answer P K R for each call of process P that is answered, with its slot K and its response
 R, and full P for each that finds no slot, in the order of the events. Then writes entry K P O R S
@@ -129,12 +233,16 @@ for each call in the log: its slot K, which others may share, process P, operati
 and the state S of the object afterwards. Whatever the events, the answers are those of one
 sequential run, in the order of these lines.
 
+Limits: a table has 1 to 16 states, 1 to 16 responses and 1 to 8 operations, and at most 65536
+bytes; a name is 1 to 32 bytes, each a to z, 0 to 9 or an underscore. man cnum and docs/FORMATS.md
+explain the code of a fault, as that of table: 8 RowLength.
+
 Exit status: 0 done, 1 some call found no slot, the check refuses the certificate, or it has no
 witness, 2 the text of a table or of the certificate is refused, 3 the words, an argument or an
 event are refused, 4 reading or writing failed, 5 out of memory.
 
 Example:
-  cnum replay tests/cli/check_ok/cert.json types/counter_3.toml 0 4 i0:0,s0,s0,s0,s0 < types/test_and_set.toml
+  cnum replay tests/certificates/test_and_set_at_3.json types/counter_3.toml 0 4 i0:0,s0,s0,s0,s0 < types/test_and_set.toml
 writes entry 0 0 inc 0 1.";
 
 const SERVE_ABOUT: &str =
@@ -146,7 +254,8 @@ table of an object in TOML from the file OBJECT, and checks the certificate. Eac
 plan makes its calls in a thread of its own; they serve the object, which starts in the state START,
 by a log of CAPACITY slots, from 1 to 1024. CALLS has a list for each process, with / between two:
 the numbers of the operations that it calls, with a comma and no space between two, at most 1024 of
-them, or the word none.
+them, or the word none. @ and the name of a file stand for what that file holds: at most 1048576
+bytes, with a line feed at the end or none.
 
 Writes for each process P, from 0 on, answer P K R for each call that is answered, with its slot K
 and its response R, in order, and full P for one that finds no slot, after which the process makes
@@ -155,13 +264,37 @@ process P, operation O, response R and the state S of the object afterwards. Las
 where L are the events as the threads came to make them, which replay reads. However they ran, the
 answers are those of one sequential run, in the order of the entry lines.
 
+Limits: a table has 1 to 16 states, 1 to 16 responses and 1 to 8 operations, and at most 65536
+bytes; a name is 1 to 32 bytes, each a to z, 0 to 9 or an underscore. man cnum and docs/FORMATS.md
+explain the code of a fault, as that of table: 8 RowLength.
+
 Exit status: 0 done, 1 some call found no slot, the check refuses the certificate, or it has no
 witness, 2 the text of a table or of the certificate is refused, 3 the words or an argument are
 refused, 4 reading or writing failed or a thread could not be started, 5 out of memory.
 
 Example:
-  cnum serve tests/cli/check_ok/cert.json types/counter_3.toml 0 4 0/none < types/test_and_set.toml
+  cnum serve tests/certificates/test_and_set_at_3.json types/counter_3.toml 0 4 0/none < types/test_and_set.toml
 writes answer 0 0 0, entry 0 0 inc 0 1 and events i0:0,s0,s0,s0,s0,s0,s0.";
+
+/// The commands that read the table of the type from standard input.
+const READ_INPUT: [&str; 9] = [
+    "find", "lint", "check", "explain", "show", "draw", "agree", "replay", "serve",
+];
+
+/// Whether the command of this name reads the table of the type from standard input.
+pub fn reads_input(command: &str) -> bool {
+    READ_INPUT.iter().any(|name| *name == command)
+}
+
+/// The word too many that clap refuses in this text, if it is one that may be a file's name.
+pub fn word_too_many(text: &str) -> Option<&str> {
+    let line = text.strip_prefix("error: unexpected argument '")?;
+    let (word, _) = line.split_once("' found\n")?;
+    if word.starts_with('-') {
+        return None;
+    }
+    Some(word)
+}
 
 /// The limit of a search.
 fn limit<'a>(alloc: Global) -> Arg<'a> {
@@ -193,6 +326,21 @@ fn classify<'a>(alloc: Global) -> Result<Command<'a>, AllocError> {
         .arg(files)
 }
 
+fn lint<'a>(alloc: Global) -> Command<'a> {
+    Command::new(alloc, "lint")
+        .about(LINT_ABOUT)
+        .after_help(LINT_AFTER)
+}
+
+/// A command that tells the first of what it has to tell, or all.
+fn explain<'a>(alloc: Global) -> Result<Command<'a>, AllocError> {
+    let all = Arg::new(alloc, "all")
+        .long("all")
+        .help("Tells all choices that are refuted, not the first 12 alone")
+        .action(ArgAction::SetTrue);
+    with_certificate(alloc, "explain", EXPLAIN_ABOUT, EXPLAIN_AFTER)?.arg(all)
+}
+
 /// A word that has to stand there.
 fn word<'a>(alloc: Global, name: &'a str, help: &'a str) -> Arg<'a> {
     Arg::new(alloc, name).help(help).required(true)
@@ -211,13 +359,28 @@ fn with_certificate<'a>(
         .arg(word(alloc, "CERT", "The file that holds the certificate"))
 }
 
+fn show<'a>(alloc: Global) -> Result<Command<'a>, AllocError> {
+    let form = Arg::new(alloc, "as")
+        .long("as")
+        .value_name("FORM")
+        .help("The form in which the plan is written")
+        .action(ArgAction::Set)
+        .value_parser(ValueParser::Names(&FORMS))
+        .default_value("text");
+    with_certificate(alloc, "show", SHOW_ABOUT, SHOW_AFTER)?.arg(form)
+}
+
 fn agree<'a>(alloc: Global) -> Result<Command<'a>, AllocError> {
     with_certificate(alloc, "agree", AGREE_ABOUT, AGREE_AFTER)?
-        .arg(word(alloc, "INPUTS", "The numbers that the processes begin with"))?
+        .arg(word(
+            alloc,
+            "INPUTS",
+            "The numbers that the processes begin with, or @FILE",
+        ))?
         .arg(word(
             alloc,
             "SCHEDULE",
-            "The processes in the order of their steps",
+            "The processes in the order of their steps, or @FILE",
         ))
 }
 
@@ -242,7 +405,7 @@ fn replay<'a>(alloc: Global) -> Result<Command<'a>, AllocError> {
     with_object(alloc, "replay", REPLAY_ABOUT, REPLAY_AFTER)?.arg(word(
         alloc,
         "EVENTS",
-        "The events, in order",
+        "The events, in order, or @FILE",
     ))
 }
 
@@ -250,7 +413,7 @@ fn serve<'a>(alloc: Global) -> Result<Command<'a>, AllocError> {
     with_object(alloc, "serve", SERVE_ABOUT, SERVE_AFTER)?.arg(word(
         alloc,
         "CALLS",
-        "The calls of each process, in order",
+        "The calls of each process, in order, or @FILE",
     ))
 }
 
@@ -263,8 +426,15 @@ pub fn command<'a>(alloc: Global) -> Result<Command<'a>, AllocError> {
         .subcommand_required(true)
         .subcommand(find(alloc)?)?
         .subcommand(classify(alloc)?)?
+        .subcommand(lint(alloc))?
         .subcommand(with_certificate(alloc, "check", CHECK_ABOUT, CHECK_AFTER)?)?
-        .subcommand(with_certificate(alloc, "show", SHOW_ABOUT, SHOW_AFTER)?)?
+        .subcommand(explain(alloc)?)?
+        .subcommand(show(alloc)?)?
+        .subcommand(
+            Command::new(alloc, "draw")
+                .about(DRAW_ABOUT)
+                .after_help(DRAW_AFTER),
+        )?
         .subcommand(agree(alloc)?)?
         .subcommand(replay(alloc)?)?
         .subcommand(serve(alloc)?)

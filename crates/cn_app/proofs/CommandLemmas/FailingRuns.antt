@@ -5,7 +5,7 @@ use Rattle.cn_agree.specs.declared.fault.ScheduleFault.{ScheduleFault}
 use Rattle.cn_agree.specs.declared.fault.ScheduleFault.TheVariants.{OutOfMemory as NoMemory}
 use Rattle.cn_proto.specs.Plan.{Plan, processes_of}
 use Rattle.cn_app.specs.Commands.Agree.{IsRunFault, RunFails}
-use Rattle.cn_app.specs.Arguments.Lists.{ListsFail, inputs_of, schedule_of}
+use Rattle.cn_app.specs.Arguments.Lists.{ListsFail}
 use Rattle.cn_app.specs.Texts.Checked.{FailsChecked, GivesChecked}
 use Rattle.cn_app.specs.FaultText.{of_schedule}
 use Rattle.cn_app.specs.Texts.Plans.{IsPlanOf, PlanFails}
@@ -24,15 +24,15 @@ fault_fails plan inputs schedule e h = by_fault (schedule_fault (processes_of pl
     by_fault None h = absurd h
     by_fault (Some f) h = h
 
--- both texts spell lists, and what is read and known of the readers
-module _ (inputs schedule xs s : List ℕ) (inputs_are : inputs_of inputs ≡ Some xs) (schedule_is : schedule_of schedule ≡ Some s) where
+-- both arguments spell lists, and what is read and known of the readers
+module _ (inputs schedule : Option (List ℕ)) (xs s : List ℕ) (inputs_are : inputs ≡ Some xs) (schedule_is : schedule ≡ Some s) where
   -- there is no plan, or the inputs or the schedule have a fault
   pub run_fails : (table certificate : List ℕ) (e : AppFault)
       → (e ≡ OutOfMemory) ⊎ FailsChecked table certificate e (λ t c. PlanFails t c e (λ plan. IsRunFault plan xs s e))
       → (e ≡ OutOfMemory) ⊎ ListsFail inputs schedule e (λ xs s. FailsChecked table certificate e (λ t c. PlanFails t c e (λ plan. RunFails plan xs s e)))
   run_fails table certificate e (inl memory) = inl memory
   run_fails table certificate e (inr h) =
-      inr (fails_later (inputs_of inputs) (schedule_of schedule) xs s inputs_are schedule_is (e ≡ Argument Inputs) (e ≡ Argument Schedule) (λ xs s. FailsChecked table certificate e (λ t c. PlanFails t c e (λ plan. RunFails plan xs s e)))
+      inr (fails_later inputs schedule xs s inputs_are schedule_is (e ≡ Argument Inputs) (e ≡ Argument Schedule) (λ xs s. FailsChecked table certificate e (λ t c. PlanFails t c e (λ plan. RunFails plan xs s e)))
       (FailsChecked-weaker table certificate e (λ t c. PlanFails t c e (λ plan. IsRunFault plan xs s e)) (λ t c. PlanFails t c e (λ plan. RunFails plan xs s e))
       (λ t c g. PlanFails-weaker t c e (λ plan. IsRunFault plan xs s e) (λ plan. RunFails plan xs s e) (λ plan f. fault_fails plan xs s e f) g) h))
 

@@ -7,10 +7,10 @@ use Rattle.cn_choice.specs.Live.{IsLive, live_choices}
 use Rattle.cn_choice.specs.RawChoices.{IsRawChoice}
 use Rattle.cn_search.specs.Evidence.{IsFindingFor, IsFirstWitness, choices_for}
 use Rattle.cn_search.specs.Finding.{Finding}
-use Rattle.cn_proto.specs.Plan.{Plan, IsPlan}
+use Rattle.cn_proto.specs.Plan.{Plan}
 use Rattle.cn_log.specs.Linearized.{IsLinearized}
 use Rattle.cn_log.specs.Log.{IsEventList}
-use Rattle.cn_log.specs.Opening.{IsOpening, Opening, opening_of, setting_of}
+use Rattle.cn_log.specs.Opening.{IsOpening, Opening, setting_of}
 use Rattle.cn_log.specs.declared.event.Event.{Event}
 use Rattle.cn_app.specs.Headline.{ServesObjects}
 
@@ -22,9 +22,8 @@ AreListed = (t : TypeTable) (n : ℕ) (c : Choice) → Contains (live_choices t 
 abbrev pub AreLinearized : Type 0
 AreLinearized = (o : Opening) (events : List Event) → IsOpening o → IsEventList (setting_of o) events → IsLinearized (setting_of o) events
 
-pub serves_objects : AreLinearized → (plan : Plan) → IsPlan plan → ServesObjects plan
-serves_objects linearized plan is object start capacity events known some few may =
-    linearized (opening_of plan object start capacity) events (record { plan = is; start = known; some = some; few = few }) may
+pub serves_objects : AreLinearized → (plan : Plan) → ServesObjects plan
+serves_objects linearized plan o events is same may = linearized o events is may
 
 size_of : AreListed → (t : TypeTable) (n : ℕ) (w : Choice) → IsFirstWitness t (choices_for t n) w → n ≡ length w.a + length w.b
 size_of listed t n w first =

@@ -2,8 +2,8 @@
 use Rattle.std.specs.Prelude.{codes, ℕ, List, length, nat_le, Option, Some, None, option_and_then, if◌then◌else◌, map, ◌==◌, nat_lt, Bool, ◌&&◌, IsSomeAnd, ◌≡◌, MatchOption}
 use Rattle.std.specs.List.{slice_split, list_all}
 use Rattle.cn_table.specs.Draft.{all_some}
-use Rattle.cn_table.specs.TypeTable.{TypeTable}
-use Rattle.cn_proto.specs.Plan.{Plan, processes_of}
+use Rattle.cn_proto.specs.Plan.{processes_of}
+use Rattle.cn_log.specs.Opening.{Opening}
 use Rattle.cn_app.specs.Arguments.Lists.{code_of, list_of, number_up_to}
 use Rattle.cn_app.specs.Arguments.Events.{capacity_of}
 use Rattle.cn_app.specs.declared.limits.TheConstants.{MOST_CALLS}
@@ -20,9 +20,9 @@ abbrev pub calls_of : List ℕ → Option (List (List ℕ))
 calls_of text = all_some (map process_calls (slice_split (λ byte. byte == code_of (codes "/")) text))
 
 -- there is one list of calls for each process of the plan, and each call is of an operation of the object
-abbrev pub calls_fit : Plan → TypeTable → List (List ℕ) → Bool
-calls_fit plan object calls =
-    (length calls == processes_of plan) && list_all (λ list. list_all (λ operation. nat_lt operation (length object.operations)) list) calls
+abbrev pub calls_fit : Opening → List (List ℕ) → Bool
+calls_fit o calls =
+    (length calls == processes_of o.plan) && list_all (λ list. list_all (λ operation. nat_lt operation (length o.object.operations)) list) calls
 
 -- both texts spell a number of slots and lists of calls, of which this holds
 abbrev pub CallsGive : List ℕ → List ℕ → (ℕ → List (List ℕ) → Type 0) → Type 0

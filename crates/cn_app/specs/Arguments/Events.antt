@@ -3,7 +3,9 @@ use Rattle.std.specs.Prelude.{codes, ℕ, List, Option, option_map, option_and_t
 use Rattle.std.specs.List.{before_first, after_first}
 use Rattle.cn_log.specs.declared.event.Event.{Event}
 use Rattle.cn_log.specs.declared.event.Event.TheVariants.{Step, Invoke}
-use Rattle.cn_app.specs.Arguments.Lists.{code_of, number_up_to, list_of}
+use Rattle.cn_log.specs.declared.limits.TheConstants.{MOST_SLOTS}
+use Rattle.cn_app.specs.Arguments.Lists.{code_of, number_up_to, list_of, listed}
+use Rattle.cn_app.specs.declared.arguments.listed.Listed.{Listed}
 use Rattle.cn_app.specs.declared.fault.AppFault.{AppFault}
 use Rattle.cn_app.specs.declared.fault.AppFault.TheVariants.{Argument}
 use Rattle.cn_app.specs.declared.fault.Part.TheVariants.{Capacity, Events}
@@ -27,15 +29,18 @@ event_of (letter ∷ rest) = if letter == code_of (codes "s") then step_of rest 
 abbrev pub events_of : List ℕ → Option (List Event)
 events_of text = list_of event_of text
 
+abbrev pub listed_events : Listed → Option (List Event)
+listed_events list = listed event_of list
+
 -- the number of slots, which is at least 1
 abbrev pub capacity_of : List ℕ → Option ℕ
-capacity_of text = option_and_then (λ n. if nat_le 1 n then Some n else None) (number_up_to 1024 text)
+capacity_of text = option_and_then (λ n. if nat_le 1 n then Some n else None) (number_up_to MOST_SLOTS text)
 
--- both texts spell a number of slots and a list of events, of which this holds
-abbrev pub EventsGive : List ℕ → List ℕ → (ℕ → List Event → Type 0) → Type 0
-EventsGive capacity events P = IsSomeAnd (capacity_of capacity) (λ k. IsSomeAnd (events_of events) (P k))
+-- the arguments spell a number of slots and a list of events, of which this holds
+abbrev pub EventsGive : List ℕ → Option (List Event) → (ℕ → List Event → Type 0) → Type 0
+EventsGive capacity events P = IsSomeAnd (capacity_of capacity) (λ k. IsSomeAnd events (P k))
 
 -- a command that reads both fails with e: the first that is not spelled as it should be, or both are and what comes later fails with e
-abbrev pub EventsFail : List ℕ → List ℕ → AppFault → (ℕ → List Event → Type 0) → Type 0
+abbrev pub EventsFail : List ℕ → Option (List Event) → AppFault → (ℕ → List Event → Type 0) → Type 0
 EventsFail capacity events e later = MatchOption (capacity_of capacity) (e ≡ Argument Capacity)
-    (λ k. MatchOption (events_of events) (e ≡ Argument Events) (later k))
+    (λ k. MatchOption events (e ≡ Argument Events) (later k))

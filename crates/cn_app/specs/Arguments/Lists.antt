@@ -5,6 +5,7 @@ use Rattle.std.specs.List.{list_all, slice_split}
 use Rattle.std.specs.Str.Parse.{digits_value}
 use Rattle.std.specs.Str.{bytes_eq}
 use Rattle.cn_table.specs.Draft.{all_some}
+use Rattle.cn_app.specs.declared.arguments.listed.Listed.{Listed}
 use Rattle.cn_app.specs.declared.limits.TheConstants.{MOST_DIGITS, MOST_ITEMS}
 use Rattle.cn_app.specs.declared.fault.AppFault.{AppFault}
 use Rattle.cn_app.specs.declared.fault.AppFault.TheVariants.{Argument}
@@ -24,12 +25,20 @@ abbrev pub number_up_to : ℕ → List ℕ → Option ℕ
 number_up_to greatest text = option_and_then (λ n. if nat_le n greatest then Some n else None) (number_of text)
 
 -- the items that the pieces spell, of which there may be so many
-abbrev pub items_of : {X : Type 0} → (List ℕ → Option X) → List (List ℕ) → Option (List X)
-items_of item pieces = if nat_le (length pieces) MOST_ITEMS then all_some (map item pieces) else None
+abbrev pub items_of : {X : Type 0} → ℕ → (List ℕ → Option X) → List (List ℕ) → Option (List X)
+items_of most item pieces = if nat_le (length pieces) most then all_some (map item pieces) else None
 
--- the list that a text spells: `none` is the empty one, else a comma stands between two items
+-- the list of at most so many items that a text spells: `none` is the empty one, else a comma stands between two items
+abbrev pub list_up_to : {X : Type 0} → ℕ → (List ℕ → Option X) → List ℕ → Option (List X)
+list_up_to most item text = if bytes_eq text (codes "none") then Some [] else items_of most item (slice_split (λ byte. byte == code_of (codes ",")) text)
+
+-- the same with as many items as a list on the command line may have
 abbrev pub list_of : {X : Type 0} → (List ℕ → Option X) → List ℕ → Option (List X)
-list_of item text = if bytes_eq text (codes "none") then Some [] else items_of item (slice_split (λ byte. byte == code_of (codes ",")) text)
+list_of item text = list_up_to MOST_ITEMS item text
+
+-- the same with as many items as are said beside the text
+abbrev pub listed : {X : Type 0} → (List ℕ → Option X) → Listed → Option (List X)
+listed item list = list_up_to list.most item list.text.now
 
 -- the numbers that the processes begin with, and a schedule, process by process
 abbrev pub inputs_of : List ℕ → Option (List ℕ)
@@ -38,11 +47,16 @@ inputs_of text = list_of (number_up_to 18446744073709551615) text
 abbrev pub schedule_of : List ℕ → Option (List ℕ)
 schedule_of text = list_of (number_up_to 255) text
 
--- both texts spell lists, of which this holds
-abbrev pub ListsGive : List ℕ → List ℕ → (List ℕ → List ℕ → Type 0) → Type 0
-ListsGive inputs schedule P = IsSomeAnd (inputs_of inputs) (λ xs. IsSomeAnd (schedule_of schedule) (P xs))
+abbrev pub listed_inputs : Listed → Option (List ℕ)
+listed_inputs list = listed (number_up_to 18446744073709551615) list
 
--- a command that reads both lists from their texts fails with e: the first that is no list, or both are and what comes later fails with e
-abbrev pub ListsFail : List ℕ → List ℕ → AppFault → (List ℕ → List ℕ → Type 0) → Type 0
-ListsFail inputs schedule e later = MatchOption (inputs_of inputs) (e ≡ Argument Inputs)
-    (λ xs. MatchOption (schedule_of schedule) (e ≡ Argument Schedule) (later xs))
+abbrev pub listed_schedule : Listed → Option (List ℕ)
+listed_schedule list = listed (number_up_to 255) list
+
+-- both arguments spell lists, of which this holds
+abbrev pub ListsGive : Option (List ℕ) → Option (List ℕ) → (List ℕ → List ℕ → Type 0) → Type 0
+ListsGive inputs schedule P = IsSomeAnd inputs (λ xs. IsSomeAnd schedule (P xs))
+
+-- a command that reads both lists fails with e: the first argument that spells none, or both do and what comes later fails with e
+abbrev pub ListsFail : Option (List ℕ) → Option (List ℕ) → AppFault → (List ℕ → List ℕ → Type 0) → Type 0
+ListsFail inputs schedule e later = MatchOption inputs (e ≡ Argument Inputs) (λ xs. MatchOption schedule (e ≡ Argument Schedule) (later xs))

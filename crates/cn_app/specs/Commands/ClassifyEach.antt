@@ -16,9 +16,11 @@ pub record HasClassified {R W : Type 0} (remaining : R → Option (List ℕ)) (c
     (reader : R) (result : Result Outcome AppFault) (old new : W) : Type 0 where
   pub after : R
   pub classified :
-      OnOk result (WasRead Table result remaining reader after (λ bytes. WasWritten contents old new (λ line. Gives bytes table_in (λ t. IsClassified t limit line))))
+      OnOk result (WasRead Table result remaining reader after
+      (λ bytes. WasWritten contents old new (λ line. Gives bytes table_in (λ t. IsClassified t limit line))))
   pub refused :
-      IfErr result (λ e. MayBeRead Table result remaining reader after (λ bytes. (e ≡ OutOfMemory) ⊎ LimitFails limit e (Fails Table bytes table_in e (λ _. e ≡ Write))))
+      IfErr result (λ e. MayBeRead Table result remaining reader after
+      (λ bytes. (e ≡ OutOfMemory) ⊎ LimitFails limit e (Fails Table bytes table_in e (λ _. e ≡ Write))))
   pub silent : IfErr result (λ e. (e ≡ Write) ⊎ (new ≡ old))
 
 -- the tables were classified in order, from a writer and a place for faults on: each has its line, or its fault is told with its name;

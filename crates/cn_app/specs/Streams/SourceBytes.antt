@@ -2,10 +2,10 @@
 use Rattle.std.specs.Prelude.{ℕ, ◌≡◌, ◌⊎◌, ◌+◌, ◌<◌, ◌≤◌, List, length, Option, Result, MatchResult, [], ◌≢◌}
 use Rattle.std.specs.Io.KnownBytes.{Consumes, IsAtEnd}
 use Rattle.cn_app.specs.declared.fault.Source.{Source}
-use Rattle.cn_app.specs.declared.fault.Source.TheVariants.{Table, Certificate, Object}
+use Rattle.cn_app.specs.declared.fault.Source.TheVariants.{Table, Certificate, Object, Argument}
 use Rattle.cn_app.specs.declared.fault.AppFault.{AppFault}
 use Rattle.cn_app.specs.declared.fault.AppFault.TheVariants.{OutOfMemory, Read}
-use Rattle.cn_app.specs.declared.limits.TheConstants.{MOST_CERTIFICATE_BYTES, MOST_TABLE_BYTES}
+use Rattle.cn_app.specs.declared.limits.TheConstants.{MOST_ARGUMENT_BYTES, MOST_CERTIFICATE_BYTES, MOST_TABLE_BYTES}
 use Rattle.cn_app.specs.declared.streams.progress.Progress.TheVariants.{Open, Done, Failed}
 use Rattle.cn_app.specs.declared.streams.text.Text.{Text}
 
@@ -14,6 +14,7 @@ abbrev pub most_of : Source → ℕ
 most_of Table = MOST_TABLE_BYTES
 most_of Certificate = MOST_CERTIFICATE_BYTES
 most_of Object = MOST_TABLE_BYTES
+most_of (Argument part) = MOST_ARGUMENT_BYTES
 
 -- memory ran out or the reader failed
 abbrev pub MayFail : Source → AppFault → Type 0

@@ -9,8 +9,7 @@ ghost use Rattle.cn_app.specs.declared.fault.Part.TheVariants.{Calls};
 use crate::arguments::lists::{pieces_of, read_list};
 use crate::fault::{AppFault, Part};
 use crate::limits::MOST_CALLS;
-use cn_proto::Plan;
-use cn_table::Table;
+use cn_log::Opening;
 use std::alloc::Global;
 
 fn read_process(alloc: Global, text: &str) -> Result<Vec<u8>, AppFault>
@@ -69,9 +68,10 @@ fn each_known(calls: &[Vec<u8>], operations: u8) -> bool
 
 /// Whether there is a list for each process of the plan, and each call is of an operation of the
 /// object.
-pub(crate) fn calls_fit(plan: &Plan, object: &Table, calls: &[Vec<u8>]) -> bool
-    ensures fit { result ≡ calls_fit plan.now object.now (map (λ list. list.items) calls.now) }
+pub(crate) fn calls_fit(opening: &Opening, calls: &[Vec<u8>]) -> bool
+    ensures fit { result ≡ calls_fit opening.now (map (λ list. list.items) calls.now) }
     ensures few { result ≡ true → length calls.now ≤ 8 }
 {
+    let (plan, object) = (opening.plan(), opening.object());
     calls.len() == usize::from(plan.processes()) && each_known(calls, object.operations())
 }

@@ -3,10 +3,11 @@ ghost use Rattle.std.specs.Prelude.{◌≡◌, ◌⊎◌, ◌<◌, ℕ, map, IfO
 ghost use Rattle.std.specs.List.{list_all, slice_split};
 ghost use Rattle.std.specs.Char.{is_ascii_digit};
 ghost use Rattle.cn_table.specs.Draft.{all_some};
-ghost use Rattle.cn_app.specs.Arguments.Lists.{number_up_to, list_of, inputs_of, schedule_of};
+ghost use Rattle.cn_app.specs.Arguments.Lists.{number_up_to, list_of, listed, inputs_of, schedule_of};
 ghost use Rattle.cn_app.specs.declared.fault.AppFault.TheVariants.{Argument, OutOfMemory};
 ghost use Rattle.cn_app.specs.declared.fault.Part.TheVariants.{Inputs, Schedule};
 
+use crate::arguments::listed::Listed;
 use crate::fault::{AppFault, Part};
 use crate::limits::{MOST_DIGITS, MOST_ITEMS};
 use std::alloc::{AllocError, Global};
@@ -81,6 +82,26 @@ fn read_items<T: Item + Drop>(
     Ok(items)
 }
 
+/// Reads a list of at most as many items as it may have.
+pub(crate) fn read_listed<T: Item + Drop>(
+    alloc: Global,
+    list: Listed<'_>,
+    argument: Part,
+) -> Result<Vec<T>, AppFault>
+    ensures list { IfOk result (λ items. listed T.item_of list.entry ≡ Some items.items) }
+    ensures refused { IfErr result (λ e. (e ≡ OutOfMemory) ⊎ ((e ≡ Argument argument) × (listed T.item_of list.entry ≡ None))) }
+{
+    if list.text == "none" {
+        return Ok(Vec::new(alloc));
+    }
+    let pieces = pieces_of(alloc, list.text, ',')?;
+    if pieces.len() > list.most {
+        return Err(AppFault::Argument(argument));
+    }
+    read_items(alloc, &pieces, argument)
+}
+
+/// Reads a list of at most as many items as one on the command line may have.
 pub(crate) fn read_list<T: Item + Drop>(
     alloc: Global,
     text: &str,
@@ -89,14 +110,8 @@ pub(crate) fn read_list<T: Item + Drop>(
     ensures list { IfOk result (λ items. list_of T.item_of text.now ≡ Some items.items) }
     ensures refused { IfErr result (λ e. (e ≡ OutOfMemory) ⊎ ((e ≡ Argument argument) × (list_of T.item_of text.now ≡ None))) }
 {
-    if text == "none" {
-        return Ok(Vec::new(alloc));
-    }
-    let pieces = pieces_of(alloc, text, ',')?;
-    if pieces.len() > MOST_ITEMS {
-        return Err(AppFault::Argument(argument));
-    }
-    read_items(alloc, &pieces, argument)
+    let most = MOST_ITEMS;
+    read_listed(alloc, Listed { text, most }, argument)
 }
 
 /// Reads the numbers that the processes begin with, from 0 to 18446744073709551615.

@@ -2,15 +2,16 @@
 ghost use Rattle.std.specs.Prelude.{◌≡◌, ◌≢◌, ◌⊎◌, Some, None, IfOk, IfErr, string_bytes};
 ghost use Rattle.cn_proto.specs.Plan.{Plan};
 ghost use Rattle.cn_app.specs.Commands.Agree.{IsAgreed, IsRunFault, RunFails};
-ghost use Rattle.cn_app.specs.Arguments.Lists.{ListsFail, ListsGive, inputs_of, schedule_of};
+ghost use Rattle.cn_app.specs.Arguments.Lists.{ListsFail, ListsGive, listed_inputs, listed_schedule};
 ghost use Rattle.cn_app.specs.Texts.Checked.{FailsChecked, GivesChecked};
 ghost use Rattle.cn_app.specs.FaultText.{text_of};
 ghost use Rattle.cn_app.specs.Texts.Plans.{IsPlanOf, PlanFails};
 ghost use Rattle.cn_app.specs.Streams.SourceBytes.{HasRead, IsUnread, MayHaveRead};
 ghost use Rattle.cn_app.specs.Streams.Writing.{HasWritten, IsUnwritten, OnHandedOver};
 
-use crate::arguments::lists::{read_inputs, read_schedule};
-use crate::fault::{AppFault, Source};
+use crate::arguments::listed::Listed;
+use crate::arguments::lists::read_listed;
+use crate::fault::{AppFault, Part, Source};
 use crate::lines::decisions::lines_of;
 use crate::streams::output::{Outcome, Output};
 use crate::streams::text::Text;
@@ -49,42 +50,44 @@ fn agreed_lines<R: Read, C: Read>(
 /// or that it has not.
 ///
 /// `inputs` are the numbers that the processes begin with, and `schedule` the processes in the order
-/// of their steps, both as [`read_inputs`] and [`read_schedule`] read them. Whatever the schedule,
-/// the decisions are equal, they are the input of a process that it names, and a process has decided
-/// exactly when it is named at least four times for each place of its path.
+/// of their steps, written as for [`read_inputs`](crate::read_inputs) and
+/// [`read_schedule`](crate::read_schedule). Whatever the schedule, the decisions are equal, they are
+/// the input of a process that it names, and a process has decided exactly when it is named at least
+/// four times for each place of its path.
 ///
 /// # Errors
 ///
-/// The first of these: `inputs`, then `schedule`, is not spelled as it should be, and then no text
-/// is touched; one of the refusals of [`show`](crate::commands::show) but that of the writer; there
-/// are not as many inputs as processes, or the schedule names a process that there is not; the
-/// writer fails. Want of memory can stand in place of any answer. Nothing is written unless all else
-/// went well.
+/// The first of these: `inputs`, then `schedule`, is not spelled as it should be or has too many
+/// items, and then no text is touched; one of the refusals of [`show`](crate::commands::show) but
+/// that of the writer; there are not as many inputs as processes, or the schedule names a process
+/// that there is not; the writer fails. Want of memory can stand in place of any answer. Nothing is
+/// written unless all else went well.
 pub fn agree<R: Read, C: Read, W: Write>(
     alloc: Global,
     table: &mut Text<'_, R>,
     certificate: &mut Text<'_, C>,
     output: &mut Output<'_, W>,
-    inputs: &str,
-    schedule: &str,
+    inputs: Listed<'_>,
+    schedule: Listed<'_>,
 ) -> Result<Outcome, AppFault>
     requires table { IsUnread table.old }
     requires certificate { IsUnread certificate.old }
     requires output { IsUnwritten output.old }
     ensures whole { IfOk result (λ outcome. outcome ≡ Outcome.Whole) }
-    ensures agreed { OnHandedOver result (ListsGive inputs.now schedule.now
+    ensures agreed { OnHandedOver result (ListsGive (listed_inputs inputs.entry) (listed_schedule schedule.entry)
         (λ xs s. GivesChecked table.new.bytes.items certificate.new.bytes.items (λ t c. (plan : Plan)
         × IsPlanOf t c plan × IsAgreed plan xs s output.new.bytes.items))) }
-    ensures refused { IfErr result (λ e. (e ≡ AppFault.OutOfMemory) ⊎ ListsFail inputs.now schedule.now e (λ xs s.
+    ensures refused { IfErr result (λ e. (e ≡ AppFault.OutOfMemory) ⊎ ListsFail (listed_inputs inputs.entry) (listed_schedule schedule.entry) e (λ xs s.
         FailsChecked table.new.bytes.items certificate.new.bytes.items e (λ t c. PlanFails t c e (λ plan. RunFails plan xs s e)))) }
-    ensures unspelled { (inputs_of inputs.now ≡ None) ⊎ (schedule_of schedule.now ≡ None) → (table.new ≡ table.old) × (certificate.new ≡ certificate.old) }
+    ensures unspelled { (listed_inputs inputs.entry ≡ None) ⊎ (listed_schedule schedule.entry ≡ None) → (table.new ≡ table.old)
+        × (certificate.new ≡ certificate.old) }
     ensures untouched { IfErr result (λ e. text_of e ≡ Some Source.Table → certificate.new ≡ certificate.old) }
     ensures table { MayHaveRead Source.Table result R.remaining table.old table.new }
     ensures certificate { MayHaveRead Source.Certificate result C.remaining certificate.old certificate.new }
     ensures written { HasWritten result W.contents output.old output.new }
 {
-    let inputs = read_inputs(alloc, inputs)?;
-    let schedule = read_schedule(alloc, schedule)?;
+    let inputs = read_listed::<u64>(alloc, inputs, Part::Inputs)?;
+    let schedule = read_listed::<u8>(alloc, schedule, Part::Schedule)?;
     let lines = agreed_lines(alloc, table, certificate, &inputs, &schedule)?;
     output.write(lines)
 }

@@ -1,25 +1,23 @@
 //! The command `replay`.
-ghost use Rattle.std.specs.Prelude.{◌≡◌, ◌≢◌, ◌⊎◌, ◌<◌, ◌≤◌, length, string_bytes, Err, Some, None, IfOk, IfErr};
+ghost use Rattle.std.specs.Prelude.{◌≡◌, ◌⊎◌, string_bytes, Err, Some, None, IfOk, IfErr};
 ghost use Rattle.std.specs.List.{list_any};
-ghost use Rattle.cn_proto.specs.Plan.{Plan as PlanOf};
-ghost use Rattle.cn_app.specs.Arguments.Events.{capacity_of, events_of, EventsFail, EventsGive};
+ghost use Rattle.cn_app.specs.Arguments.Events.{capacity_of, listed_events, EventsFail, EventsGive};
 ghost use Rattle.cn_app.specs.FaultText.{text_of, IsOfWork};
-ghost use Rattle.cn_app.specs.Texts.Plans.{IsPlanOf, PlanFails};
 ghost use Rattle.cn_app.specs.Answers.{is_full};
 ghost use Rattle.cn_app.specs.Commands.Replay.{outcome_of_answers, IsEventFault, IsServed, ServingFails};
-ghost use Rattle.cn_app.specs.Texts.Services.{FailsObject, GivesObject, StartFails, StartGives};
-ghost use Rattle.cn_app.specs.Streams.SourceBytes.{HasRead, IsUnread, MayHaveRead};
+ghost use Rattle.cn_app.specs.Texts.Openings.{FailsOpening, GivesOpening};
+ghost use Rattle.cn_app.specs.Streams.SourceBytes.{IsUnread, MayHaveRead};
 ghost use Rattle.cn_app.specs.Streams.Writing.{HasWritten, IfHandedOver, IsUnwritten};
 
 use crate::answers::answers_of;
-use crate::arguments::events::{read_capacity, read_events};
+use crate::arguments::events::{read_capacity, read_listed_events};
+use crate::arguments::listed::Listed;
 use crate::fault::{AppFault, Part, Source};
 use crate::lines::log::{answer_lines, entry_lines};
-use crate::streams::output::{Outcome, Output};
+use crate::streams::output::{Outcome, Output, Served};
 use crate::streams::text::Text;
-use crate::texts::service::{Served, Service, read_service};
-use cn_log::{CallEnd, Event};
-use cn_table::{State, Table};
+use crate::texts::opening::read_opening;
+use cn_log::{CallEnd, Event, Opening};
 use std::alloc::Global;
 use std::io::{Read, Write};
 
@@ -48,88 +46,21 @@ fn outcome_of_answers(ends: &[CallEnd]) -> Outcome
     }
 }
 
-/// Serves the object by the events: what they answer, and the entries of the log.
-fn replay_from_state(
-    alloc: Global,
-    service: &Service,
-    start: State,
-    capacity: u16,
-    events: &[Event],
-) -> Result<Served, AppFault>
-    requires start { start.0 < length service.now.object.states }
-    requires some { 1 ≤ capacity }
-    requires few { capacity ≤ 1024 }
-    ensures served { IfOk result (λ s. IsServed service.now.plan service.now.object start.0 capacity events.now (string_bytes s.lines) s.outcome) }
-    ensures refused { IfErr result (λ e. (e ≡ AppFault.OutOfMemory) ⊎ IsEventFault service.now.plan service.now.object start.0 capacity events.now e) }
+/// Serves the object of this opening by the events: what they answer, and the entries of the log.
+fn serve_events(alloc: Global, opening: Opening, events: &[Event]) -> Result<Served, AppFault>
+    ensures served { IfOk result (λ s. IsServed opening events.now (string_bytes s.lines) s.outcome) }
+    ensures refused { IfErr result (λ e. (e ≡ AppFault.OutOfMemory) ⊎ IsEventFault opening events.now e) }
+    ensures work { IfErr result IsOfWork }
 {
-    let replayed = answers_of(
-        alloc,
-        &service.plan,
-        &service.object,
-        start,
-        capacity,
-        events,
-    )?;
-    let mut lines = answer_lines(alloc, &service.object, &replayed.ends)?;
-    let entries = entry_lines(alloc, &service.object, start, &replayed.core)?;
+    let replayed = answers_of(alloc, opening, events)?;
+    let opening = replayed.core.opening();
+    let mut lines = answer_lines(alloc, opening.object(), &replayed.ends)?;
+    let entries = entry_lines(alloc, opening.object(), opening.start(), &replayed.core)?;
     lines.push_str(&entries)?;
     Ok(Served {
         lines,
         outcome: outcome_of_answers(&replayed.ends),
     })
-}
-
-/// Serves the object from the state of this name.
-fn replay_from_name(
-    alloc: Global,
-    service: &Service,
-    start: &str,
-    capacity: u16,
-    events: &[Event],
-) -> Result<Served, AppFault>
-    requires some { 1 ≤ capacity }
-    requires few { capacity ≤ 1024 }
-    ensures served { IfOk result (λ s. StartGives service.now.object start.now
-        (λ q. IsServed service.now.plan service.now.object q capacity events.now (string_bytes s.lines) s.outcome)) }
-    ensures refused { IfErr result (λ e. (e ≡ AppFault.OutOfMemory)
-        ⊎ StartFails service.now.object start.now e (λ q. IsEventFault service.now.plan service.now.object q capacity events.now e)) }
-    ensures work { IfErr result IsOfWork }
-{
-    match service.object.find_state(start) {
-        Some(state) => replay_from_state(alloc, service, state, capacity, events),
-        None => Err(AppFault::Argument(Part::Start)),
-    }
-}
-
-/// Reads the three texts, and serves the object.
-fn replay_texts<R: Read, C: Read, O: Read>(
-    alloc: Global,
-    table: &mut Text<'_, R>,
-    certificate: &mut Text<'_, C>,
-    object: &mut Text<'_, O>,
-    start: &str,
-    capacity: u16,
-    events: &[Event],
-) -> Result<Served, AppFault>
-    requires table { IsUnread table.old }
-    requires certificate { IsUnread certificate.old }
-    requires object { IsUnread object.old }
-    requires some { 1 ≤ capacity }
-    requires few { capacity ≤ 1024 }
-    ensures served { IfOk result (λ s. GivesObject table.new.bytes.items certificate.new.bytes.items object.new.bytes.items (λ t c o. (plan : PlanOf)
-        × IsPlanOf t c plan × StartGives o start.now (λ q. IsServed plan o q capacity events.now (string_bytes s.lines) s.outcome))) }
-    ensures refused { IfErr result (λ e. (e ≡ AppFault.OutOfMemory)
-        ⊎ FailsObject table.new.bytes.items certificate.new.bytes.items object.new.bytes.items e (λ t c o.
-        PlanFails t c e (λ plan. StartFails o start.now e (λ q. IsEventFault plan o q capacity events.now e)))) }
-    ensures unwritten { IfErr result (λ e. e ≢ AppFault.Write) }
-    ensures untouched_certificate { IfErr result (λ e. text_of e ≡ Some Source.Table → certificate.new ≡ certificate.old) }
-    ensures untouched_object { IfErr result (λ e. (text_of e ≡ Some Source.Table) ⊎ (text_of e ≡ Some Source.Certificate) → object.new ≡ object.old) }
-    ensures table { HasRead Source.Table result R.remaining table.old table.new }
-    ensures certificate { MayHaveRead Source.Certificate result C.remaining certificate.old certificate.new }
-    ensures object { MayHaveRead Source.Object result O.remaining object.old object.new }
-{
-    let service = read_service(alloc, table, certificate, object)?;
-    replay_from_name(alloc, &service, start, capacity, events)
 }
 
 /// Reads a type table, a certificate and the table of an object, checks the certificate against the
@@ -138,14 +69,14 @@ fn replay_texts<R: Read, C: Read, O: Read>(
 /// and then a line for each entry of the log.
 ///
 /// The object starts in the state of the name `start`; `capacity` is the number of slots, from 1 to
-/// 1024, and `events` are as [`read_events`] reads them. Whatever they are, the answers are those
-/// of one sequential run of the calls, in the order of the log. `Cut` tells that some call found no
-/// slot.
+/// [`MOST_SLOTS`](cn_log::MOST_SLOTS), and `events` are written as for
+/// [`read_events`](crate::read_events). Whatever they are, the answers are those of one sequential
+/// run of the calls, in the order of the log. `Cut` tells that some call found no slot.
 ///
 /// # Errors
 ///
-/// The first of these: `capacity`, then `events`, is not spelled as it should be, and then no text is
-/// touched; the reader of the type table fails, or gives more than
+/// The first of these: `capacity`, then `events`, is not spelled as it should be or has too many
+/// items, and then no text is touched; the reader of the type table fails, or gives more than
 /// [`MOST_TABLE_BYTES`](crate::MOST_TABLE_BYTES); the type table is refused; so for the certificate,
 /// of at most [`MOST_CERTIFICATE_BYTES`](crate::MOST_CERTIFICATE_BYTES), and for the object, of as
 /// many as the type table; the check refuses the certificate; it has no witness; the object has no state of the name
@@ -160,20 +91,19 @@ pub fn replay<R: Read, C: Read, O: Read, W: Write>(
     output: &mut Output<'_, W>,
     start: &str,
     capacity: &str,
-    events: &str,
+    events: Listed<'_>,
 ) -> Result<Outcome, AppFault>
     requires table { IsUnread table.old }
     requires certificate { IsUnread certificate.old }
     requires object { IsUnread object.old }
     requires output { IsUnwritten output.old }
-    ensures served { IfHandedOver result (λ outcome. EventsGive capacity.now events.now
-        (λ k es. GivesObject table.new.bytes.items certificate.new.bytes.items object.new.bytes.items (λ t c o. (plan : PlanOf)
-        × IsPlanOf t c plan × StartGives o start.now (λ q. IsServed plan o q k es output.new.bytes.items outcome)))) }
-    ensures refused { IfErr result (λ e. (e ≡ AppFault.OutOfMemory) ⊎ EventsFail capacity.now events.now e (λ k es.
-        FailsObject table.new.bytes.items certificate.new.bytes.items object.new.bytes.items e (λ t c o.
-        PlanFails t c e (λ plan. StartFails o start.now e (λ q. ServingFails plan o q k es e))))) }
+    ensures served { IfHandedOver result (λ outcome. EventsGive capacity.now (listed_events events.entry)
+        (λ k es. GivesOpening table.new.bytes.items certificate.new.bytes.items object.new.bytes.items start.now k
+        (λ o. IsServed o es output.new.bytes.items outcome))) }
+    ensures refused { IfErr result (λ e. (e ≡ AppFault.OutOfMemory) ⊎ EventsFail capacity.now (listed_events events.entry) e (λ k es.
+        FailsOpening table.new.bytes.items certificate.new.bytes.items object.new.bytes.items start.now k e (λ o. ServingFails o es e))) }
     ensures told { capacity_of capacity.now ≡ None → result ≡ Err (AppFault.Argument Part.Capacity) }
-    ensures unspelled { (capacity_of capacity.now ≡ None) ⊎ (events_of events.now ≡ None) → (table.new ≡ table.old) × (certificate.new ≡ certificate.old)
+    ensures unspelled { (capacity_of capacity.now ≡ None) ⊎ (listed_events events.entry ≡ None) → (table.new ≡ table.old) × (certificate.new ≡ certificate.old)
         × (object.new ≡ object.old) }
     ensures untouched_certificate { IfErr result (λ e. text_of e ≡ Some Source.Table → certificate.new ≡ certificate.old) }
     ensures untouched_object { IfErr result (λ e. (text_of e ≡ Some Source.Table) ⊎ (text_of e ≡ Some Source.Certificate) → object.new ≡ object.old) }
@@ -183,8 +113,9 @@ pub fn replay<R: Read, C: Read, O: Read, W: Write>(
     ensures written { HasWritten result W.contents output.old output.new }
 {
     let capacity = read_capacity(capacity)?;
-    let events = read_events(alloc, events)?;
-    let served = replay_texts(alloc, table, certificate, object, start, capacity, &events)?;
+    let events = read_listed_events(alloc, events)?;
+    let opening = read_opening(alloc, table, certificate, object, start, capacity)?;
+    let served = serve_events(alloc, opening, &events)?;
     output.write(served.lines)?;
     Ok(served.outcome)
 }

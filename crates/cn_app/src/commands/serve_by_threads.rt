@@ -1,31 +1,27 @@
 //! The command `serve`.
-ghost use Rattle.std.specs.Prelude.{◌≡◌, ◌≢◌, ◌⊎◌, ◌<◌, ◌≤◌, ℕ, length, map, string_bytes, true, Err, Some, None, IfOk, IfErr};
+ghost use Rattle.std.specs.Prelude.{◌≡◌, ◌⊎◌, ℕ, map, string_bytes, Err, Some, None, IfOk, IfErr};
 ghost use Rattle.std.specs.List.{list_all};
-ghost use Rattle.cn_proto.specs.Plan.{Plan as PlanOf};
 ghost use Rattle.cn_hall.specs.declared.call.Go.TheVariants.{On};
-ghost use Rattle.cn_app.specs.Arguments.Calls.{calls_fit, calls_of, CallsFail, CallsGive};
+ghost use Rattle.cn_app.specs.Arguments.Calls.{calls_of, CallsFail, CallsGive};
 ghost use Rattle.cn_app.specs.Arguments.Events.{capacity_of};
 ghost use Rattle.cn_app.specs.FaultText.{text_of, IsOfWork};
-ghost use Rattle.cn_app.specs.Texts.Plans.{IsPlanOf, PlanFails};
-ghost use Rattle.cn_app.specs.Texts.Services.{FailsObject, GivesObject, StartFails, StartGives};
+ghost use Rattle.cn_app.specs.Texts.Openings.{FailsOpening, GivesOpening};
 ghost use Rattle.cn_app.specs.Commands.Serve.{AreNotServed, IsServedByThreads, ThreadsFail, is_whole, outcome_of_calls};
-ghost use Rattle.cn_app.specs.Lines.Threads.{left_lines};
 ghost use Rattle.cn_app.specs.Threads.Workers.{EachHasOneGate};
-ghost use Rattle.cn_app.specs.Streams.SourceBytes.{HasRead, IsUnread, MayHaveRead};
+ghost use Rattle.cn_app.specs.Streams.SourceBytes.{IsUnread, MayHaveRead};
 ghost use Rattle.cn_app.specs.Streams.Writing.{HasWritten, IfHandedOver, IsUnwritten};
 
 use crate::arguments::calls::{calls_fit, read_calls};
 use crate::arguments::events::read_capacity;
 use crate::fault::{AppFault, Part, Source};
 use crate::lines::threads::left_lines;
-use crate::streams::output::{Outcome, Output};
+use crate::streams::output::{Outcome, Output, Served};
 use crate::streams::text::Text;
-use crate::texts::service::{Served, Service, read_service};
+use crate::texts::opening::read_opening;
 use crate::threads::serving::serve_calls;
 use crate::threads::workers::{End, Worked};
 use cn_hall::Gate;
-use cn_log::LogCore;
-use cn_table::{State, Table};
+use cn_log::{LogCore, Opening};
 use std::alloc::Global;
 use std::io::{Read, Write};
 use std::sync::Wait;
@@ -49,13 +45,12 @@ fn outcome_of_calls(worked: &[Worked]) -> Outcome
     }
 }
 
-/// Serves the object by threads that make these calls: what they come to, in lines.
-fn serve_from_state<T, G, F>(
+/// Serves the object of this opening by threads that make these calls, where they are ones of the
+/// plan's processes and the object's operations: what they come to, in lines.
+fn serve_in_threads<T, G, F>(
     rt: &T,
     alloc: Global,
-    service: &Service,
-    start: State,
-    capacity: u16,
+    opening: Opening,
     calls: &[Vec<u8>],
     make_gate: F,
 ) -> Result<Served, AppFault>
@@ -63,99 +58,23 @@ where
     T: Threads + Wait + Sync,
     G: Gate + Send + Drop,
     F: Fn(u8) -> G,
-    requires start { start.0 < length service.now.object.states }
-    requires some { 1 ≤ capacity }
-    requires few { capacity ≤ 1024 }
-    requires few_calls { length calls.now ≤ 8 }
-    requires fit { calls_fit service.now.plan service.now.object (map (λ list. list.items) calls.now) ≡ true }
     requires gates { F.IsAlwaysCallable make_gate }
     requires on { (p : ℕ) (g : _) → F.post make_gate p g → G.says g ≡ On }
-    ensures served { IfOk result (λ s. IsServedByThreads
-        (EachHasOneGate G.asks G.says (λ p g. F.post make_gate p g)) service.now.plan service.now.object start.0 capacity (map (λ list. list.items) calls.now)
-        (string_bytes s.lines) s.outcome) }
-    ensures refused { IfErr result (λ e. (e ≡ AppFault.OutOfMemory) ⊎ (e ≡ AppFault.Thread)) }
-{
-    let core = LogCore::new(alloc, &service.plan, &service.object, start, capacity)?;
-    let left = serve_calls(rt, alloc, core, calls, make_gate)?;
-    left.core.is_linearized();
-    let lines = left_lines(alloc, &service.object, start, &left)?;
-    let outcome = outcome_of_calls(&left.worked);
-    Ok(Served { lines, outcome })
-}
-
-/// Serves the object from the state of this name, where the calls are ones of the plan's processes
-/// and the object's operations.
-fn serve_from_name<T, G, F>(
-    rt: &T,
-    alloc: Global,
-    service: &Service,
-    start: &str,
-    capacity: u16,
-    calls: &[Vec<u8>],
-    make_gate: F,
-) -> Result<Served, AppFault>
-where
-    T: Threads + Wait + Sync,
-    G: Gate + Send + Drop,
-    F: Fn(u8) -> G,
-    requires some { 1 ≤ capacity }
-    requires few { capacity ≤ 1024 }
-    requires gates { F.IsAlwaysCallable make_gate }
-    requires on { (p : ℕ) (g : _) → F.post make_gate p g → G.says g ≡ On }
-    ensures served { IfOk result (λ s. StartGives service.now.object start.now
-        (λ q. IsServedByThreads (EachHasOneGate G.asks G.says (λ p g. F.post make_gate p g)) service.now.plan service.now.object q capacity
-        (map (λ list. list.items) calls.now) (string_bytes s.lines) s.outcome)) }
-    ensures refused { IfErr result (λ e. (e ≡ AppFault.OutOfMemory)
-        ⊎ StartFails service.now.object start.now e (λ _. AreNotServed service.now.plan service.now.object (map (λ list. list.items) calls.now) e)) }
+    ensures served { IfOk result (λ s. IsServedByThreads (EachHasOneGate G.asks G.says (λ p g. F.post make_gate p g)) opening
+        (map (λ list. list.items) calls.now) (string_bytes s.lines) s.outcome) }
+    ensures refused { IfErr result (λ e. (e ≡ AppFault.OutOfMemory) ⊎ AreNotServed opening (map (λ list. list.items) calls.now) e) }
     ensures work { IfErr result IsOfWork }
 {
-    let Some(state) = service.object.find_state(start) else {
-        return Err(AppFault::Argument(Part::Start));
-    };
-    if !calls_fit(&service.plan, &service.object, calls) {
+    if !calls_fit(&opening, calls) {
         return Err(AppFault::Argument(Part::Calls));
     }
-    serve_from_state(rt, alloc, service, state, capacity, calls, make_gate)
-}
-
-/// Reads the three texts, and serves the object by threads.
-fn serve_texts<T, R: Read, C: Read, O: Read, G, F>(
-    rt: &T,
-    alloc: Global,
-    table: &mut Text<'_, R>,
-    certificate: &mut Text<'_, C>,
-    object: &mut Text<'_, O>,
-    start: &str,
-    capacity: u16,
-    calls: &[Vec<u8>],
-    make_gate: F,
-) -> Result<Served, AppFault>
-where
-    T: Threads + Wait + Sync,
-    G: Gate + Send + Drop,
-    F: Fn(u8) -> G,
-    requires some { 1 ≤ capacity }
-    requires few { capacity ≤ 1024 }
-    requires gates { F.IsAlwaysCallable make_gate }
-    requires on { (p : ℕ) (g : _) → F.post make_gate p g → G.says g ≡ On }
-    requires table { IsUnread table.old }
-    requires certificate { IsUnread certificate.old }
-    requires object { IsUnread object.old }
-    ensures served { IfOk result (λ s. GivesObject table.new.bytes.items certificate.new.bytes.items object.new.bytes.items (λ t c o. (plan : PlanOf)
-        × IsPlanOf t c plan × StartGives o start.now (λ q. IsServedByThreads (EachHasOneGate G.asks G.says (λ p g. F.post make_gate p g)) plan o q capacity
-        (map (λ list. list.items) calls.now) (string_bytes s.lines) s.outcome))) }
-    ensures refused { IfErr result (λ e. (e ≡ AppFault.OutOfMemory)
-        ⊎ FailsObject table.new.bytes.items certificate.new.bytes.items object.new.bytes.items e (λ t c o.
-        PlanFails t c e (λ plan. StartFails o start.now e (λ _. AreNotServed plan o (map (λ list. list.items) calls.now) e)))) }
-    ensures unwritten { IfErr result (λ e. e ≢ AppFault.Write) }
-    ensures untouched_certificate { IfErr result (λ e. text_of e ≡ Some Source.Table → certificate.new ≡ certificate.old) }
-    ensures untouched_object { IfErr result (λ e. (text_of e ≡ Some Source.Table) ⊎ (text_of e ≡ Some Source.Certificate) → object.new ≡ object.old) }
-    ensures table { HasRead Source.Table result R.remaining table.old table.new }
-    ensures certificate { MayHaveRead Source.Certificate result C.remaining certificate.old certificate.new }
-    ensures object { MayHaveRead Source.Object result O.remaining object.old object.new }
-{
-    let service = read_service(alloc, table, certificate, object)?;
-    serve_from_name(rt, alloc, &service, start, capacity, calls, make_gate)
+    let core = LogCore::open(alloc, opening)?;
+    let left = serve_calls(rt, alloc, core, calls, make_gate)?;
+    left.core.is_linearized();
+    let opening = left.core.opening();
+    let lines = left_lines(alloc, opening.object(), opening.start(), &left)?;
+    let outcome = outcome_of_calls(&left.worked);
+    Ok(Served { lines, outcome })
 }
 
 /// Reads a type table, a certificate and the table of an object, checks the certificate against the
@@ -165,10 +84,11 @@ where
 /// log, and last a line with the events.
 ///
 /// The object starts in the state of the name `start`; `capacity` is the number of slots, from 1 to
-/// 1024, and `calls` are as [`read_calls`] reads them. The gate that `make_gate` makes for a process
-/// is asked before each step of its calls, and says whether they go on; a gate has said On before it
-/// is asked. However the threads run, what is written is of one log, whose answers are those of one
-/// sequential run of the calls. `Cut` tells that some call found no slot or was stopped.
+/// [`MOST_SLOTS`](cn_log::MOST_SLOTS), and `calls` are as [`read_calls`] reads them. The gate that
+/// `make_gate` makes for a process is asked before each step of its calls, and says whether they go
+/// on; a gate has said On before it is asked. However the threads run, what is written is of one
+/// log, whose answers are those of one sequential run of the calls. `Cut` tells that some call found
+/// no slot or was stopped.
 ///
 /// # Errors
 ///
@@ -204,12 +124,10 @@ where
     requires object { IsUnread object.old }
     requires output { IsUnwritten output.old }
     ensures served { IfHandedOver result (λ outcome. CallsGive capacity.now calls.now
-        (λ k cs. GivesObject table.new.bytes.items certificate.new.bytes.items object.new.bytes.items (λ t c o. (plan : PlanOf)
-        × IsPlanOf t c plan × StartGives o start.now (λ q.
-        IsServedByThreads (EachHasOneGate G.asks G.says (λ p g. F.post make_gate p g)) plan o q k cs output.new.bytes.items outcome)))) }
+        (λ k cs. GivesOpening table.new.bytes.items certificate.new.bytes.items object.new.bytes.items start.now k
+        (λ o. IsServedByThreads (EachHasOneGate G.asks G.says (λ p g. F.post make_gate p g)) o cs output.new.bytes.items outcome))) }
     ensures refused { IfErr result (λ e. (e ≡ AppFault.OutOfMemory) ⊎ CallsFail capacity.now calls.now e (λ k cs.
-        FailsObject table.new.bytes.items certificate.new.bytes.items object.new.bytes.items e (λ t c o.
-        PlanFails t c e (λ plan. StartFails o start.now e (λ _. ThreadsFail plan o cs e))))) }
+        FailsOpening table.new.bytes.items certificate.new.bytes.items object.new.bytes.items start.now k e (λ o. ThreadsFail o cs e))) }
     ensures told { capacity_of capacity.now ≡ None → result ≡ Err (AppFault.Argument Part.Capacity) }
     ensures unspelled { (capacity_of capacity.now ≡ None) ⊎ (calls_of calls.now ≡ None) → (table.new ≡ table.old) × (certificate.new ≡ certificate.old)
         × (object.new ≡ object.old) }
@@ -222,17 +140,8 @@ where
 {
     let capacity = read_capacity(capacity)?;
     let calls = read_calls(alloc, calls)?;
-    let served = serve_texts(
-        rt,
-        alloc,
-        table,
-        certificate,
-        object,
-        start,
-        capacity,
-        &calls,
-        make_gate,
-    )?;
+    let opening = read_opening(alloc, table, certificate, object, start, capacity)?;
+    let served = serve_in_threads(rt, alloc, opening, &calls, make_gate)?;
     output.write(served.lines)?;
     Ok(served.outcome)
 }

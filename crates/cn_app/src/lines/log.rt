@@ -1,5 +1,5 @@
 //! The lines of a log: of the calls that ended, and of its entries.
-ghost use Rattle.std.specs.Prelude.{◌≡◌, ◌<◌, length, string_bytes, All, IfOk};
+ghost use Rattle.std.specs.Prelude.{◌≡◌, ◌<◌, ◌++◌, codes, length, string_bytes, All, IfOk, OnOk};
 ghost use Rattle.cn_log.specs.CallEnds.{EndsWithResponse};
 ghost use Rattle.cn_log.specs.Linearized.{entry_slots};
 ghost use Rattle.cn_log.specs.Log.{entries};
@@ -7,14 +7,27 @@ ghost use Rattle.cn_log.specs.Opening.{setting};
 ghost use Rattle.cn_app.specs.Lines.Log.{answer_line, answer_lines, entry_line, entry_lines};
 ghost use Rattle.cn_app.specs.Answers.{HaveResponses};
 
+use crate::lines::number::put_number;
 use cn_log::{CallEnd, Entry, LogCore};
 use cn_table::{Response, State, Table};
 use std::alloc::{AllocError, Global};
 
-/// The line of a call that ended.
-pub(crate) fn answer_line(alloc: Global, object: &Table, end: CallEnd) -> Result<String, AllocError>
+/// A space and the word go behind the lines.
+fn put_word(lines: &mut String, word: &str) -> Result<(), AllocError>
+    ensures { OnOk result (string_bytes lines.new ≡ string_bytes lines.old ++ codes " " ++ word.now) }
+{
+    lines.push_str(" ")?;
+    lines.push_str(word)
+}
+
+/// The line of a call that ended goes behind the lines.
+pub(crate) fn put_answer_line(
+    lines: &mut String,
+    object: &Table,
+    end: CallEnd,
+) -> Result<(), AllocError>
     requires { EndsWithResponse object.now end }
-    ensures { IfOk result (λ line. string_bytes line ≡ answer_line object.now end) }
+    ensures { OnOk result (string_bytes lines.new ≡ string_bytes lines.old ++ answer_line object.now end) }
 {
     match end {
         CallEnd::Answered {
@@ -22,11 +35,18 @@ pub(crate) fn answer_line(alloc: Global, object: &Table, end: CallEnd) -> Result
             slot,
             response,
         } => {
-            let name = object.response_name(response);
-            format!(in alloc; "answer {process} {slot} {name}\n")
+            lines.push_str("answer ")?;
+            put_number(lines, u16::from(process))?;
+            lines.push_str(" ")?;
+            put_number(lines, slot)?;
+            put_word(lines, object.response_name(response))?;
         }
-        CallEnd::Full { process } => format!(in alloc; "full {process}\n"),
+        CallEnd::Full { process } => {
+            lines.push_str("full ")?;
+            put_number(lines, u16::from(process))?;
+        }
     }
+    lines.push_str("\n")
 }
 
 pub(crate) fn answer_lines(
@@ -39,30 +59,33 @@ pub(crate) fn answer_lines(
 {
     let mut lines = String::new(alloc);
     for end in ends {
-        let line = answer_line(alloc, object, *end)?;
-        lines.push_str(&line)?;
+        put_answer_line(&mut lines, object, *end)?;
     }
     Ok(lines)
 }
 
-/// The line of an entry in a slot, with what the object answers there and its state afterwards.
-fn entry_line(
-    alloc: Global,
+/// The line of an entry in a slot, with what the object answers there and its state afterwards, goes
+/// behind the lines.
+fn put_entry_line(
+    lines: &mut String,
     object: &Table,
     slot: u16,
     entry: Entry,
     given: (Response, State),
-) -> Result<String, AllocError>
+) -> Result<(), AllocError>
     requires operation { entry.operation.0 < length object.now.operations }
     requires response { given.0.0 < length object.now.responses }
     requires state { given.1.0 < length object.now.states }
-    ensures { IfOk result (λ line. string_bytes line ≡ entry_line object.now slot entry (given.0.0, given.1.0)) }
+    ensures { OnOk result (string_bytes lines.new ≡ string_bytes lines.old ++ entry_line object.now slot entry (given.0.0, given.1.0)) }
 {
-    let process = entry.process;
-    let operation = object.operation_name(entry.operation);
-    let response = object.response_name(given.0);
-    let state = object.state_name(given.1);
-    format!(in alloc; "entry {slot} {process} {operation} {response} {state}\n")
+    lines.push_str("entry ")?;
+    put_number(lines, slot)?;
+    lines.push_str(" ")?;
+    put_number(lines, u16::from(entry.process))?;
+    put_word(lines, object.operation_name(entry.operation))?;
+    put_word(lines, object.response_name(given.0))?;
+    put_word(lines, object.state_name(given.1))?;
+    lines.push_str("\n")
 }
 
 /// The lines of the entries of a log, in order: one sequential run of the object.
@@ -82,8 +105,7 @@ pub(crate) fn entry_lines(
     for (place, entry) in core.entries().iter().enumerate() {
         let slot = core.slot_at(place);
         let given = object.apply(entry.operation, state);
-        let line = entry_line(alloc, object, slot, *entry, given)?;
-        lines.push_str(&line)?;
+        put_entry_line(&mut lines, object, slot, *entry, given)?;
         state = given.1;
     }
     Ok(lines)

@@ -1,9 +1,10 @@
 //! The lines of what threads left: of the calls of each process, of the entries of the log, and of
 //! its events.
-ghost use Rattle.std.specs.Prelude.{◌≡◌, ◌≤◌, length, string_bytes, IfOk, ◌<◌};
+ghost use Rattle.std.specs.Prelude.{◌≡◌, ◌≤◌, ◌<◌, ◌++◌, length, string_bytes, IfOk, OnOk};
 ghost use Rattle.cn_app.specs.Lines.Threads.{call_lines, end_line, event_text, events_line, events_text, reply_lines, worked_lines, EachHasResponses, RepliesHaveResponses, left_lines};
 
-use crate::lines::log::{answer_line, entry_lines};
+use crate::lines::log::{entry_lines, put_answer_line};
+use crate::lines::number::put_number;
 use crate::threads::serving::Left;
 use crate::threads::workers::{End, Worked};
 use cn_hall::Reply;
@@ -11,13 +12,21 @@ use cn_log::{CallEnd, Event};
 use cn_table::{State, Table};
 use std::alloc::{AllocError, Global};
 
-/// The text of an event, as events are read.
-fn event_text(alloc: Global, event: Event) -> Result<String, AllocError>
-    ensures { IfOk result (λ text. string_bytes text ≡ event_text event) }
+/// The text of an event, as events are read, goes behind the text.
+fn put_event(text: &mut String, event: Event) -> Result<(), AllocError>
+    ensures { OnOk result (string_bytes text.new ≡ string_bytes text.old ++ event_text event) }
 {
     match event {
-        Event::Invoke(process, operation) => format!(in alloc; "i{process}:{operation}"),
-        Event::Step(process) => format!(in alloc; "s{process}"),
+        Event::Invoke(process, operation) => {
+            text.push_str("i")?;
+            put_number(text, u16::from(process))?;
+            text.push_str(":")?;
+            put_number(text, u16::from(operation))
+        }
+        Event::Step(process) => {
+            text.push_str("s")?;
+            put_number(text, u16::from(process))
+        }
     }
 }
 
@@ -28,11 +37,11 @@ fn events_text(alloc: Global, events: &[Event]) -> Result<String, AllocError>
     let Some((first, rest)) = events.split_first() else {
         return String::from_str(alloc, "none");
     };
-    let mut text = event_text(alloc, *first)?;
+    let mut text = String::new(alloc);
+    put_event(&mut text, *first)?;
     for event in rest {
-        let next = event_text(alloc, *event)?;
         text.push_str(",")?;
-        text.push_str(&next)?;
+        put_event(&mut text, *event)?;
     }
     Ok(text)
 }
@@ -60,20 +69,23 @@ fn reply_lines(
             slot: reply.slot,
             response: reply.response,
         };
-        let line = answer_line(alloc, object, end)?;
-        lines.push_str(&line)?;
+        put_answer_line(&mut lines, object, end)?;
     }
     Ok(lines)
 }
 
-/// The line of the call that has no reply, which is empty where there is none.
-fn end_line(alloc: Global, object: &Table, process: u8, end: End) -> Result<String, AllocError>
-    ensures { IfOk result (λ line. string_bytes line ≡ end_line object.now process end) }
+/// The line of the call that has no reply goes behind the lines, if there is one.
+fn put_end_line(lines: &mut String, object: &Table, process: u8, end: End) -> Result<(), AllocError>
+    ensures { OnOk result (string_bytes lines.new ≡ string_bytes lines.old ++ end_line object.now process end) }
 {
     match end {
-        End::Whole => Ok(String::new(alloc)),
-        End::Full => answer_line(alloc, object, CallEnd::Full { process }),
-        End::Stopped => format!(in alloc; "stopped {process}\n"),
+        End::Whole => Ok(()),
+        End::Full => put_answer_line(lines, object, CallEnd::Full { process }),
+        End::Stopped => {
+            lines.push_str("stopped ")?;
+            put_number(lines, u16::from(process))?;
+            lines.push_str("\n")
+        }
     }
 }
 
@@ -88,8 +100,7 @@ fn call_lines(
     ensures { IfOk result (λ lines. string_bytes lines ≡ call_lines object.now process replies.now end) }
 {
     let mut lines = reply_lines(alloc, object, process, replies)?;
-    let last = end_line(alloc, object, process, end)?;
-    lines.push_str(&last)?;
+    put_end_line(&mut lines, object, process, end)?;
     Ok(lines)
 }
 

@@ -17,6 +17,13 @@ pub enum Outcome {
     Cut,
 }
 
+/// What serving comes to: the lines, and how the command ends that writes them.
+#[derive(Drop)]
+pub(crate) struct Served {
+    pub lines: String,
+    pub outcome: Outcome,
+}
+
 /// A writer, the bytes that were handed to it, and whether it took them.
 #[derive(Drop)]
 pub struct Output<'a, W> {

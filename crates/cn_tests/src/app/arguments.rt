@@ -1,5 +1,6 @@
 //! Arguments that are lists.
 use super::*;
+use cn_app::{Text, read_argument};
 
 #[test]
 fn reads_inputs(rt: HostRuntime) -> Result<(), Fail> {
@@ -25,5 +26,26 @@ fn reads_lists_up_to_their_limit(rt: HostRuntime) -> Result<(), Fail> {
     text.push_str(",0")?;
     let schedule = read_schedule(rt.alloc(), text.as_str());
     assert_eq!(rt; schedule.err(), Some(AppFault::Argument(Part::Schedule)));
+    Ok(())
+}
+
+/// The text of an argument that a file of these bytes holds.
+fn in_a_file(alloc: Global, bytes: &[u8]) -> Result<String, AppFault> {
+    let mut reader = bytes;
+    let mut text = Text::new(alloc, &mut reader);
+    read_argument(alloc, &mut text, Part::Inputs)
+}
+
+#[test]
+fn reads_the_text_of_a_list_in_a_file(rt: HostRuntime) -> Result<(), Fail> {
+    let alloc = rt.alloc();
+    for bytes in [b"10,20\n".as_slice(), b"10,20".as_slice()] {
+        let text = in_a_file(alloc, bytes)?;
+        assert_eq!(rt; text.as_str(), "10,20");
+    }
+    let text = in_a_file(alloc, b"10,20\n\n")?;
+    assert_eq!(rt; text.as_str(), "10,20\n");
+    let fault = in_a_file(alloc, b"10,\xff\n").err();
+    assert_eq!(rt; fault, Some(AppFault::Argument(Part::Inputs)));
     Ok(())
 }

@@ -1,5 +1,5 @@
 //! The command `check`.
-use super::streams::{Drip, Narrow};
+use super::streams::Drip;
 use super::*;
 use crate::certificates::*;
 use crate::types::*;
@@ -31,22 +31,6 @@ fn a_certificate_is_read_after_the_table(rt: HostRuntime) -> Result<(), Fail> {
         let outcome = ended(&rt, rt.alloc(), &mut table, &mut certificate, &mut written);
         let text = told(rt.alloc(), outcome, written)?;
         assert_eq!(rt; text.as_str(), expected, "after {left} bytes");
-    }
-    Ok(())
-}
-
-#[test]
-fn a_fault_of_the_writer_is_told(rt: HostRuntime) -> Result<(), Fail> {
-    for (room, expected) in [
-        (0, Err(AppFault::Write)),
-        (2, Err(AppFault::Write)),
-        (3, Ok(Outcome::Whole)),
-    ] {
-        let mut writer = Narrow { room };
-        let mut table = test_and_set().as_bytes();
-        let mut certificate = test_and_set_at_3().as_bytes();
-        let outcome = ended(&rt, rt.alloc(), &mut table, &mut certificate, &mut writer);
-        assert_eq!(rt; outcome, expected, "room for {room}");
     }
     Ok(())
 }

@@ -6,22 +6,6 @@ use cn_app::{Named, Tell, classify_each};
 use std::io::Write;
 use std::thread::Threads;
 
-#[test]
-fn a_fault_of_the_reader_ends_the_reading(rt: HostRuntime) -> Result<(), Fail> {
-    let bytes = test_and_set().as_bytes();
-    for (left, expected) in [
-        (0, Err(AppFault::Read(Source::Table))),
-        (bytes.len(), Err(AppFault::Read(Source::Table))),
-        (bytes.len() + 1, Ok(Outcome::Whole)),
-    ] {
-        let mut reader = Drip { bytes, left };
-        let mut written = Vec::new(rt.alloc());
-        let outcome = run_classify(&rt, rt.alloc(), &mut reader, &mut written, 8);
-        assert_eq!(rt; outcome, expected, "after {left} bytes");
-    }
-    Ok(())
-}
-
 /// Keeps what it is told: whether it was of one table, and the fault.
 #[derive(Drop)]
 struct Kept {

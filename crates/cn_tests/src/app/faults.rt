@@ -8,7 +8,7 @@ use cn_search::FindFault;
 use cn_table::TableFault;
 
 /// A fault of each kind, how it reads, and its status.
-fn faults() -> [(AppFault, &'static str, u8); 24] {
+fn faults() -> [(AppFault, &'static str, u8); 26] {
     [
         (AppFault::Words, "words refused", 3),
         (AppFault::Argument(Part::Inputs), "argument: INPUTS", 3),
@@ -24,12 +24,22 @@ fn faults() -> [(AppFault, &'static str, u8); 24] {
             "certificate: too long",
             2,
         ),
+        (
+            AppFault::TooLong(Source::Argument(Part::Events)),
+            "EVENTS: too long",
+            2,
+        ),
         (AppFault::NoWitness, "certificate: no witness", 1),
         (AppFault::Read(Source::Table), "cannot read table", 4),
         (AppFault::Read(Source::Object), "cannot read object", 4),
         (
             AppFault::Read(Source::Certificate),
             "cannot read certificate",
+            4,
+        ),
+        (
+            AppFault::Read(Source::Argument(Part::Inputs)),
+            "cannot read INPUTS",
             4,
         ),
         (AppFault::Write, "cannot write", 4),

@@ -6,7 +6,7 @@ use cn_log::{Event, replay};
 use cn_table::State;
 
 /// Process 1 puts the calls of both in the first slot.
-const HELPED: &str = "i0:0,i1:0,s1,s1,s1,s1,s1,s1,s0,s0,s0,s0,s0,s0";
+pub(crate) const HELPED: &str = "i0:0,i1:0,s1,s1,s1,s1,s1,s1,s0,s0,s0,s0,s0,s0";
 
 /// The item, so many times, behind the text, with a comma between two.
 fn lengthen(text: &mut String, item: &str, times: usize) -> Result<(), Fail> {

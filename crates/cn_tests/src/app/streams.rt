@@ -1,4 +1,5 @@
-//! Readers and writers that fail.
+//! Readers and writers that fail, or that give and take little at a time.
+use arrayvec::ArrayVec;
 use std::io;
 use std::io::{ErrorKind, Read, Write};
 
@@ -60,6 +61,40 @@ impl Write for Narrow {
         }
         let taken = self.room.min(buffer.len());
         self.room -= taken;
+        Ok(taken)
+    }
+
+    fn flush(&mut self) -> io::Result<()> {
+        Ok(())
+    }
+}
+
+/// How a writer goes on that has no more room.
+#[derive(Clone, Copy, PartialEq, Eq)]
+pub(super) enum NoRoom {
+    Fails,
+    TakesNone,
+}
+
+/// A writer on a page, which wants no memory: it takes so many bytes a call, and so many in all.
+#[derive(Drop)]
+pub(crate) struct Page {
+    pub written: ArrayVec<u8, 512>,
+    pub most: usize,
+    pub room: usize,
+    pub no_room: NoRoom,
+}
+
+impl Write for Page {
+    fn write(&mut self, buffer: &[u8]) -> io::Result<usize> {
+        let taken = buffer.len().min(self.most).min(self.room);
+        if taken == 0 && self.no_room == NoRoom::Fails {
+            return Err(io::Error::from(ErrorKind::Other));
+        }
+        self.room -= taken;
+        for byte in buffer.iter().take(taken) {
+            let _ = self.written.try_push(*byte);
+        }
         Ok(taken)
     }
 

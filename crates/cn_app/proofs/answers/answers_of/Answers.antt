@@ -14,7 +14,7 @@ loop-event-preserved c = record {
   opening = search rules;
   schedule = grind (arith, common_steps);
   ends = grind (arith, common_steps);
-  responses = rw c.in_ok-come.ensures.ends (responses_more c.args.object.now c.loop-event.core.opening.object c.loop-event.ends.items _
+  responses = rw c.in_ok-come.ensures.ends (responses_more c.args.opening.object c.loop-event.core.opening.object c.loop-event.ends.items _
       (ap (λ (o : Opening). o.object) c.loop-event.invariant.opening) c.loop-event.invariant.responses c.in_ok-come.ensures.responses);
   few = omega (arith, c.come.ensures.few, c.loop-event.invariant.few);
   room = search rules;

@@ -1,5 +1,5 @@
 use Rattle.std.proofs.Common.{◌≡◌, ◌⊎◌, rules}
-use Rattle.cn_app.specs.Arguments.Lists.{ListsFail}
+use Rattle.cn_app.specs.Arguments.Lists.{ListsFail, inputs_of, schedule_of}
 use Rattle.cn_app.specs.Commands.Agree.{RunFails}
 use Rattle.cn_app.specs.Texts.Checked.{FailsChecked}
 use Rattle.cn_app.specs.Texts.Plans.{PlanFails}
@@ -15,7 +15,7 @@ returns-clause-refused g c =
     let new = c.agree-outcome.new in
     may_be_read source.Table g.R.Read.remaining c.new-table.result new.table c.args.table.now _ (search rules) (search rules) r c.agree-outcome.ensures.table
     (λ x e. MayBeRead source.Certificate r g.C.Read.remaining c.args.certificate.now _
-    (λ y. (e ≡ OutOfMemory) ⊎ ListsFail c.args.inputs.now c.args.schedule.now e (λ xs s. FailsChecked x y e (λ t z. PlanFails t z e (λ plan. RunFails plan xs s e)))))
+    (λ y. (e ≡ OutOfMemory) ⊎ ListsFail (inputs_of c.args.inputs.now) (schedule_of c.args.schedule.now) e (λ xs s. FailsChecked x y e (λ t z. PlanFails t z e (λ plan. RunFails plan xs s e)))))
     (may_be_read source.Certificate g.C.Read.remaining c.new-certificate.result new.certificate c.args.certificate.now _ (search rules) (search rules) r c.agree-outcome.ensures.certificate
-    (λ y e. (e ≡ OutOfMemory) ⊎ ListsFail c.args.inputs.now c.args.schedule.now e (λ xs s. FailsChecked new.table.bytes.items y e (λ t z. PlanFails t z e (λ plan. RunFails plan xs s e))))
+    (λ y e. (e ≡ OutOfMemory) ⊎ ListsFail (inputs_of c.args.inputs.now) (schedule_of c.args.schedule.now) e (λ xs s. FailsChecked new.table.bytes.items y e (λ t z. PlanFails t z e (λ plan. RunFails plan xs s e))))
     c.agree-outcome.ensures.refused)

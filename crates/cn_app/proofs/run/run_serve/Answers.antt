@@ -1,6 +1,5 @@
 use Rattle.std.proofs.Common.{◌≡◌, ◌⊎◌, rules}
-use Rattle.cn_app.specs.Texts.Plans.{PlanFails}
-use Rattle.cn_app.specs.Texts.Services.{FailsObject, StartFails}
+use Rattle.cn_app.specs.Texts.Openings.{FailsOpening}
 use Rattle.cn_app.specs.Arguments.Calls.{CallsFail}
 use Rattle.cn_app.specs.Commands.Serve.{ThreadsFail}
 use Rattle.cn_app.specs.Streams.SourceBytes.{MayBeRead}
@@ -15,11 +14,11 @@ returns-clause-refused g c =
     let new = c.serve-outcome.new in
     may_be_read source.Table g.R.Read.remaining c.new-table.result new.table c.args.table.now _ (search rules) (search rules) r c.serve-outcome.ensures.table
     (λ x e. MayBeRead source.Certificate r g.C.Read.remaining c.args.certificate.now _ (λ y. MayBeRead source.Object r g.O.Read.remaining c.args.object.now _
-    (λ z. (e ≡ OutOfMemory) ⊎ CallsFail c.args.capacity.now c.args.calls.now e (λ k cs. FailsObject x y z e (λ t u o. PlanFails t u e (λ plan. StartFails o c.args.start.now e (λ _. ThreadsFail plan o cs e)))))))
+    (λ z. (e ≡ OutOfMemory) ⊎ CallsFail c.args.capacity.now c.args.calls.now e (λ k cs. FailsOpening x y z c.args.start.now k e (λ o. ThreadsFail o cs e)))))
     (may_be_read source.Certificate g.C.Read.remaining c.new-certificate.result new.certificate c.args.certificate.now _ (search rules) (search rules) r c.serve-outcome.ensures.certificate
     (λ y e. MayBeRead source.Object r g.O.Read.remaining c.args.object.now _
-    (λ z. (e ≡ OutOfMemory) ⊎ CallsFail c.args.capacity.now c.args.calls.now e (λ k cs. FailsObject new.table.bytes.items y z e (λ t u o. PlanFails t u e (λ plan. StartFails o c.args.start.now e (λ _. ThreadsFail plan o cs e))))))
+    (λ z. (e ≡ OutOfMemory) ⊎ CallsFail c.args.capacity.now c.args.calls.now e (λ k cs. FailsOpening new.table.bytes.items y z c.args.start.now k e (λ o. ThreadsFail o cs e))))
     (may_be_read source.Object g.O.Read.remaining c.new-object.result new.object c.args.object.now _ (search rules) (search rules) r c.serve-outcome.ensures.object
     (λ z e. (e ≡ OutOfMemory) ⊎ CallsFail c.args.capacity.now c.args.calls.now e (λ k cs.
-    FailsObject new.table.bytes.items new.certificate.bytes.items z e (λ t u o. PlanFails t u e (λ plan. StartFails o c.args.start.now e (λ _. ThreadsFail plan o cs e)))))
+    FailsOpening new.table.bytes.items new.certificate.bytes.items z c.args.start.now k e (λ o. ThreadsFail o cs e)))
     c.serve-outcome.ensures.refused))

@@ -1,5 +1,7 @@
-use Rattle.std.proofs.Common.{◌≡◌, ◌==◌, ◌&&◌, ◌∙◌, ℕ, Bool, List, length, map, nat_lt, eq-eqb}
+use Rattle.std.proofs.Common.{◌≡◌, ◌==◌, ◌&&◌, ◌∙◌, ℕ, Bool, List, length, map, nat_lt, ap, eq-eqb}
 use Rattle.std.specs.List.{list_all}
+use Rattle.cn_table.specs.TypeTable.{TypeTable}
+use Rattle.cn_proto.specs.Plan.{processes_of}
 use Rattle.std.proofs.lemmas.List.{length-map}
 use Rattle.std.proofs.lemmas.List.Folds.{list_all-map}
 use Rattle.cn_app.proofs.arguments.calls.calls_fit.Goals as goal
@@ -13,4 +15,5 @@ fitting items calls processes operations number known many is h =
 
 pub returns-then-calls-from-clause-fit : goal.returns-then-calls-from-clause-fit
 returns-then-calls-from-clause-fit c =
-    fitting (λ list. list.items) c.args.calls.now _ _ c.operations.result c.each_known.result (c.if-calls-from.true ∙ c.from.ensures ∙ c.processes.ensures.number) c.operations.ensures.number c.each_known.ensures
+    fitting (λ list. list.items) c.args.calls.now _ _ c.operations.result c.each_known.result (c.if-calls-from.true ∙ c.from.ensures ∙ c.processes.ensures.number ∙ ap processes_of c.plan-plan.ensures)
+    (c.operations.ensures.number ∙ ap (λ (t : TypeTable). length t.operations) c.object-object.ensures) c.each_known.ensures

@@ -26,9 +26,8 @@ loop-place-preserved c =
     record {
       state = c.apply-given.ensures.next;
       lines = rw next (
-          ap (λ b. b ++ rest c.apply-given.result.1.0) c.in_ok-push_str.ensures.bytes
-          ∙ append_assoc before c.deref.result.now (rest c.apply-given.result.1.0)
-          ∙ ap (λ b. before ++ (b ++ rest c.apply-given.result.1.0)) (c.deref.ensures ∙ c.in_ok-line.ensures)
+          ap (λ b. b ++ rest c.apply-given.result.1.0) c.in_ok-put_entry_line.ensures
+          ∙ append_assoc before (entry_line object c.slot_at-slot.result e (c.apply-given.result.0.0, c.apply-given.result.1.0)) (rest c.apply-given.result.1.0)
           ∙ ap (λ (x : ℕ × ℕ). before ++ (entry_line object c.slot_at-slot.result e x ++ rest x.1)) given
           ∙ ap (λ b. before ++ b) (sym lines)
           ∙ c.loop-place.invariant.lines

@@ -1,0 +1,18 @@
+-- Arguments whose text stands in a file.
+use Rattle.std.specs.Prelude.{ℕ, List, length, nat_lt, if◌then◌else◌, Result, Ok, Err}
+use Rattle.std.specs.Io.BufRead.{strip_last}
+use Rattle.std.specs.Str.{is_utf8}
+use Rattle.cn_app.specs.declared.limits.TheConstants.{MOST_ARGUMENT_BYTES}
+use Rattle.cn_app.specs.declared.fault.AppFault.{AppFault}
+use Rattle.cn_app.specs.declared.fault.AppFault.TheVariants as fault
+use Rattle.cn_app.specs.declared.fault.Part.{Part}
+use Rattle.cn_app.specs.declared.fault.Source.TheVariants as source
+
+-- without the line feed at the end, where there is one
+abbrev pub without_line_feed : List ℕ → List ℕ
+without_line_feed bytes = strip_last 10 bytes
+
+-- the text that stands in a file of these bytes, or its first fault: the bytes are too many, or they are no text
+abbrev pub argument_in : Part → List ℕ → Result (List ℕ) AppFault
+argument_in part bytes = if nat_lt MOST_ARGUMENT_BYTES (length bytes) then Err (fault.TooLong (source.Argument part))
+    else (if is_utf8 (without_line_feed bytes) then Ok (without_line_feed bytes) else Err (fault.Argument part))

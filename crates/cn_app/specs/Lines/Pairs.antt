@@ -1,0 +1,78 @@
+-- The pairs that the processes of a choice can get, by the team that moves first.
+use Rattle.std.specs.Prelude.{ℕ, ◌+◌, List, [], ◌∷◌, ◌++◌, length, codes, Bool, false, ◌&&◌, ◌==◌, max, Option, Some, None, if◌then◌else◌, flat_map, slice_get}
+use Rattle.std.specs.List.{list_any, range_with_len}
+use Rattle.std.specs.Fmt.{decimal}
+use Rattle.cn_table.specs.TypeTable.{TypeTable}
+use Rattle.cn_choice.specs.declared.team.Team.{Team}
+use Rattle.cn_choice.specs.declared.team.Team.TheVariants.{A, B}
+use Rattle.cn_choice.specs.Canonical.{Choice, raw_choice_of}
+use Rattle.cn_choice.specs.ResultSets.{pair_of}
+use Rattle.cn_choice.specs.TeamOrders.{orders_of}
+use Rattle.cn_proto.specs.PlanText.{name_at}
+use Rattle.cn_app.specs.declared.lines.names.Kind.TheVariants.{Responses, States}
+use Rattle.cn_app.specs.Lines.Names.{fill, longest, names_of, spaces}
+
+-- ---- which pairs
+
+-- what is seen is the pair of r and q
+abbrev pub is_pair : ℕ → ℕ → Option (ℕ × ℕ) → Bool
+is_pair r q None = false
+is_pair r q (Some pair) = pair.0 == r && pair.1 == q
+
+-- whether process j sees the pair of r and q in some order that begins in the team
+unfoldable pub sees : TypeTable → Choice → Team → ℕ → ℕ → ℕ → Bool
+sees t c team j r q = list_any (λ order. is_pair r q (pair_of t (raw_choice_of c) order.items j)) (orders_of c team j)
+
+-- the pair, where it passes the test
+abbrev pub kept : (ℕ → ℕ → Bool) → ℕ → ℕ → List (ℕ × ℕ)
+kept test r q = if test r q then (r, q) ∷ [] else []
+
+-- of the pairs of r and one of so many states those that pass the test, in order
+abbrev pub kept_with : (ℕ → ℕ → Bool) → ℕ → ℕ → List (ℕ × ℕ)
+kept_with test states r = flat_map (kept test r) (range_with_len 0 states)
+
+-- the pairs that process j sees where the team is first: by response, then by state
+abbrev pub seen_pairs : TypeTable → Choice → Team → ℕ → List (ℕ × ℕ)
+seen_pairs t c team j = flat_map (kept_with (sees t c team j) (length t.states)) (range_with_len 0 (length t.responses))
+
+-- ---- their text
+
+abbrev pub got : TypeTable → ℕ × ℕ → List ℕ
+got t pair = codes "got " ++ name_at t.responses pair.0 ++ codes ", reads " ++ name_at t.states pair.1
+
+-- the pair on the side of team A, if there is one
+abbrev pub left_part : TypeTable → Option (ℕ × ℕ) → List ℕ
+left_part t None = []
+left_part t (Some pair) = got t pair
+
+-- the spaces behind it, as many as the longest response and state would leave it
+abbrev pub left_gap : TypeTable → Option (ℕ × ℕ) → List ℕ
+left_gap t None = codes "            " ++ spaces (longest (names_of t Responses)) ++ spaces (longest (names_of t States))
+left_gap t (Some pair) = fill t Responses pair.0 ++ fill t States pair.1
+
+-- what stands before the pairs of a row: words in the first row of a process, and below them spaces
+abbrev pub before_left : ℕ → ℕ → List ℕ
+before_left j k = if k == 0 then (codes "  p" ++ decimal j ++ codes "   A first: ") else codes "                "
+
+abbrev pub before_right : ℕ → List ℕ
+before_right k = if k == 0 then codes "    B first: " else codes "             "
+
+-- the pair on the side of team B, if there is one, and what stands before it
+abbrev pub right_part : TypeTable → ℕ → Option (ℕ × ℕ) → Option (ℕ × ℕ) → List ℕ
+right_part t k a None = []
+right_part t k a (Some pair) = left_gap t a ++ before_right k ++ got t pair
+
+-- row k of process j: a pair of each side
+abbrev pub pair_row : TypeTable → ℕ → ℕ → Option (ℕ × ℕ) → Option (ℕ × ℕ) → List ℕ
+pair_row t j k a b = before_left j k ++ left_part t a ++ right_part t k a b ++ codes "\n"
+
+-- as many rows as the longer side has pairs
+abbrev pub rows : List (ℕ × ℕ) → List (ℕ × ℕ) → ℕ
+rows a b = max (length a) (length b)
+
+abbrev pub pair_rows : TypeTable → ℕ → List (ℕ × ℕ) → List (ℕ × ℕ) → List ℕ
+pair_rows t j a b = flat_map (λ k. pair_row t j k (slice_get a k) (slice_get b k)) (range_with_len 0 (rows a b))
+
+-- all that process j can get, on the left where team A is first, and on the right where B is
+abbrev pub seen_rows : TypeTable → Choice → ℕ → List ℕ
+seen_rows t c j = pair_rows t j (seen_pairs t c A j) (seen_pairs t c B j)

@@ -1,0 +1,45 @@
+//! Arguments whose text stands in a file.
+ghost use Rattle.std.specs.Prelude.{◌≡◌, ◌⊎◌, Ok, Err, IfOk, IfErr, string_bytes};
+ghost use Rattle.cn_app.specs.Arguments.Files.{argument_in, without_line_feed};
+ghost use Rattle.cn_app.specs.Streams.SourceBytes.{HasRead, IsUnread, MayFail};
+
+use crate::fault::{AppFault, Part, Source};
+use crate::limits::MOST_ARGUMENT_BYTES;
+use crate::streams::text::Text;
+use std::alloc::Global;
+use std::io::Read;
+
+/// The bytes without the line feed at the end, where there is one.
+fn without_line_feed(bytes: &[u8]) -> &[u8]
+    ensures { result.now ≡ without_line_feed bytes.now }
+{
+    if !bytes.is_empty() && bytes[bytes.len() - 1] == b'\n' {
+        return &bytes[..bytes.len() - 1];
+    }
+    bytes
+}
+
+/// Reads the text of an argument from a reader, as that of the file which the word `@FILE` names:
+/// at most [`MOST_ARGUMENT_BYTES`] bytes of UTF-8, with one line feed at the end or none, which is
+/// left out.
+///
+/// # Errors
+///
+/// The first of these: the reader fails, or gives more bytes; they are no UTF-8, and then
+/// `Argument(part)`. Want of memory can stand in place of any answer.
+pub fn read_argument<R: Read>(
+    alloc: Global,
+    text: &mut Text<'_, R>,
+    part: Part,
+) -> Result<String, AppFault>
+    requires { IsUnread text.old }
+    ensures text { IfOk result (λ s. argument_in part text.new.bytes.items ≡ Ok (string_bytes s)) }
+    ensures fault { IfErr result (λ e. MayFail (Source.Argument part) e ⊎ (argument_in part text.new.bytes.items ≡ Err e)) }
+    ensures read { HasRead (Source.Argument part) result R.remaining text.old text.new }
+{
+    text.fill(Source::Argument(part), MOST_ARGUMENT_BYTES)?;
+    match str::from_utf8(without_line_feed(&text.bytes)) {
+        Ok(written) => Ok(String::from_str(alloc, written)?),
+        Err(_) => Err(AppFault::Argument(part)),
+    }
+}

@@ -1,0 +1,62 @@
+//! What wants no memory once a log is made or a hall is open: every allocation is refused, and none
+//! is asked for.
+use super::protocol::{helped, is_helped};
+use super::*;
+use crate::fixtures::{events_of, plan_for, table_of};
+use crate::gates::{AlwaysOn, StopsAt};
+use crate::hall::{call, one_within_another, opened, reply, resume};
+use crate::types::*;
+use cn_hall::{CallFault, Go};
+use cn_log::{Event, LogCore};
+use cn_table::State;
+use std::cmp::Ordering;
+
+/// Whether each of the events could come.
+fn takes_all(core: &mut LogCore, events: &[Event]) -> bool {
+    for event in events {
+        if core.take(*event).is_err() {
+            return false;
+        }
+    }
+    true
+}
+
+#[test]
+fn events_of_a_log(rt: HostRuntime) -> Result<(), Fail> {
+    let alloc = rt.alloc();
+    let plan = plan_for(&rt, alloc, test_and_set(), 2)?;
+    let object = table_of(alloc, counter_3())?;
+    let events = helped(alloc)?;
+    assert!(rt; object.states() >= 1);
+    let mut core = LogCore::new(alloc, &plan, &object, State(0), 4)?;
+    let refusing = Refusing::new(alloc, REFUSE_ALL + 1);
+    let is_whole = takes_all(&mut core, &events) && is_helped(&core, &events);
+    let is_met = refusing.is_met();
+    assert!(rt; is_whole && !is_met);
+    Ok(())
+}
+
+/// Call 1 is stopped before its third step, then comes call 0, and then the rest of call 1.
+#[test]
+fn calls_of_a_hall(rt: HostRuntime) -> Result<(), Fail> {
+    let alloc = rt.alloc();
+    let (hall, mut zero, mut one, mut seats) = opened(&rt, alloc, 4, &[])?;
+    let events = events_of(alloc, &one_within_another(1, 2, 0, 6, 4))?;
+    let mut gate = StopsAt {
+        stop: 3,
+        last: Go::On,
+    };
+    let refusing = Refusing::new(alloc, REFUSE_ALL + 1);
+    let stopped = call(&rt, &hall, &mut one, &mut gate);
+    let first = call(&rt, &hall, &mut zero, &mut AlwaysOn);
+    let second = resume(&rt, &hall, &mut one, &mut AlwaysOn);
+    let order = hall.meet(&rt, &mut zero, &mut one);
+    seats.push_reserved(zero);
+    seats.push_reserved(one);
+    let core = hall.close(&rt, seats);
+    let is_met = refusing.is_met();
+    assert!(rt; stopped == Err(CallFault::Stopped) && !is_met);
+    assert!(rt; first == reply(0, 0) && second == reply(0, 1) && order == Ordering::Equal);
+    assert!(rt; core.schedule() == events.as_slice());
+    Ok(())
+}
