@@ -22,8 +22,8 @@ def path_of(name):
     return str(TOP / f"types/{name}.toml")
 
 
-def called(words, stdin="", stdout=None, pass_fds=(), env=os.environ):
-    """What the program prints, tells and answers with these words. Standard input is a text, bytes, the
+def called(words, stdin="", stdout=None, pass_fds=(), env=os.environ, program=PROGRAM):
+    """What the program, or another, prints, tells and answers with these words. Standard input is a text, bytes, the
     path of a file or a descriptor; standard output can be a descriptor, and then nothing that is printed is seen."""
     is_path = isinstance(stdin, pathlib.Path)
     given = stdin if isinstance(stdin, int) else os.open(stdin, os.O_RDONLY) if is_path else in_memory(stdin)
@@ -31,7 +31,7 @@ def called(words, stdin="", stdout=None, pass_fds=(), env=os.environ):
     ends = (given, printing if stdout is None else stdout, telling)
     moves = [(os.POSIX_SPAWN_DUP2, end, k) for k, end in enumerate(ends)]
     moves += [(os.POSIX_SPAWN_DUP2, file, file) for file in pass_fds]
-    process = os.posix_spawn(PROGRAM, [PROGRAM, *words], env, file_actions=moves)
+    process = os.posix_spawn(program, [program, *words], env, file_actions=moves)
     RUNNING[process] = time.monotonic()
     for file in {given, printing, telling} - {stdin}:
         os.close(file)

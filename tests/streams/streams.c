@@ -6,6 +6,7 @@
      READER_ENDLESS where it is set, it gives this byte without end, whatever the file holds
      READER_ERROR the number of its error
      WRITER_STEP, WRITER_FAILS, WRITER_ERROR    the same of standard output
+     WRITER_ONCE  where it is set, it fails once, and then goes on
      WRITER_ZERO  after how many bytes it takes none, and tells of no error
      STREAMS_TELL where the number of reads, the bytes given and the number of writes go at the end */
 #define _GNU_SOURCE
@@ -67,8 +68,11 @@ ssize_t read(int file, void *buffer, size_t size) {
 ssize_t write(int file, const void *buffer, size_t size) {
     if (file != 1) return syscall(SYS_write, file, buffer, size);
     long most = setting("WRITER_STEP", 1L << 30), fail = setting("WRITER_FAILS", -1), zero = setting("WRITER_ZERO", -1);
+    static int has_failed;
+    if (has_failed && setting("WRITER_ONCE", 0)) fail = -1;
     writes++;
     if (fail >= 0 && taken >= fail) {
+        has_failed = 1;
         errno = setting("WRITER_ERROR", EIO);
         return -1;
     }
