@@ -1,0 +1,89 @@
+# Completions of cnum for bash. Written by tests/manual from the help of the program.
+_cnum() {
+    local current=${COMP_WORDS[COMP_CWORD]} previous=${COMP_WORDS[COMP_CWORD - 1]}
+    local options values= arguments at words=()
+    COMPREPLY=()
+    case ${COMP_WORDS[1]} in
+    find)
+        options='--limit -h --help' arguments=''
+        [[ $previous == --limit ]] && values='2 3 4 5 6 7 8'
+        ;;
+    classify)
+        options='--limit -h --help' arguments='FILE...'
+        [[ $previous == --limit ]] && values='2 3 4 5 6 7 8'
+        ;;
+    lint)
+        options='-h --help' arguments=''
+        ;;
+    check)
+        options='-h --help' arguments='CERT'
+        ;;
+    explain)
+        options='--all -h --help' arguments='CERT'
+        ;;
+    show)
+        options='--as -h --help' arguments='CERT'
+        [[ $previous == --as ]] && values='text json dot promela'
+        ;;
+    draw)
+        options='-h --help' arguments=''
+        ;;
+    agree)
+        options='-h --help' arguments='CERT INPUTS SCHEDULE'
+        ;;
+    replay)
+        options='-h --help' arguments='CERT OBJECT START CAPACITY EVENTS'
+        ;;
+    serve)
+        options='-h --help' arguments='CERT OBJECT START CAPACITY CALLS'
+        ;;
+    help)
+        options='' arguments='COMMAND...'
+        ;;
+    esac
+    if ((COMP_CWORD == 1)); then
+        arguments=COMMAND options='-h --help -V --version'
+    elif [[ $values ]]; then
+        mapfile -t COMPREPLY < <(compgen -W "$values" -- "$current")
+        return
+    fi
+    if [[ $current == -* ]]; then
+        mapfile -t COMPREPLY < <(compgen -W "$options" -- "$current")
+        return
+    fi
+    if [[ $previous == [\<\>]* ]]; then
+        mapfile -t COMPREPLY < <(compgen -f -- "$current")
+        compopt -o filenames 2>/dev/null
+        return
+    fi
+    for ((at = 2; at < COMP_CWORD; at++)); do
+        case ${COMP_WORDS[at]} in
+        --as | --limit) ((at++)) ;;
+        [\<\>]*) ((at++)) ;;
+        -* | @) ;;
+        *) words+=("${COMP_WORDS[at]}") ;;
+        esac
+    done
+    read -r -a arguments <<<"$arguments"
+    at=${#words[@]}
+    if ((at >= ${#arguments[@]})) && [[ ${arguments[*]} == *... ]]; then
+        at=$((${#arguments[@]} - 1))
+    fi
+    case ${arguments[at]} in
+    COMMAND*)
+        mapfile -t COMPREPLY < <(compgen -W 'find classify lint check explain show draw agree replay serve help' -- "$current")
+        ;;
+    CERT* | OBJECT* | FILE*)
+        mapfile -t COMPREPLY < <(compgen -f -- "$current")
+        compopt -o filenames 2>/dev/null
+        ;;
+    INPUTS | SCHEDULE | EVENTS | CALLS)
+        if [[ $current == @* ]]; then
+            mapfile -t COMPREPLY < <(compgen -f -P @ -- "${current#@}")
+        elif [[ $previous == @ ]]; then
+            mapfile -t COMPREPLY < <(compgen -f -P @ -- "$current")
+        fi
+        ;;
+    esac
+}
+complete -F _cnum cnum
