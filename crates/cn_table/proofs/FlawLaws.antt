@@ -14,10 +14,12 @@ use Rattle.cn_table.specs.Draft.{Draft, DraftRow, row_names, draft_of}
 use Rattle.cn_table.specs.Faults.{root_keys, operation_keys, has_other_key, lacks_a_key, some_table, some_operation, has_unknown_key, has_missing_key, is_at, is_text, is_array_of, is_operation, has_wrong_kind, has_bad_name, is_miscounted, has_bad_count, has_repeated_name, is_misfit, has_bad_length, are_among, has_unknown_name, fault_of}
 use Rattle.cn_table.specs.Names.{is_name, has_repeat, number_of}
 use Rattle.cn_table.specs.FlawText.{kind_text, too_many_text, too_few_text, repeated_text, operation_text, no_operation_text, place_after, not_toml_text}
-use Rattle.cn_table.specs.Flaws.{Flaw, flaw, each, other_keys, missing_keys, wrong_kind, is_array, table_flaws, item_flaws, operation_flaws, root_flaws, flaws_by, bad_name, name_flaws, bad_count, count_flaws, repeats, repeat_flaws, row_lengths, length_flaws, unknown_entry, row_entries, entry_flaws, draft_flaws, document_flaws, text_flaws, flaws_at, flaws_view, first_fault}
+use Rattle.cn_table.specs.Flaws.{Flaw, flaw, each, other_keys, missing_keys, wrong_kind, is_array, is_of, kind_name, table_flaws, item_flaws, operation_flaws, root_flaws, flaws_by, bad_name, name_flaws, bad_count, count_flaws, repeats, repeat_flaws, row_lengths, length_flaws, unknown_entry, row_entries, entry_flaws, draft_flaws, document_flaws, text_flaws, flaws_at, flaws_view, first_fault}
 use Rattle.cn_table.specs.declared.fault.TableFault.{TableFault}
 use Rattle.cn_table.specs.declared.fault.TableFault.TheVariants.{NotToml, UnknownKey, MissingKey, WrongKind, BadName, Count, Repeated, RowLength, UnknownName}
 use Rattle.cn_table.specs.declared.flaw.Flaw as code_flaw
+use Rattle.cn_table.specs.declared.document_flaws.Kind.{Kind}
+use Rattle.cn_table.specs.declared.document_flaws.Kind.TheVariants.{Text, Texts, Tables}
 use Rattle.cn_table.specs.declared.document_flaws.Look.TheVariants.{OtherKeys, MissingKeys, Kinds}
 use Rattle.cn_table.specs.declared.limits.TheConstants.{MOST_OPERATIONS, MOST_RESPONSES, MOST_STATES}
 
@@ -127,12 +129,13 @@ missing_keys_first document =
 
 -- ---- kinds, where no key is missing
 
-told_kind : (is_kind : Data → Bool) (before key kind : List ℕ) (table : Members) → not (is_some (get_member key table)) ≡ false
-    → first_fault (wrong_kind is_kind before key kind table) ≡ told WrongKind (not (is_at is_kind key table))
-told_kind is_kind before key kind table there = of_value (get_member key table) there where
-  of_value : (o : Option Data) → not (is_some o) ≡ false → first_fault (cond (option_map_or is_kind o true) [] (flaw WrongKind (kind_text before key kind))) ≡ told WrongKind (not (option_map_or is_kind o false))
+told_kind : (kind : Kind) (before key : List ℕ) (table : Members) → not (is_some (get_member key table)) ≡ false
+    → first_fault (wrong_kind kind before key table) ≡ told WrongKind (not (is_at (is_of kind) key table))
+told_kind kind before key table there = of_value (get_member key table) there where
+  of_value : (o : Option Data) → not (is_some o) ≡ false
+      → first_fault (cond (option_map_or (is_of kind) o true) [] (flaw WrongKind (kind_text before key (kind_name kind)))) ≡ told WrongKind (not (option_map_or (is_of kind) o false))
   of_value None h = absurd cc
-  of_value (Some d) h = told_if WrongKind _ (is_kind d)
+  of_value (Some d) h = told_if WrongKind _ (is_of kind d)
 
 table_kinds : (i : ℕ) (table : Members) → lacks_a_key operation_keys table ≡ false → first_fault (table_flaws Kinds i table)
     ≡ told WrongKind (not (is_at is_text (codes "name") table && (is_at (is_array_of is_text) (codes "response") table && is_at (is_array_of is_text) (codes "next") table)))
@@ -141,9 +144,9 @@ table_kinds i table none =
     let (response, last) = or_parts (not (is_some (get_member (codes "response") table))) _ others in
     let (next, _) = or_parts (not (is_some (get_member (codes "next") table))) _ last in
     told_not WrongKind _ _ (is_at is_text (codes "name") table) (is_at (is_array_of is_text) (codes "response") table && is_at (is_array_of is_text) (codes "next") table)
-    (told_kind is_text _ (codes "name") _ table name)
+    (told_kind Text _ (codes "name") table name)
     (told_not WrongKind _ _ (is_at (is_array_of is_text) (codes "response") table) (is_at (is_array_of is_text) (codes "next") table)
-    (told_kind (is_array_of is_text) _ (codes "response") _ table response) (told_kind (is_array_of is_text) _ (codes "next") _ table next))
+    (told_kind Texts _ (codes "response") table response) (told_kind Texts _ (codes "next") table next))
 
 kinds_in_item : (i : ℕ) (d : Data) → option_map_or (lacks_a_key operation_keys) (as_table d) false ≡ false → first_fault (item_flaws Kinds i d) ≡ told WrongKind (not (is_operation d))
 kinds_in_item i d none = of_table (as_table d) none where
@@ -205,9 +208,9 @@ kinds_first document none =
     let d = is_at is_array (codes "operation") document in
     let e = option_map_or (list_any (λ d. not (is_operation d))) (array_at (codes "operation") document) false in
     told_append WrongKind (root_flaws Kinds document) (operation_flaws Kinds document) (not (a && (b && (c && d)))) e
-    (told_not WrongKind _ _ a (b && (c && d)) (told_kind is_text [] (codes "name") (codes "a text") document name)
-    (told_not WrongKind _ _ b (c && d) (told_kind (is_array_of is_text) [] (codes "states") (codes "an array of texts") document states)
-    (told_not WrongKind _ _ c d (told_kind (is_array_of is_text) [] (codes "responses") (codes "an array of texts") document responses) (told_kind is_array [] (codes "operation") (codes "an array of tables") document operation))))
+    (told_not WrongKind _ _ a (b && (c && d)) (told_kind Text [] (codes "name") document name)
+    (told_not WrongKind _ _ b (c && d) (told_kind Texts [] (codes "states") document states)
+    (told_not WrongKind _ _ c d (told_kind Texts [] (codes "responses") document responses) (told_kind Tables [] (codes "operation") document operation))))
     (kinds_in_operations document in_operations)
     ∙ ap (told WrongKind) (four_kinds a b c d e (is_at (is_array_of is_operation) (codes "operation") document) (is_array_of_operations document))
 

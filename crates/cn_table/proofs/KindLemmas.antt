@@ -1,14 +1,17 @@
 -- A draft can be made of a document where each value is of its kind, and a table of a draft where each entry is a name.
-use Rattle.std.proofs.Common.{◌≡◌, codes, ℕ, List, [], ◌∷◌, map, Option, Some, None, Bool, false, ◌&&◌, not, is_none, is_some, refl, ◌∙◌}
+use Rattle.std.proofs.Common.{◌≡◌, codes, ℕ, List, [], ◌∷◌, map, Option, Some, None, Bool, true, false, cond, ◌&&◌, not, is_none, is_some, Err, refl, ◌∙◌}
 use Rattle.std.specs.List.{list_all}
-use Rattle.std.specs.Option.{option_map_or}
+use Rattle.std.specs.Option.{option_map_or, ok_or}
 use Rattle.std.specs.Prelude.{option_map, option_and_then}
 use Rattle.toml.specs.Data.{Data, Items, Members, get_member, as_str, as_array, as_table}
-use Rattle.cn_table.specs.Document.{list_of, array_at}
+use Rattle.cn_table.specs.Document.{list_of, array_at, document_of}
 use Rattle.cn_table.specs.Draft.{Draft, DraftRow, all_some, ◌>>=◌, text_at, texts_at, row_of, row_at, rows_at, draft_of}
 use Rattle.cn_table.specs.Names.{number_of}
 use Rattle.cn_table.specs.Numbering.{numbers_of, row_from, rows_from, table_from}
-use Rattle.cn_table.specs.Faults.{is_at, is_text, is_array_of, is_operation, has_wrong_kind, are_among, has_unknown_name}
+use Rattle.cn_table.specs.Faults.{is_at, is_text, is_array_of, is_operation, has_unknown_key, has_missing_key, has_wrong_kind, has_bad_name, has_bad_count, has_repeated_name, has_bad_length, are_among, has_unknown_name, fault_of, reading}
+use Rattle.cn_table.specs.Reads.{draft_reading, document_reading}
+use Rattle.cn_table.specs.TypeTable.{TypeTable}
+use Rattle.cn_table.specs.declared.fault.TableFault.TheVariants.{NotToml, UnknownKey, MissingKey, WrongKind, BadName, Count, Repeated, RowLength, UnknownName}
 
 -- one step of a reading, whose rest gives something where `more` says so
 then_some : {A B : Type 0} (o : Option A) (f : A → Option B) (more : Bool) → ((x : A) → is_some (f x) ≡ more) → is_some (o >>= f) ≡ (is_some o && more)
@@ -81,3 +84,44 @@ no_table draft = is_none-not (table_from draft) _ (
     last_some (rows_from draft.states draft.responses draft.operations) _
     ∙ all_are_some (row_from draft.states draft.responses) _ (row_is_known draft.states draft.responses) draft.operations
     )
+
+-- ---- the readings step by step are those by the list of faults
+
+by_draft : (u m : Bool) (o : Option Draft)
+    → option_map_or Err (cond u (Some UnknownKey) (cond m (Some MissingKey) (cond (is_none o) (Some WrongKind)
+    (cond (option_map_or has_bad_name o false) (Some BadName) (cond (option_map_or has_bad_count o false) (Some Count)
+    (cond (option_map_or has_repeated_name o false) (Some Repeated) (cond (option_map_or has_bad_length o false) (Some RowLength)
+    (cond (option_map_or has_unknown_name o false) (Some UnknownName) None)))))))) (ok_or (option_and_then table_from o) UnknownName)
+    ≡ cond u (Err UnknownKey) (cond m (Err MissingKey) (option_map_or draft_reading o (Err WrongKind)))
+unfolding draft_reading
+by_draft true m o = refl
+by_draft false true o = refl
+by_draft false false None = refl
+by_draft false false (Some d) = of_tests (has_bad_name d) (has_bad_count d) (has_repeated_name d) (has_bad_length d) (has_unknown_name d) (table_from d) (no_table d) where
+  of_tests : (n c r l u : Bool) (t : Option TypeTable) → u ≡ is_none t
+      → option_map_or Err (cond n (Some BadName) (cond c (Some Count) (cond r (Some Repeated) (cond l (Some RowLength) (cond u (Some UnknownName) None))))) (ok_or t UnknownName)
+      ≡ cond n (Err BadName) (cond c (Err Count) (cond r (Err Repeated) (cond l (Err RowLength) (ok_or t UnknownName))))
+  of_tests true c r l u t same = refl
+  of_tests false true r l u t same = refl
+  of_tests false false true l u t same = refl
+  of_tests false false false true u t same = refl
+  of_tests false false false false true None same = refl
+  of_tests false false false false false None same = refl
+  of_tests false false false false true (Some t) same = cc
+  of_tests false false false false false (Some t) same = refl
+
+pub reading_by_document : (bytes : List ℕ) → reading bytes ≡ option_map_or document_reading (document_of bytes) (Err NotToml)
+unfolding fault_of document_reading
+reading_by_document bytes = of_document (document_of bytes) where
+  in_draft_of : (Draft → Bool) → Option Members → Bool
+  in_draft_of test o = option_map_or (λ document. option_map_or test (draft_of document) false) o false
+
+  of_document : (o : Option Members)
+      → option_map_or Err (cond (is_none o) (Some NotToml) (cond (option_map_or has_unknown_key o false) (Some UnknownKey)
+      (cond (option_map_or has_missing_key o false) (Some MissingKey) (cond (option_map_or has_wrong_kind o false) (Some WrongKind)
+      (cond (in_draft_of has_bad_name o) (Some BadName) (cond (in_draft_of has_bad_count o) (Some Count)
+      (cond (in_draft_of has_repeated_name o) (Some Repeated) (cond (in_draft_of has_bad_length o) (Some RowLength)
+      (cond (in_draft_of has_unknown_name o) (Some UnknownName) None))))))))) (ok_or (option_and_then (λ document. option_and_then table_from (draft_of document)) o) UnknownName)
+      ≡ option_map_or document_reading o (Err NotToml)
+  of_document None = refl
+  of_document (Some document) = rw (no_draft document) (by_draft (has_unknown_key document) (has_missing_key document) (draft_of document))

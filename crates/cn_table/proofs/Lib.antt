@@ -8,5 +8,4 @@ pub mod NameLists
 pub mod Rows
 pub mod ReachLemmas
 pub mod Lines
-pub mod GridLemmas
 pub mod Faultless

@@ -13,6 +13,8 @@ use Rattle.cn_table.specs.Names.{is_name, number_of}
 use Rattle.cn_table.specs.FlawText.{place_after, not_toml_text, operation_text, other_key_text, missing_key_text, kind_text, no_operation_text, bad_name_text, too_many_text, too_few_text, repeated_text, length_text, entry_text, listed}
 use Rattle.cn_table.specs.declared.fault.TableFault.{TableFault}
 use Rattle.cn_table.specs.declared.fault.TableFault.TheVariants.{NotToml, UnknownKey, MissingKey, WrongKind, BadName, Count, Repeated, RowLength, UnknownName}
+use Rattle.cn_table.specs.declared.document_flaws.Kind.{Kind}
+use Rattle.cn_table.specs.declared.document_flaws.Kind.TheVariants.{Text, Texts, Tables}
 use Rattle.cn_table.specs.declared.document_flaws.Look.{Look}
 use Rattle.cn_table.specs.declared.document_flaws.Look.TheVariants.{OtherKeys, MissingKeys, Kinds}
 use Rattle.cn_table.specs.declared.flaw.Flaw as code_flaw
@@ -50,15 +52,23 @@ other_keys before after known keys =
 abbrev pub missing_keys : List ℕ → List (List ℕ) → Members → List Flaw
 missing_keys place known table = flat_map (λ key. if is_some (get_member key table) then [] else flaw MissingKey (missing_key_text place key)) known
 
+abbrev pub is_array : Data → Bool
+is_array d = is_some (as_array d)
+
+-- whether a value is of the kind, and what the kind is called; that the items of an array are tables is looked at one by one
+abbrev pub is_of : Kind → Data → Bool
+is_of Text = is_text
+is_of Texts = is_array_of is_text
+is_of Tables = is_array
+
+abbrev pub kind_name : Kind → List ℕ
+kind_name Text = codes "a text"
+kind_name Texts = codes "an array of texts"
+kind_name Tables = codes "an array of tables"
+
 -- a value that is not of this kind
-abbrev pub wrong_kind : (Data → Bool) → List ℕ → List ℕ → List ℕ → Members → List Flaw
-wrong_kind is_kind before key kind table = if option_map_or is_kind (get_member key table) true then [] else flaw WrongKind (kind_text before key kind)
-
-abbrev pub wrong_text : List ℕ → List ℕ → Members → List Flaw
-wrong_text before key table = wrong_kind is_text before key (codes "a text") table
-
-abbrev pub wrong_texts : List ℕ → List ℕ → Members → List Flaw
-wrong_texts before key table = wrong_kind (is_array_of is_text) before key (codes "an array of texts") table
+abbrev pub wrong_kind : Kind → List ℕ → List ℕ → Members → List Flaw
+wrong_kind kind before key table = if option_map_or (is_of kind) (get_member key table) true then [] else flaw WrongKind (kind_text before key (kind_name kind))
 
 -- how the table of an operation is called
 abbrev pub table_text : ℕ → Members → List ℕ
@@ -69,8 +79,9 @@ abbrev pub table_flaws : Look → ℕ → Members → List Flaw
 table_flaws OtherKeys i table = other_keys (table_text i table ++ codes ", ") (codes ": an operation has name, response, next") operation_keys (keys_in table)
 table_flaws MissingKeys i table = missing_keys (table_text i table) operation_keys table
 table_flaws Kinds i table =
-    wrong_text (table_text i table ++ codes ", ") (codes "name") table
-    ++ (wrong_texts (table_text i table ++ codes ", ") (codes "response") table ++ wrong_texts (table_text i table ++ codes ", ") (codes "next") table)
+    wrong_kind Text (table_text i table ++ codes ", ") (codes "name") table
+    ++ (wrong_kind Texts (table_text i table ++ codes ", ") (codes "response") table
+    ++ wrong_kind Texts (table_text i table ++ codes ", ") (codes "next") table)
 
 -- and in what is no table
 abbrev pub no_table_flaws : Look → ℕ → List Flaw
@@ -86,17 +97,14 @@ item_flaws look i d = option_map_or (table_flaws look i) (as_table d) (no_table_
 abbrev pub operation_flaws : Look → Members → List Flaw
 operation_flaws look document = option_map_or (each (item_flaws look) 0) (array_at (codes "operation") document) []
 
-abbrev pub is_array : Data → Bool
-is_array d = is_some (as_array d)
-
 -- in the root
 abbrev pub root_flaws : Look → Members → List Flaw
 root_flaws OtherKeys document = other_keys [] (codes ": the root has name, states, responses, operation") root_keys (keys_in document)
 root_flaws MissingKeys document = missing_keys (codes "the root") root_keys document
 root_flaws Kinds document =
-    wrong_text [] (codes "name") document
-    ++ (wrong_texts [] (codes "states") document
-    ++ (wrong_texts [] (codes "responses") document ++ wrong_kind is_array [] (codes "operation") (codes "an array of tables") document))
+    wrong_kind Text [] (codes "name") document
+    ++ (wrong_kind Texts [] (codes "states") document
+    ++ (wrong_kind Texts [] (codes "responses") document ++ wrong_kind Tables [] (codes "operation") document))
 
 -- in the whole document
 abbrev pub flaws_by : Look → Members → List Flaw

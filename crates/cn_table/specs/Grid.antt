@@ -1,5 +1,5 @@
 -- A table as a grid: a line for each operation, a column for each state.
-use Rattle.std.specs.Prelude.{◌≡◌, codes, ℕ, ◌+◌, ◌-◌, max, List, [], ◌∷◌, ◌++◌, ◌==◌, ◌&&◌, length, flat_map, replicate, get_or, Bool, true, false, if◌then◌else◌, slice_get, slice_index_or, unwrap_or}
+use Rattle.std.specs.Prelude.{◌≡◌, codes, ℕ, ◌+◌, ◌-◌, max, List, [], ◌∷◌, ◌++◌, ◌==◌, ◌&&◌, length, nat_lt, flat_map, replicate, get_or, Bool, true, false, Option, Some, None, if◌then◌else◌, slice_get, slice_index_or, unwrap_or}
 use Rattle.std.specs.List.{range_with_len}
 use Rattle.cn_table.specs.TypeTable.{TypeTable, operation_names, transition, no_row}
 use Rattle.cn_table.specs.Reach.{AreReached}
@@ -17,34 +17,50 @@ abbrev pub padding : ℕ → List ℕ → List ℕ
 padding width text = spaces (width - length text)
 
 -- the name with this number
-abbrev pub nth : List (List ℕ) → ℕ → List ℕ
-nth names k = unwrap_or (slice_get names k) []
+abbrev pub name_at : List (List ℕ) → ℕ → List ℕ
+name_at names k = unwrap_or (slice_get names k) []
 
--- the state of a column, above what stands in it
-abbrev pub head_cell : ℕ → ℕ → List ℕ → List ℕ
-head_cell responses states state = codes "  " ++ (spaces responses ++ (codes " " ++ (padding states state ++ state)))
+-- the spaces that a response and a state lack of the widest of both
+abbrev pub pair_padding : TypeTable → List ℕ → List ℕ → List ℕ
+pair_padding t response state = padding (widest t.responses) response ++ padding (widest t.states) state
 
--- a response and a next state, where responses and states are so wide
-abbrev pub effect_cell : ℕ → ℕ → List ℕ → List ℕ → List ℕ
-effect_cell responses states response state = codes "  " ++ (padding responses response ++ (padding states state ++ (response ++ (codes ">" ++ state))))
+-- what stands in the column of a state: its name at the head, and in the row of an operation the response and the next state
+abbrev pub cell : TypeTable → Option ℕ → ℕ → List ℕ
+cell t None q = name_at t.states q
+cell t (Some o) q = name_at t.responses (transition t o q).0 ++ codes ">" ++ name_at t.states (transition t o q).1
+
+-- the spaces up to the next column: three more than the widest response and state would leave
+abbrev pub cell_gap : TypeTable → Option ℕ → ℕ → List ℕ
+cell_gap t None q = pair_padding t [] (name_at t.states q) ++ codes "    "
+cell_gap t (Some o) q = pair_padding t (name_at t.responses (transition t o q).0) (name_at t.states (transition t o q).1) ++ codes "   "
+
+-- with no spaces at the end of the line
+abbrev pub column : TypeTable → Option ℕ → ℕ → List ℕ
+column t row q = cell t row q ++ (if nat_lt (q + 1) (length t.states) then cell_gap t row q else [])
+
+abbrev pub columns : TypeTable → Option ℕ → List ℕ
+columns t row = flat_map (column t row) (range_with_len 0 (length t.states))
 
 abbrev pub head_line : TypeTable → List ℕ
-head_line t =
-    codes "  " ++ (spaces (widest (operation_names t)) ++ (flat_map (head_cell (widest t.responses) (widest t.states)) t.states ++ codes "\n"))
+head_line t = spaces (widest (operation_names t)) ++ codes "      " ++ columns t None ++ codes "\n"
 
--- what an operation does in a state
-abbrev pub effect : TypeTable → ℕ → ℕ → List ℕ
-effect t o q = effect_cell (widest t.responses) (widest t.states) (nth t.responses (transition t o q).0) (nth t.states (transition t o q).1)
+-- what the cells say, behind the first row
+abbrev pub legend : ℕ → List ℕ
+legend o = if o == 0 then codes "            (response > next state)" else []
 
 abbrev pub operation_line : TypeTable → ℕ → List ℕ
 operation_line t o =
-    codes "  " ++ (nth (operation_names t) o ++ (padding (widest (operation_names t)) (nth (operation_names t) o)
-    ++ (flat_map (effect t o) (range_with_len 0 (length t.states)) ++ codes "\n")))
+    codes "  " ++ name_at (operation_names t) o ++ padding (widest (operation_names t)) (name_at (operation_names t) o) ++ codes "    " ++ columns t (Some o)
+    ++ legend o ++ codes "\n"
+
+-- the cells of the grid: a line with the states, and one for each operation
+unfoldable pub cells_text : TypeTable → List ℕ
+cells_text t = head_line t ++ flat_map (operation_line t) (range_with_len 0 (length t.operations))
 
 -- a line for a state to which nothing leads from the first
 abbrev pub state_mark : TypeTable → ℕ → Bool → List ℕ
 state_mark t q is_reached =
-    if is_reached then [] else codes "state " ++ (nth t.states q ++ (codes ": cannot be reached from " ++ (nth t.states 0 ++ codes "\n")))
+    if is_reached then [] else codes "state " ++ (name_at t.states q ++ (codes ": cannot be reached from " ++ (name_at t.states 0 ++ codes "\n")))
 
 -- each of these is its own place, counted from here
 abbrev pub is_in_place : ℕ → List ℕ → Bool
@@ -57,16 +73,15 @@ changes_nothing t o = is_in_place 0 (slice_index_or t.operations o no_row).next
 
 -- a line for an operation that changes nothing
 abbrev pub operation_mark : TypeTable → ℕ → List ℕ
-operation_mark t o = if changes_nothing t o then codes "operation " ++ (nth (operation_names t) o ++ codes ": changes nothing\n") else []
+operation_mark t o = if changes_nothing t o then codes "operation " ++ (name_at (operation_names t) o ++ codes ": changes nothing\n") else []
 
 abbrev pub title : TypeTable → List ℕ
-title t = t.name ++ codes ": response>next state, by state\n"
+title t = t.name ++ codes "\n"
 
 unfoldable pub grid_text : TypeTable → List Bool → List ℕ
 grid_text t reached =
-    title t ++ (head_line t ++ (flat_map (operation_line t) (range_with_len 0 (length t.operations))
-    ++ (flat_map (λ q. state_mark t q (get_or reached q false)) (range_with_len 0 (length t.states))
-    ++ flat_map (operation_mark t) (range_with_len 0 (length t.operations)))))
+    title t ++ (cells_text t ++ (flat_map (λ q. state_mark t q (get_or reached q false)) (range_with_len 0 (length t.states))
+    ++ flat_map (operation_mark t) (range_with_len 0 (length t.operations))))
 
 -- the text of the grid of a table
 abbrev pub IsGrid : TypeTable → List ℕ → Type 0

@@ -7,7 +7,7 @@ ghost use Rattle.toml.specs.Data.{get_member};
 ghost use Rattle.toml.specs.View.{table_view, view};
 ghost use Rattle.cn_table.specs.Document.{keys_in};
 ghost use Rattle.cn_table.specs.Faults.{is_text, is_array_of};
-ghost use Rattle.cn_table.specs.Flaws.{flaws_view, each, other_keys, missing_keys, wrong_kind, wrong_text, wrong_texts, table_text, is_array};
+ghost use Rattle.cn_table.specs.Flaws.{flaws_view, each, other_keys, missing_keys, wrong_kind, table_text};
 ghost use Rattle.cn_table.specs.Flaws.{table_flaws, no_table_flaws, item_flaws, operation_flaws, root_flaws, flaws_by};
 ghost use Rattle.cn_table.specs.FlawText.{other_key_text, missing_key_text, kind_text, no_operation_text};
 
@@ -24,6 +24,38 @@ pub(crate) enum Look {
     OtherKeys,
     MissingKeys,
     Kinds,
+}
+
+/// What a value should be.
+#[derive(Clone, Copy)]
+enum Kind {
+    Text,
+    Texts,
+    Tables,
+}
+
+impl Kind {
+    ghost use Rattle.cn_table.specs.Flaws.{is_of, kind_name};
+
+    fn is_of(self, value: &Value) -> bool
+        ensures { result ≡ is_of self (view value.now) }
+    {
+        match self {
+            Kind::Text => is_text(value),
+            Kind::Texts => is_texts(value),
+            Kind::Tables => value.as_array().is_some(),
+        }
+    }
+
+    fn name(self) -> &'static str
+        ensures { result.now ≡ kind_name self }
+    {
+        match self {
+            Kind::Text => "a text",
+            Kind::Texts => "an array of texts",
+            Kind::Tables => "an array of tables",
+        }
+    }
 }
 
 fn other_key_text(alloc: Global, before: &str, after: &str, key: &str) -> Result<String, AllocError>
@@ -54,7 +86,6 @@ fn push_other_entries(
 }
 
 /// The keys of the table that are none of these.
-
 fn push_other_keys(
     alloc: Global,
     flaws: &mut Vec<Flaw>,
@@ -121,49 +152,20 @@ fn is_texts(value: &Value) -> bool
     }
 }
 
-fn push_wrong_text(
+/// What stands at a key where it is not of this kind.
+fn push_wrong_kind(
     alloc: Global,
     flaws: &mut Vec<Flaw>,
+    kind: Kind,
     before: &str,
     key: &str,
     table: &Table,
 ) -> Result<(), AllocError>
-    ensures { OnOk result (flaws_view flaws.new ≡ flaws_view flaws.old ++ wrong_text before.now key.now (table_view table.now)) }
+    ensures { OnOk result (flaws_view flaws.new ≡ flaws_view flaws.old ++ wrong_kind kind before.now key.now (table_view table.now)) }
 {
     if let Some(value) = value_at(table, key) {
-        if !is_text(value) {
-            let text = kind_text(alloc, before, key, "a text")?;
-            push_flaw(flaws, TableFault::WrongKind, text)?;
-        }
-    }
-    Ok(())
-}
-
-fn push_wrong_texts(
-    alloc: Global,
-    flaws: &mut Vec<Flaw>,
-    before: &str,
-    key: &str,
-    table: &Table,
-) -> Result<(), AllocError>
-    ensures { OnOk result (flaws_view flaws.new ≡ flaws_view flaws.old ++ wrong_texts before.now key.now (table_view table.now)) }
-{
-    if let Some(value) = value_at(table, key) {
-        if !is_texts(value) {
-            let text = kind_text(alloc, before, key, "an array of texts")?;
-            push_flaw(flaws, TableFault::WrongKind, text)?;
-        }
-    }
-    Ok(())
-}
-
-fn push_no_array(alloc: Global, flaws: &mut Vec<Flaw>, document: &Table) -> Result<(), AllocError>
-    ensures { OnOk result (flaws_view flaws.new ≡ flaws_view flaws.old
-        ++ wrong_kind is_array [] (codes "operation") (codes "an array of tables") (table_view document.now)) }
-{
-    if let Some(value) = value_at(document, "operation") {
-        if value.as_array().is_none() {
-            let text = kind_text(alloc, "", "operation", "an array of tables")?;
+        if !kind.is_of(value) {
+            let text = kind_text(alloc, before, key, kind.name())?;
             push_flaw(flaws, TableFault::WrongKind, text)?;
         }
     }
@@ -182,12 +184,13 @@ fn push_table_kinds(
     before: &str,
     table: &Table,
 ) -> Result<(), AllocError>
-    ensures { OnOk result (flaws_view flaws.new ≡ flaws_view flaws.old ++ (wrong_text before.now (codes "name") (table_view table.now)
-        ++ (wrong_texts before.now (codes "response") (table_view table.now) ++ wrong_texts before.now (codes "next") (table_view table.now)))) }
+    ensures { OnOk result (flaws_view flaws.new ≡ flaws_view flaws.old ++ (wrong_kind Kind.Text before.now (codes "name") (table_view table.now)
+        ++ (wrong_kind Kind.Texts before.now (codes "response") (table_view table.now)
+        ++ wrong_kind Kind.Texts before.now (codes "next") (table_view table.now)))) }
 {
-    push_wrong_text(alloc, flaws, before, "name", table)?;
-    push_wrong_texts(alloc, flaws, before, "response", table)?;
-    push_wrong_texts(alloc, flaws, before, "next", table)
+    push_wrong_kind(alloc, flaws, Kind::Text, before, "name", table)?;
+    push_wrong_kind(alloc, flaws, Kind::Texts, before, "response", table)?;
+    push_wrong_kind(alloc, flaws, Kind::Texts, before, "next", table)
 }
 
 fn push_table_flaws(
@@ -259,10 +262,10 @@ fn push_items_flaws(
 fn push_root_kinds(alloc: Global, flaws: &mut Vec<Flaw>, document: &Table) -> Result<(), AllocError>
     ensures { OnOk result (flaws_view flaws.new ≡ flaws_view flaws.old ++ root_flaws Look.Kinds (table_view document.now)) }
 {
-    push_wrong_text(alloc, flaws, "", "name", document)?;
-    push_wrong_texts(alloc, flaws, "", "states", document)?;
-    push_wrong_texts(alloc, flaws, "", "responses", document)?;
-    push_no_array(alloc, flaws, document)
+    push_wrong_kind(alloc, flaws, Kind::Text, "", "name", document)?;
+    push_wrong_kind(alloc, flaws, Kind::Texts, "", "states", document)?;
+    push_wrong_kind(alloc, flaws, Kind::Texts, "", "responses", document)?;
+    push_wrong_kind(alloc, flaws, Kind::Tables, "", "operation", document)
 }
 
 fn push_root_flaws(

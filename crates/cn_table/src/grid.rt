@@ -1,8 +1,8 @@
 //! A table as a grid, for people.
-ghost use Rattle.std.specs.Prelude.{◌≡◌, ◌-◌, ◌<◌, ◌++◌, IfOk, OnOk, codes, flat_map, get_or, false, length, map, string_bytes};
+ghost use Rattle.std.specs.Prelude.{◌≡◌, ◌<◌, ◌++◌, IfOk, IfSome, OnOk, flat_map, get_or, false, length, map, option_map, string_bytes};
 ghost use Rattle.std.specs.List.{range_with_len};
 ghost use Rattle.cn_table.specs.TypeTable.{operation_names};
-ghost use Rattle.cn_table.specs.Grid.{widest, spaces, padding, head_cell, effect_cell, head_line, effect, operation_line, state_mark, is_in_place, changes_nothing, operation_mark, title, grid_text, IsGrid};
+ghost use Rattle.cn_table.specs.Grid.{cell, cell_gap, cells_text, changes_nothing, column, columns, grid_text, head_line, is_in_place, operation_line, operation_mark, padding, pair_padding, spaces, state_mark, title, widest, IsGrid};
 
 use crate::elements::{Operation, State};
 use crate::limits::MOST_STATES;
@@ -36,87 +36,107 @@ fn push_padding(text: &mut String, width: usize, shown: &str) -> Result<(), Allo
     push_spaces(text, width.saturating_sub(shown.len()))
 }
 
-/// How wide the names of a table are.
-#[derive(Clone, Copy)]
-struct Widths {
-    operations: usize,
-    responses: usize,
-    states: usize,
-}
-
-fn push_head_cell(text: &mut String, widths: Widths, state: &str) -> Result<(), AllocError>
-    ensures { OnOk result (string_bytes text.new ≡ string_bytes text.old ++ head_cell widths.responses widths.states state.now) }
-{
-    text.push_str("  ")?;
-    push_spaces(text, widths.responses)?;
-    text.push_str(" ")?;
-    push_padding(text, widths.states, state)?;
-    text.push_str(state)
-}
-
-fn push_head_cells(text: &mut String, widths: Widths, states: &[String]) -> Result<(), AllocError>
-    ensures { OnOk result (string_bytes text.new ≡ string_bytes text.old
-        ++ flat_map (head_cell widths.responses widths.states) (map (λ s. string_bytes s) states.now)) }
-{
-    for state in states {
-        push_head_cell(text, widths, state.as_str())?;
-    }
-    Ok(())
-}
-
-fn push_effect(
-    text: &mut String,
-    widths: Widths,
-    response: &str,
-    state: &str,
-) -> Result<(), AllocError>
-    ensures { OnOk result (string_bytes text.new ≡ string_bytes text.old ++ effect_cell widths.responses widths.states response.now state.now) }
-{
-    text.push_str("  ")?;
-    push_padding(text, widths.responses, response)?;
-    push_padding(text, widths.states, state)?;
-    write!(text, "{response}>{state}")
-}
-
 impl Table {
-    #[tactic(auto, using(crate::proofs::ListLemmas::map_twice))]
-    fn widths(&self) -> Widths
-        ensures operations { result.operations ≡ widest (operation_names self.now) }
-        ensures responses { result.responses ≡ widest self.now.responses }
-        ensures states { result.states ≡ widest self.now.states }
+    /// The spaces that a response and a state lack of the widest of both.
+    ///
+    /// # Errors
+    ///
+    /// Fails only for want of memory.
+    pub fn push_pair_padding(
+        &self,
+        text: &mut String,
+        response: &str,
+        state: &str,
+    ) -> Result<(), AllocError>
+        ensures { OnOk result (string_bytes text.new ≡ string_bytes text.old ++ pair_padding self.now response.now state.now) }
     {
-        Widths {
-            operations: widest(&self.operations),
-            responses: widest(&self.responses),
-            states: widest(&self.states),
+        push_padding(text, widest(&self.responses), response)?;
+        push_padding(text, widest(&self.states), state)
+    }
+
+    /// How wide the names of the operations are.
+    #[tactic(auto, using(crate::proofs::ListLemmas::map_twice))]
+    fn operation_width(&self) -> usize
+        ensures { result ≡ widest (operation_names self.now) }
+    {
+        widest(&self.operations)
+    }
+
+    /// What stands in the column of a state, at the head or in the row of an operation.
+    fn push_cell(
+        &self,
+        text: &mut String,
+        row: Option<Operation>,
+        state: State,
+    ) -> Result<(), AllocError>
+        requires row { IfSome row (λ o. o.0 < length self.now.operations) }
+        requires state { state.0 < length self.now.states }
+        ensures { OnOk result (string_bytes text.new ≡ string_bytes text.old ++ cell self.now (option_map (λ o. o.0) row) state.0) }
+    {
+        let Some(operation) = row else {
+            return text.push_str(self.state_name(state));
+        };
+        let (response, next) = self.apply(operation, state);
+        let response = self.response_name(response);
+        let state = self.state_name(next);
+        write!(text, "{response}>{state}")
+    }
+
+    /// The spaces up to the next column.
+    fn push_gap(
+        &self,
+        text: &mut String,
+        row: Option<Operation>,
+        state: State,
+    ) -> Result<(), AllocError>
+        requires row { IfSome row (λ o. o.0 < length self.now.operations) }
+        requires state { state.0 < length self.now.states }
+        ensures { OnOk result (string_bytes text.new ≡ string_bytes text.old ++ cell_gap self.now (option_map (λ o. o.0) row) state.0) }
+    {
+        let Some(operation) = row else {
+            self.push_pair_padding(text, "", self.state_name(state))?;
+            return text.push_str("    ");
+        };
+        let (response, next) = self.apply(operation, state);
+        self.push_pair_padding(text, self.response_name(response), self.state_name(next))?;
+        text.push_str("   ")
+    }
+
+    fn push_column(
+        &self,
+        text: &mut String,
+        row: Option<Operation>,
+        state: u8,
+    ) -> Result<(), AllocError>
+        requires row { IfSome row (λ o. o.0 < length self.now.operations) }
+        requires state { state < length self.now.states }
+        ensures { OnOk result (string_bytes text.new ≡ string_bytes text.old ++ column self.now (option_map (λ o. o.0) row) state) }
+    {
+        let states = self.states();
+        self.push_cell(text, row, State(state))?;
+        if state + 1 < states {
+            self.push_gap(text, row, State(state))?;
         }
+        Ok(())
+    }
+
+    fn push_columns(&self, text: &mut String, row: Option<Operation>) -> Result<(), AllocError>
+        requires { IfSome row (λ o. o.0 < length self.now.operations) }
+        ensures { OnOk result (string_bytes text.new ≡ string_bytes text.old ++ columns self.now (option_map (λ o. o.0) row)) }
+    {
+        for state in 0..self.states() {
+            self.push_column(text, row, state)?;
+        }
+        Ok(())
     }
 
     fn push_head(&self, text: &mut String) -> Result<(), AllocError>
         ensures { OnOk result (string_bytes text.new ≡ string_bytes text.old ++ head_line self.now) }
     {
-        let widths = self.widths();
-        text.push_str("  ")?;
-        push_spaces(text, widths.operations)?;
-        push_head_cells(text, widths, &self.states)?;
+        push_spaces(text, self.operation_width())?;
+        text.push_str("      ")?;
+        self.push_columns(text, None)?;
         text.push_str("\n")
-    }
-
-    fn push_effects(&self, text: &mut String, operation: Operation) -> Result<(), AllocError>
-        requires { operation.0 < length self.now.operations }
-        ensures { OnOk result (string_bytes text.new ≡ string_bytes text.old
-            ++ flat_map (effect self.now operation.0) (range_with_len 0 (length self.now.states))) }
-    {
-        for q in 0..self.states() {
-            let (response, next) = self.apply(operation, State(q));
-            push_effect(
-                text,
-                self.widths(),
-                self.response_name(response),
-                self.state_name(next),
-            )?;
-        }
-        Ok(())
     }
 
     fn push_operation(&self, text: &mut String, operation: Operation) -> Result<(), AllocError>
@@ -125,8 +145,12 @@ impl Table {
     {
         let name = self.operation_name(operation);
         write!(text, "  {name}")?;
-        push_padding(text, self.widths().operations, name)?;
-        self.push_effects(text, operation)?;
+        push_padding(text, self.operation_width(), name)?;
+        text.push_str("    ")?;
+        self.push_columns(text, Some(operation))?;
+        if operation.0 == 0 {
+            text.push_str("            (response > next state)")?;
+        }
         text.push_str("\n")
     }
 
@@ -138,6 +162,20 @@ impl Table {
             self.push_operation(text, Operation(o))?;
         }
         Ok(())
+    }
+
+    /// Puts the cells of the grid to the end of a text: a line with the states, and one for each
+    /// operation with what it does in each state, the response and the next state.
+    ///
+    /// # Errors
+    ///
+    /// Fails only for want of memory.
+    #[tactic(auto, unfolding(crate::specs::Grid::cells_text))]
+    pub fn push_cells(&self, text: &mut String) -> Result<(), AllocError>
+        ensures { OnOk result (string_bytes text.new ≡ string_bytes text.old ++ cells_text self.now) }
+    {
+        self.push_head(text)?;
+        self.push_operations(text)
     }
 
     fn push_state_mark(
@@ -204,23 +242,20 @@ impl Table {
     fn push_title(&self, text: &mut String) -> Result<(), AllocError>
         ensures { OnOk result (string_bytes text.new ≡ string_bytes text.old ++ title self.now) }
     {
-        write!(text, "{}: response>next state, by state\n", self.name())
+        write!(text, "{}\n", self.name())
     }
 
     fn push_grid(&self, text: &mut String, reached: &[bool; MOST_STATES]) -> Result<(), AllocError>
         ensures { OnOk result (string_bytes text.new ≡ string_bytes text.old ++ grid_text self.now reached.now) }
     {
         self.push_title(text)?;
-        self.push_head(text)?;
-        self.push_operations(text)?;
+        self.push_cells(text)?;
         self.push_state_marks(text, reached)?;
         self.push_operation_marks(text)
     }
 
-    /// The table as a text for people: a line with the name, one with the states, and one for each
-    /// operation with what it does in each state, the response and the next state; then a line for
-    /// each state to which no operations lead from the first, and for each operation that changes
-    /// nothing.
+    /// The table as a text for people: a line with the name, and the cells; then a line for each
+    /// state to which no operations lead from the first, and for each operation that changes nothing.
     ///
     /// # Errors
     ///

@@ -1,6 +1,6 @@
 use Rattle.std.proofs.Common.{◌++◌, false, flat_map, get_or, length, string_bytes}
 use Rattle.std.specs.List.{range_with_len}
-use Rattle.cn_table.specs.Grid.{head_line, operation_line, state_mark, operation_mark, title, grid_text}
+use Rattle.cn_table.specs.Grid.{cells_text, grid_text, operation_mark, state_mark, title}
 use Rattle.cn_table.proofs.FlawLemmas.{two_parts}
 use Rattle.cn_table.proofs.table.Table.push_grid.Goals as goal
 
@@ -8,13 +8,11 @@ pub returns : goal.returns
 unfolding grid_text
 returns c =
     let t = c.args.self.now in
-    let operations = flat_map (operation_line t) (range_with_len 0 (length t.operations)) in
     let states = flat_map (λ q. state_mark t q (get_or c.args.reached.now q false)) (range_with_len 0 (length t.states)) in
     let marks = flat_map (operation_mark t) (range_with_len 0 (length t.operations)) in
     let r = c.push_operation_marks.result in
     let new = string_bytes c.push_operation_marks.new.text in
-    two_parts r (string_bytes c.args.text.now) (string_bytes c.push_title.new.text) new (title t) (head_line t ++ (operations ++ (states ++ marks))) c.in_ok-push_title.ensures
-    (two_parts r (string_bytes c.push_title.new.text) (string_bytes c.push_head.new.text) new (head_line t) (operations ++ (states ++ marks)) c.in_ok-push_head.ensures
-    (two_parts r (string_bytes c.push_head.new.text) (string_bytes c.push_operations.new.text) new operations (states ++ marks) c.in_ok-push_operations.ensures
-    (two_parts r (string_bytes c.push_operations.new.text) (string_bytes c.push_state_marks.new.text) new states marks c.in_ok-push_state_marks.ensures
-    c.push_operation_marks.ensures)))
+    two_parts r (string_bytes c.args.text.now) (string_bytes c.push_title.new.text) new (title t) (cells_text t ++ (states ++ marks)) c.in_ok-push_title.ensures
+    (two_parts r (string_bytes c.push_title.new.text) (string_bytes c.push_cells.new.text) new (cells_text t) (states ++ marks) c.in_ok-push_cells.ensures
+    (two_parts r (string_bytes c.push_cells.new.text) (string_bytes c.push_state_marks.new.text) new states marks c.in_ok-push_state_marks.ensures
+    c.push_operation_marks.ensures))
