@@ -6,7 +6,7 @@ use Rattle.std.proofs.lemmas.Option.{slice_get_within}
 use Rattle.cn_table.specs.TypeTable.{TypeTable}
 use Rattle.cn_choice.specs.Canonical.{Choice, raw_choice_of}
 use Rattle.cn_choice.specs.Collisions.{Collision}
-use Rattle.cn_choice.specs.Discerning.{IsWitness, ResultSetsMeet}
+use Rattle.cn_choice.specs.Discerning.{IsWitness, OutcomeSetsMeet}
 use Rattle.cn_cert.specs.Certificate.{Certificate}
 use Rattle.cn_check.specs.Conditions.{HasWitnessFor, HoldsCollision, IsInRange}
 use Rattle.cn_check.specs.Faults.{ComesSooner, HasFault, IsFirstFault}
@@ -50,7 +50,7 @@ module _ (t : TypeTable) (c : Certificate) (named : c.type_name ≡ t.name) (in_
       first TooFew s g = elim s [ inl l ↦ absurd (omega arith) | inr e ↦ absurd (omega (arith, e.0)) ]
   first_of_witness (WitnessMeets j) h = record { holds = meets c.witness h.1; first = first }
     where
-      meets : (w : Option Choice) → IsSomeAnd w (λ x. ResultSetsMeet t (raw_choice_of x) j × ((i : ℕ) → i < j → ¬ ResultSetsMeet t (raw_choice_of x) i)) → IsSomeAnd w (λ x. ResultSetsMeet t (raw_choice_of x) j)
+      meets : (w : Option Choice) → IsSomeAnd w (λ x. OutcomeSetsMeet t (raw_choice_of x) j × ((i : ℕ) → i < j → ¬ OutcomeSetsMeet t (raw_choice_of x) i)) → IsSomeAnd w (λ x. OutcomeSetsMeet t (raw_choice_of x) j)
       meets None g = g
       meets (Some x) g = g.0
 
@@ -61,7 +61,7 @@ module _ (t : TypeTable) (c : Certificate) (named : c.type_name ≡ t.name) (in_
       first (WitnessMeets i) s g =
           elim s [
             | inl l ↦ absurd (omega arith)
-            | inr e ↦ not_some (λ x. ResultSetsMeet t (raw_choice_of x) j × ((i : ℕ) → i < j → ¬ ResultSetsMeet t (raw_choice_of x) i)) (λ x. ResultSetsMeet t (raw_choice_of x) i) c.witness (λ x p q. p.1 i e.1 q) h.1 g
+            | inr e ↦ not_some (λ x. OutcomeSetsMeet t (raw_choice_of x) j × ((i : ℕ) → i < j → ¬ OutcomeSetsMeet t (raw_choice_of x) i)) (λ x. OutcomeSetsMeet t (raw_choice_of x) i) c.witness (λ x p q. p.1 i e.1 q) h.1 g
           ]
       first Unexpected s g = elim s [ inl l ↦ absurd (omega arith) | inr e ↦ absurd (omega (arith, e.0)) ]
       first (NotNext i) s g = elim s [ inl l ↦ absurd (omega arith) | inr e ↦ absurd (omega (arith, e.0)) ]
@@ -74,7 +74,7 @@ module _ (t : TypeTable) (c : Certificate) (named : c.type_name ≡ t.name) (in_
 
   module _ (fits : HasWitnessFor t c.number c.witness) (witness : IfSome c.witness (λ w. IsWitness t (raw_choice_of w))) where
     no_meeting : (j : ℕ) → ¬ HasFault t c (WitnessMeets j)
-    no_meeting j g = not_some_if (λ w. IsWitness t (raw_choice_of w)) (λ w. ResultSetsMeet t (raw_choice_of w) j) c.witness (λ w is meet. is j meet.0 meet.1 meet.2) witness g
+    no_meeting j g = not_some_if (λ w. IsWitness t (raw_choice_of w)) (λ w. OutcomeSetsMeet t (raw_choice_of w) j) c.witness (λ w is meet. is j meet.0 meet.1 meet.2) witness g
 
     refuted_fits : (place : ℕ) → AreRefuted t (choices_to_refute_in c.version t c.limit c.number) c.collisions place → (k : ℕ) → k < place → ¬ HasFault t c (NotNext k)
     refuted_fits place h k l g =

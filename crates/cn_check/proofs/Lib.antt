@@ -2,7 +2,7 @@ pub mod CollisionLemmas
 pub mod EntryLemmas
 pub mod FaultLemmas
 pub mod ProgressLemmas
-pub mod ResultSetLemmas
+pub mod OutcomeSetLemmas
 pub mod RunLemmas
 pub mod SetLemmas
 pub mod StepLemmas

@@ -12,7 +12,7 @@ use Rattle.cn_table.specs.TypeTable.{TypeTable}
 use Rattle.cn_choice.specs.declared.team.Team.{Team}
 use Rattle.cn_choice.specs.RawChoices.{RawChoice}
 use Rattle.cn_choice.specs.Orders.{IsOrder}
-use Rattle.cn_choice.specs.ResultSets.{BeginsIn, InResultSet, operations_of, response_of}
+use Rattle.cn_choice.specs.OutcomeSets.{BeginsIn, InOutcomeSet, operations_of, response_of}
 use Rattle.cn_check.specs.Runs.{AreMoves, EndsIn, IsIn, ShowsBy, ShowsFrom, move_of, moved}
 use Rattle.cn_check.proofs.SetLemmas.{moved_before, moved_other, moved_same, none_in_0}
 use Rattle.cn_check.proofs.WalkLemmas.{IsSeenAlong}
@@ -185,7 +185,7 @@ module _ (t : TypeTable) (c : RawChoice) (team : Team) (j r q : ℕ) where
   parts None state e = absurd (none-some (r, q) e)
   parts (Some x) state e = let p = some_pair_parts x r state q e in (ap Some p.0, p.1)
 
-  from_order : IsSeenAlong → (n : ℕ) → n ≡ length c.operations → InResultSet t c team j (r, q) → Below ShowsFirst n
+  from_order : IsSeenAlong → (n : ℕ) → n ≡ length c.operations → InOutcomeSet t c team j (r, q) → Below ShowsFirst n
   from_order seen n all (order, is, begins, shown) =
       cases order ((order_is_moves (length c.operations) order).0 is).1 begins (parts _ _ (sym (seen t c order j) ∙ shown))
     where
@@ -198,7 +198,7 @@ module _ (t : TypeTable) (c : RawChoice) (team : Team) (j r q : ℕ) where
         (subst (λ (x : ℕ). slice_get c.marks x ≡ Some team) (sym (same_Some p begins.0 begins.1)) begins.2, shown_first t c 0 c.state p j r q moves (later_moves (length c.operations) 0 p moves are) shown.0 shown.1),
       )
 
-  to_order : IsSeenAlong → (p : ℕ) → slice_get c.marks p ≡ Some team → ShowsAfter t c 0 c.state p j r q → InResultSet t c team j (r, q)
+  to_order : IsSeenAlong → (p : ℕ) → slice_get c.marks p ≡ Some team → ShowsAfter t c 0 c.state p j r q → InOutcomeSet t c team j (r, q)
   to_order seen p mark (moves, are, e, left) = (
     p ∷ moves,
     (order_is_moves (length c.operations) (p ∷ moves)).1 (λ none. absurd (cc none), are),
@@ -206,7 +206,7 @@ module _ (t : TypeTable) (c : RawChoice) (team : Team) (j r q : ℕ) where
     seen t c (p ∷ moves) j ∙ rw (e, left) refl,
   )
 
-  pub orders_by_first : IsSeenAlong → (n : ℕ) → n ≡ length c.operations → InResultSet t c team j (r, q) ↔ Below ShowsFirst n
+  pub orders_by_first : IsSeenAlong → (n : ℕ) → n ≡ length c.operations → InOutcomeSet t c team j (r, q) ↔ Below ShowsFirst n
   orders_by_first seen n all = (
     λ h. from_order seen n all h,
     λ b. to_order seen b.0 b.2.0 (first_shown t c 0 c.state b.0 j r q (omega (arith, b.1, all)) (none_in_0 b.0) b.2.1),

@@ -11,7 +11,7 @@ use Rattle.cn_table.specs.TypeTable.{TypeTable}
 use Rattle.cn_choice.specs.RawChoices.{IsRawChoice, RawChoice}
 use Rattle.cn_choice.specs.Canonical.{Choice, IsCanonical, canonical_choices, raw_choice_of}
 use Rattle.cn_choice.specs.Collisions.{Collision, IsCollision}
-use Rattle.cn_choice.specs.Discerning.{IsDiscerning, IsNumberUpTo, IsWitness, ResultSetsMeet}
+use Rattle.cn_choice.specs.Discerning.{IsDiscerning, IsNumberUpTo, IsWitness, OutcomeSetsMeet}
 use Rattle.cn_choice.specs.FirstCollision.{HasCollision}
 use Rattle.cn_choice.specs.Live.{IsLive, live_choices}
 use Rattle.cn_search.specs.Evidence.{IsFindingFor, IsFirstWitness, IsRecordedFor, choices_to_refute}
@@ -96,7 +96,7 @@ pub no_fault : (t : TypeTable) (c : Certificate) → IsAccepted t c → (e : Che
 no_fault t c a OtherType h = h a.type_name
 no_fault t c a BadNumber h = h a.in_range
 no_fault t c a WitnessShape h = h a.witness_fits
-no_fault t c a (WitnessMeets j) h = no_fault_at (λ w. IsWitness t (raw_choice_of w)) (λ w. ResultSetsMeet t (raw_choice_of w) j) c.witness (λ w is meet. is j meet.0 meet.1 meet.2) a.witness h
+no_fault t c a (WitnessMeets j) h = no_fault_at (λ w. IsWitness t (raw_choice_of w)) (λ w. OutcomeSetsMeet t (raw_choice_of w) j) c.witness (λ w is meet. is j meet.0 meet.1 meet.2) a.witness h
 no_fault t c a Unexpected h = h.1 (no_entries t (choices_to_refute_in c.version t c.limit c.number) c.collisions (nothing_at_limit c.version t c.limit c.number h.0) a.refuted)
 no_fault t c a (NotNext i) h =
     no_fault_at (λ e. (slice_get (choices_to_refute_in c.version t c.limit c.number) i ≡ Some e.choice) × HoldsCollision t e) (λ e. slice_get (choices_to_refute_in c.version t c.limit c.number) i ≢ Some e.choice) (slice_get c.collisions i)

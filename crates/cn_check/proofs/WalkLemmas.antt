@@ -4,7 +4,7 @@ use Rattle.std.proofs.lemmas.List.{drop_all}
 use Rattle.cn_table.specs.Run.{responses_along, state_after}
 use Rattle.cn_table.specs.TypeTable.{TypeTable}
 use Rattle.cn_choice.specs.RawChoices.{RawChoice}
-use Rattle.cn_choice.specs.ResultSets.{operations_of, pair_of, response_of}
+use Rattle.cn_choice.specs.OutcomeSets.{operations_of, pair_of, response_of}
 
 -- what the law of pairs says
 abbrev pub IsSeenAlong : Type 0

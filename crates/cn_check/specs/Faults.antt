@@ -1,7 +1,7 @@
 -- What can be wrong with a certificate, and in which order it is looked for.
 use Rattle.std.specs.Prelude.{◌≡◌, ◌≢◌, ℕ, ◌+◌, ◌*◌, ◌<◌, ◌⊎◌, [], length, Some, IsSomeAnd, slice_get}
 use Rattle.cn_table.specs.TypeTable.{TypeTable}
-use Rattle.cn_choice.specs.Discerning.{ResultSetsMeet}
+use Rattle.cn_choice.specs.Discerning.{OutcomeSetsMeet}
 use Rattle.cn_choice.specs.Canonical.{raw_choice_of}
 use Rattle.cn_cert.specs.Certificate.{Certificate}
 use Rattle.cn_check.specs.Conditions.{IsInRange, HasWitnessFor, HoldsCollision}
@@ -22,7 +22,7 @@ abbrev pub HasFault : TypeTable → Certificate → CheckFault → Type 0
 HasFault t c OtherType = c.type_name ≢ t.name
 HasFault t c BadNumber = ¬ IsInRange c.version c.limit c.number
 HasFault t c WitnessShape = ¬ HasWitnessFor t c.number c.witness
-HasFault t c (WitnessMeets j) = IsSomeAnd c.witness (λ w. ResultSetsMeet t (raw_choice_of w) j)
+HasFault t c (WitnessMeets j) = IsSomeAnd c.witness (λ w. OutcomeSetsMeet t (raw_choice_of w) j)
 HasFault t c Unexpected = (c.number ≡ Some c.limit) × (c.collisions ≢ [])
 HasFault t c (NotNext i) = IsNotNext t c i
 HasFault t c (NotACollision i) = IsNoCollision t c i

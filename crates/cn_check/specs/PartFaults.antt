@@ -1,7 +1,7 @@
 -- The faults of the witness alone, and of the evidence alone.
 use Rattle.std.specs.Prelude.{◌≡◌, ◌≢◌, ℕ, ◌<◌, List, [], Option, Some, IsSomeAnd}
 use Rattle.cn_table.specs.TypeTable.{TypeTable}
-use Rattle.cn_choice.specs.Discerning.{ResultSetsMeet}
+use Rattle.cn_choice.specs.FirstMeeting.{IsFirstMeeting}
 use Rattle.cn_choice.specs.Canonical.{Choice, raw_choice_of}
 use Rattle.cn_choice.specs.Collisions.{Collision}
 use Rattle.cn_check.specs.Conditions.{HasWitnessFor}
@@ -10,14 +10,10 @@ use Rattle.cn_check.specs.Versions.{choices_to_refute_in}
 use Rattle.cn_check.specs.declared.fault.CheckFault.{CheckFault}
 use Rattle.cn_check.specs.declared.fault.CheckFault.TheVariants.{OtherType, BadNumber, WitnessShape, WitnessMeets, Unexpected, NotNext, NotACollision, TooFew}
 
--- the result sets of process j meet, and of no process before it
-abbrev pub MeetFirst : TypeTable → Choice → ℕ → Type 0
-MeetFirst t w j = ResultSetsMeet t (raw_choice_of w) j × ((i : ℕ) → i < j → ¬ ResultSetsMeet t (raw_choice_of w) i)
-
 -- the first fault of the number's witness
 abbrev pub IsWitnessFault : TypeTable → Option ℕ → Option Choice → CheckFault → Type 0
 IsWitnessFault t number witness WitnessShape = ¬ HasWitnessFor t number witness
-IsWitnessFault t number witness (WitnessMeets j) = HasWitnessFor t number witness × IsSomeAnd witness (λ w. MeetFirst t w j)
+IsWitnessFault t number witness (WitnessMeets j) = HasWitnessFor t number witness × IsSomeAnd witness (λ w. IsFirstMeeting t (raw_choice_of w) j)
 IsWitnessFault t number witness OtherType = ⊥
 IsWitnessFault t number witness BadNumber = ⊥
 IsWitnessFault t number witness Unexpected = ⊥

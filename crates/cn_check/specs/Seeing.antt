@@ -4,7 +4,7 @@ use Rattle.cn_table.specs.TypeTable.{TypeTable}
 use Rattle.cn_choice.specs.declared.team.Team.{Team}
 use Rattle.cn_choice.specs.RawChoices.{RawChoice}
 use Rattle.cn_choice.specs.Orders.{IsOrder}
-use Rattle.cn_choice.specs.ResultSets.{BeginsIn, pair_of}
+use Rattle.cn_choice.specs.OutcomeSets.{BeginsIn, pair_of}
 
 -- the list is an order of processes of the choice that begins in the team, and shows process j the pair
 abbrev pub Shows : TypeTable → RawChoice → Team → ℕ → ℕ × ℕ → List ℕ → Type 0

@@ -1,12 +1,13 @@
 -- What a walk through the runs has found.
 use Rattle.std.specs.Prelude.{◌≢◌, ℕ, ◌+◌, ◌*◌, ◌<◌, ◌↔◌, List, slice_index}
+use Rattle.cn_choice.specs.declared.limits.TheConstants.{MOST_PROCESSES}
 use Rattle.cn_table.specs.TypeTable.{TypeTable}
 use Rattle.cn_choice.specs.RawChoices.{RawChoice}
 use Rattle.cn_check.specs.Runs.{EndsIn, IsIn, ShowsFrom}
 
 -- process j has the pair of response r and state q: there is a set of states for each process below 8 and response below 16, those of one process side by side
 abbrev pub HasPair : List ℕ → ℕ → ℕ → ℕ → Type 0
-HasPair sets j r q = (j < 8) × (r < 16) × IsIn (slice_index sets (16 * j + r)) q
+HasPair sets j r q = (j < MOST_PROCESSES) × (r < 16) × IsIn (slice_index sets (16 * j + r)) q
 
 -- process j has some pair in both
 abbrev pub HaveCommonPair : List ℕ → List ℕ → ℕ → Type 0

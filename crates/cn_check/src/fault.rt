@@ -18,7 +18,7 @@ pub enum CheckFault {
     /// There is a number without a witness, or a witness without a number, or the witness is no
     /// choice of the table for as many processes as the number.
     WitnessShape,
-    /// The witness is none: the result sets of this process meet, and of no process before it.
+    /// The witness is none: the outcome sets of this process meet, and of no process before it.
     WitnessMeets(u8),
     /// The number is the limit, and there are entries.
     Unexpected,
@@ -67,7 +67,7 @@ impl CheckFault {
         }
     }
 
-    /// The number that the fault carries: the process whose result sets meet, or the place of the
+    /// The number that the fault carries: the process whose outcome sets meet, or the place of the
     /// entry.
     pub fn carried(&self) -> Option<u64>
         ensures { result ≡ check_fault_carried self.now }

@@ -1,5 +1,6 @@
 //! The pairs of its response and the last state that each process can get.
 ghost use Rattle.std.specs.Prelude.{◌≡◌, ◌<◌, ◌⊎◌, ◌↔◌, ℕ, IsTrue};
+ghost use Rattle.cn_choice.specs.declared.limits.TheConstants.{MOST_PROCESSES};
 ghost use Rattle.cn_check.specs.Runs.{IsIn};
 ghost use Rattle.cn_check.specs.Seen.{HasPair, HaveCommonPair};
 
@@ -33,7 +34,7 @@ impl Pairs {
 
     /// Adds the pairs of this response and each of these states to those of the process.
     pub fn add(&mut self, process: u8, response: u8, states: u16)
-        requires process { process < 8 }
+        requires process { process < MOST_PROCESSES }
         requires response { response < 16 }
         ensures { (j r q : ℕ) → HasPair self.new j r q ↔ (HasPair self.old j r q ⊎ ((j ≡ process) × (r ≡ response) × IsIn states q)) }
     {
@@ -43,7 +44,7 @@ impl Pairs {
 
     /// Whether the process has some pair in both.
     pub fn meets(&self, other: &Pairs, process: u8) -> bool
-        requires { process < 8 }
+        requires { process < MOST_PROCESSES }
         ensures { IsTrue result ↔ HaveCommonPair self.now other.now process }
     {
         let first = 16 * process as usize;

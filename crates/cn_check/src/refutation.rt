@@ -2,6 +2,7 @@
 //! other.
 ghost use Rattle.std.specs.Prelude.{◌≡◌, ◌<◌, ◌≤◌, ◌+◌, ◌↔◌, [], ℕ, length, slice_get, All, IfErr, IfOk, IsTrue, OnOk, Some, true};
 ghost use Rattle.std.specs.List.{AllZip};
+ghost use Rattle.cn_choice.specs.declared.limits.TheConstants.{MOST_PROCESSES};
 ghost use Rattle.cn_choice.specs.Canonical.{with_first, with_size, with_state};
 ghost use Rattle.cn_choice.specs.Canonical.{FitsTable};
 ghost use Rattle.cn_choice.specs.Live.{all_move};
@@ -56,7 +57,7 @@ fn check_entry(
     teams: (&[u8], &[u8]),
 ) -> Result<usize, CheckFault>
     requires some { 2 ≤ n }
-    requires few { n ≤ 8 }
+    requires few { n ≤ MOST_PROCESSES }
     requires here { slice_get (choices_in_version version table.now n) place ≡ Some (record { state = state.0; a = teams.0.now; b = teams.1.now }) }
     requires refuted { AreRefuted table.now (choices_in_version version table.now n) entries.now place }
     ensures next { IfOk result (λ next. next ≡ place + 1) }
@@ -109,7 +110,7 @@ fn check_team(
     start: usize,
 ) -> Result<usize, CheckFault>
     requires some { 2 ≤ n }
-    requires few { n ≤ 8 }
+    requires few { n ≤ MOST_PROCESSES }
     requires state { state.0 < length table.now.states }
     requires half { length a.now + length a.now ≤ n }
     requires known { All (λ operation. operation < length table.now.operations) a.now }
@@ -147,7 +148,7 @@ fn check_size(
     start: usize,
 ) -> Result<usize, CheckFault>
     requires some { 2 ≤ n }
-    requires few { n ≤ 8 }
+    requires few { n ≤ MOST_PROCESSES }
     requires state { state.0 < length table.now.states }
     requires half { size + size ≤ n }
     requires next { ComeNext (choices_in_version version table.now n) start (counting version table.now
@@ -182,7 +183,7 @@ fn check_state(
     start: usize,
 ) -> Result<usize, CheckFault>
     requires some { 2 ≤ n }
-    requires few { n ≤ 8 }
+    requires few { n ≤ MOST_PROCESSES }
     requires state { state.0 < length table.now.states }
     requires next { ComeNext (choices_in_version version table.now n) start (counting version table.now (with_state (length table.now.operations) n state.0)) }
     requires refuted { AreRefuted table.now (choices_in_version version table.now n) entries.now start }
@@ -207,7 +208,7 @@ pub(crate) fn check_entries(
     n: u8,
 ) -> Result<(), CheckFault>
     requires some { 2 ≤ n }
-    requires few { n ≤ 8 }
+    requires few { n ≤ MOST_PROCESSES }
     ensures refuted { OnOk result (AllZip (Refutes table.now) (choices_in_version version table.now n) entries.now) }
     ensures fault { IfErr result (IsFirstEntryFault table.now (choices_in_version version table.now n) entries.now) }
 {

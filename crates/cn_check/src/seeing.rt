@@ -1,8 +1,9 @@
 //! What an order shows to a process.
 ghost use Rattle.std.specs.Prelude.{◌≡◌, ◌<◌, ◌≤◌, ◌+◌, ◌↔◌, ℕ, length, All, IfSome, IsTrue, Some};
+ghost use Rattle.cn_choice.specs.declared.limits.TheConstants.{MOST_PROCESSES};
 ghost use Rattle.cn_choice.specs.Canonical.{FitsTable, raw_choice_of};
 ghost use Rattle.cn_choice.specs.Orders.{IsOrder};
-ghost use Rattle.cn_choice.specs.ResultSets.{BeginsIn, pair_of};
+ghost use Rattle.cn_choice.specs.OutcomeSets.{BeginsIn, pair_of};
 ghost use Rattle.cn_check.specs.Runs.{IsIn};
 ghost use Rattle.cn_check.specs.Seeing.{Shows};
 
@@ -12,17 +13,19 @@ use cn_choice::laws::pair_along_order;
 use cn_choice::{Choice, Team};
 use cn_table::Table;
 
-/// Whether the process is one of n, at most 8, and has not moved.
+/// Whether the process is one of n, at most [`MOST_PROCESSES`](cn_choice::MOST_PROCESSES), and has not
+/// moved.
 fn may_move(used: u8, process: u8, n: u8) -> bool
-    requires { n ≤ 8 }
+    requires { n ≤ MOST_PROCESSES }
     ensures { IsTrue result ↔ ((process < n) × (¬ IsIn used process)) }
 {
     process < n && !has_moved(used, process)
 }
 
-/// Whether the list is an order of some of n processes, at most 8.
+/// Whether the list is an order of some of n processes, at most
+/// [`MOST_PROCESSES`](cn_choice::MOST_PROCESSES).
 fn is_order(list: &[u8], n: u8) -> bool
-    requires { n ≤ 8 }
+    requires { n ≤ MOST_PROCESSES }
     ensures { IsTrue result ↔ IsOrder n list.now }
 {
     let mut used = 0;

@@ -1,10 +1,11 @@
 //! Sets of small numbers, as the bits of a number.
 ghost use Rattle.std.specs.Prelude.{◌≡◌, ◌<◌, ◌⊎◌, ◌↔◌, ℕ, IsTrue};
+ghost use Rattle.cn_choice.specs.declared.limits.TheConstants.{MOST_PROCESSES};
 ghost use Rattle.cn_check.specs.Runs.{IsIn, moved};
 
 /// Whether the process is one of those that have moved.
 pub(crate) fn has_moved(used: u8, process: u8) -> bool
-    requires { process < 8 }
+    requires { process < MOST_PROCESSES }
     ensures { IsTrue result ↔ IsIn used process }
 {
     used >> process & 1 == 1
@@ -12,7 +13,7 @@ pub(crate) fn has_moved(used: u8, process: u8) -> bool
 
 /// The processes that have moved, and one more.
 pub(crate) fn with_moved(used: u8, process: u8) -> u8
-    requires { process < 8 }
+    requires { process < MOST_PROCESSES }
     ensures with { result ≡ moved used process }
     ensures more { ¬ IsIn used process → used < result }
 {

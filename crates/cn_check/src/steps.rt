@@ -1,13 +1,15 @@
 //! Lists of operations that never fall, one after another in lexicographic order.
 ghost use Rattle.std.specs.Prelude.{◌≡◌, ◌<◌, ◌≤◌, ◌+◌, ◌-◌, ◌∷◌, ◌++◌, [], ℕ, false, length, replicate, take, get_or, All, IsTrue};
+ghost use Rattle.cn_choice.specs.declared.limits.TheConstants.{MOST_PROCESSES};
 ghost use Rattle.cn_choice.specs.Canonical.{second_lists};
 ghost use Rattle.cn_choice.specs.Rising.{rising_after};
 
 use arrayvec::ArrayVec;
+use cn_choice::MOST_PROCESSES;
 
 /// So many zeros: the first list of this length.
-pub(crate) fn zeros(count: usize) -> ArrayVec<u8, 8>
-    requires { count ≤ 8 }
+pub(crate) fn zeros(count: usize) -> ArrayVec<u8, MOST_PROCESSES>
+    requires { count ≤ MOST_PROCESSES }
     ensures { result.items ≡ replicate count 0 }
 {
     let mut list = ArrayVec::new();
@@ -17,8 +19,8 @@ pub(crate) fn zeros(count: usize) -> ArrayVec<u8, 8>
     list
 }
 
-fn list_of(numbers: &[u8]) -> ArrayVec<u8, 8>
-    requires { length numbers.now ≤ 8 }
+fn list_of(numbers: &[u8]) -> ArrayVec<u8, MOST_PROCESSES>
+    requires { length numbers.now ≤ MOST_PROCESSES }
     ensures { result.items ≡ numbers.now }
 {
     let mut list = ArrayVec::new();
@@ -29,9 +31,9 @@ fn list_of(numbers: &[u8]) -> ArrayVec<u8, 8>
 }
 
 /// The first list of team B that goes with this one of team A, where they are n together.
-pub(crate) fn first_beside(a: &[u8], n: u8) -> ArrayVec<u8, 8>
+pub(crate) fn first_beside(a: &[u8], n: u8) -> ArrayVec<u8, MOST_PROCESSES>
     requires half { length a.now + length a.now ≤ n }
-    requires few { n ≤ 8 }
+    requires few { n ≤ MOST_PROCESSES }
     ensures first { (limit : ℕ) → 1 ≤ limit → second_lists limit n a.now ≡ result.items ∷ rising_after limit result.items }
     ensures known { (limit : ℕ) → 1 ≤ limit → All (λ x. x < limit) a.now → All (λ x. x < limit) result.items }
 {

@@ -1,6 +1,7 @@
 //! The check of a certificate.
 ghost use Rattle.std.specs.Prelude.{◌≡◌, ◌≤◌, ◌↔◌, length, IfErr, IfSome, IsOk, IsTrue, None, OnOk};
 ghost use Rattle.std.specs.List.{AllZip};
+ghost use Rattle.cn_choice.specs.declared.limits.TheConstants.{MOST_PROCESSES};
 ghost use Rattle.cn_choice.specs.Canonical.{raw_choice_of};
 ghost use Rattle.cn_choice.specs.Discerning.{IsNumberUpTo, IsWitness};
 ghost use Rattle.cn_search.specs.Evidence.{IsFindingFor};
@@ -60,7 +61,7 @@ fn check_witness(
     witness: &Option<Choice>,
 ) -> Result<(), CheckFault>
     requires some { IfSome number (λ n. 2 ≤ n) }
-    requires few { IfSome number (λ n. n ≤ 8) }
+    requires few { IfSome number (λ n. n ≤ MOST_PROCESSES) }
     ensures fits { OnOk result (HasWitnessFor table.now number witness.now) }
     ensures witness { OnOk result (IfSome witness.now (λ w. IsWitness table.now (raw_choice_of w))) }
     ensures fault { IfErr result (IsWitnessFault table.now number witness.now) }

@@ -1,8 +1,8 @@
 //! Whether a choice is a witness.
 ghost use Rattle.std.specs.Prelude.{◌≡◌, ◌<◌, ◌+◌, ◌⊎◌, ◌↔◌, ℕ, length, IfNone, IfSome};
 ghost use Rattle.cn_choice.specs.Canonical.{FitsTable, raw_choice_of};
-ghost use Rattle.cn_choice.specs.Discerning.{IsWitness, ResultSetsMeet};
-ghost use Rattle.cn_choice.specs.ResultSets.{InResultSet};
+ghost use Rattle.cn_choice.specs.Discerning.{IsWitness, OutcomeSetsMeet};
+ghost use Rattle.cn_choice.specs.OutcomeSets.{InOutcomeSet};
 ghost use Rattle.cn_check.specs.Runs.{EndsIn, IsIn, ShowsFrom, move_of};
 ghost use Rattle.cn_check.specs.Seen.{AreWalked, HasPair};
 
@@ -67,9 +67,9 @@ fn walk(
     ends
 }
 
-fn result_sets(table: &Table, choice: &Choice, team: Team) -> Pairs
+fn outcome_sets(table: &Table, choice: &Choice, team: Team) -> Pairs
     requires { FitsTable table.now choice.now }
-    ensures { (j r q : ℕ) → HasPair result j r q ↔ InResultSet table.now (raw_choice_of choice.now) team j (r, q) }
+    ensures { (j r q : ℕ) → HasPair result j r q ↔ InOutcomeSet table.now (raw_choice_of choice.now) team j (r, q) }
 {
     // What a process sees is found by going along the order once.
     pair_along_order();
@@ -86,17 +86,17 @@ fn result_sets(table: &Table, choice: &Choice, team: Team) -> Pairs
     pairs
 }
 
-/// The least process whose result sets meet; none where the choice is a witness.
+/// The least process whose outcome sets meet; none where the choice is a witness.
 pub(crate) fn first_meeting(table: &Table, choice: &Choice) -> Option<u8>
     requires { FitsTable table.now choice.now }
     ensures none { IfNone result (IsWitness table.now (raw_choice_of choice.now)) }
-    ensures meets { IfSome result (ResultSetsMeet table.now (raw_choice_of choice.now)) }
-    ensures least { IfSome result (λ j. (i : ℕ) → i < j → ¬ ResultSetsMeet table.now (raw_choice_of choice.now) i) }
+    ensures meets { IfSome result (OutcomeSetsMeet table.now (raw_choice_of choice.now)) }
+    ensures least { IfSome result (λ j. (i : ℕ) → i < j → ¬ OutcomeSetsMeet table.now (raw_choice_of choice.now) i) }
 {
-    // Who is no process of the choice has no pair in a result set.
+    // Who is no process of the choice has no pair in an outcome set.
     process_of_pair();
-    let after_a = result_sets(table, choice, Team::A);
-    let after_b = result_sets(table, choice, Team::B);
+    let after_a = outcome_sets(table, choice, Team::A);
+    let after_b = outcome_sets(table, choice, Team::B);
     for process in 0..processes(table, choice) {
         if after_a.meets(&after_b, process) {
             return Some(process);

@@ -8,7 +8,7 @@ use Rattle.cn_table.specs.Run.{state_after}
 use Rattle.cn_choice.specs.declared.team.Team.{Team}
 use Rattle.cn_choice.specs.RawChoices.{RawChoice}
 use Rattle.cn_choice.specs.Renumbering.{Embeds}
-use Rattle.cn_choice.specs.ResultSets.{InResultSet, pair_of}
+use Rattle.cn_choice.specs.OutcomeSets.{InOutcomeSet, pair_of}
 use Rattle.cn_choice.specs.Subsets.{Finds, Gives, IsOrderOf, IsWithout, Leaves}
 use Rattle.cn_choice.specs.Twins.{AreTwins}
 use Rattle.cn_choice.proofs.Embedding.{begins_embeds, operations_embed, order_embeds, pair_embeds, result_embeds}
@@ -93,10 +93,10 @@ module _ (t : TypeTable) (c : RawChoice) (p : ℕ) (twins : AreTwins c p) where
         | inr n ↦ ap (slice_index c.operations) (sym (exchange_other p (p + 1) i n.0 n.1))
       ]
     ];
-    mark = λ i l. elim (which p (p + 1) i) [
-      | inl e ↦ ap (slice_get c.marks) e ∙ (twins.mark ∙ ap (slice_get c.marks) (sym (exchange_first p (p + 1) i e)))
+    team = λ i l. elim (which p (p + 1) i) [
+      | inl e ↦ ap (slice_get c.marks) e ∙ (twins.team ∙ ap (slice_get c.marks) (sym (exchange_first p (p + 1) i e)))
       | inr r ↦ elim r [
-        | inl e ↦ ap (slice_get c.marks) e ∙ (sym twins.mark ∙ ap (slice_get c.marks) (sym (exchange_second p (p + 1) i e)))
+        | inl e ↦ ap (slice_get c.marks) e ∙ (sym twins.team ∙ ap (slice_get c.marks) (sym (exchange_second p (p + 1) i e)))
         | inr n ↦ ap (slice_get c.marks) (sym (exchange_other p (p + 1) i n.0 n.1))
       ]
     ];
@@ -149,8 +149,8 @@ module _ (t : TypeTable) (c : RawChoice) (p : ℕ) (twins : AreTwins c p) where
   ]
 
   -- both get the same from the orders that begin in a team
-  pub twin_results : (team : Team) (pair : ℕ × ℕ) → InResultSet t c team p pair ↔ InResultSet t c team (p + 1) pair
+  pub twin_results : (team : Team) (pair : ℕ × ℕ) → InOutcomeSet t c team p pair ↔ InOutcomeSet t c team (p + 1) pair
   twin_results team pair = (
-    λ h. subst (λ (j : ℕ). InResultSet t c team j pair) (exchange_first p (p + 1) p refl) (result_embeds (exchange p (p + 1)) c c embeds t team p pair h),
-    λ h. subst (λ (j : ℕ). InResultSet t c team j pair) (exchange_second p (p + 1) (p + 1) refl) (result_embeds (exchange p (p + 1)) c c embeds t team (p + 1) pair h),
+    λ h. subst (λ (j : ℕ). InOutcomeSet t c team j pair) (exchange_first p (p + 1) p refl) (result_embeds (exchange p (p + 1)) c c embeds t team p pair h),
+    λ h. subst (λ (j : ℕ). InOutcomeSet t c team j pair) (exchange_second p (p + 1) (p + 1) refl) (result_embeds (exchange p (p + 1)) c c embeds t team (p + 1) pair h),
   )

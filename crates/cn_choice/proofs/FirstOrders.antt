@@ -12,7 +12,7 @@ use Rattle.cn_choice.specs.Canonical.{Choice, raw_choice_of}
 use Rattle.cn_choice.specs.Orders.{IsOrder}
 use Rattle.cn_choice.specs.OutcomeOrders.{IsFirstInto, LeadsInto, NoneInto, NoneOfLength}
 use Rattle.cn_choice.specs.RawChoices.{RawChoice}
-use Rattle.cn_choice.specs.ResultSets.{BeginsIn, operations_of, response_of}
+use Rattle.cn_choice.specs.OutcomeSets.{BeginsIn, operations_of, response_of}
 use Rattle.cn_choice.specs.Subsets.{answer_of, next_of}
 use Rattle.cn_choice.specs.Tails.{BeginsWithin, Ends, Hits, IsFirstWay, IsFresh, IsWay, NoWay, seen_after}
 use Rattle.cn_choice.specs.TeamOrders.{begins_within, team_from, team_to}

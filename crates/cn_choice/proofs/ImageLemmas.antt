@@ -1,10 +1,10 @@
 -- The images of sets of states, by two sets of eight.
-use Rattle.std.proofs.Common.{◌≡◌, ◌≢◌, ℕ, zero, suc, ◌+◌, ◌-◌, ◌*◌, ◌/◌, ◌%◌, ◌^◌, ◌<◌, ◌≤◌, ◌⊎◌, inl, inr, ◌↔◌, List, [], length, get_or, get_or-set_other, get_or-set_same, sym, ap, ◌∙◌, subst, arith}
+use Rattle.std.proofs.Common.{◌≡◌, ◌≢◌, ℕ, ◌+◌, ◌-◌, ◌/◌, ◌%◌, ◌^◌, ◌<◌, ◌⊎◌, inl, inr, ◌↔◌, List, length, get_or, get_or-set_other, get_or-set_same, sym, ap, ◌∙◌, subst, arith}
 use Rattle.std.specs.Prelude.{IsBitSet}
 use Rattle.std.specs.Int.{bit_at}
 use Rattle.std.proofs.Math.ListN.{set}
 use Rattle.std.proofs.lemmas.Nat.{shr_split}
-use Rattle.std.proofs.lemmas.Nat.Bits.{bit_at_above, bit_at_cat_high, bit_at_cat_low}
+use Rattle.std.proofs.lemmas.Nat.Bits.{bit_at_cat_high, bit_at_cat_low}
 use Rattle.cn_table.specs.TypeTable.{TypeTable, transition}
 use Rattle.cn_choice.specs.Images.{IsImageFrom}
 use Rattle.cn_choice.specs.Subsets.{Below}
@@ -43,7 +43,12 @@ module _ (t : TypeTable) (operation from low high image : ℕ) (below : Below (l
       | inr x ↦ (let r = (b.same q).0 x in (8 + r.0, set_from from (8 + r.0) (high_bit from r.0 ∙ bit_from (from / 256) r.0 r.1), r.3))
     ],
     λ h. (both q).1 (elim (below_or_not h.0 8) [
-      | inl l ↦ inl ((a.same q).1 (h.0, set_from (from % 256) h.0 (sym (low_bit from h.0 l) ∙ bit_from from h.0 h.1), subst (λ (k : ℕ). k < length t.states) (sym (none_before h.0)) (below h.0 h.1), subst (λ (k : ℕ). (transition t operation k).1 ≡ q) (sym (none_before h.0)) h.2))
+      | inl l ↦ inl ((a.same q).1 (
+        h.0,
+        set_from (from % 256) h.0 (sym (low_bit from h.0 l) ∙ bit_from from h.0 h.1),
+        subst (λ (k : ℕ). k < length t.states) (sym (none_before h.0)) (below h.0 h.1),
+        subst (λ (k : ℕ). (transition t operation k).1 ≡ q) (sym (none_before h.0)) h.2,
+      ))
       | inr l ↦ (
           let e : 8 + (h.0 - 8) ≡ h.0 = omega (arith, l) in
           let here = subst (λ (k : ℕ). IsBitSet from k) (sym e) h.1 in

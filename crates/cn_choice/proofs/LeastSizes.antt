@@ -1,9 +1,6 @@
 -- No order is shorter than the least subset that gives the pair.
-use Rattle.std.proofs.Common.{◌≡◌, ◌≢◌, ℕ, suc, ◌+◌, ◌^◌, ◌<◌, ◌≤◌, ◌↔◌, inl, inr, List, [], ◌∷◌, length, refl, sym, ap, ◌∙◌, subst, arith, get_or, Less, Equal, Greater}
-use Rattle.std.specs.Cmp.{nat_cmp_is}
-use Rattle.std.specs.Ordering.{nat_cmp, ord_min}
+use Rattle.std.proofs.Common.{◌≡◌, ◌≢◌, ℕ, suc, ◌+◌, ◌^◌, ◌<◌, ◌≤◌, ◌↔◌, inl, inr, List, [], ◌∷◌, length, refl, sym, ap, ◌∙◌, subst, arith, get_or, min}
 use Rattle.std.specs.Prelude.{IsBitSet}
-use Rattle.std.proofs.lemmas.Bool.{cases_order}
 use Rattle.cn_table.specs.TypeTable.{TypeTable}
 use Rattle.cn_choice.specs.declared.team.Team.{Team}
 use Rattle.cn_choice.specs.OutcomeOrders.{NoneOfLength}
@@ -29,23 +26,13 @@ size_of_list (p ∷ ps) l d =
 abbrev pub CanGive : ℕ → List (List ℕ) → ℕ → ℕ → ℕ → Type 0
 CanGive links rows r q subset = IsPacked links subset × Has (get_or rows subset []) r q
 
-pub min_least : (a b : ℕ) → (ord_min nat_cmp a b ≤ a) × (ord_min nat_cmp a b ≤ b)
-min_least a b = elim (cases_order b a) [
-  | inl e ↦ rw (sym (nat_cmp_is b a Equal e)) (omega arith, omega (arith, e))
-  | inr o ↦ elim o [
-    | inl l ↦ rw (sym (nat_cmp_is b a Less l)) (omega (arith, l), omega arith)
-    | inr g ↦ rw (sym (nat_cmp_is b a Greater g)) (omega arith, omega (arith, g))
-  ]
-]
-
 -- the least size so far, and that of one more where it counts
-pub least_more : (size : ℕ → ℕ) (counts : ℕ → Type 0) (k least new : ℕ) → ((s : ℕ) → s < k → counts s → least ≤ size s) → new ≡ ord_min nat_cmp least (size k)
+pub least_more : (size : ℕ → ℕ) (counts : ℕ → Type 0) (k least new : ℕ) → ((s : ℕ) → s < k → counts s → least ≤ size s) → new ≡ min least (size k)
     → (s : ℕ) → s < k + 1 → counts s → new ≤ size s
 least_more size counts k least new g m s u c =
-    let l = min_least least (size k) in
     elim (below_or_last s k u) [
-      | inl b ↦ omega (arith, g s b c, l.0, m)
-      | inr e ↦ subst (λ (i : ℕ). new ≤ size i) (sym e) (omega (arith, l.1, m))
+      | inl b ↦ omega (arith, g s b c, m)
+      | inr e ↦ subst (λ (i : ℕ). new ≤ size i) (sym e) (omega (arith, m))
     ]
 
 pub least_passed : (size : ℕ → ℕ) (counts : ℕ → Type 0) (k least : ℕ) → ((s : ℕ) → s < k → counts s → least ≤ size s) → ¬ counts k → (s : ℕ) → s < k + 1 → counts s → least ≤ size s

@@ -1,5 +1,5 @@
 -- Collisions of process 0 whose first order has one or two processes and is led by it.
-use Rattle.std.proofs.Common.{◌≡◌, ◌≢◌, ℕ, ◌<◌, ◌≤◌, inl, inr, List, [], ◌∷◌, length, refl, sym, ap, ◌∙◌, subst, arith, ◌↔◌, Option, Some, None}
+use Rattle.std.proofs.Common.{◌≡◌, ℕ, ◌<◌, ◌≤◌, inl, inr, List, [], ◌∷◌, length, refl, sym, ap, ◌∙◌, subst, arith, ◌↔◌, Option, Some, None}
 use Rattle.std.specs.Prelude.{IsBitSet, slice_get}
 use Rattle.std.proofs.lemmas.List.Elements.{All-from_recursion, recursion_from_All}
 use Rattle.cn_table.specs.TypeTable.{TypeTable}
@@ -8,9 +8,8 @@ use Rattle.cn_choice.specs.FirstCollision.{IsFirstCollision}
 use Rattle.cn_choice.specs.Led.{IsFirstLed}
 use Rattle.cn_choice.specs.Orders.{ComesBefore, IsOrder}
 use Rattle.cn_choice.specs.OutcomeOrders.{IsFirstInto}
-use Rattle.cn_choice.specs.OutcomeSets.{Has}
+use Rattle.cn_choice.specs.OutcomeSets.{BeginsIn, Has, InOutcomeSet, pair_of}
 use Rattle.cn_choice.specs.RawChoices.{RawChoice}
-use Rattle.cn_choice.specs.ResultSets.{BeginsIn, InResultSet, pair_of}
 use Rattle.cn_choice.specs.Subsets.{answer_of}
 use Rattle.cn_choice.specs.Tails.{BeginsWithin, Ends, Hits, IsFirstWay, IsWay, NoWay}
 use Rattle.cn_choice.proofs.FirstCollisions.{same_pair, the_pair}
@@ -44,12 +43,12 @@ module _ (t : TypeTable) (c : RawChoice) where
   led_head pair [] b e = absurd (cc e.0)
   led_head pair (x ∷ xs) b e = let z : x ≡ 0 = omega (arith, b.1) in (xs, ap (λ (k : ℕ). k ∷ xs) z)
 
-  module _ (set : List ℕ) (response : ℕ) (is : response ≡ answer_of t c 0 c.state) (from_b : (r q : ℕ) → Has set r q ↔ ((r ≡ response) × InResultSet t c B 0 (r, q)))
+  module _ (set : List ℕ) (response : ℕ) (is : response ≡ answer_of t c 0 c.state) (from_b : (r q : ℕ) → Has set r q ↔ ((r ≡ response) × InOutcomeSet t c B 0 (r, q)))
       (mark : slice_get c.marks 0 ≡ Some A) (alpha : List ℕ) (pair : ℕ × ℕ) (led : IsFirstLed t c set alpha pair) where
     parted : (ps : List ℕ) × (alpha ≡ 0 ∷ ps)
     parted = led_head pair alpha led.way.way.begins led.way.ends
 
-    no_earlier : (x : List ℕ) → IsOrder (length c.operations) x → ComesBefore x alpha → (p : ℕ × ℕ) → pair_of t c x 0 ≡ Some p → InResultSet t c B 0 (p.0, p.1) → ⊥
+    no_earlier : (x : List ℕ) → IsOrder (length c.operations) x → ComesBefore x alpha → (p : ℕ × ℕ) → pair_of t c x 0 ≡ Some p → InOutcomeSet t c B 0 (p.0, p.1) → ⊥
     no_earlier x o before p gets result =
         let few : length parted.0 ≤ 1 = omega (arith, led.short, ap (λ (l : List ℕ). length l) parted.1) in
         let l = led_before x parted.0 few (pair_in t c 0 x p gets) (subst (ComesBefore x) parted.1 before) in
@@ -110,9 +109,9 @@ module _ (t : TypeTable) (c : RawChoice) where
   }
 
   -- the pairs of the one response that team B can give
-  pub given_by_one : (set : List ℕ) (response all : ℕ) → ((r q : ℕ) → Has set r q ↔ ((r ≡ response) × IsBitSet all q)) → ((q : ℕ) → IsBitSet all q ↔ InResultSet t c B 0 (response, q))
-      → (r q : ℕ) → Has set r q ↔ ((r ≡ response) × InResultSet t c B 0 (r, q))
+  pub given_by_one : (set : List ℕ) (response all : ℕ) → ((r q : ℕ) → Has set r q ↔ ((r ≡ response) × IsBitSet all q)) → ((q : ℕ) → IsBitSet all q ↔ InOutcomeSet t c B 0 (response, q))
+      → (r q : ℕ) → Has set r q ↔ ((r ≡ response) × InOutcomeSet t c B 0 (r, q))
   given_by_one set response all h a r q = (
-    λ s. (let x = (h r q).0 s in (x.0, subst (λ (z : ℕ). InResultSet t c B 0 (z, q)) (sym x.0) ((a q).0 x.1))),
-    λ g. (h r q).1 (g.0, (a q).1 (subst (λ (z : ℕ). InResultSet t c B 0 (z, q)) g.0 g.1)),
+    λ s. (let x = (h r q).0 s in (x.0, subst (λ (z : ℕ). InOutcomeSet t c B 0 (z, q)) (sym x.0) ((a q).0 x.1))),
+    λ g. (h r q).1 (g.0, (a q).1 (subst (λ (z : ℕ). InOutcomeSet t c B 0 (z, q)) g.0 g.1)),
   )

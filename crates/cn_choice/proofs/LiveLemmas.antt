@@ -13,7 +13,7 @@ use Rattle.cn_choice.specs.Canonical.{Choice, ChoiceComesBefore, IsCanonical, ca
 use Rattle.cn_choice.specs.Discerning.{IsDiscerning, IsWitness}
 use Rattle.cn_choice.specs.Live.{IsLive, all_move, is_live, live_blocks, live_choices, live_in}
 use Rattle.cn_choice.specs.RawChoices.{IsRawChoice, RawChoice}
-use Rattle.cn_choice.specs.ResultSets.{InResultSet}
+use Rattle.cn_choice.specs.OutcomeSets.{InOutcomeSet}
 use Rattle.cn_choice.specs.Subsets.{answer_of, next_of}
 use Rattle.cn_choice.proofs.Ascending.{canonical_ascend}
 use Rattle.cn_choice.proofs.BlockLemmas.{blocks_are, blocks_cover, blocks_listed}
@@ -64,27 +64,28 @@ live_to t c h =
 
 -- where process i keeps the start state, a process k gets the same alone and after i
 shared : (t : TypeTable) (c : RawChoice) (i k : ℕ) (own other : Team) → i < length c.operations → k < length c.operations → i ≢ k → slice_get c.marks i ≡ Some other → slice_get c.marks k ≡ Some own
-    → next_of t c i c.state ≡ c.state → (pair : ℕ × ℕ) × InResultSet t c own k pair × InResultSet t c other k pair
+    → next_of t c i c.state ≡ c.state → (pair : ℕ × ℕ) × InOutcomeSet t c own k pair × InOutcomeSet t c other k pair
 shared t c i k own other l u apart m n same = (
   (answer_of t c k c.state, next_of t c k c.state),
   alone_gets t c own k u n,
-  subst (λ (q : ℕ). InResultSet t c other k (answer_of t c k q, next_of t c k q)) same (second_gets t c other k u i l apart m),
+  subst (λ (q : ℕ). InOutcomeSet t c other k (answer_of t c k q, next_of t c k q)) same (second_gets t c other k u i l apart m),
 )
 
 keeper : (t : TypeTable) (n : ℕ) (c : RawChoice) → IsRawChoice t n c → IsWitness t c → (i : ℕ) (team : Team) → i < length c.operations → slice_get c.marks i ≡ Some team → next_of t c i c.state ≢ c.state
 keeper t n c is w i A l m same =
     let k = is.someone_in_b in
     let mark : slice_get c.marks k.0 ≡ Some B = slice_get-get_or c.marks k.0 B k.1 ∙ ap Some k.2 in
-    let h = shared t c i k.0 B A l (omega (arith, k.1, is.one_operation_each, is.one_mark_each)) (λ e. let two : Some A ≡ Some B = sym m ∙ (ap (slice_get c.marks) e ∙ mark) in absurd (cc two)) m mark same in
+    let h = shared t c i k.0 B A l (omega (arith, k.1, is.one_operation_each, is.one_team_each)) (λ e. let two : Some A ≡ Some B = sym m ∙ (ap (slice_get c.marks) e ∙ mark) in absurd (cc two)) m mark same in
     w k.0 h.0 h.2 h.1
 keeper t n c is w i B l m same =
     let k = is.someone_in_a in
     let mark : slice_get c.marks k.0 ≡ Some A = slice_get-get_or c.marks k.0 A k.1 ∙ ap Some k.2 in
-    let h = shared t c i k.0 A B l (omega (arith, k.1, is.one_operation_each, is.one_mark_each)) (λ e. let two : Some B ≡ Some A = sym m ∙ (ap (slice_get c.marks) e ∙ mark) in absurd (cc two)) m mark same in
+    let h = shared t c i k.0 A B l (omega (arith, k.1, is.one_operation_each, is.one_team_each)) (λ e. let two : Some B ≡ Some A = sym m ∙ (ap (slice_get c.marks) e ∙ mark) in absurd (cc two)) m mark same in
     w k.0 h.0 h.1 h.2
 
 pub witness_is_live : (t : TypeTable) (n : ℕ) (c : RawChoice) → IsRawChoice t n c → IsWitness t c → IsLive t c
-witness_is_live t n c is w = All-from_get_or (λ o. (transition t o c.state).1 ≢ c.state) c.operations 0 (λ i l. keeper t n c is w i (get_or c.marks i A) l (slice_get-get_or c.marks i A (omega (arith, l, is.one_operation_each, is.one_mark_each))))
+witness_is_live t n c is w = All-from_get_or (λ o. (transition t o c.state).1 ≢ c.state) c.operations 0
+    (λ i l. keeper t n c is w i (get_or c.marks i A) l (slice_get-get_or c.marks i A (omega (arith, l, is.one_operation_each, is.one_team_each))))
 
 -- ---- the live choices of a table
 

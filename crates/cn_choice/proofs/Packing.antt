@@ -7,7 +7,7 @@ use Rattle.std.proofs.lemmas.Nat.Bits.{bit_at-pow_same}
 use Rattle.cn_table.specs.TypeTable.{TypeTable, transition}
 use Rattle.cn_choice.specs.declared.team.Team.{Team}
 use Rattle.cn_choice.specs.RawChoices.{RawChoice}
-use Rattle.cn_choice.specs.ResultSets.{InResultSet}
+use Rattle.cn_choice.specs.OutcomeSets.{InOutcomeSet}
 use Rattle.cn_choice.specs.Subsets.{Finds, Gives, IsWithout, next_of}
 use Rattle.cn_choice.specs.Tails.{count_below}
 use Rattle.cn_choice.specs.Twins.{AreLinks, AreTwins, IsMover, IsPacked, IsRun}
@@ -207,15 +207,16 @@ module _ (t : TypeTable) (c : RawChoice) (team : Team) (links : ℕ) (linked : A
     ]
 
 -- all twins of a run get the same
-pub run_results : (t : TypeTable) (c : RawChoice) (team : Team) (links : ℕ) → AreLinks c links → (first j : ℕ) (pair : ℕ × ℕ) → first ≤ j → IsRun links first j → InResultSet t c team first pair ↔ InResultSet t c team j pair
+pub run_results : (t : TypeTable) (c : RawChoice) (team : Team) (links : ℕ) → AreLinks c links → (first j : ℕ) (pair : ℕ × ℕ) → first ≤ j → IsRun links first j → InOutcomeSet t c team first pair ↔ InOutcomeSet t c team j pair
 run_results t c team links linked first j pair l run = (
-  run_up (λ p. InResultSet t c team p pair) links first (j - first) j (omega (arith, l)) (λ p a b m h. (twin_results t c p (linked.twins p m) team pair).0 h) run,
-  run_down (λ p. InResultSet t c team p pair) links first (j - first) j (omega (arith, l)) (λ p a b m h. (twin_results t c p (linked.twins p m) team pair).1 h) run,
+  run_up (λ p. InOutcomeSet t c team p pair) links first (j - first) j (omega (arith, l)) (λ p a b m h. (twin_results t c p (linked.twins p m) team pair).0 h) run,
+  run_down (λ p. InOutcomeSet t c team p pair) links first (j - first) j (omega (arith, l)) (λ p a b m h. (twin_results t c p (linked.twins p m) team pair).1 h) run,
 )
 
 -- a linked process gets what the one before it gets
-pub linked_results : (t : TypeTable) (c : RawChoice) (links : ℕ) → AreLinks c links → (j : ℕ) → IsBitSet links j → (before : ℕ) × (before < j) × ((team : Team) (pair : ℕ × ℕ) → InResultSet t c team j pair → InResultSet t c team before pair)
-linked_results t c links linked zero s = absurd (linked.not_first s)
-linked_results t c links linked (suc p) s =
+pub linked_outcomes : (t : TypeTable) (c : RawChoice) (links : ℕ) → AreLinks c links
+    → (j : ℕ) → IsBitSet links j → (before : ℕ) × (before < j) × ((team : Team) (pair : ℕ × ℕ) → InOutcomeSet t c team j pair → InOutcomeSet t c team before pair)
+linked_outcomes t c links linked zero s = absurd (linked.not_first s)
+linked_outcomes t c links linked (suc p) s =
     let next : suc p ≡ p + 1 = omega arith in
-    (p, omega arith, λ team pair h. (twin_results t c p (linked.twins p (subst (IsBitSet links) next s)) team pair).1 (subst (λ (j : ℕ). InResultSet t c team j pair) next h))
+    (p, omega arith, λ team pair h. (twin_results t c p (linked.twins p (subst (IsBitSet links) next s)) team pair).1 (subst (λ (j : ℕ). InOutcomeSet t c team j pair) next h))

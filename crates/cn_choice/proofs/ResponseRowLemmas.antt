@@ -1,23 +1,23 @@
 -- The rows for one response of a process, by the last process of an order.
-use Rattle.std.proofs.Common.{◌^◌, ◌*◌, ◌-◌, ◌%◌, List, length, get_or, get_or-set_other, get_or-set_same, length-set, ◌≡◌, ◌≢◌, ℕ, ◌+◌, ◌<◌, ◌≤◌, ◌⊎◌, inl, inr, ◌↔◌, refl, sym, ap, ◌∙◌, subst, arith, Some, [], ◌∷◌, suc}
+use Rattle.std.proofs.Common.{◌^◌, ◌*◌, ◌-◌, ◌%◌, List, length, get_or, get_or-set_other, get_or-set_same, length-set, ◌≡◌, ◌≢◌, ℕ, ◌+◌, ◌<◌, ◌≤◌, ◌⊎◌, inl, inr, ◌↔◌, refl, sym, ap, ◌∙◌, subst, arith, Some, suc}
 use Rattle.std.specs.Prelude.{IsBitSet, slice_get}
 use Rattle.std.specs.Int.Bits.{bit_or}
 use Rattle.std.proofs.lemmas.Nat.{one_shl, or_lt, pow_below}
 use Rattle.std.proofs.Math.Nat.{pow-suc}
 use Rattle.std.proofs.Math.ListN.{set}
 use Rattle.cn_table.specs.TypeTable.{TypeTable}
+use Rattle.cn_choice.specs.declared.limits.TheConstants.{SUBSETS}
 use Rattle.cn_choice.specs.declared.team.Team.{Team}
 use Rattle.cn_choice.specs.OutcomeOrders.{NoneOfLength}
-use Rattle.cn_choice.specs.OutcomeSets.{Has}
+use Rattle.cn_choice.specs.OutcomeSets.{Has, InOutcomeSet}
 use Rattle.cn_choice.specs.RawChoices.{RawChoice}
 use Rattle.cn_choice.specs.ResponseRows.{AreGivenRows, AreRowsOf, GivesWith, IsOthers}
-use Rattle.cn_choice.specs.ResultSets.{InResultSet}
 use Rattle.cn_choice.specs.Subsets.{Below, Finds, Gives, IsWithout, Leaves, answer_of, next_of}
 use Rattle.cn_choice.specs.Tails.{count_below}
 use Rattle.cn_choice.specs.Twins.{AreLinks, IsMover, IsPacked}
 use Rattle.cn_choice.proofs.BitSets.{cleared, cleared_is, even_not, filled, member_below, odd_has, pow_set, union_set, without_less, without_one}
 use Rattle.cn_choice.proofs.LastAnswers.{exactly_subset, gives_from, gives_member, gives_to, outcome_subset, subset_below, subset_of}
-use Rattle.cn_choice.proofs.LastProcess.{exactly_from, exactly_to, known_from, leaves_some, same_or_not, zero_has_none}
+use Rattle.cn_choice.proofs.LastProcess.{exactly_to, known_from, leaves_some, same_or_not, zero_has_none}
 use Rattle.cn_choice.proofs.LeastSizes.{size_of_list}
 use Rattle.cn_choice.proofs.Packing.{below_or_last, gives_by_mover, packing, rest_less, rest_packed}
 use Rattle.cn_choice.proofs.Sizes.{count_more}
@@ -112,7 +112,7 @@ module _ (links : ℕ) (wanted : ℕ → ℕ → Type 0) (bound : ℕ) where
       (gathers_none part_of (2 * k + 1) all (gathers_none part_of (2 * k) all g (λ q p. n p.0)) (λ q p. not_odd links k p.0))
 
 -- twice the count of the subsets of all but one of n processes
-pub half_count : (n : ℕ) → 1 ≤ n → n ≤ 8 → (2 * (1 * 2 ^ (n - 1) % 65536) ≡ 2 ^ n) × (1 * 2 ^ (n - 1) % 65536 ≤ 128)
+pub half_count : (n : ℕ) → 1 ≤ n → n ≤ 8 → (2 * (1 * 2 ^ (n - 1) % 65536) ≡ 2 ^ n) × (2 * (1 * 2 ^ (n - 1) % 65536) ≤ SUBSETS)
 half_count n some few =
     let e : n ≡ suc (n - 1) = omega (arith, some) in
     let one : 1 * 2 ^ (n - 1) % 2 ^ 16 ≡ 2 ^ (n - 1) = one_shl (n - 1) 16 (omega (arith, few)) in
@@ -246,7 +246,7 @@ module _ (t : TypeTable) (c : RawChoice) (team : Team) (links j r : ℕ) where
         let more = count_more 8 j s eight none in
         (s, omega (arith, y.1, rest_less y.0 j s less), (packed, none), (y.0, member, w, y.3), sym more ∙ ap (count_below 8) (filled y.0 j s member w) ∙ y.4)
 
-    pub all_others : ¬ IsBitSet links (j + 1) → length c.operations ≤ 8 → (q k set : ℕ) → k ≡ 2 ^ length c.operations → Gathers (λ s q. IsOthers links j s × GivesWith t c team j r s q) k set → IsBitSet set q ↔ InResultSet t c team j (r, q)
+    pub all_others : ¬ IsBitSet links (j + 1) → length c.operations ≤ 8 → (q k set : ℕ) → k ≡ 2 ^ length c.operations → Gathers (λ s q. IsOthers links j s × GivesWith t c team j r s q) k set → IsBitSet set q ↔ InOutcomeSet t c team j (r, q)
     all_others alone few q k set e g = (
       λ b. (let x = (g q).0 b in let o = x.2.1.3 in (o.0, o.1.ordered, o.2, o.3)),
       λ o.

@@ -8,6 +8,7 @@ pub mod Discerning
 pub mod EarlyPairs
 pub mod Examination
 pub mod FirstCollision
+pub mod FirstMeeting
 pub mod Images
 pub mod Led
 pub mod Live
@@ -21,7 +22,6 @@ pub mod Ranks
 pub mod RawChoices
 pub mod Renumbering
 pub mod ResponseRows
-pub mod ResultSets
 pub mod Rising
 pub mod Subsets
 pub mod Tails

@@ -1,5 +1,6 @@
 -- Rows for one response of a process, by the subsets of the other processes.
 use Rattle.std.specs.Prelude.{◌≡◌, ℕ, ◌<◌, ◌↔◌, List, length, IsBitSet, slice_index}
+use Rattle.cn_choice.specs.declared.limits.TheConstants.{SUBSETS}
 use Rattle.cn_choice.specs.declared.team.Team.{Team}
 use Rattle.cn_table.specs.TypeTable.{TypeTable}
 use Rattle.cn_choice.specs.RawChoices.{RawChoice}
@@ -22,7 +23,7 @@ IsOthers links j subset = IsPacked links subset × ¬ IsBitSet subset j
 pub record AreRowsOf (links j : ℕ) (wanted : ℕ → ℕ → Type 0) (bound end : ℕ) (rows : List ℕ) : Type 0 where
   pub same : (subset : ℕ) → subset < end → IsOthers links j subset → (q : ℕ) → IsBitSet (slice_index rows subset) q ↔ wanted subset q
   pub known : (subset : ℕ) → subset < end → IsOthers links j subset → Below bound (slice_index rows subset)
-  pub long : length rows ≡ 256
+  pub long : length rows ≡ SUBSETS
 
 -- the states in which orders of the subset leave the object
 abbrev pub AreRowsWithout : TypeTable → RawChoice → Team → ℕ → ℕ → ℕ → List ℕ → Type 0

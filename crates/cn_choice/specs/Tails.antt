@@ -7,6 +7,7 @@ use Rattle.std.specs.Ordering.{nat_cmp}
 use Rattle.std.specs.declared.cmp.Ordering.TheVariants.{Less}
 use Rattle.std.specs.Cmp.Lexicographic.{slice_cmp}
 use Rattle.cn_table.specs.TypeTable.{TypeTable}
+use Rattle.cn_choice.specs.declared.limits.TheConstants.{MOST_PROCESSES}
 use Rattle.cn_choice.specs.OutcomeSets.{Has}
 use Rattle.cn_choice.specs.RawChoices.{RawChoice}
 use Rattle.cn_choice.specs.Subsets.{answer_of, next_of}
@@ -44,7 +45,7 @@ count_below (suc k) used = bit_at used k + count_below k used
 
 -- how many processes have moved
 unfoldable pub moved : ℕ → ℕ
-moved used = count_below 8 used
+moved used = count_below MOST_PROCESSES used
 
 -- the pair is one of the set
 abbrev pub Hits : TypeTable → RawChoice → ℕ → List ℕ → ℕ → Option ℕ → List ℕ → Type 0

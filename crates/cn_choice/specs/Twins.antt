@@ -6,7 +6,7 @@ use Rattle.cn_choice.specs.RawChoices.{RawChoice}
 pub record AreTwins (c : RawChoice) (p : ℕ) : Type 0 where
   pub inside : p + 1 < length c.operations
   pub operation : slice_index c.operations p ≡ slice_index c.operations (p + 1)
-  pub mark : slice_get c.marks p ≡ slice_get c.marks (p + 1)
+  pub team : slice_get c.marks p ≡ slice_get c.marks (p + 1)
 
 -- each process of the set is a twin of the one before it
 pub record AreLinks (c : RawChoice) (links : ℕ) : Type 0 where

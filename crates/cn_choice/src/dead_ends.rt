@@ -1,8 +1,10 @@
 //! Places from which an order cannot go on into a set.
 ghost use Rattle.std.specs.Prelude.{◌≡◌, ◌<◌, ◌⊎◌, ℕ, Option, IfSome, IsTrue, Bool, true, false, slice_index_or};
 ghost use Rattle.cn_choice.specs.Tails.{IsKept, rank_of};
+ghost use Rattle.cn_choice.specs.declared.limits.TheConstants.{SUBSETS};
 
 use crate::bits::{contains, with};
+use crate::limits::SUBSETS;
 use crate::tails::Place;
 use std::marker::Model;
 
@@ -10,8 +12,8 @@ use std::marker::Model;
 /// has a set of states for each response.
 #[derive(Drop)]
 pub(crate) struct DeadEnds {
-    begun: [bool; 256],
-    rows: [[u16; 17]; 256],
+    begun: [bool; SUBSETS],
+    rows: [[u16; 17]; SUBSETS],
 }
 
 impl Model for DeadEnds {
@@ -42,8 +44,8 @@ impl DeadEnds {
         ensures { (used state : ℕ) (seen : Option ℕ) → ¬ IsKept result used seen state }
     {
         DeadEnds {
-            begun: [false; 256],
-            rows: [[0; 17]; 256],
+            begun: [false; SUBSETS],
+            rows: [[0; 17]; SUBSETS],
         }
     }
 
@@ -51,12 +53,12 @@ impl DeadEnds {
     pub(crate) fn clear(&mut self)
         ensures { (used state : ℕ) (seen : Option ℕ) → ¬ IsKept self.new used seen state }
     {
-        self.begun = [false; 256];
+        self.begun = [false; SUBSETS];
     }
 
     /// Whether the place is kept. None is with fewer than two processes to go.
     pub(crate) fn has(&self, place: Place) -> bool
-        requires used { place.used < 256 }
+        requires used { place.used < SUBSETS }
         requires seen { IfSome place.seen (λ response. response < 16) }
         requires state { place.state.0 < 16 }
         ensures { IsTrue result → (1 < place.left) × IsKept self.now place.used place.seen place.state.0 }
@@ -70,7 +72,7 @@ impl DeadEnds {
 
     /// Begins the row of these processes, if it was not begun.
     fn begin(&mut self, used: usize)
-        requires { used < 256 }
+        requires { used < SUBSETS }
         ensures { (u q : ℕ) (s : Option ℕ) → IsKept self.new u s q → IsKept self.old u s q }
     {
         if !self.begun[used] {
@@ -81,7 +83,7 @@ impl DeadEnds {
 
     /// Keeps the place, if there are two processes or more to go.
     pub(crate) fn add(&mut self, place: Place)
-        requires used { place.used < 256 }
+        requires used { place.used < SUBSETS }
         requires seen { IfSome place.seen (λ response. response < 16) }
         requires state { place.state.0 < 16 }
         ensures { (u q : ℕ) (s : Option ℕ) → IsKept self.new u s q → IsKept self.old u s q ⊎ ((u ≡ place.used) × (s ≡ place.seen) × (q ≡ place.state.0)) }

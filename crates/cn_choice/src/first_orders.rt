@@ -3,11 +3,13 @@ ghost use Rattle.std.specs.Prelude.{◌≡◌, ◌≤◌, ◌<◌, ◌+◌, ℕ,
 ghost use Rattle.cn_choice.specs.Canonical.{raw_choice_of};
 ghost use Rattle.cn_choice.specs.OutcomeOrders.{IsFirstInto, NoneOfLength};
 ghost use Rattle.cn_choice.specs.RawChoices.{IsRawChoice};
+ghost use Rattle.cn_choice.specs.declared.limits.TheConstants.{MOST_PROCESSES, TOO_LONG};
 
 use crate::dead_ends::DeadEnds;
 use crate::laws::RawChoice;
+use crate::limits::MOST_PROCESSES;
 use crate::orders::bounds;
-use crate::result_sets::OutcomeSet;
+use crate::outcome_sets::OutcomeSet;
 use crate::tails::{Place, way_into};
 use crate::{Choice, Team};
 use arrayvec::ArrayVec;
@@ -26,13 +28,13 @@ pub(crate) fn first_order_into(
     first: u8,
     end: u8,
     dead: &mut DeadEnds,
-) -> Option<(ArrayVec<u8, 8>, (u8, u8))>
+) -> Option<(ArrayVec<u8, MOST_PROCESSES>, (u8, u8))>
     requires some { 1 ≤ length choice.now.a + length choice.now.b }
-    requires few { length choice.now.a + length choice.now.b ≤ 8 }
+    requires few { length choice.now.a + length choice.now.b ≤ MOST_PROCESSES }
     requires same { raw.now ≡ raw_choice_of choice.now }
     requires fits { IsRawChoice table.now (length raw.now.operations) raw.now }
     requires shorter { (k : ℕ) → k < first → NoneOfLength table.now raw.now team process set.now k }
-    requires end { end ≤ 9 }
+    requires end { end ≤ TOO_LONG }
     ensures none { IfNone result ((k : ℕ) → k < end → NoneOfLength table.now raw.now team process set.now k) }
     ensures first { IfSome result (λ found. IsFirstInto table.now raw.now team process set.now found.0.items found.1) }
     ensures in_range { IfSome result (λ found. (found.1.0 < 16) × (found.1.1 < 16)) }

@@ -5,13 +5,15 @@ ghost use Rattle.cn_choice.specs.FirstCollision.{IsFirstCollision};
 ghost use Rattle.cn_choice.specs.RawChoices.{IsRawChoice};
 ghost use Rattle.cn_choice.specs.Led.{IsFirstLed};
 ghost use Rattle.cn_choice.specs.Twins.{AreLinks};
+ghost use Rattle.cn_choice.specs.declared.limits.TheConstants.{MOST_PROCESSES};
 
 use crate::bits::{minus, with};
 use crate::dead_ends::DeadEnds;
 use crate::first_orders::first_order_into;
 use crate::laws::RawChoice;
+use crate::limits::MOST_PROCESSES;
+use crate::outcome_sets::OutcomeSet;
 use crate::response_rows::{asked_first, least_with, response_rows};
-use crate::result_sets::OutcomeSet;
 use crate::subset_rows::is_in;
 use crate::tails::{Place, way_into};
 use crate::{Choice, Images, Team};
@@ -25,9 +27,9 @@ fn led_alpha(
     raw: &RawChoice,
     set: &OutcomeSet,
     dead: &mut DeadEnds,
-) -> Option<(ArrayVec<u8, 8>, (u8, u8))>
+) -> Option<(ArrayVec<u8, MOST_PROCESSES>, (u8, u8))>
     requires some { 1 ≤ length raw.now.operations }
-    requires short { length raw.now.operations ≤ 8 }
+    requires short { length raw.now.operations ≤ MOST_PROCESSES }
     requires fits { IsRawChoice table.now (length raw.now.operations) raw.now }
     ensures first { IfSome result (λ found. IsFirstLed table.now raw.now set.now found.0.items found.1) }
     ensures in_range { IfSome result (λ found. (found.1.0 < 16) × (found.1.1 < 16)) }
@@ -57,12 +59,12 @@ pub(crate) fn led_collision(
     links: u16,
     images: &Images,
     dead: &mut DeadEnds,
-) -> Option<(ArrayVec<u8, 8>, ArrayVec<u8, 8>)>
+) -> Option<(ArrayVec<u8, MOST_PROCESSES>, ArrayVec<u8, MOST_PROCESSES>)>
     requires images { images.now ≡ table.now }
     requires some { 1 ≤ length choice.now.a + length choice.now.b }
-    requires few { length choice.now.a + length choice.now.b ≤ 8 }
+    requires few { length choice.now.a + length choice.now.b ≤ MOST_PROCESSES }
     requires same { raw.now ≡ raw_choice_of choice.now }
-    requires short { length raw.now.operations ≤ 8 }
+    requires short { length raw.now.operations ≤ MOST_PROCESSES }
     requires fits { IsRawChoice table.now (length raw.now.operations) raw.now }
     requires links { AreLinks raw.now links }
     ensures { IfSome result (λ found. IsFirstCollision table.now raw.now 0 found.0.items found.1.items) }

@@ -3,13 +3,15 @@ ghost use Rattle.std.specs.Prelude.{◌≡◌, ◌≢◌, ◌<◌, ◌≤◌, �
 ghost use Rattle.cn_table.specs.TypeTable.{transition};
 ghost use Rattle.cn_choice.specs.RawChoices.{IsRawChoice};
 ghost use Rattle.cn_choice.specs.ResponseRows.{AreAsked, AreGivenRows, AreRowsWithout, GivesWith};
-ghost use Rattle.cn_choice.specs.ResultSets.{InResultSet};
+ghost use Rattle.cn_choice.specs.OutcomeSets.{InOutcomeSet};
 ghost use Rattle.cn_choice.specs.Subsets.{Below, Leaves};
 ghost use Rattle.cn_choice.specs.Tails.{count_below};
 ghost use Rattle.cn_choice.specs.Twins.{AreLinks, IsPacked};
+ghost use Rattle.cn_choice.specs.declared.limits.TheConstants.{MOST_PROCESSES, SUBSETS, TOO_LONG};
 
 use crate::bits::{common, contains, least, size, union, with, without};
 use crate::laws::RawChoice;
+use crate::limits::{SUBSETS, TOO_LONG};
 use crate::subset_rows::{found, operation_of};
 use crate::twins::{is_packed, movers};
 use crate::{Images, Team};
@@ -26,7 +28,7 @@ pub(crate) struct Asked {
 /// orders of the subset and of j leave the object, and these states for all subsets.
 #[derive(Drop)]
 pub(crate) struct ResponseRows {
-    pub given: [u16; 256],
+    pub given: [u16; SUBSETS],
     pub all: u16,
 }
 
@@ -47,7 +49,7 @@ fn states_with(table: &Table, operation: Operation, response: Response) -> u16
 
 /// The response that the process gets in the start state, and the states in which it gets that.
 pub(crate) fn asked_first(table: &Table, choice: &RawChoice, j: u8) -> Asked
-    requires few { length choice.now.operations ≤ 8 }
+    requires few { length choice.now.operations ≤ MOST_PROCESSES }
     requires fits { IsRawChoice table.now (length choice.now.operations) choice.now }
     requires j { j < length choice.now.operations }
     ensures response { result.response ≡ (transition table.now (slice_index choice.now.operations j) choice.now.state).0 }
@@ -72,20 +74,20 @@ fn both_rows(
     j: u8,
     asked: Asked,
     links: u16,
-    rows: &[u16; 256],
-    given: &[u16; 256],
+    rows: &[u16; SUBSETS],
+    given: &[u16; SUBSETS],
     subset: u16,
     images: &Images,
 ) -> (u16, u16)
     requires images { images.now ≡ table.now }
-    requires few { length choice.now.operations ≤ 8 }
+    requires few { length choice.now.operations ≤ MOST_PROCESSES }
     requires fits { IsRawChoice table.now (length choice.now.operations) choice.now }
     requires j { j < length choice.now.operations }
     requires other { ¬ (slice_get choice.now.marks j ≡ Some team) }
     requires first { ¬ IsBitSet links j }
     requires links { AreLinks choice.now links }
     requires asked { AreAsked table.now choice.now j asked.response asked.states }
-    requires subset { subset < 256 }
+    requires subset { subset < SUBSETS }
     requires inside { subset < 2 ^ length choice.now.operations }
     requires packed { IsPacked links subset }
     requires without { ¬ IsBitSet subset j }
@@ -128,19 +130,19 @@ pub(crate) fn response_rows(
 ) -> ResponseRows
     requires images { images.now ≡ table.now }
     requires some { 1 ≤ length choice.now.operations }
-    requires few { length choice.now.operations ≤ 8 }
+    requires few { length choice.now.operations ≤ MOST_PROCESSES }
     requires fits { IsRawChoice table.now (length choice.now.operations) choice.now }
     requires other { ¬ (slice_get choice.now.marks 0 ≡ Some team) }
     requires alone { ¬ IsBitSet links 1 }
     requires links { AreLinks choice.now links }
     requires asked { AreAsked table.now choice.now 0 asked.response asked.states }
     requires count { 2 * count ≡ 2 ^ length choice.now.operations }
-    requires small { count ≤ 128 }
-    ensures all { (q : ℕ) → IsBitSet result.all q ↔ InResultSet table.now choice.now team 0 (asked.response, q) }
+    requires small { 2 * count ≤ SUBSETS }
+    ensures all { (q : ℕ) → IsBitSet result.all q ↔ InOutcomeSet table.now choice.now team 0 (asked.response, q) }
     ensures given { AreGivenRows table.now choice.now team links 0 asked.response (2 ^ length choice.now.operations) result.given }
 {
-    let mut rows = [0; 256];
-    let mut given = [0; 256];
+    let mut rows = [0; SUBSETS];
+    let mut given = [0; SUBSETS];
     let mut all = 0;
     for place in 1..count {
         let subset = 2 * place;
@@ -157,15 +159,16 @@ pub(crate) fn response_rows(
     ResponseRows { given, all }
 }
 
-/// The size of the least subset without process 0 whose row has the state, or 9 if none has it. The
+/// The size of the least subset without process 0 whose row has the state, or `TOO_LONG` if none has it. The
 /// count says how many such subsets there are.
-pub(crate) fn least_with(given: &[u16; 256], count: u16, state: u8) -> u8
-    requires small { count ≤ 128 }
+pub(crate) fn least_with(given: &[u16; SUBSETS], count: u16, state: u8) -> u8
+    requires small { 2 * count ≤ SUBSETS }
     requires state { state < 16 }
-    ensures least { (subset : ℕ) → subset < 2 * count → ¬ IsBitSet subset 0 → IsBitSet (slice_index given.now subset) state → result ≤ count_below 8 subset }
-    ensures most { result ≤ 9 }
+    ensures least { (subset : ℕ) → subset < 2 * count → ¬ IsBitSet subset 0 → IsBitSet (slice_index given.now subset) state
+        → result ≤ count_below MOST_PROCESSES subset }
+    ensures most { result ≤ TOO_LONG }
 {
-    let mut least = 9;
+    let mut least = TOO_LONG;
     for place in 0..count {
         let subset = 2 * place;
         if !contains(given[subset as usize], state) {

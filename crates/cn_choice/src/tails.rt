@@ -6,11 +6,13 @@ ghost use Rattle.cn_choice.specs.OutcomeSets.{Has};
 ghost use Rattle.cn_choice.specs.RawChoices.{IsRawChoice};
 ghost use Rattle.cn_choice.specs.Subsets.{answer_of, next_of};
 ghost use Rattle.cn_choice.specs.Tails.{AreDead, IsFirstWay, IsPassed, IsTurn, NoWay, StayDead, moved, seen_after};
+ghost use Rattle.cn_choice.specs.declared.limits.TheConstants.{MOST_PROCESSES, SUBSETS};
 
 use crate::bits::{contains, with};
 use crate::dead_ends::DeadEnds;
 use crate::laws::RawChoice;
-use crate::result_sets::OutcomeSet;
+use crate::limits::MOST_PROCESSES;
+use crate::outcome_sets::OutcomeSet;
 use crate::subset_rows::operation_of;
 use arrayvec::ArrayVec;
 use cn_table::{Response, State, Table};
@@ -40,12 +42,12 @@ fn place_after(table: &Table, choice: &RawChoice, j: u8, place: Place, process: 
     requires fits { IsRawChoice table.now (length choice.now.operations) choice.now }
     requires state { place.state.0 < length table.now.states }
     requires process { process < length choice.now.operations }
-    requires few { length choice.now.operations ≤ 8 }
+    requires few { length choice.now.operations ≤ MOST_PROCESSES }
     requires left { 1 ≤ place.left }
-    requires used { place.used < 256 }
+    requires used { place.used < SUBSETS }
     requires seen { IfSome place.seen (λ response. response < 16) }
     ensures used { result.used ≡ bit_or place.used (2 ^ process) }
-    ensures small { result.used < 256 }
+    ensures small { result.used < SUBSETS }
     ensures left { result.left ≡ place.left - 1 }
     ensures state { result.state.0 ≡ next_of table.now choice.now process place.state.0 }
     ensures known { result.state.0 < length table.now.states }
@@ -63,7 +65,7 @@ fn place_after(table: &Table, choice: &RawChoice, j: u8, place: Place, process: 
 }
 
 /// The empty list and the pair of the place, if the set has it.
-fn end_within(set: &OutcomeSet, place: Place) -> Option<(ArrayVec<u8, 8>, (u8, u8))>
+fn end_within(set: &OutcomeSet, place: Place) -> Option<(ArrayVec<u8, MOST_PROCESSES>, (u8, u8))>
     ensures none { IfNone result ((response : ℕ) → place.seen ≡ Some response → ¬ Has set.now response place.state.0) }
     ensures empty { IfSome result (λ found. found.0.items ≡ []) }
     ensures ends { IfSome result (λ found. (place.seen ≡ Some found.1.0) × (place.state.0 ≡ found.1.1)) }
@@ -93,7 +95,7 @@ fn is_unwanted(set: &OutcomeSet, place: Place) -> bool
 /// process with its operation was tried.
 fn is_open(choice: &RawChoice, j: u8, place: Place, tried: u16, process: u8) -> bool
     requires process { process < length choice.now.operations }
-    requires few { length choice.now.operations ≤ 8 }
+    requires few { length choice.now.operations ≤ MOST_PROCESSES }
     requires operation { slice_index choice.now.operations process < 16 }
     ensures open { IsTrue result → ¬ IsBitSet place.used process }
     ensures closed { IsFalse result → IsPassed choice.now j place.used place.left place.seen tried process }
@@ -147,12 +149,12 @@ pub(crate) fn way_into(
     low: u8,
     high: u8,
     place: Place,
-) -> Option<(ArrayVec<u8, 8>, (u8, u8))>
-    requires few { length choice.now.operations ≤ 8 }
+) -> Option<(ArrayVec<u8, MOST_PROCESSES>, (u8, u8))>
+    requires few { length choice.now.operations ≤ MOST_PROCESSES }
     requires fits { IsRawChoice table.now (length choice.now.operations) choice.now }
-    requires left { place.left ≤ 8 }
+    requires left { place.left ≤ MOST_PROCESSES }
     requires high { high ≤ length choice.now.operations }
-    requires used { place.used < 256 }
+    requires used { place.used < SUBSETS }
     requires seen { IfSome place.seen (λ response. response < 16) }
     requires state { place.state.0 < length table.now.states }
     requires dead { 2 < place.left → AreDead table.now choice.now j set.now (place.left + moved place.used) dead.old }

@@ -1,6 +1,7 @@
 //! Neighbours with the same operation in the same team, which can stand for each other.
 ghost use Rattle.std.specs.Prelude.{◌≡◌, ◌+◌, ◌-◌, ◌<◌, ◌≤◌, ◌↔◌, ℕ, length, IsBitSet, IsTrue};
 ghost use Rattle.cn_choice.specs.Twins.{AreLinks, AreTwins, IsMover, IsPacked, IsRun};
+ghost use Rattle.cn_choice.specs.declared.limits.TheConstants.{MOST_PROCESSES};
 
 use crate::bits::{contains, lowered, minus, with};
 use crate::laws::RawChoice;
@@ -9,7 +10,7 @@ use crate::laws::RawChoice;
 fn is_linked(choice: &RawChoice, process: usize) -> bool
     requires some { 1 ≤ process }
     requires operation { process < length choice.now.operations }
-    requires mark { process < length choice.now.marks }
+    requires team { process < length choice.now.marks }
     ensures { IsTrue result → AreTwins choice.now (process - 1) }
 {
     choice.operations[process] == choice.operations[process - 1]
@@ -18,8 +19,8 @@ fn is_linked(choice: &RawChoice, process: usize) -> bool
 
 /// The processes that have the operation and the team of the one before them.
 pub(crate) fn links(choice: &RawChoice) -> u16
-    requires few { length choice.now.operations ≤ 8 }
-    requires marks { length choice.now.marks ≡ length choice.now.operations }
+    requires few { length choice.now.operations ≤ MOST_PROCESSES }
+    requires teams { length choice.now.marks ≡ length choice.now.operations }
     ensures { AreLinks choice.now result }
 {
     let mut links = 0;

@@ -33,7 +33,13 @@ module _ (t : TypeTable) where
   -- behind choices none of which is a witness, and before others
   behind : (xs ys : List Choice) (found : Option Choice) → NoneIsWitness t xs → IsFirstAmong t ys found → IsFirstAmong t (xs ++ ys) found
   behind xs ys None none h = All-append Fails xs ys none h
-  behind xs ys (Some w) none h = record { before = xs ++ h.before; after = h.after; listed = ap (λ l. xs ++ l) h.listed ∙ sym (append_assoc xs h.before (w ∷ h.after)); witness = h.witness; earlier = All-append Fails xs h.before none h.earlier }
+  behind xs ys (Some w) none h = record {
+    before = xs ++ h.before;
+    after = h.after;
+    listed = ap (λ l. xs ++ l) h.listed ∙ sym (append_assoc xs h.before (w ∷ h.after));
+    witness = h.witness;
+    earlier = All-append Fails xs h.before none h.earlier;
+  }
 
   ahead : (xs ys : List Choice) (w : Choice) → IsFirstWitness t xs w → IsFirstWitness t (xs ++ ys) w
   ahead xs ys w h = record { before = h.before; after = h.after ++ ys; listed = ap (λ l. l ++ ys) h.listed ∙ append_assoc h.before (w ∷ h.after) ys; witness = h.witness; earlier = h.earlier }

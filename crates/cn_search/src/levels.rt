@@ -1,7 +1,9 @@
 //! The number alone, one number of processes after the other.
 ghost use Rattle.std.specs.Prelude.{◌≡◌, ◌≤◌, ◌⊎◌, ◌↔◌, Err, IfErr, IfOk, IsTrue, None, OnOk, Some};
 ghost use Rattle.cn_choice.specs.Discerning.{IsDiscerning, IsNumberUpTo};
+ghost use Rattle.cn_choice.specs.declared.limits.TheConstants.{MOST_PROCESSES};
 ghost use Rattle.cn_search.specs.Faults.{number_fault};
+ghost use Rattle.cn_search.specs.declared.limits.TheConstants.{GREATEST_LIMIT, LEAST_LIMIT};
 ghost use Rattle.cn_search.specs.declared.fault.FindFault.{FindFault};
 ghost use Rattle.cn_search.specs.declared.fault.FindFault.TheVariants.{OutOfMemory};
 
@@ -20,7 +22,7 @@ fn is_discerning<T: Threads + Sync>(
     n: u8,
 ) -> Result<bool, AllocError>
     requires some { 2 ≤ n }
-    requires few { n ≤ 8 }
+    requires few { n ≤ MOST_PROCESSES }
     ensures { IfOk result (λ yes. IsTrue yes ↔ IsDiscerning table.now n) }
 {
     laws::block_list();
@@ -38,8 +40,8 @@ fn number_up_to<T: Threads + Sync>(
     table: &Table,
     limit: u8,
 ) -> Result<Option<u8>, AllocError>
-    requires some { 2 ≤ limit }
-    requires few { limit ≤ 8 }
+    requires some { LEAST_LIMIT ≤ limit }
+    requires few { limit ≤ GREATEST_LIMIT }
     ensures { IfOk result (IsNumberUpTo table.now limit) }
 {
     laws::number_before_failure();
@@ -53,8 +55,9 @@ fn number_up_to<T: Threads + Sync>(
     Ok(number)
 }
 
-/// The number of a type up to a limit, from 2 to 8, with no evidence for it: the greatest n from 2
-/// to the limit for which the type is n-discerning, if there is one.
+/// The number of a type up to a limit, from [`LEAST_LIMIT`](crate::LEAST_LIMIT) to
+/// [`GREATEST_LIMIT`](crate::GREATEST_LIMIT), with no evidence for it: the greatest n from 2 to the
+/// limit for which the type is n-discerning, if there is one.
 ///
 /// It is the number of the [`Finding`](crate::Finding) of the type and the limit
 /// ([`laws::number_of_finding`](crate::laws::number_of_finding)), and of a type with any number of
@@ -63,7 +66,7 @@ fn number_up_to<T: Threads + Sync>(
 ///
 /// # Errors
 ///
-/// `BadLimit` where the limit is below 2 or above 8. `OutOfMemory` can stand in place of a number.
+/// `BadLimit` where the limit is not one of these. `OutOfMemory` can stand in place of a number.
 pub fn number<T: Threads + Sync>(
     rt: &T,
     alloc: Global,

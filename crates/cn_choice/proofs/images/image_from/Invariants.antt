@@ -1,5 +1,4 @@
-use Rattle.std.proofs.Common.{◌≡◌, ◌+◌, ◌<◌, length}
-use Rattle.cn_table.specs.TypeTable.{transition}
+use Rattle.std.proofs.Common.{length}
 use Rattle.cn_choice.specs.Subsets.{Below}
 use Rattle.cn_choice.proofs.ImageLemmas.{image_part}
 use Rattle.cn_choice.proofs.Unions.{GathersFrom}

@@ -1,8 +1,7 @@
-use Rattle.std.proofs.Common.{ℕ, ◌≤◌, ◌*◌, ◌-◌, ◌%◌, length-append, ◌≡◌, ◌<◌, ◌^◌, ◌+◌, ◌↔◌, ◌∙◌, ap, arith, inl, inr, length, refl, subst, sym}
+use Rattle.std.proofs.Common.{ℕ, ◌≤◌, ◌*◌, ◌-◌, ◌%◌, length-append, ◌≡◌, ◌^◌, ◌+◌, ◌↔◌, ◌∙◌, ap, arith, inr, length, refl, subst, sym}
 use Rattle.cn_choice.specs.Canonical.{Choice, raw_choice_of}
 use Rattle.cn_choice.specs.OutcomeSets.{Has}
 use Rattle.cn_choice.specs.RawChoices.{RawChoice}
-use Rattle.cn_choice.specs.ResultSets.{InResultSet}
 use Rattle.cn_choice.specs.declared.team.Team.TheVariants.{B}
 use Rattle.cn_choice.proofs.LedCollisions.{given_by_one, led_first}
 use Rattle.cn_choice.proofs.ResponseRowLemmas.{half_count, none_shorter_with}

@@ -1,11 +1,10 @@
-use Rattle.std.proofs.Common.{ℕ, ◌≡◌, ◌↔◌, ◌<◌, get_or, inl, inr, length, arith, subst, sym}
-use Rattle.std.specs.Prelude.{IsBitSet}
+use Rattle.std.proofs.Common.{ℕ, ◌<◌, get_or, inl, inr, length, arith, subst, sym}
 use Rattle.cn_table.specs.TypeTable.{TypeTable}
 use Rattle.cn_choice.specs.Subsets.{Below}
 use Rattle.cn_choice.proofs.LastProcess.{zero_has_none}
 use Rattle.cn_choice.proofs.BitSets.{member_below}
 use Rattle.cn_choice.proofs.ImageLemmas.{image_of}
-use Rattle.cn_choice.proofs.Packing.{rest_less, rest_packed}
+use Rattle.cn_choice.proofs.Packing.{rest_less}
 use Rattle.cn_choice.proofs.ResponseRowLemmas.{OtherWith, other_with_more, own_with, rest_others, with_all}
 use Rattle.cn_choice.proofs.Unions.{from_all, from_none, row_all, row_more, row_part}
 use Rattle.cn_choice.proofs.response_rows.both_rows.Goals as goal

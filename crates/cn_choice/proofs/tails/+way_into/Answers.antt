@@ -86,7 +86,8 @@ returns-in-Some-clause-first t c =
     let next = c.place_after-next.ensures in
     let every : c.len-n.result ≡ length a.choice.now.operations = omega (arith, ap (λ (r : RawChoice). length r.operations) c.choice.view_is, c.len-n.ensures.value) in
     let turn = rw (next.seen, next.left) at c.turns-from.ensures in
-    let rest = turn_first a.table.now a.choice.now a.j a.set.now (a.place.left - 1) c.turns-from.result.0 c.turns-from.result.1 c.len-n.result (bit_or a.place.used (2 ^ c.loop-process.process)) (next_of a.table.now a.choice.now c.loop-process.process a.place.state.0)
+    let rest = turn_first a.table.now a.choice.now a.j a.set.now (a.place.left - 1) c.turns-from.result.0 c.turns-from.result.1 c.len-n.result
+    (bit_or a.place.used (2 ^ c.loop-process.process)) (next_of a.table.now a.choice.now c.loop-process.process a.place.state.0)
     (seen_after a.j c.loop-process.process (answer_of a.table.now a.choice.now c.loop-process.process a.place.state.0) a.place.seen) turn c.in-Some.tail.items c.in-Some.pair
     (rw (next.used, next.state, next.seen, next.left) at c.in-Some.ensures.first) in
     rw c.insert.ensures.items (first_way a.table.now a.choice.now a.j a.set.now a.place.left a.low a.high a.place.used a.place.state.0 a.place.seen c.loop-process.process c.len-n.result every (omega (arith, c.if-place-eq0.false))

@@ -18,7 +18,8 @@ collect-requires-clause-ready g c =
 
 pub returns : goal.returns
 returns g c =
-    let parts = ap (λ it. chunks_of (max (chunks_size it) 1) (chunks_slice it)) c.with_min_len.ensures.base ∙ ap (λ size. chunks_of (max size 1) (chunks_slice c.par_chunks.result)) c.par_chunks.ensures.size ∙ ap (chunks_of 16) c.par_chunks.ensures.slice in
+    let parts = ap (λ it. chunks_of (max (chunks_size it) 1) (chunks_slice it)) c.with_min_len.ensures.base
+    ∙ ap (λ size. chunks_of (max size 1) (chunks_slice c.par_chunks.result)) c.par_chunks.ensures.size ∙ ap (chunks_of 16) c.par_chunks.ensures.slice in
     let h = c.in_ok-collect.ensures in
     let chain = rw (c.map.ensures.base, c.map.ensures.f) at h.1 in
     let rel : List Block → VecOf Collision Global → Type 0 = λ blocks p. AreRecordedFor c.args.table.now (choices_of_all c.args.table.now blocks) p.items in
