@@ -13,7 +13,7 @@ use Rattle.cn_choice.specs.Discerning.{IsNumberUpTo}
 use Rattle.cn_choice.specs.Live.{IsLive, live_choices}
 use Rattle.cn_choice.specs.Orders.{IsOrder}
 use Rattle.cn_choice.specs.RawChoices.{RawChoice, IsRawChoice}
-use Rattle.cn_choice.specs.ResultSets.{InResultSet, pair_of}
+use Rattle.cn_choice.specs.OutcomeSets.{InOutcomeSet, pair_of}
 use Rattle.cn_choice.specs.declared.team.Team.{Team}
 use Rattle.cn_choice.specs.declared.team.Team.TheVariants.{A}
 use Rattle.cn_search.specs.Evidence.{IsFindingFor, IsFirstWitness, IsRecordedFor, choices_for, choices_to_refute}
@@ -30,13 +30,13 @@ all_small bound (n ∷ ns) low below = rw (le-leb n 7 (omega (arith, below.0)), 
 short : (bound : ℕ) (ns : List ℕ) → bound ≤ 8 → length ns ≤ 8 → AllByRecursion (λ n. n < bound) ns → is_short ns ≡ true
 short bound ns low few below = rw (le-leb (length ns) 8 few, all_small bound ns low below)
 
--- ---- what the laws of orders, of result sets and of the live choices say
+-- ---- what the laws of orders, of outcome sets and of the live choices say
 
 abbrev pub AreShort : Type 0
 AreShort = (n : ℕ) (order : List ℕ) → IsOrder n order → length order ≤ n
 
 abbrev pub AreOfProcesses : Type 0
-AreOfProcesses = (t : TypeTable) (c : RawChoice) (team : Team) (j : ℕ) (pair : ℕ × ℕ) → InResultSet t c team j pair → j < length c.operations
+AreOfProcesses = (t : TypeTable) (c : RawChoice) (team : Team) (j : ℕ) (pair : ℕ × ℕ) → InOutcomeSet t c team j pair → j < length c.operations
 
 abbrev pub AreListed : Type 0
 AreListed = (t : TypeTable) (n : ℕ) (c : Choice) → Contains (live_choices t n) c ↔ (IsCanonical c × IsRawChoice t n (raw_choice_of c) × IsLive t (raw_choice_of c))

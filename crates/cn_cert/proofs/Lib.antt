@@ -3,9 +3,11 @@ pub mod Conversions
 pub mod DigitLemmas
 pub mod FindingRanges
 pub mod LineFeeds
+pub mod MemberReads
 pub mod ObjectWalks
 pub mod PrintedValues
 pub mod RangeLemmas
+pub mod Readings
 pub mod SpelledCertificates
 pub mod ValueLemmas
 pub mod Walks

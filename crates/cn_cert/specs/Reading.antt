@@ -1,12 +1,13 @@
 -- What reading bytes as a certificate comes to.
-use Rattle.std.specs.Prelude.{ℕ, List, Option, Result, Err, option_and_then}
+use Rattle.std.specs.Prelude.{ℕ, List, Option, Result, Ok, Err, option_and_then, if◌then◌else◌}
 use Rattle.std.specs.Option.{option_map_or, ok_or}
-use Rattle.cn_cert.specs.Certificate.{Certificate}
+use Rattle.cn_cert.specs.Certificate.{Certificate, is_version}
 use Rattle.cn_cert.specs.Document.{document_of}
 use Rattle.cn_cert.specs.Draft.{draft_of}
 use Rattle.cn_cert.specs.Faults.{fault_of}
+use Rattle.cn_cert.specs.Ranges.{is_in_range}
 use Rattle.cn_cert.specs.declared.fault.CertFault.{CertFault}
-use Rattle.cn_cert.specs.declared.fault.CertFault.TheVariants.{WrongShape}
+use Rattle.cn_cert.specs.declared.fault.CertFault.TheVariants.{WrongShape, Version, Range}
 
 -- the certificate that the bytes spell, whatever its version and its numbers
 abbrev pub spelled : List ℕ → Option Certificate
@@ -16,3 +17,7 @@ spelled bytes = option_and_then draft_of (document_of bytes)
 -- (bytes without a fault spell one, so the `WrongShape` here is never met)
 abbrev pub reading : List ℕ → Result Certificate CertFault
 reading bytes = option_map_or Err (fault_of bytes) (ok_or (spelled bytes) WrongShape)
+
+-- the certificate of a draft, else its first fault
+abbrev pub draft_reading : Certificate → Result Certificate CertFault
+draft_reading c = if is_version c.version then (if is_in_range c then Ok c else Err Range) else Err Version

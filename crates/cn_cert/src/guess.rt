@@ -14,7 +14,7 @@ use crate::certificate::Certificate;
 use crate::ranges::LONGEST_LIST;
 use crate::write::write_certificate;
 use arrayvec::ArrayVec;
-use cn_choice::{Choice, Collision};
+use cn_choice::{Choice, Collision, MOST_PROCESSES};
 use cn_table::{State, is_name};
 use std::alloc::Global;
 
@@ -63,7 +63,7 @@ impl<'a> Bytes<'a> {
     }
 
     /// A list of digits from 0 to 7.
-    fn list(&mut self) -> Option<ArrayVec<u8, 8>>
+    fn list(&mut self) -> Option<ArrayVec<u8, MOST_PROCESSES>>
         ensures { IfSome result (λ v. is_short v.items ≡ true) }
     {
         let mut out = ArrayVec::new();

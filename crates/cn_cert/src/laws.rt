@@ -5,6 +5,7 @@ ghost use Rattle.std.specs.Prelude.{◌≡◌, ◌≤◌, ℕ, Ok, true};
 ghost use Rattle.cn_table.specs.TypeTable.{TypeTable, IsTypeTable};
 ghost use Rattle.cn_search.specs.Evidence.{IsFindingFor};
 ghost use Rattle.cn_search.specs.Finding.{Finding};
+ghost use Rattle.cn_search.specs.declared.limits.TheConstants.{GREATEST_LIMIT};
 ghost use Rattle.cn_cert.specs.Certificate.{Certificate, certificate_of, is_version};
 ghost use Rattle.cn_cert.specs.CertificateText.{certificate_text};
 ghost use Rattle.cn_cert.specs.Ranges.{is_in_range};
@@ -19,7 +20,7 @@ pub fn written_is_read_back()
 
 /// What a search finds for a table is in the ranges.
 pub fn finding_is_in_range()
-    ensures { (t : TypeTable) (limit : ℕ) (f : Finding) → IsTypeTable t → limit ≤ 8 → IsFindingFor t limit f
+    ensures { (t : TypeTable) (limit : ℕ) (f : Finding) → IsTypeTable t → limit ≤ GREATEST_LIMIT → IsFindingFor t limit f
         → is_in_range (certificate_of t.name f) ≡ true }
 {
     // The choices that were searched are choices of the table, and its processes are few.

@@ -9,7 +9,7 @@ use crate::certificate::Certificate;
 use crate::draft::{Draft, DraftChoice, DraftCollision};
 use crate::fault::CertFault;
 use arrayvec::ArrayVec;
-use cn_choice::{Choice, Collision};
+use cn_choice::{Choice, Collision, MOST_PROCESSES};
 use cn_table::{MOST_STATES, State, is_name};
 use std::alloc::Global;
 
@@ -39,7 +39,7 @@ fn number(n: Option<u64>) -> Result<Option<u8>, CertFault>
     }
 }
 
-fn short_list(numbers: &[u64]) -> Result<ArrayVec<u8, 8>, CertFault>
+fn short_list(numbers: &[u64]) -> Result<ArrayVec<u8, MOST_PROCESSES>, CertFault>
     ensures { Reads CertFault.Range (λ v. v.items) result (within is_short numbers.now) }
 {
     if numbers.len() > LONGEST_LIST {

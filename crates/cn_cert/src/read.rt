@@ -1,11 +1,12 @@
 //! From bytes to a certificate, or to the first fault that the bytes have.
 ghost use Rattle.std.specs.Prelude.{◌≡◌, ◌⊎◌, Ok, Err, IfOk, IfErr, IsUtf8};
 ghost use Rattle.cn_cert.specs.Certificate.{is_version};
-ghost use Rattle.cn_cert.specs.Reading.{reading};
+ghost use Rattle.cn_cert.specs.Reading.{draft_reading, reading};
 ghost use Rattle.cn_cert.specs.declared.fault.CertFault.TheVariants.{NotJson, OutOfMemory};
 
 use crate::certificate::Certificate;
 use crate::document::read_draft;
+use crate::draft::Draft;
 use crate::fault::CertFault;
 use crate::guess::guessed;
 use crate::ranges;
@@ -16,6 +17,17 @@ fn is_version(version: u64) -> bool
     ensures { result ≡ is_version version }
 {
     version == 1 || version == 2
+}
+
+/// The certificate of a draft, or the first fault that the draft has.
+fn certificate_of(alloc: Global, draft: Draft) -> Result<Certificate, CertFault>
+    ensures certificate { IfOk result (λ c. draft_reading draft ≡ Ok c) }
+    ensures fault { IfErr result (λ e. (e ≡ OutOfMemory) ⊎ (draft_reading draft ≡ Err e)) }
+{
+    if !is_version(draft.version) {
+        return Err(CertFault::Version);
+    }
+    ranges::certificate(alloc, draft)
 }
 
 /// Reads a certificate from the bytes of a JSON text.
@@ -30,7 +42,7 @@ fn is_version(version: u64) -> bool
 ///
 /// The first of the faults 1 to 4 of [`CertFault`] that the bytes have, or `OutOfMemory`; bytes
 /// that are not UTF-8 are refused before memory is taken.
-#[tactic(auto, unfolding(crate::specs::Faults::fault_of))]
+#[tactic(auto, using(crate::proofs::Readings::reading_by_draft))]
 pub fn read_certificate(alloc: Global, bytes: &[u8]) -> Result<Certificate, CertFault>
     ensures certificate { IfOk result (λ c. reading bytes.now ≡ Ok c) }
     ensures fault { IfErr result (λ e. (e ≡ OutOfMemory) ⊎ (reading bytes.now ≡ Err e)) }
@@ -39,11 +51,8 @@ pub fn read_certificate(alloc: Global, bytes: &[u8]) -> Result<Certificate, Cert
     if let Some(certificate) = guessed(alloc, bytes) {
         return Ok(certificate);
     }
-    let Some(draft) = read_draft(alloc, bytes)? else {
-        return Err(CertFault::WrongShape);
-    };
-    if !is_version(draft.version) {
-        return Err(CertFault::Version);
+    match read_draft(alloc, bytes)? {
+        Some(draft) => certificate_of(alloc, draft),
+        None => Err(CertFault::WrongShape),
     }
-    ranges::certificate(alloc, draft)
 }
