@@ -4,7 +4,7 @@ use Rattle.cn_log.specs.Opening.{Log}
 use Rattle.cn_hall.specs.declared.rule.Item.{Item}
 use Rattle.cn_hall.specs.declared.rule.Stage.TheVariants.{First, Live}
 use Rattle.cn_hall.specs.declared.rule.View.{View}
-use Rattle.cn_hall.specs.Rule.{item_of, first_view, bare, later, opened, seated, IsOneEventLater, IsOneSeatMore, MayPut, FirstPut, AsItWas, OneEvent, OneSeat}
+use Rattle.cn_hall.specs.Rule.{item_of, first_view, bare_view, later_view, opened_view, seated_view, IsOneEventLater, IsOneSeatMore, MayPut, FirstPut, AsItWas, OneEvent, OneSeat}
 
 not_first : (v : View) → v.stage ≡ Live → v ≡ first_view → ⊥
 not_first v live is = let e : First ≡ Live = sym (ap (λ (u : View). u.stage) is) ∙ live in cc
@@ -33,19 +33,19 @@ not_both v x one more =
     let b = ap (λ (y : Item). y.seated) more.is in
     omega (arith, a, b)
 
-pub as_it_was : (v : View) (x : Item) (w : View) → v.stage ≡ Live → v.held ≡ Some x → MayPut v x w → w ≡ bare v
+pub as_it_was : (v : View) (x : Item) (w : View) → v.stage ≡ Live → v.held ≡ Some x → MayPut v x w → w ≡ bare_view v
 as_it_was v x w live held (FirstPut first one is) = absurd (not_first v live first)
 as_it_was v x w live held (AsItWas same is) = is
 as_it_was v x w live held (OneEvent one is) = absurd (not_later v x held one)
 as_it_was v x w live held (OneSeat more is) = absurd (not_more v x held more)
 
-pub one_event : (v : View) (x : Item) (w : View) → v.stage ≡ Live → IsOneEventLater v x → MayPut v x w → w ≡ later v x
+pub one_event : (v : View) (x : Item) (w : View) → v.stage ≡ Live → IsOneEventLater v x → MayPut v x w → w ≡ later_view v x
 one_event v x w live one (FirstPut first seated is) = absurd (not_first v live first)
 one_event v x w live one (AsItWas same is) = absurd (not_later v x same one)
 one_event v x w live one (OneEvent again is) = is
 one_event v x w live one (OneSeat more is) = absurd (not_both v x one more)
 
-pub one_seat : (v : View) (x : Item) (w : View) → v.stage ≡ Live → IsOneSeatMore v x → MayPut v x w → w ≡ seated v x
+pub one_seat : (v : View) (x : Item) (w : View) → v.stage ≡ Live → IsOneSeatMore v x → MayPut v x w → w ≡ seated_view v x
 one_seat v x w live more (FirstPut first one is) = absurd (not_first v live first)
 one_seat v x w live more (AsItWas same is) = absurd (not_more v x same more)
 one_seat v x w live more (OneEvent one is) = absurd (not_both v x one more)
@@ -55,7 +55,7 @@ one_seat v x w live more (OneSeat again is) = is
 holds_none : (v : View) (x : Item) → v ≡ first_view → v.held ≡ Some x → ⊥
 holds_none v x first held = let e : Some x ≡ None = sym held ∙ ap (λ (u : View). u.held) first in cc
 
-pub the_first : (v : View) (x : Item) (w : View) → v ≡ first_view → MayPut v x w → w ≡ opened x
+pub the_first : (v : View) (x : Item) (w : View) → v ≡ first_view → MayPut v x w → w ≡ opened_view x
 the_first v x w first (FirstPut again one is) = is
 the_first v x w first (AsItWas same is) = absurd (holds_none v x first same)
 the_first v x w first (OneEvent one is) = absurd (holds_none v (item_of one.before x.seated) first one.held)

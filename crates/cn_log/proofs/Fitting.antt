@@ -1,5 +1,5 @@
 -- The fields of a core: at its opening, and after a call.
-use Rattle.std.proofs.Common.{ℕ, zero, suc, ◌≡◌, inl, inr, Bool, true, false, ◌==◌, ◌+◌, ◌<◌, ◌≤◌, List, [], ◌∷◌, ◌++◌, length, replicate, Option, Some, None, refl, sym, ap, ◌∙◌, arith, slice_index_or, slice_set, get_or, length-set, get_or-set_same, get_or-set_other, length-append}
+use Rattle.std.proofs.Common.{ℕ, zero, suc, ◌≡◌, inl, inr, Bool, true, false, ◌==◌, ◌+◌, ◌<◌, ◌≤◌, List, [], ◌∷◌, ◌++◌, length, replicate, Option, Some, None, refl, sym, ap, ◌∙◌, arith, subst, slice_index_or, slice_set, get_or, length-set, get_or-set_same, get_or-set_other, length-append}
 use Rattle.std.proofs.lemmas.Bool.{cases_eq}
 use Rattle.std.proofs.lemmas.List.{get_or_default, length-replicate}
 use Rattle.cn_table.specs.declared.elements.State.{State}
@@ -12,7 +12,7 @@ use Rattle.cn_log.specs.declared.progress.Phase.{Phase}
 use Rattle.cn_log.specs.declared.progress.Phase.TheVariants.{Idle, Looks, Runs}
 use Rattle.cn_log.specs.declared.progress.Progress.{Progress}
 use Rattle.cn_log.specs.Agreement.{Agrees}
-use Rattle.cn_log.specs.Fields.{no_calls, no_progress, IsProgressOf, Kept, Fits, Keeps}
+use Rattle.cn_log.specs.Fields.{no_calls, no_progress, IsProgressOf, Kept, Fits, Keeps, IsAt}
 use Rattle.cn_log.specs.Log.{Setting, World, Caller, put, gathered, first_look, batches_of, after_events, after_event, after_gathering, after_step, after_decision, phase_after, first_world, state_of, MayCome, MayAllCome, IsEventList, MayInvoke}
 use Rattle.cn_log.proofs.ListLemmas.{put_same, put_other}
 use Rattle.cn_log.proofs.Invariant.{PhaseHolds, Holds}
@@ -24,6 +24,25 @@ use Rattle.cn_log.proofs.EntryLists.{fixed_from_is}
 -- what was read at a place, where that is one of another name
 pub read_at : {A : Type 0} (xs : List A) {x : A} {k p : ℕ} → x ≡ get_or xs k x → k ≡ p → x ≡ get_or xs p x
 read_at xs {x = x} there same = there ∙ ap (λ k. get_or xs k x) same
+
+-- the fields keep what they show
+pub keeps_shown : {R : Type 0} {L : Setting R} {s : List Event} {shown kept : Kept R} → Keeps L s kept → shown ≡ kept → Keeps L s shown
+keeps_shown {L = L} {s = s} keeps shows = subst (Keeps L s) (sym shows) keeps
+
+-- a process in this phase, and how far it has come, as it was read from what is kept
+pub record Found {R : Type 0} (L : Setting R) (Good : R → Type 0) (s : List Event) (kept : Kept R) (p : ℕ) (phase : Phase) (here : Progress) : Type 0 where
+  pub agrees : Agrees L Good
+  pub at : IsAt L s kept p phase
+  pub read : here ≡ get_or kept.progress p here
+
+-- so a method finds it that reads it from fields that show what is kept
+pub found : {R : Type 0} {L : Setting R} {Good : R → Type 0} {s : List Event} {shown kept : Kept R} {p k : ℕ} {phase : Phase} {here : Progress}
+    → Agrees L Good → IsAt L s kept p phase → shown ≡ kept → here ≡ get_or shown.progress k here → k ≡ p → Found L Good s shown p phase here
+found {L = L} {s = s} {shown = shown} {p = p} {phase = phase} agrees at shows read same = record {
+  agrees = agrees;
+  at = subst (λ k. IsAt L s k p phase) (sym shows) at;
+  read = read_at shown.progress read same;
+}
 
 abbrev busy : Phase → ℕ
 busy Idle = 0
@@ -163,7 +182,7 @@ module _ {R : Type 0} (L : Setting R) (Good : R → Type 0) (agrees : Agrees L G
   get_replicate (suc n) zero x d less = refl
   get_replicate (suc n) (suc k) x d less = get_replicate n k x d (omega arith)
 
-  pub new_keeps : (start : State) → start.0 ≡ L.start → start.0 < length L.object.states
+  pub new_keeps : (start : State) → start.0 ≡ L.start → start.0 < length L.object.states → (entries_room slots_room : ℕ)
       → Keeps L [] (record {
         rounds = replicate L.capacity L.untouched;
         announced = replicate L.processes None;
@@ -171,8 +190,10 @@ module _ {R : Type 0} (L : Setting R) (Good : R → Type 0) (agrees : Agrees L G
         entries = [];
         slots = [];
         fixed = 0;
+        entries_room = entries_room;
+        slots_room = slots_room;
       })
-  new_keeps start is known = record {
+  new_keeps start is known entries_room slots_room = record {
     events = tt;
     fits = record {
       rounds_many = length-replicate L.capacity _;

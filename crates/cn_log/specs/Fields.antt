@@ -12,12 +12,10 @@ use Rattle.cn_log.specs.declared.event.StepAnswer.{StepAnswer}
 use Rattle.cn_log.specs.declared.event.StepAnswer.TheVariants.{Working, Answered, Full}
 use Rattle.cn_log.specs.declared.progress.Phase.{Phase}
 use Rattle.cn_log.specs.declared.progress.Phase.TheVariants.{Idle}
-use Rattle.cn_log.specs.declared.log_state.LogState.{LogState}
 use Rattle.cn_log.specs.declared.progress.Progress.{Progress}
 use Rattle.cn_log.specs.Opening.{Opening, setting_of}
 use Rattle.cn_proto.specs.Plan.{processes_of}
 use Rattle.cn_agree.specs.World.{World as RoundWorld}
-use Rattle.std.specs.Vec.{vec_capacity}
 use Rattle.cn_log.specs.Log.{Setting, World, Caller, object_after, operations_of, batches_of, entries_of, entries_of_batches, state_of, IsEventList}
 
 abbrev pub no_calls : CallCounts
@@ -41,7 +39,7 @@ next_batch many k None = []
 next_batch many k (Some b) = if many == k then b ∷ [] else []
 
 -- what is kept of a log: the round of each slot, the announcement register of each process, how far each process has come, the entries of the
--- fixed slots, each with its slot, and how many slots are fixed
+-- fixed slots, each with its slot, how many slots are fixed, and how many entries and slots there is room for
 pub record Kept (R : Type 0) : Type 0 where
   pub rounds : List R
   pub announced : List (Option Entry)
@@ -49,6 +47,8 @@ pub record Kept (R : Type 0) : Type 0 where
   pub entries : List Entry
   pub slots : List ℕ
   pub fixed : ℕ
+  pub entries_room : ℕ
+  pub slots_room : ℕ
 
 module _ {R : Type 0} (L : Setting R) where
   -- what a process answers with this call pending that replays batch x in slot k, where its copy of the object is in this state
@@ -92,31 +92,24 @@ module _ {R : Type 0} (L : Setting R) where
     pub process : p < L.processes
     pub phase_is : ((state_of L schedule).caller p).phase ≡ phase
 
--- what the fields of a core keep
-abbrev pub kept_in : LogState → Kept (RoundWorld Batch)
-kept_in state = record {
-  rounds = state.rounds.items;
-  announced = state.announced.items;
-  progress = state.progress.items;
-  entries = state.entries.items;
-  slots = state.slots.items;
-  fixed = state.fixed;
-}
+-- what a log keeps that runs by rounds of a plan
+abbrev pub KeptLog : Type 0
+KeptLog = Kept (RoundWorld Batch)
 
 -- the state of a core is that after the schedule
-abbrev pub IsStateAfter : Opening → List Event → LogState → Type 0
-IsStateAfter o schedule state = Keeps (setting_of o) schedule (kept_in state)
+abbrev pub IsStateAfter : Opening → List Event → KeptLog → Type 0
+IsStateAfter o schedule state = Keeps (setting_of o) schedule state
 
 -- and process p is in this phase
-abbrev pub IsStateAt : Opening → List Event → LogState → ℕ → Phase → Type 0
-IsStateAt o schedule state p phase = IsAt (setting_of o) schedule (kept_in state) p phase
+abbrev pub IsStateAt : Opening → List Event → KeptLog → ℕ → Phase → Type 0
+IsStateAt o schedule state p phase = IsAt (setting_of o) schedule state p phase
 
 -- the state has room for an entry of each process in each slot
-pub record HasRoom (o : Opening) (state : LogState) : Type 0 where
-  pub entries : processes_of o.plan * o.capacity ≤ vec_capacity state.entries
-  pub slots : processes_of o.plan * o.capacity ≤ vec_capacity state.slots
+pub record HasRoom (o : Opening) (state : KeptLog) : Type 0 where
+  pub entries : processes_of o.plan * o.capacity ≤ state.entries_room
+  pub slots : processes_of o.plan * o.capacity ≤ state.slots_room
 
 -- and as much as before
-pub record HasSameRoom (old new : LogState) : Type 0 where
-  pub entries : vec_capacity new.entries ≡ vec_capacity old.entries
-  pub slots : vec_capacity new.slots ≡ vec_capacity old.slots
+pub record HasSameRoom (old new : KeptLog) : Type 0 where
+  pub entries : new.entries_room ≡ old.entries_room
+  pub slots : new.slots_room ≡ old.slots_room

@@ -214,7 +214,6 @@ impl LogCore {
         ensures number { result ≡ self.now.opening.capacity }
         ensures range { (1 ≤ result) × (result ≤ MOST_SLOTS) }
     {
-        self.opening.is_opening();
         self.opening.capacity
     }
 

@@ -3,6 +3,7 @@ ghost use Rattle.std.specs.Prelude.{◌≡◌, ◌<◌, ◌≤◌, ◌+◌, ◌*
 ghost use Rattle.std.specs.Vec.{vec_capacity};
 ghost use Rattle.std.specs.Vec.{vec_len};
 ghost use Rattle.cn_table.specs.Run.{state_after as run_of};
+ghost use Rattle.cn_table.specs.TypeTable.{transition};
 ghost use Rattle.cn_proto.specs.Plan.{processes_of};
 ghost use Rattle.cn_agree.specs.Rounds.{fixed_value};
 ghost use Rattle.cn_log.specs.Batches.{and_entry, entry_at, members, entries_in, slots_from};
@@ -23,8 +24,9 @@ use crate::event::StepAnswer;
 use crate::opening::Opening;
 use crate::progress::{Phase, Progress};
 use cn_agree::Round;
-use cn_table::Operation;
+use cn_table::{Operation, Response, State};
 use std::alloc::{AllocError, Global};
+use std::marker::Model;
 
 /// The round of each slot, the announcement register of each process, how far each process has
 /// come, and the entries of the fixed slots, each with its slot, and how many slots are fixed.
@@ -36,6 +38,24 @@ pub(crate) struct LogState {
     pub entries: Vec<Entry>,
     pub slots: Vec<u16>,
     pub fixed: u16,
+}
+
+impl Model for LogState {
+    ghost use Rattle.std.specs.Vec.{vec_capacity};
+    ghost use Rattle.cn_log.specs.Fields.{KeptLog};
+
+    ghost Value = { KeptLog };
+
+    ghost view = { λ s. record {
+      rounds = s.rounds.items;
+      announced = s.announced.items;
+      progress = s.progress.items;
+      entries = s.entries.items;
+      slots = s.slots.items;
+      fixed = s.fixed;
+      entries_room = vec_capacity s.entries;
+      slots_room = vec_capacity s.slots;
+    } };
 }
 
 impl LogState {
@@ -231,13 +251,13 @@ fn enter(
 
 /// How far a process has come by a batch, and what its step answers.
 #[derive(Clone, Copy)]
-struct Outcome {
+struct Applied {
     progress: Progress,
     answer: StepAnswer,
 }
 
 /// The process, with a call of its own pending, replays the batch of its next slot.
-fn replay_batch(opening: &Opening, here: Progress, mine: Entry, batch: Batch) -> Outcome
+fn replay_batch(opening: &Opening, here: Progress, mine: Entry, batch: Batch) -> Applied
     requires slot { here.replayed < opening.now.capacity }
     requires few { opening.now.capacity ≤ MOST_SLOTS }
     requires seen { here.seen ≤ 8192 }
@@ -263,15 +283,14 @@ fn replay_batch(opening: &Opening, here: Progress, mine: Entry, batch: Batch) ->
     let state = state_after(&opening.object, processes, batch, here.state);
     let slot = here.replayed;
     let (phase, answer) = if batch.has(mine) {
-        let before = state_after(&opening.object, mine.process, batch, here.state);
-        let (response, _) = opening.object.apply(mine.operation, before);
+        let response = response_at(opening, here.state, batch, mine);
         (Phase::Idle, StepAnswer::Answered { slot, response })
     } else if slot + 1 == opening.capacity {
         (Phase::Idle, StepAnswer::Full)
     } else {
         (first_look(mine), StepAnswer::Working)
     };
-    Outcome {
+    Applied {
         progress: Progress {
             replayed: slot + 1,
             seen: here.seen + count(processes, batch),
@@ -282,4 +301,18 @@ fn replay_batch(opening: &Opening, here: Progress, mine: Entry, batch: Batch) ->
         },
         answer,
     }
+}
+
+/// The response to this call at its place in the batch, where the object was in this state before.
+fn response_at(opening: &Opening, state: State, batch: Batch, mine: Entry) -> Response
+    requires mine { mine.process ≤ 8 }
+    requires operation { mine.operation.0 < length opening.now.object.operations }
+    requires operations { (q : ℕ) (e : EntryOf) → entry_at batch q ≡ Some e → e.operation.0 < length opening.now.object.operations }
+    requires state { state.0 < length opening.now.object.states }
+    ensures number { result.0 ≡ (transition opening.now.object mine.operation.0
+        (run_of opening.now.object state.0 (operations_of (members mine.process 0 batch)))).0 }
+    ensures range { result.0 < length opening.now.object.responses }
+{
+    let before = state_after(&opening.object, mine.process, batch, state);
+    opening.object.apply(mine.operation, before).0
 }

@@ -66,7 +66,8 @@ act-requires-clause-local g c =
 pub unreachable-requires : goal.unreachable-requires
 unreachable-requires g c =
     let w : World g.row.V.Denot = record { nodes = c.self.inside.nodes.items; locals = c.self.inside.locals.items; inputs = c.self.inside.inputs.items; first = c.self.inside.first } in
-    under_way c.args.plan.now c.args.self.now c.requires.of_plan w c.self.view_is c.args.p c.requires.process c.from.result c.from.ensures c.index.result.now c.index.ensures c.requires.begun c.requires.undecided (without_turn c.index.result.now c.in-None.ensures)
+    under_way c.args.plan.now c.args.self.now c.requires.of_plan w c.self.view_is c.args.p c.requires.process c.from.result c.from.ensures c.index.result.now c.index.ensures
+    c.requires.begun c.requires.undecided (without_turn c.index.result.now c.in-None.ensures)
 
 -- the world after the step
 after : (g : _) (c : goal.After-self-in-Some-1 g) → (let w : World g.row.V.Denot = record {

@@ -16,4 +16,4 @@ returns-clause-keeps c =
     (record { replayed = 0; seen = 0; calls_seen = z; calls = 0; phase = Idle; state = c.opening.inside.start })) c.new.ensures in
     let start : c.opening.inside.start.0 ≡ c.args.opening.now.start = ap (λ (o : Opening). o.start) c.opening.view_is in
     let low = c.is_opening.ensures.opening.start in
-    rw (c.in_ok-untouched_rounds.ensures, announced, progress, c.in_ok-with_capacity.ensures.items, c.in_ok-with_capacity-2.ensures.items, n) (new_keeps _ _ c.is_opening.ensures.agrees c.opening.inside.start start (omega arith))
+    rw (c.in_ok-untouched_rounds.ensures, announced, progress, c.in_ok-with_capacity.ensures.items, c.in_ok-with_capacity-2.ensures.items, n) (new_keeps _ _ c.is_opening.ensures.agrees c.opening.inside.start start (omega arith) _ _)
