@@ -1,6 +1,5 @@
 -- What is written of a log.
 pub mod Log
-pub mod Names
 pub mod Pairs
 pub mod Pieces
 pub mod Threads

@@ -2,5 +2,6 @@
 pub mod AcceptedEntries
 pub mod AcceptedWitnesses
 pub mod Checked
+pub mod Contents
 pub mod Openings
 pub mod Plans

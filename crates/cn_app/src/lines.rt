@@ -2,9 +2,7 @@
 
 pub mod decisions;
 pub mod explained;
-pub mod grid;
 pub mod log;
-pub mod names;
 pub mod number;
 pub mod pairs;
 pub mod threads;

@@ -42,6 +42,19 @@ use std::io::{Read, Write};
 use std::sync::Wait;
 use std::thread::Threads;
 
+/// Does this work over the reader of each text and the writer, by the names that they have.
+macro_rules! over_streams {
+    ($alloc:ident, [$($text:ident),+], $writer:ident => $work:expr) => {{
+        $(let mut $text = Text::new($alloc, $text);)+
+        let mut $writer = Output::new($alloc, $writer);
+        let outcome = $work;
+        // No effect at run time: a proof reads from these what became of the readers and the writer.
+        $(let _ = &*$text.into_reader();)+
+        let _ = &*$writer.into_writer();
+        outcome
+    }};
+}
+
 /// [`find`](commands::find) over a reader and a writer.
 ///
 /// # Errors
@@ -61,13 +74,8 @@ pub fn run_find<T: Threads + Sync, R: Read, W: Write>(
         (λ bytes. (e ≡ AppFault.OutOfMemory) ⊎ Fails Source.Table bytes table_in e (λ t. SearchFails t limit e))) }
     ensures silent { IfErr result (λ e. (e ≡ AppFault.Write) ⊎ (writer.new ≡ writer.old)) }
 {
-    let mut table = Text::new(alloc, table);
-    let mut output = Output::new(alloc, writer);
-    let outcome = commands::find(rt, alloc, &mut table, &mut output, limit);
-    // No effect at run time: a proof reads from these what became of the reader and the writer.
-    let _ = &*table.into_reader();
-    let _ = &*output.into_writer();
-    outcome
+    over_streams!(alloc, [table], writer =>
+        commands::find(rt, alloc, &mut table, &mut writer, limit))
 }
 
 /// [`classify`](commands::classify) over a reader and a writer.
@@ -89,13 +97,8 @@ pub fn run_classify<T: Threads + Sync, R: Read, W: Write>(
         (e ≡ AppFault.OutOfMemory) ⊎ LimitFails limit e (Fails Source.Table bytes table_in e (λ _. e ≡ AppFault.Write)))) }
     ensures silent { IfErr result (λ e. (e ≡ AppFault.Write) ⊎ (writer.new ≡ writer.old)) }
 {
-    let mut table = Text::new(alloc, table);
-    let mut output = Output::new(alloc, writer);
-    let outcome = commands::classify(rt, alloc, &mut table, &mut output, limit);
-    // As in `run_find`.
-    let _ = &*table.into_reader();
-    let _ = &*output.into_writer();
-    outcome
+    over_streams!(alloc, [table], writer =>
+        commands::classify(rt, alloc, &mut table, &mut writer, limit))
 }
 
 /// [`lint`](commands::lint) over a reader and a writer.
@@ -115,13 +118,7 @@ pub fn run_lint<T, R: Read, W: Write>(
     ensures refused { IfErr result (λ e. WasRead Source.Table result R.remaining table.old table.new (λ bytes. LintFails bytes e)) }
     ensures silent { IfErr result (λ e. (e ≡ AppFault.Write) ⊎ (writer.new ≡ writer.old)) }
 {
-    let mut table = Text::new(alloc, table);
-    let mut output = Output::new(alloc, writer);
-    let outcome = commands::lint(alloc, &mut table, &mut output);
-    // As in `run_find`.
-    let _ = &*table.into_reader();
-    let _ = &*output.into_writer();
-    outcome
+    over_streams!(alloc, [table], writer => commands::lint(alloc, &mut table, &mut writer))
 }
 
 /// [`draw`](commands::draw) over a reader and a writer.
@@ -142,13 +139,7 @@ pub fn run_draw<T, R: Read, W: Write>(
         (λ bytes. (e ≡ AppFault.OutOfMemory) ⊎ Fails Source.Table bytes table_in e (λ _. e ≡ AppFault.Write))) }
     ensures silent { IfErr result (λ e. (e ≡ AppFault.Write) ⊎ (writer.new ≡ writer.old)) }
 {
-    let mut table = Text::new(alloc, table);
-    let mut output = Output::new(alloc, writer);
-    let outcome = commands::draw(alloc, &mut table, &mut output);
-    // As in `run_find`.
-    let _ = &*table.into_reader();
-    let _ = &*output.into_writer();
-    outcome
+    over_streams!(alloc, [table], writer => commands::draw(alloc, &mut table, &mut writer))
 }
 
 /// [`check`](commands::check) over two readers and a writer.
@@ -173,15 +164,8 @@ pub fn run_check<T, R: Read, C: Read, W: Write>(
         (e ≡ AppFault.OutOfMemory) ⊎ FailsChecked x y e (λ _ _. e ≡ AppFault.Write)))) }
     ensures silent { IfErr result (λ e. (e ≡ AppFault.Write) ⊎ (writer.new ≡ writer.old)) }
 {
-    let mut table = Text::new(alloc, table);
-    let mut certificate = Text::new(alloc, certificate);
-    let mut output = Output::new(alloc, writer);
-    let outcome = commands::check(alloc, &mut table, &mut certificate, &mut output);
-    // As in `run_find`.
-    let _ = &*table.into_reader();
-    let _ = &*certificate.into_reader();
-    let _ = &*output.into_writer();
-    outcome
+    over_streams!(alloc, [table, certificate], writer =>
+        commands::check(alloc, &mut table, &mut certificate, &mut writer))
 }
 
 /// [`explain`](commands::explain) over two readers and a writer.
@@ -206,15 +190,8 @@ pub fn run_explain<T, R: Read, C: Read, W: Write>(
         (e ≡ AppFault.OutOfMemory) ⊎ FailsChecked x y e (λ _ _. e ≡ AppFault.Write)))) }
     ensures silent { IfErr result (λ e. (e ≡ AppFault.Write) ⊎ (writer.new ≡ writer.old)) }
 {
-    let mut table = Text::new(alloc, table);
-    let mut certificate = Text::new(alloc, certificate);
-    let mut output = Output::new(alloc, writer);
-    let outcome = commands::explain(alloc, &mut table, &mut certificate, &mut output, all);
-    // As in `run_find`.
-    let _ = &*table.into_reader();
-    let _ = &*certificate.into_reader();
-    let _ = &*output.into_writer();
-    outcome
+    over_streams!(alloc, [table, certificate], writer =>
+        commands::explain(alloc, &mut table, &mut certificate, &mut writer, all))
 }
 
 /// [`show`](commands::show) over two readers and a writer.
@@ -263,15 +240,8 @@ pub fn run_show_as<T, R: Read, C: Read, W: Write>(
         (e ≡ AppFault.OutOfMemory) ⊎ FailsChecked x y e (λ t c. PlanFails t c e (λ _. e ≡ AppFault.Write))))) }
     ensures silent { IfErr result (λ e. (e ≡ AppFault.Write) ⊎ (writer.new ≡ writer.old)) }
 {
-    let mut table = Text::new(alloc, table);
-    let mut certificate = Text::new(alloc, certificate);
-    let mut output = Output::new(alloc, writer);
-    let outcome = commands::show_as(alloc, &mut table, &mut certificate, &mut output, form);
-    // As in `run_find`.
-    let _ = &*table.into_reader();
-    let _ = &*certificate.into_reader();
-    let _ = &*output.into_writer();
-    outcome
+    over_streams!(alloc, [table, certificate], writer =>
+        commands::show_as(alloc, &mut table, &mut certificate, &mut writer, form))
 }
 
 /// [`agree`](commands::agree) over two readers and a writer, of lists of at most [`MOST_ITEMS`]
@@ -300,26 +270,18 @@ pub fn run_agree<T, R: Read, C: Read, W: Write>(
         (λ xs s. FailsChecked x y e (λ t c. PlanFails t c e (λ plan. RunFails plan xs s e)))))) }
     ensures silent { IfErr result (λ e. (e ≡ AppFault.Write) ⊎ (writer.new ≡ writer.old)) }
 {
-    let mut table = Text::new(alloc, table);
-    let mut certificate = Text::new(alloc, certificate);
-    let mut output = Output::new(alloc, writer);
     let most = MOST_ITEMS;
-    let outcome = commands::agree(
+    over_streams!(alloc, [table, certificate], writer => commands::agree(
         alloc,
         &mut table,
         &mut certificate,
-        &mut output,
+        &mut writer,
         Listed { text: inputs, most },
         Listed {
             text: schedule,
             most,
         },
-    );
-    // As in `run_find`.
-    let _ = &*table.into_reader();
-    let _ = &*certificate.into_reader();
-    let _ = &*output.into_writer();
-    outcome
+    ))
 }
 
 /// [`replay`](commands::replay) over three readers and a writer, of at most [`MOST_ITEMS`] events.
@@ -350,27 +312,17 @@ pub fn run_replay<T, R: Read, C: Read, O: Read, W: Write>(
     ensures told { capacity_of capacity.now ≡ None → result ≡ Err (AppFault.Argument Part.Capacity) }
     ensures silent { IfErr result (λ e. (e ≡ AppFault.Write) ⊎ (writer.new ≡ writer.old)) }
 {
-    let mut table = Text::new(alloc, table);
-    let mut certificate = Text::new(alloc, certificate);
-    let mut object = Text::new(alloc, object);
-    let mut output = Output::new(alloc, writer);
     let most = MOST_ITEMS;
-    let outcome = commands::replay(
+    over_streams!(alloc, [table, certificate, object], writer => commands::replay(
         alloc,
         &mut table,
         &mut certificate,
         &mut object,
-        &mut output,
+        &mut writer,
         start,
         capacity,
         Listed { text: events, most },
-    );
-    // As in `run_find`.
-    let _ = &*table.into_reader();
-    let _ = &*certificate.into_reader();
-    let _ = &*object.into_reader();
-    let _ = &*output.into_writer();
-    outcome
+    ))
 }
 
 /// [`serve`](commands::serve) over three readers and a writer.
@@ -409,26 +361,16 @@ where
     ensures told { capacity_of capacity.now ≡ None → result ≡ Err (AppFault.Argument Part.Capacity) }
     ensures silent { IfErr result (λ e. (e ≡ AppFault.Write) ⊎ (writer.new ≡ writer.old)) }
 {
-    let mut table = Text::new(alloc, table);
-    let mut certificate = Text::new(alloc, certificate);
-    let mut object = Text::new(alloc, object);
-    let mut output = Output::new(alloc, writer);
-    let outcome = commands::serve(
+    over_streams!(alloc, [table, certificate, object], writer => commands::serve(
         rt,
         alloc,
         &mut table,
         &mut certificate,
         &mut object,
-        &mut output,
+        &mut writer,
         start,
         capacity,
         calls,
         make_gate,
-    );
-    // As in `run_find`.
-    let _ = &*table.into_reader();
-    let _ = &*certificate.into_reader();
-    let _ = &*object.into_reader();
-    let _ = &*output.into_writer();
-    outcome
+    ))
 }

@@ -1,4 +1,4 @@
--- The pairs that are told are those of the result sets.
+-- The pairs that are told are those of the outcome sets.
 use Rattle.std.proofs.Common.{◌≡◌, ℕ, ◌+◌, ◌<◌, ◌≤◌, ◌↔◌, List, [], ◌∷◌, length, length-append, get_or, refl, sym, ap, ◌∙◌, subst, arith, Bool, true, false, cond, ◌==◌, true≢false, nat_eq, Option, Some, None, option_map, All, Contains, IsTrue, position}
 use Rattle.std.specs.Prelude.{slice_index}
 use Rattle.std.specs.List.{flat_map, range_with_len}
@@ -12,7 +12,7 @@ use Rattle.cn_choice.specs.Canonical.{Choice, raw_choice_of}
 use Rattle.cn_choice.specs.Orders.{IsOrder}
 use Rattle.cn_choice.specs.OrdersLeft.{as_array}
 use Rattle.cn_choice.specs.RawChoices.{RawChoice}
-use Rattle.cn_choice.specs.ResultSets.{BeginsIn, InResultSet, operations_of, pair_of}
+use Rattle.cn_choice.specs.OutcomeSets.{BeginsIn, InOutcomeSet, operations_of, pair_of}
 use Rattle.cn_choice.specs.TeamOrders.{orders_of}
 use Rattle.cn_choice.specs.declared.team.Team.{Team}
 use Rattle.cn_app.specs.Lines.Pairs.{is_pair, kept, kept_with, sees}
@@ -50,8 +50,8 @@ module _ (t : TypeTable) (c : Choice) (team : Team) (j : ℕ)
   many : length c.a + length c.b ≡ length (raw_choice_of c).operations
   many = sym (length-append c.a c.b)
 
-  -- it does where the pair is in the result set, and only there
-  pub sees_exact : (r q : ℕ) → IsTrue (sees t c team j r q) ↔ InResultSet t (raw_choice_of c) team j (r, q)
+  -- it does where the pair is in the outcome set, and only there
+  pub sees_exact : (r q : ℕ) → IsTrue (sees t c team j r q) ↔ InOutcomeSet t (raw_choice_of c) team j (r, q)
   unfolding sees
   sees_exact r q = (
     λ h.

@@ -1,5 +1,5 @@
 -- Commands that open a log for an object: how they fail, and what the texts give them.
-use Rattle.std.proofs.Common.{◌≡◌, ◌⊎◌, inl, inr, ℕ, List, Option, Some, None, Result, Ok, Err, IsSomeAnd, MatchResult, MatchOption, sym, subst, refl}
+use Rattle.std.proofs.Common.{◌≡◌, ◌⊎◌, inl, inr, ℕ, List, Option, Some, None, Result, Ok, Err, IsOkAnd, IsSomeAnd, MatchResult, MatchOption, sym, subst, refl}
 use Rattle.cn_table.specs.Names.{number_of}
 use Rattle.cn_table.specs.TypeTable.{TypeTable}
 use Rattle.cn_choice.specs.Canonical.{Choice}
@@ -24,6 +24,9 @@ use Rattle.cn_app.proofs.TextLemmas.Plans.{PlanFails-weaker, plan_then}
 
 Fails-first : {X : Type 0} (s : Source) (given : List ℕ) (reads : List ℕ → Result X AppFault) (e : AppFault) (later : X → Type 0) → reads given ≡ Err e → Fails s given reads e later
 Fails-first {X} s given reads e later h = inr (subst (λ (r : Result X AppFault). MatchResult r later (λ fault. e ≡ fault)) (sym h) refl)
+
+Gives-here : {X : Type 0} (given : List ℕ) (reads : List ℕ → Result X AppFault) (P : X → Type 0) (x : X) → reads given ≡ Ok x → P x → Gives given reads P
+Gives-here {X} given reads P x read h = subst (λ (r : Result X AppFault). IsOkAnd r P) (sym read) h
 
 -- the table and the certificate are read
 module _ (table certificate object : List ℕ) (x : TypeTable) (y : Certificate) (table_is : table_in table ≡ Ok x) (certificate_is : certificate_in certificate ≡ Ok y) where
@@ -53,6 +56,30 @@ module _ (table certificate object : List ℕ) (x : TypeTable) (y : Certificate)
         → (e ≡ OutOfMemory) ⊎ FailsObject table certificate object e (λ t c z. PlanFails t c e (later z))
     plan_fails accepted e later (inl memory) = inl memory
     plan_fails accepted e later (inr h) = inr (no_witness_then accepted h.1 e h.0 later)
+
+    -- the certificate is accepted, and this is the plan of its witness
+    module _ (accepted : IsAccepted x y) (plan : Plan) (is_plan : IsPlanOf x y plan) (start : List ℕ) where
+      -- the object has no state of this name
+      pub start_fails : number_of o.states start ≡ None → (e : AppFault) → e ≡ Argument Start → (later : Plan → TypeTable → ℕ → Type 0)
+          → FailsObject table certificate object e (λ t c z. PlanFails t c e (λ p. StartFails z start e (later p z)))
+      start_fails none e is later =
+          then_object e (λ t c z. PlanFails t c e (λ p. StartFails z start e (later p z)))
+          (Fails-later source.Object object object_in e (λ z. CheckFails x y e (PlanFails x y e (λ p. StartFails z start e (later p z)))) o object_is
+          (inr (
+            accepted,
+            plan_then x y plan e (λ p. StartFails o start e (later p o)) is_plan
+                (subst (λ (q : Option ℕ). MatchOption q (e ≡ Argument Start) (later plan o)) (sym none) is),
+          )))
+
+      -- it has this one
+      pub gives_opening : (q capacity : ℕ) → number_of o.states start ≡ Some q → (opening : Opening) → opening ≡ opening_of plan o q capacity
+          → GivesOpening table certificate object start capacity (λ z. z ≡ opening)
+      gives_opening q capacity state opening is =
+          Gives-here table table_in
+          (λ t. Gives certificate certificate_in (λ c. Gives object object_in (λ z. IsAccepted t c × ((p : Plan) × IsPlanOf t c p × StartGives z start (λ k. opening_of p z k capacity ≡ opening))))) x table_is
+          (Gives-here certificate certificate_in (λ c. Gives object object_in (λ z. IsAccepted x c × ((p : Plan) × IsPlanOf x c p × StartGives z start (λ k. opening_of p z k capacity ≡ opening)))) y certificate_is
+          (Gives-here object object_in (λ z. IsAccepted x y × ((p : Plan) × IsPlanOf x y p × StartGives z start (λ k. opening_of p z k capacity ≡ opening))) o object_is
+          (accepted, (plan, is_plan, subst (λ (k : Option ℕ). IsSomeAnd k (λ m. opening_of plan o m capacity ≡ opening)) (sym state) (sym is)))))
 
 module _ (table certificate object : List ℕ) where
   pub FailsObject-weaker : (e : AppFault) (P Q : TypeTable → Certificate → TypeTable → Type 0) → ((t : TypeTable) (c : Certificate) (o : TypeTable) → P t c o → Q t c o)

@@ -3,7 +3,8 @@
 use Rattle.std.specs.Prelude.{ℕ, zero, suc, List, ◌++◌, codes, decimal, flat_map}
 use Rattle.std.specs.List.{range_with_len}
 use Rattle.cn_proto.specs.Plan.{Plan, processes_of, nodes_of}
-use Rattle.cn_proto.specs.PlanText.{name_at, team_text}
+use Rattle.cn_proto.specs.PlanText.{team_text}
+use Rattle.cn_table.specs.Grid.{name_at}
 use Rattle.cn_proto.specs.declared.place.Place.{Place}
 use Rattle.cn_app.specs.Forms.Parts.{operation_of, place_at, places_of}
 

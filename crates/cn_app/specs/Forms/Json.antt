@@ -3,7 +3,8 @@ use Rattle.std.specs.Prelude.{ℕ, List, [], ◌++◌, length, map, codes, decim
 use Rattle.std.specs.List.{range_with_len}
 use Rattle.cn_table.specs.TypeTable.{TypeTable}
 use Rattle.cn_proto.specs.Plan.{Plan, processes_of, nodes_of, protocol_of}
-use Rattle.cn_proto.specs.PlanText.{joined, name_at, team_text}
+use Rattle.cn_proto.specs.PlanText.{joined, team_text}
+use Rattle.cn_table.specs.Grid.{name_at}
 use Rattle.cn_proto.specs.Tournament.{team_of}
 use Rattle.cn_proto.specs.declared.place.Place.{Place}
 use Rattle.cn_app.specs.Forms.Parts.{comma, operation_of}

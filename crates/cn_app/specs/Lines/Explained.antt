@@ -2,14 +2,14 @@
 use Rattle.std.specs.Prelude.{ℕ, ◌+◌, ◌-◌, List, [], ◌∷◌, ◌++◌, length, codes, Bool, ◌==◌, nat_lt, Option, Some, None, if◌then◌else◌, flat_map, slice_index, take}
 use Rattle.std.specs.List.{range_with_len}
 use Rattle.std.specs.Fmt.{decimal}
+use Rattle.cn_table.specs.Grid.{cells_text}
 use Rattle.cn_table.specs.TypeTable.{TypeTable, operation_names, transition}
 use Rattle.cn_choice.specs.Canonical.{Choice, FitsTable, raw_choice_of}
 use Rattle.cn_choice.specs.Collisions.{Collision, IsCollision}
 use Rattle.cn_choice.specs.RawChoices.{RawChoice}
-use Rattle.cn_choice.specs.ResultSets.{pair_of}
+use Rattle.cn_choice.specs.OutcomeSets.{pair_of}
 use Rattle.cn_cert.specs.Certificate.{Certificate}
-use Rattle.cn_proto.specs.PlanText.{name_at}
-use Rattle.cn_app.specs.Lines.Grid.{grid}
+use Rattle.cn_table.specs.Grid.{name_at}
 use Rattle.cn_app.specs.Lines.Pairs.{got, seen_rows}
 
 -- ---- the head line
@@ -32,6 +32,11 @@ member t c word first p =
 -- so many processes from the first on
 unfoldable pub members : TypeTable → RawChoice → List ℕ → ℕ → ℕ → List ℕ
 members t c word first count = flat_map (member t c word first) (range_with_len first count)
+
+-- who does what in a choice: the processes of team A, and those of team B, each with its team's word
+unfoldable pub both_teams : TypeTable → Choice → List ℕ → List ℕ → List ℕ → List ℕ
+both_teams t c a_word between b_word =
+    members t (raw_choice_of c) a_word 0 (length c.a) ++ between ++ members t (raw_choice_of c) b_word (length c.a) (length c.b)
 
 -- the step of process p in a state: its operation, the response and the next state
 abbrev pub step_text : TypeTable → RawChoice → ℕ → ℕ → List ℕ
@@ -57,15 +62,8 @@ run_line t c team order j =
 
 -- ---- why the number is so much
 
--- who does what in the witness: the processes of team A, and those of team B
-unfoldable pub a_does : TypeTable → Choice → List ℕ
-a_does t w = members t (raw_choice_of w) (codes " (team A) does ") 0 (length w.a)
-
-unfoldable pub b_does : TypeTable → Choice → List ℕ
-b_does t w = members t (raw_choice_of w) (codes " (team B) does ") (length w.a) (length w.b)
-
 unfoldable pub movers : TypeTable → Choice → List ℕ
-movers t w = a_does t w ++ codes ", " ++ b_does t w
+movers t w = both_teams t w (codes " (team A) does ") (codes ", ") (codes " (team B) does ")
 
 unfoldable pub witness_start : TypeTable → ℕ → Choice → List ℕ
 witness_start t n w = codes "Why " ++ decimal n ++ codes ": from state " ++ name_at t.states w.state ++ codes ", "
@@ -93,14 +91,8 @@ pub record IsRefuted (t : TypeTable) (e : Collision) : Type 0 where
   pub fits : FitsTable t e.choice
   pub collision : IsCollision t (raw_choice_of e.choice) e.process e.alpha e.beta
 
--- who does what in a choice, team by team
-unfoldable pub teams_text : TypeTable → Choice → List ℕ
-teams_text t c =
-    codes "A: " ++ members t (raw_choice_of c) (codes " ") 0 (length c.a) ++ codes "; B: "
-    ++ members t (raw_choice_of c) (codes " ") (length c.a) (length c.b)
-
 unfoldable pub choice_text : TypeTable → Choice → List ℕ
-choice_text t c = codes "start " ++ name_at t.states c.state ++ codes "; " ++ teams_text t c
+choice_text t c = codes "start " ++ name_at t.states c.state ++ codes "; A: " ++ both_teams t c (codes " ") (codes "; B: ") (codes " ")
 
 unfoldable pub way_number : ℕ → List ℕ
 way_number number = codes "  " ++ decimal number ++ codes ". "
@@ -176,5 +168,5 @@ why_not t version limit entries all (Some n) =
 
 unfoldable pub explain_text : TypeTable → Certificate → Bool → List ℕ
 explain_text t c all =
-    head_line t c.limit c.number ++ codes "\n" ++ grid t ++ codes "\n" ++ why t c.number c.witness ++ codes "\n"
+    head_line t c.limit c.number ++ codes "\n" ++ cells_text t ++ codes "\n" ++ why t c.number c.witness ++ codes "\n"
     ++ why_not t c.version c.limit c.collisions all c.number

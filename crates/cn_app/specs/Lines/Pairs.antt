@@ -1,16 +1,15 @@
 -- The pairs that the processes of a choice can get, by the team that moves first.
-use Rattle.std.specs.Prelude.{ℕ, ◌+◌, List, [], ◌∷◌, ◌++◌, length, codes, Bool, false, ◌&&◌, ◌==◌, max, Option, Some, None, if◌then◌else◌, flat_map, slice_get}
+use Rattle.std.specs.Prelude.{ℕ, List, [], ◌∷◌, ◌++◌, length, codes, Bool, false, ◌&&◌, ◌==◌, max, Option, Some, None, if◌then◌else◌, flat_map, slice_get}
 use Rattle.std.specs.List.{list_any, range_with_len}
 use Rattle.std.specs.Fmt.{decimal}
+use Rattle.cn_table.specs.Grid.{pair_padding}
 use Rattle.cn_table.specs.TypeTable.{TypeTable}
 use Rattle.cn_choice.specs.declared.team.Team.{Team}
 use Rattle.cn_choice.specs.declared.team.Team.TheVariants.{A, B}
 use Rattle.cn_choice.specs.Canonical.{Choice, raw_choice_of}
-use Rattle.cn_choice.specs.ResultSets.{pair_of}
+use Rattle.cn_choice.specs.OutcomeSets.{pair_of}
 use Rattle.cn_choice.specs.TeamOrders.{orders_of}
-use Rattle.cn_proto.specs.PlanText.{name_at}
-use Rattle.cn_app.specs.declared.lines.names.Kind.TheVariants.{Responses, States}
-use Rattle.cn_app.specs.Lines.Names.{fill, longest, names_of, spaces}
+use Rattle.cn_table.specs.Grid.{name_at}
 
 -- ---- which pairs
 
@@ -45,10 +44,10 @@ abbrev pub left_part : TypeTable → Option (ℕ × ℕ) → List ℕ
 left_part t None = []
 left_part t (Some pair) = got t pair
 
--- the spaces behind it, as many as the longest response and state would leave it
+-- the spaces behind it, as many as the widest response and state would leave it
 abbrev pub left_gap : TypeTable → Option (ℕ × ℕ) → List ℕ
-left_gap t None = codes "            " ++ spaces (longest (names_of t Responses)) ++ spaces (longest (names_of t States))
-left_gap t (Some pair) = fill t Responses pair.0 ++ fill t States pair.1
+left_gap t None = pair_padding t [] [] ++ codes "            "
+left_gap t (Some pair) = pair_padding t (name_at t.responses pair.0) (name_at t.states pair.1)
 
 -- what stands before the pairs of a row: words in the first row of a process, and below them spaces
 abbrev pub before_left : ℕ → ℕ → List ℕ

@@ -3,14 +3,13 @@ ghost use Rattle.std.specs.Prelude.{◌≡◌, ◌+◌, ◌-◌, ◌++◌, lengt
 ghost use Rattle.std.specs.List.{range_with_len};
 ghost use Rattle.cn_choice.specs.Canonical.{FitsTable};
 ghost use Rattle.cn_check.specs.Verdict.{IsAccepted};
-ghost use Rattle.cn_app.specs.Lines.Explained.{a_does, apart_line, b_does, explain_text, head_line, left_out, more_line, movers, notes, number_told, refutation, same_ways, theorem_line, told, told_ways, ways_words, why, why_not, witness_line, witness_start, witness_text, IsRefuted};
+ghost use Rattle.cn_app.specs.Lines.Explained.{apart_line, explain_text, head_line, left_out, more_line, movers, notes, number_told, refutation, same_ways, theorem_line, told, told_ways, ways_words, why, why_not, witness_line, witness_start, witness_text, IsRefuted};
 ghost use Rattle.cn_app.specs.Lines.Pairs.{seen_rows};
 
-use crate::lines::grid::push_grid;
 use crate::lines::pairs::push_seen;
-use crate::lines::ways::{push_members, push_ways};
+use crate::lines::ways::{push_both_teams, push_ways};
 use cn_cert::Certificate;
-use cn_choice::laws::{RawChoice, canonical_list, live_list};
+use cn_choice::laws::{canonical_list, live_list};
 use cn_choice::{Choice, Collision};
 use cn_table::Table;
 use std::alloc::{AllocError, Global};
@@ -60,42 +59,14 @@ fn push_all_seen(
     Ok(())
 }
 
-/// What the processes of team A do in the witness.
-#[tactic(auto, unfolding(crate::specs::Lines::Explained::a_does))]
-fn push_a_does(text: &mut String, table: &Table, witness: &Choice) -> Result<(), AllocError>
-    requires { FitsTable table.now witness.now }
-    ensures { OnOk result (string_bytes text.new ≡ string_bytes text.old ++ a_does table.now witness.now) }
-{
-    let choice = RawChoice::of(witness);
-    push_members(
-        text,
-        table,
-        &choice,
-        " (team A) does ",
-        0,
-        witness.a.len() as u8,
-    )
-}
-
-/// What those of team B do.
-#[tactic(auto, unfolding(crate::specs::Lines::Explained::b_does))]
-fn push_b_does(text: &mut String, table: &Table, witness: &Choice) -> Result<(), AllocError>
-    requires { FitsTable table.now witness.now }
-    ensures { OnOk result (string_bytes text.new ≡ string_bytes text.old ++ b_does table.now witness.now) }
-{
-    let choice = RawChoice::of(witness);
-    let (a, b) = (witness.a.len() as u8, witness.b.len() as u8);
-    push_members(text, table, &choice, " (team B) does ", a, b)
-}
-
+/// Who does what in the witness.
 #[tactic(auto, unfolding(crate::specs::Lines::Explained::movers))]
 fn push_movers(text: &mut String, table: &Table, witness: &Choice) -> Result<(), AllocError>
     requires { FitsTable table.now witness.now }
     ensures { OnOk result (string_bytes text.new ≡ string_bytes text.old ++ movers table.now witness.now) }
 {
-    push_a_does(text, table, witness)?;
-    text.push_str(", ")?;
-    push_b_does(text, table, witness)
+    let (a_word, b_word) = (" (team A) does ", " (team B) does ");
+    push_both_teams(text, table, witness, a_word, ", ", b_word)
 }
 
 #[tactic(auto, unfolding(crate::specs::Lines::Explained::witness_start))]
@@ -316,7 +287,7 @@ pub(crate) fn explained(
     let mut text = String::new(alloc);
     push_head(&mut text, table, limit, number)?;
     text.push_str("\n")?;
-    push_grid(&mut text, table)?;
+    table.push_cells(&mut text)?;
     text.push_str("\n")?;
     push_why(alloc, &mut text, table, number, &certificate.witness)?;
     text.push_str("\n")?;

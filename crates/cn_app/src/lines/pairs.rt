@@ -5,7 +5,6 @@ ghost use Rattle.cn_choice.specs.OutcomeSets.{Has};
 ghost use Rattle.cn_app.specs.Lines.Pairs.{before_left, before_right, got, kept_with, left_gap, left_part, pair_row, pair_rows, right_part, seen_pairs, seen_rows};
 
 use crate::laws::told_pairs;
-use crate::lines::names::{Kind, greater, push_fill, push_longest};
 use cn_choice::{Choice, OutcomeSet, Team, outcomes};
 use cn_table::{Response, State, Table};
 use std::alloc::{AllocError, Global};
@@ -78,12 +77,12 @@ fn push_left_gap(text: &mut String, table: &Table, pair: Option<(u8, u8)>) -> Re
     ensures { OnOk result (string_bytes text.new ≡ string_bytes text.old ++ left_gap table.now pair) }
 {
     let Some((response, state)) = pair else {
-        text.push_str("            ")?;
-        push_longest(text, table, Kind::Responses)?;
-        return push_longest(text, table, Kind::States);
+        table.push_pair_padding(text, "", "")?;
+        return text.push_str("            ");
     };
-    push_fill(text, table, Kind::Responses, response)?;
-    push_fill(text, table, Kind::States, state)
+    let response = table.response_name(Response(response));
+    let state = table.state_name(State(state));
+    table.push_pair_padding(text, response, state)
 }
 
 /// The words or the spaces before the pair on the right.
@@ -163,7 +162,7 @@ fn push_rows(
     requires right { All (λ x. (x.0 < length table.now.responses) × (x.1 < length table.now.states)) right.now }
     ensures { OnOk result (string_bytes text.new ≡ string_bytes text.old ++ pair_rows table.now process left.now right.now) }
 {
-    for row in 0..greater(left.len(), right.len()) {
+    for row in 0..left.len().max(right.len()) {
         let (a, b) = (pair_at(left, row), pair_at(right, row));
         push_row(text, table, process, row, a, b)?;
     }

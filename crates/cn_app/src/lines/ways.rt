@@ -4,8 +4,8 @@ ghost use Rattle.std.specs.Prelude.{◌≡◌, ◌+◌, ◌≤◌, ◌<◌, ◌+
 ghost use Rattle.cn_table.specs.TypeTable.{transition};
 ghost use Rattle.cn_choice.specs.Canonical.{FitsTable};
 ghost use Rattle.cn_choice.specs.RawChoices.{IsRawChoice};
-ghost use Rattle.cn_choice.specs.ResultSets.{pair_of};
-ghost use Rattle.cn_app.specs.Lines.Explained.{cannot_tell, choice_text, member, members, run_line, run_lines, sight, step_text, steps_text, teams_text, way, way_line, way_number, ways, IsRefuted};
+ghost use Rattle.cn_choice.specs.OutcomeSets.{pair_of};
+ghost use Rattle.cn_app.specs.Lines.Explained.{both_teams, cannot_tell, choice_text, member, members, run_line, run_lines, sight, step_text, steps_text, way, way_line, way_number, ways, IsRefuted};
 
 use crate::lines::pairs::push_got;
 use cn_choice::laws::{RawChoice, pair_along_order};
@@ -34,7 +34,7 @@ fn push_member(
 
 /// So many processes from the first on, each with the word and its operation behind it.
 #[tactic(auto, unfolding(crate::specs::Lines::Explained::members))]
-pub(crate) fn push_members(
+fn push_members(
     text: &mut String,
     table: &Table,
     choice: &RawChoice,
@@ -156,18 +156,25 @@ fn push_run(
     text.push_str("\n")
 }
 
-/// Who does what in a choice, team by team.
-#[tactic(auto, unfolding(crate::specs::Lines::Explained::teams_text))]
-fn push_teams(text: &mut String, table: &Table, choice: &Choice) -> Result<(), AllocError>
+/// Who does what in a choice: the processes of team A, and those of team B, each with its team's
+/// word and its operation behind it.
+#[tactic(auto, unfolding(crate::specs::Lines::Explained::both_teams))]
+pub(crate) fn push_both_teams(
+    text: &mut String,
+    table: &Table,
+    choice: &Choice,
+    a_word: &str,
+    between: &str,
+    b_word: &str,
+) -> Result<(), AllocError>
     requires { FitsTable table.now choice.now }
-    ensures { OnOk result (string_bytes text.new ≡ string_bytes text.old ++ teams_text table.now choice.now) }
+    ensures { OnOk result (string_bytes text.new ≡ string_bytes text.old ++ both_teams table.now choice.now a_word.now between.now b_word.now) }
 {
     let raw = RawChoice::of(choice);
     let (a, b) = (choice.a.len() as u8, choice.b.len() as u8);
-    text.push_str("A: ")?;
-    push_members(text, table, &raw, " ", 0, a)?;
-    text.push_str("; B: ")?;
-    push_members(text, table, &raw, " ", a, b)
+    push_members(text, table, &raw, a_word, 0, a)?;
+    text.push_str(between)?;
+    push_members(text, table, &raw, b_word, a, b)
 }
 
 #[tactic(auto, unfolding(crate::specs::Lines::Explained::choice_text))]
@@ -176,8 +183,8 @@ fn push_choice(text: &mut String, table: &Table, choice: &Choice) -> Result<(), 
     ensures { OnOk result (string_bytes text.new ≡ string_bytes text.old ++ choice_text table.now choice.now) }
 {
     let start = table.state_name(choice.state);
-    write!(text, "start {start}; ")?;
-    push_teams(text, table, choice)
+    write!(text, "start {start}; A: ")?;
+    push_both_teams(text, table, choice, " ", "; B: ", " ")
 }
 
 #[tactic(auto, unfolding(crate::specs::Lines::Explained::way_number))]

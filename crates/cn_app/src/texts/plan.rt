@@ -28,7 +28,7 @@ pub(crate) fn plan_of(alloc: Global, checked: &Checked) -> Result<Plan, AppFault
             Ok(plan)
         }
         Err(PlanFault::OutOfMemory) => Err(AppFault::OutOfMemory),
-        // The check has found that no result sets meet.
+        // The check has found that no outcome sets meet.
         Err(PlanFault::Meets(_)) => unreachable!(),
     }
 }

@@ -1,8 +1,13 @@
-use Rattle.std.proofs.Common.{ap, arith, rules, subst}
+use Rattle.std.proofs.Common.{◌≡◌, ◌∙◌, ◌++◌, List, ap, append-nil, arith, rules, subst, sym, take}
 use Rattle.std.proofs.lemmas.Grind.{common_steps}
+use Rattle.std.proofs.lemmas.List.{drop_all, take_all}
 use Rattle.std.proofs.lemmas.Result.{err_from_is_err_and}
 use Rattle.cn_log.specs.Faults.{IsFirstFault}
+use Rattle.cn_log.specs.Linearized.{IsLinearized}
+use Rattle.cn_log.specs.Log.{IsEventList}
 use Rattle.cn_log.specs.Opening.{Opening, setting, setting_of}
+use Rattle.cn_log.specs.declared.event.Event.{Event}
+use Rattle.cn_app.specs.Answers.{ends_after}
 use Rattle.cn_app.proofs.LineLemmas.Log.{first_in_list, responses_more}
 use Rattle.cn_app.proofs.answers.answers_of.Goals as goal
 
@@ -28,3 +33,27 @@ returns-in_err-come-clause-fault c =
     let fault = c.in_err-come.field-0.0 in
     rw (p.1, p.2) (λ memory. subst (λ (o : Opening). IsFirstFault (setting_of o) c.args.events.now fault) i.opening
     (first_in_list (setting core) c.args.events.now c.loop-event.event-index _ core.schedule fault i.schedule c.loop-event-test.true c.in_err-come.ensures.first))
+
+pub returns-clause-schedule : goal.returns-clause-schedule
+returns-clause-schedule c = c.loop-event.invariant.schedule ∙ take_all c.loop-event.event-index c.args.events.now c.loop-event-test.false
+
+pub returns-clause-ends : goal.returns-clause-ends
+returns-clause-ends c =
+    let k = c.loop-event.event-index in
+    let es : List Event = c.args.events.now in
+    let ends = c.loop-event.ends.items in
+    sym (append-nil ends) ∙ ap (λ (l : List Event). ends ++ ends_after (setting_of c.args.opening) (take k es) l) (sym (drop_all k es c.loop-event-test.false)) ∙ c.loop-event.invariant.ends
+
+pub returns-clause-events : goal.returns-clause-events
+returns-clause-events c =
+    let i = c.loop-event.invariant in
+    let all : c.loop-event.core.schedule ≡ c.args.events.now = i.schedule ∙ take_all c.loop-event.event-index c.args.events.now c.loop-event-test.false in
+    subst (λ (o : Opening). IsEventList (setting_of o) c.args.events.now) i.opening
+    (subst (λ (es : List Event). IsEventList (setting c.loop-event.core) es) all c.is_linearized.ensures.events)
+
+pub returns-clause-linearized : goal.returns-clause-linearized
+returns-clause-linearized c =
+    let i = c.loop-event.invariant in
+    let all : c.loop-event.core.schedule ≡ c.args.events.now = i.schedule ∙ take_all c.loop-event.event-index c.args.events.now c.loop-event-test.false in
+    subst (λ (o : Opening). IsLinearized (setting_of o) c.args.events.now) i.opening
+    (subst (λ (es : List Event). IsLinearized (setting c.loop-event.core) es) all c.is_linearized.ensures.linearized)

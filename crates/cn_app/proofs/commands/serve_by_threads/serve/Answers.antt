@@ -8,7 +8,7 @@ use Rattle.cn_app.specs.declared.fault.AppFault.TheVariants.{Argument, Write}
 use Rattle.cn_app.specs.declared.fault.Part.TheVariants.{Calls, Capacity}
 use Rattle.cn_app.specs.declared.fault.Source.TheVariants as source
 use Rattle.cn_app.proofs.CommandLemmas.Serving.{fails_opened, gives_opened, not_opened}
-use Rattle.cn_app.proofs.StreamLemmas.Reading.{may_read_then, none_is_some}
+use Rattle.cn_app.proofs.StreamLemmas.Reading.{may_read_then, of_no_text}
 use Rattle.cn_app.proofs.commands.serve_by_threads.serve.Goals as goal
 
 abbrev lists_of : List (Vec ℕ Global) → List (List ℕ)
@@ -82,13 +82,12 @@ returns-in_err-opening-clause-untouched_object g c =
 pub returns-in_err-served-clause-untouched_certificate : goal.returns-in_err-served-clause-untouched_certificate
 returns-in_err-served-clause-untouched_certificate g c =
     let p = err_from_is_err_and c.from_residual-in_err-served.result c.from_residual-in_err-served.ensures.1 in
-    rw (p.1, p.2) (λ is. absurd (none_is_some _ source.Table c.in_err-served.ensures.work.0 is))
+    rw (p.1, p.2) (λ is. of_no_text c.in_err-served.field-0.0 c.in_err-served.ensures.work (inl is))
 
 pub returns-in_err-served-clause-untouched_object : goal.returns-in_err-served-clause-untouched_object
 returns-in_err-served-clause-untouched_object g c =
     let p = err_from_is_err_and c.from_residual-in_err-served.result c.from_residual-in_err-served.ensures.1 in
-    let work = c.in_err-served.ensures.work in
-    rw (p.1, p.2) (λ is. elim is [ inl t ↦ absurd (none_is_some _ source.Table work.0 t) | inr t ↦ absurd (none_is_some _ source.Certificate work.0 t) ])
+    rw (p.1, p.2) (of_no_text c.in_err-served.field-0.0 c.in_err-served.ensures.work)
 
 pub returns-in_err-served-clause-table : goal.returns-in_err-served-clause-table
 returns-in_err-served-clause-table g c =

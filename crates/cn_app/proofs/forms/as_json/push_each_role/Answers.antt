@@ -1,4 +1,4 @@
-use Rattle.cn_proto.proofs.TextLemmas.{lines_more}
+use Rattle.cn_table.proofs.Lines.{lines_more}
 use Rattle.cn_app.specs.Forms.Json.{role_json}
 use Rattle.cn_app.proofs.forms.as_json.push_each_role.Goals as goal
 

@@ -1,5 +1,5 @@
 use Rattle.std.proofs.Common.{[]}
-use Rattle.cn_proto.proofs.TextLemmas.{lines_more}
+use Rattle.cn_table.proofs.Lines.{lines_more}
 use Rattle.cn_app.specs.Forms.Diagram.{line_dot}
 use Rattle.cn_app.proofs.forms.diagram.label_of.Goals as goal
 

@@ -1,4 +1,4 @@
-use Rattle.cn_proto.proofs.TextLemmas.{lines_more}
+use Rattle.cn_table.proofs.Lines.{lines_more}
 use Rattle.cn_app.specs.Forms.Diagram.{state_dot}
 use Rattle.cn_app.proofs.forms.diagram.push_states.Goals as goal
 

@@ -1,4 +1,4 @@
-use Rattle.std.proofs.Common.{◌∙◌, ◌++◌, append-nil, ap, arith, sym, true, false, true≢false}
+use Rattle.std.proofs.Common.{◌∙◌, ◌++◌, append-nil, ap, arith, sym, true≢false}
 use Rattle.cn_app.specs.Lines.Pairs.{kept}
 use Rattle.cn_app.proofs.LineLemmas.Pairs.{kept_here, kept_not}
 use Rattle.cn_app.proofs.LineLemmas.Pieces.{piece_more}

@@ -1,7 +1,7 @@
 use Rattle.std.proofs.Common.{◌≡◌, ◌<◌, IfSome, drop, length}
 use Rattle.std.specs.Option.{option_or}
 use Rattle.cn_table.specs.Run.{responses_along, state_after}
-use Rattle.cn_choice.specs.ResultSets.{operations_of, response_of}
+use Rattle.cn_choice.specs.OutcomeSets.{operations_of, response_of}
 use Rattle.cn_app.proofs.lines.ways.seen_in.Given as goal
 
 -- the state so far leads on to the last one, and the response so far is that of the process, or it is still to come
