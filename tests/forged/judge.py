@@ -226,7 +226,7 @@ def run(kind, state, operations):
     return responses, state
 
 
-def result_set(kind, choice, team, j):
+def outcome_set(kind, choice, team, j):
     """The pairs of a response of process j and a last state, over all orders with j that begin in the team."""
     state, a, b = choice
     operations = a + b
@@ -283,7 +283,7 @@ def check_fault(kind, value):
     if (number is None) != (witness is None) or (witness and not is_choice_of(kind, witness, number)):
         return "3 WitnessShape"
     for j in range(number or 0):
-        if result_set(kind, witness, 0, j) & result_set(kind, witness, 1, j):
+        if outcome_set(kind, witness, 0, j) & outcome_set(kind, witness, 1, j):
             return f"4 WitnessMeets {j}"
     if number == limit:
         return "5 Unexpected" if entries else None

@@ -4,7 +4,7 @@ ghost use Rattle.cn_proto.specs.Plan.{processes_of};
 ghost use Rattle.cn_agree.specs.Beginning.{AllHaveBegun};
 ghost use Rattle.cn_agree.specs.Rounds.{RunsBy, decision_at};
 
-use crate::fixtures::{assert_texts, plan_for};
+use crate::fixtures::{assert_same, assert_texts, plan_for};
 use crate::types::*;
 use cn_agree::{Round, ScheduleFault, laws, run_schedule};
 use cn_proto::Plan;
@@ -42,11 +42,26 @@ fn seven_first(alloc: Global, alone: u8, more: u8) -> Result<Vec<u8>, AllocError
     Ok(schedule)
 }
 
+/// Asserts what eight processes have decided after a schedule, and that the input of process 7 is fixed.
+fn assert_decided(
+    rt: &impl Abort,
+    alloc: Global,
+    plan: &Plan,
+    schedule: &[u8],
+    expected: &[Option<u64>],
+) -> Result<(), Fail> {
+    let inputs = [10, 20, 30, 40, 50, 60, 70, 80];
+    let decided = run_schedule(alloc, plan, &inputs, schedule)?;
+    assert!(rt; decided.decisions.as_slice() == expected, "{schedule:?}");
+    let round = replay(rt, alloc, plan, &inputs, schedule)?;
+    assert!(rt; round.fixed() == Some(80), "{schedule:?}");
+    Ok(())
+}
+
 #[test]
 fn decides_for_eight(rt: HostRuntime) -> Result<(), Fail> {
     let alloc = rt.alloc();
     let plan = plan_for(&rt, alloc, sticky_bit(), 8)?;
-    let inputs = [10, 20, 30, 40, 50, 60, 70, 80];
     let rows = [
         (27, 0, [None; 8]),
         (28, 0, [None, None, None, None, None, None, None, Some(80)]),
@@ -54,10 +69,7 @@ fn decides_for_eight(rt: HostRuntime) -> Result<(), Fail> {
     ];
     for (alone, more, expected) in rows {
         let schedule = seven_first(alloc, alone, more)?;
-        let decided = run_schedule(alloc, &plan, &inputs, &schedule)?;
-        assert_eq!(rt; decided.decisions.as_slice(), expected.as_slice());
-        let round = replay(&rt, alloc, &plan, &inputs, &schedule)?;
-        assert_eq!(rt; round.fixed(), Some(80));
+        assert_decided(&rt, alloc, &plan, &schedule, &expected)?;
     }
     Ok(())
 }
@@ -121,6 +133,25 @@ pub(super) fn replay<V: Copy>(
     Ok(round)
 }
 
+/// Asserts what is fixed after a schedule of two processes, and what process 0 has decided; process 1
+/// has not.
+fn assert_round<V: Copy + PartialEq>(
+    rt: &impl Abort,
+    alloc: Global,
+    plan: &Plan,
+    inputs: &[V],
+    schedule: &[u8],
+    fixed: Option<V>,
+    decided: Option<V>,
+) -> Result<(), AllocError> {
+    assert!(rt; plan.processes() == 2 && inputs.len() == 2);
+    let round = replay(rt, alloc, plan, inputs, schedule)?;
+    assert!(rt; round.fixed() == fixed, "{schedule:?}");
+    assert!(rt; decision_of(plan, &round, 0) == decided, "{schedule:?}");
+    assert!(rt; decision_of(plan, &round, 1).is_none(), "{schedule:?}");
+    Ok(())
+}
+
 /// Process 1 comes first at the object of test_and_set, and then process 0 runs alone.
 fn second_comes_first<V: Copy + PartialEq>(
     rt: &impl Abort,
@@ -128,7 +159,7 @@ fn second_comes_first<V: Copy + PartialEq>(
     inputs: &[V],
 ) -> Result<(), Fail> {
     let plan = plan_for(rt, alloc, test_and_set(), 2)?;
-    assert!(rt; plan.processes() == 2 && inputs.len() == 2);
+    assert!(rt; inputs.len() == 2);
     let second = Some(inputs[1]);
     for (schedule, is_fixed, is_decided) in [
         ([1].as_slice(), false, false),
@@ -136,12 +167,9 @@ fn second_comes_first<V: Copy + PartialEq>(
         (&[1, 1, 0, 0, 0], true, false),
         (&[1, 1, 0, 0, 0, 0], true, true),
     ] {
-        let round = replay(rt, alloc, &plan, inputs, schedule)?;
         let fixed = if is_fixed { second } else { None };
-        assert!(rt; round.fixed() == fixed, "{schedule:?}");
         let decided = if is_decided { second } else { None };
-        assert!(rt; decision_of(&plan, &round, 0) == decided, "{schedule:?}");
-        assert!(rt; decision_of(&plan, &round, 1).is_none(), "{schedule:?}");
+        assert_round(rt, alloc, &plan, inputs, schedule, fixed, decided)?;
     }
     Ok(())
 }
@@ -151,6 +179,23 @@ fn rounds_run_by_hand(rt: HostRuntime) -> Result<(), Fail> {
     second_comes_first(&rt, rt.alloc(), [10u64, 20].as_slice())?;
     second_comes_first(&rt, rt.alloc(), [('a', true), ('b', false)].as_slice())?;
     Ok(())
+}
+
+/// Whether the value is an input of a process that has taken a step.
+fn is_valid(inputs: &[u64], schedule: &[u8], value: u64) -> bool {
+    schedule
+        .iter()
+        .any(|q| inputs.get(usize::from(*q)) == Some(&value))
+}
+
+/// How many steps the process has taken.
+fn steps_of(schedule: &[u8], p: usize) -> usize {
+    schedule.iter().filter(|q| usize::from(**q) == p).count()
+}
+
+/// Asserts what is asked of a world.
+fn assert_after(rt: &impl Abort, holds: bool, asked: &str, schedule: &[u8]) {
+    assert!(rt; holds, "{asked} after {schedule:?}");
 }
 
 /// Asks of the decisions in a world, of which it knows nothing else, that they are equal, are
@@ -165,22 +210,13 @@ fn judge(
 ) {
     let mut agreed = None;
     for (p, (decision, places)) in decisions.iter().zip(places).enumerate() {
-        let steps = schedule.iter().filter(|q| usize::from(**q) == p).count();
-        assert_eq!(rt;
-            decision.is_some(),
-            steps / 4 >= *places,
-            "{p} after {schedule:?}"
-        );
-        if let Some(value) = decision {
-            let valid = schedule
-                .iter()
-                .any(|q| inputs.get(usize::from(*q)) == Some(value));
-            assert!(rt; valid, "{value} after {schedule:?}");
-            assert!(rt;
-                agreed.is_none() || agreed == Some(*value),
-                "{value} after {schedule:?}"
-            );
-            agreed = Some(*value);
+        let is_over = steps_of(schedule, p) / 4 >= *places;
+        assert_after(rt, decision.is_some() == is_over, "in time", schedule);
+        if let Some(value) = *decision {
+            assert_after(rt, is_valid(inputs, schedule, value), "valid", schedule);
+            let is_agreed = agreed.is_none() || agreed == Some(value);
+            assert_after(rt, is_agreed, "agreed", schedule);
+            agreed = Some(value);
         }
     }
 }
@@ -240,6 +276,19 @@ fn push_next(
     Ok(())
 }
 
+/// How many worlds the plan for so many inputs has, each judged.
+fn worlds_of(
+    rt: &impl Abort,
+    alloc: Global,
+    text: &str,
+    inputs: &[u64],
+    places: &[usize],
+) -> Result<usize, Fail> {
+    assert!(rt; inputs.len() >= 2 && inputs.len() <= 8);
+    let plan = plan_for(rt, alloc, text, inputs.len() as u8)?;
+    judge_worlds(rt, alloc, &plan, inputs, places)
+}
+
 #[test]
 fn every_world_keeps_consensus(rt: HostRuntime) -> Result<(), Fail> {
     // The counts are those that a separate program found.
@@ -253,10 +302,8 @@ fn every_world_keeps_consensus(rt: HostRuntime) -> Result<(), Fail> {
         ),
     ];
     for (text, inputs, places, expected) in rows {
-        assert!(rt; inputs.len() >= 2 && inputs.len() <= 8);
-        let plan = plan_for(&rt, rt.alloc(), text, inputs.len() as u8)?;
-        let worlds = judge_worlds(&rt, rt.alloc(), &plan, inputs, places)?;
-        assert_eq!(rt; worlds, expected, "{text}");
+        let worlds = worlds_of(&rt, rt.alloc(), text, inputs, places)?;
+        assert_same(&rt, &worlds, &expected, text);
     }
     Ok(())
 }

@@ -3,6 +3,7 @@ use crate::certificates::*;
 use crate::fixtures::assert_texts;
 use cn_cert::{CertFault, read_certificate, write_certificate};
 use std::alloc::{AllocError, Global};
+use std::process::Abort;
 use std::test::Fail;
 
 /// The text of the certificate that a text spells.
@@ -14,6 +15,13 @@ fn written_again(alloc: Global, text: &str) -> Result<String, CertFault> {
 /// The text for test-and-set, with one change.
 fn changed(alloc: Global, from: &str, to: &str) -> Result<String, AllocError> {
     test_and_set_at_3().replacen(alloc, from, to, 1)
+}
+
+/// Asserts that the certificate that a text spells is written as this.
+fn assert_written(rt: &impl Abort, alloc: Global, text: &str, expected: &str) -> Result<(), Fail> {
+    let again = written_again(alloc, text)?;
+    assert!(rt; again.as_str() == expected, "{text}");
+    Ok(())
 }
 
 /// Parts of the text for test-and-set, and other spellings of them.
@@ -38,12 +46,10 @@ fn reads_other_texts_of_one_certificate(rt: HostRuntime) -> Result<(), Fail> {
             [1, [0], [0, 0], 0, [0], [1, 0]]
         ]
     } "#;
-    let again = written_again(alloc, other_order)?;
-    assert_eq!(rt; again.as_str(), test_and_set_at_3());
+    assert_written(&rt, alloc, other_order, test_and_set_at_3())?;
     for (from, to) in other_spellings() {
         let text = changed(alloc, from, to)?;
-        let again = written_again(alloc, text.as_str())?;
-        assert_eq!(rt; again.as_str(), test_and_set_at_3(), "{from} as {to}");
+        assert_written(&rt, alloc, &text, test_and_set_at_3())?;
     }
     Ok(())
 }
@@ -67,10 +73,22 @@ fn reads_numbers_up_to_the_ends_of_their_ranges(rt: HostRuntime) -> Result<(), F
     let alloc = rt.alloc();
     for (from, to) in greatest_numbers() {
         let text = changed(alloc, from, to)?;
-        let again = written_again(alloc, text.as_str())?;
-        assert_eq!(rt; again.as_str(), text.as_str());
+        assert_written(&rt, alloc, &text, &text)?;
     }
     Ok(())
+}
+
+/// Lists within one another, so deep.
+fn nested(alloc: Global, depth: usize) -> Result<String, AllocError> {
+    let mut text = "[".repeat(alloc, depth)?;
+    text.push_str("]".repeat(alloc, depth)?.as_str())?;
+    Ok(text)
+}
+
+/// Asserts the fault of a text, which is so long.
+fn assert_fault(rt: &impl Abort, alloc: Global, bytes: &[u8], fault: CertFault) {
+    let found = read_certificate(alloc, bytes).err();
+    assert!(rt; found == Some(fault), "{} bytes", bytes.len());
 }
 
 #[test]
@@ -78,14 +96,11 @@ fn refuses_cut_and_deep_texts(rt: HostRuntime) -> Result<(), Fail> {
     let alloc = rt.alloc();
     let bytes = test_and_set_at_3().as_bytes();
     for len in 0..bytes.len() {
-        let found = read_certificate(alloc, &bytes[..len]).err();
-        assert_eq!(rt; found, Some(CertFault::NotJson), "{len} bytes");
+        assert_fault(&rt, alloc, &bytes[..len], CertFault::NotJson);
     }
     for (depth, fault) in [(127, CertFault::WrongShape), (200, CertFault::NotJson)] {
-        let mut text = "[".repeat(alloc, depth)?;
-        text.push_str("]".repeat(alloc, depth)?.as_str())?;
-        let found = read_certificate(alloc, text.as_bytes()).err();
-        assert_eq!(rt; found, Some(fault), "{depth} deep");
+        let text = nested(alloc, depth)?;
+        assert_fault(&rt, alloc, text.as_bytes(), fault);
     }
     Ok(())
 }

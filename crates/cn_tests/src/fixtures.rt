@@ -7,7 +7,7 @@ use cn_log::Event;
 use cn_proto::Plan;
 use cn_table::{Table, TableFault, read_table};
 use std::alloc::{AllocError, Global};
-use std::fmt::Display;
+use std::fmt::{Debug, Display};
 use std::process::Abort;
 use std::test::Fail;
 
@@ -42,6 +42,19 @@ pub(super) fn events_of(alloc: Global, parts: &[(Event, u8)]) -> Result<Vec<Even
         }
     }
     Ok(events)
+}
+
+/// Asserts that these are equal, in the row of a test that is named.
+pub(super) fn assert_same<T: Debug + PartialEq>(
+    rt: &impl Abort,
+    found: &T,
+    expected: &T,
+    row: &str,
+) {
+    assert!(rt;
+        *found == *expected,
+        "{found:?}, and not {expected:?}: {row}"
+    );
 }
 
 /// Asserts that each fault reads as the text beside it.

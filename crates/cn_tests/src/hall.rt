@@ -21,7 +21,7 @@ use std::test::Fail;
 use std::thread::{Threads, join};
 
 /// A core for two processes, in which the counter starts at 0, after these events.
-fn core_after(
+pub(super) fn core_after(
     rt: &impl Abort,
     alloc: Global,
     capacity: u16,
@@ -82,6 +82,22 @@ pub(super) fn call<R: Wait + Abort, G: Gate>(
 {
     assert!(rt; !seat.in_call());
     hall.call(rt, seat, Operation(0), gate)
+}
+
+/// The same with a gate that always says On, and this is its reply.
+fn assert_call<R: Wait + Abort>(
+    rt: &R,
+    hall: &Hall,
+    seat: &mut Seat,
+    expected: Result<Reply, CallFault>,
+)
+    requires of { IsSeatOf hall.now seat.old }
+    requires operation { 0 < length seat.old.core.opening.object.operations }
+    ensures of { IsSeatOf hall.now seat.new }
+    ensures operation { 0 < length seat.new.core.opening.object.operations }
+{
+    let found = call(rt, hall, seat, &mut AlwaysOn);
+    assert!(rt; found == expected, "{found:?}, and not {expected:?}");
 }
 
 /// The rest of the call that the seat's process is in.
@@ -258,11 +274,10 @@ fn calls_overlap(rt: HostRuntime) -> Result<(), Fail> {
 fn finds_the_log_full(rt: HostRuntime) -> Result<(), Fail> {
     let alloc = rt.alloc();
     let (hall, mut zero, mut one, seats) = opened(&rt, alloc, 1, &[])?;
-    assert!(rt; call(&rt, &hall, &mut one, &mut AlwaysOn) == reply(0, 0));
-    let full = Err(CallFault::LogFull);
-    assert!(rt; call(&rt, &hall, &mut zero, &mut AlwaysOn) == full);
-    assert!(rt; call(&rt, &hall, &mut zero, &mut AlwaysOn) == full);
-    assert!(rt; call(&rt, &hall, &mut one, &mut AlwaysOn) == full);
+    assert_call(&rt, &hall, &mut one, reply(0, 0));
+    assert_call(&rt, &hall, &mut zero, Err(CallFault::LogFull));
+    assert_call(&rt, &hall, &mut zero, Err(CallFault::LogFull));
+    assert_call(&rt, &hall, &mut one, Err(CallFault::LogFull));
     assert!(rt; zero.seen_slots() == 1 && zero.seen_len() == 1 && !zero.in_call());
     let parts = [
         (Event::Invoke(1, 0), 1),
@@ -281,7 +296,7 @@ fn opens_over_a_core_in_a_call(rt: HostRuntime) -> Result<(), Fail> {
     let events = events_of(alloc, &before)?;
     let (hall, mut zero, mut one, seats) = opened(&rt, alloc, 4, &events)?;
     assert!(rt; zero.in_call() && zero.seen_slots() == 0 && !one.in_call());
-    assert!(rt; call(&rt, &hall, &mut one, &mut AlwaysOn) == reply(0, 1));
+    assert_call(&rt, &hall, &mut one, reply(0, 1));
     assert!(rt; resume(&rt, &hall, &mut zero, &mut AlwaysOn) == reply(0, 0));
     let parts = one_within_another(0, 3, 1, 6, 3);
     close(&rt, alloc, hall, zero, one, seats, &parts)?;
@@ -313,7 +328,7 @@ fn questions() -> [(u32, u16); 16] {
 #[test]
 fn asks_before_each_step_of_two_slots(rt: HostRuntime) -> Result<(), Fail> {
     let (hall, mut zero, mut one, _) = opened(&rt, rt.alloc(), 4, &[])?;
-    assert!(rt; call(&rt, &hall, &mut zero, &mut AlwaysOn) == reply(0, 0));
+    assert_call(&rt, &hall, &mut zero, reply(0, 0));
     let mut gate = WritesDown {
         asked: [(0, 0); 16],
         times: 0,
@@ -337,7 +352,7 @@ fn prints_each_fault(rt: HostRuntime) -> Result<(), Fail> {
     assert_texts(&rt, alloc, &fault_texts())?;
     let fault = OpenFault::OutOfMemory(core_after(&rt, alloc, 4, &[])?);
     let text = format!(in alloc; "{fault}")?;
-    assert_eq!(rt; text.as_str(), "1 OutOfMemory");
+    assert!(rt; text.as_str() == "1 OutOfMemory");
     Ok(())
 }
 
@@ -378,8 +393,8 @@ fn serves_eight_seats(rt: HostRuntime) -> Result<(), Fail> {
     let alloc = rt.alloc();
     let (hall, mut six, mut seven) = opened_for_eight(&rt, alloc)?;
     assert!(rt; six.process() == 6 && seven.process() == 7);
-    assert!(rt; call(&rt, &hall, &mut seven, &mut AlwaysOn) == reply(0, 0));
-    assert!(rt; call(&rt, &hall, &mut six, &mut AlwaysOn) == reply(1, 1));
+    assert_call(&rt, &hall, &mut seven, reply(0, 0));
+    assert_call(&rt, &hall, &mut six, reply(1, 1));
     assert!(rt; hall.meet(&rt, &mut six, &mut seven) == Order::Greater);
     // Each has seven places on its path, so 8 looks and 28 steps for each slot.
     let parts = [

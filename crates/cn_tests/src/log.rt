@@ -9,6 +9,12 @@ use std::alloc::{AllocError, Global};
 use std::process::Abort;
 use std::test::Fail;
 
+/// Asserts that two processes call a counter from its first state.
+fn assert_opening(rt: &impl Abort, opening: &Opening) {
+    assert!(rt; opening.plan().processes() == 2 && opening.object().states() == 3);
+    assert!(rt; opening.start() == State(0));
+}
+
 /// A new core for two processes, whose object is the counter from its first state.
 fn opened(rt: &impl Abort, alloc: Global, capacity: u16) -> Result<LogCore, Fail>
     requires some { 1 ≤ capacity }
@@ -18,9 +24,7 @@ fn opened(rt: &impl Abort, alloc: Global, capacity: u16) -> Result<LogCore, Fail
     let object = table_of(alloc, counter_3())?;
     assert!(rt; object.states() >= 1);
     let core = LogCore::open(alloc, Opening::new(plan, object, State(0), capacity))?;
-    let opening = core.opening();
-    assert!(rt; opening.plan().processes() == 2 && opening.object().states() == 3);
-    assert!(rt; opening.start() == State(0));
+    assert_opening(rt, core.opening());
     Ok(core)
 }
 
@@ -82,6 +86,12 @@ fn slots(core: &LogCore) -> [u16; 4] {
     slots
 }
 
+/// Asserts the entries, how many slots are fixed, and the slots of the entries.
+fn assert_log(rt: &impl Abort, core: &LogCore, entries: &[Entry], fixed: u16, slots_of: [u16; 4]) {
+    assert!(rt; core.entries() == entries && core.fixed_slots() == fixed);
+    assert!(rt; slots(core).as_slice() == slots_of.as_slice());
+}
+
 /// Nothing here takes memory once the core is new.
 #[test]
 fn a_slot_takes_the_calls_of_both(rt: HostRuntime) -> Result<(), Fail> {
@@ -89,15 +99,14 @@ fn a_slot_takes_the_calls_of_both(rt: HostRuntime) -> Result<(), Fail> {
     invoke(&rt, &mut core, 0);
     invoke(&rt, &mut core, 1);
     assert!(rt; step(&rt, &mut core, 1, 6) == answered(0, 1));
-    assert!(rt; core.entries() == [entry(0, 0), entry(1, 0)].as_slice());
-    assert!(rt; core.fixed_slots() == 1 && slots(&core).as_slice() == [0; 4].as_slice());
+    assert_log(&rt, &core, &[entry(0, 0), entry(1, 0)], 1, [0; 4]);
     assert!(rt; stands(&rt, &core, 0) == (0, 0) && stands(&rt, &core, 1) == (1, 2));
     assert!(rt; step(&rt, &mut core, 0, 6) == answered(0, 0));
     assert!(rt; stands(&rt, &core, 0) == (1, 2));
     invoke(&rt, &mut core, 0);
     assert!(rt; step(&rt, &mut core, 0, 6) == answered(1, 2));
-    assert!(rt; core.entries() == [entry(0, 0), entry(1, 0), entry(0, 1)].as_slice());
-    assert!(rt; core.fixed_slots() == 2 && slots(&core).as_slice() == [0, 0, 1, 0].as_slice());
+    let entries = [entry(0, 0), entry(1, 0), entry(0, 1)];
+    assert_log(&rt, &core, &entries, 2, [0, 0, 1, 0]);
     assert!(rt; core.schedule().len() == 21);
     Ok(())
 }
@@ -116,35 +125,44 @@ fn a_call_ends_where_all_slots_are_fixed(rt: HostRuntime) -> Result<(), Fail> {
     Ok(())
 }
 
-/// So many steps of the process, none of which may end its call: how the next one ends it.
-fn take_steps(core: &mut LogCore, p: u8, working: u8) -> Result<Option<CallEnd>, ReplayFault> {
-    for _step in 0..working {
-        if let Some(end) = core.take(Event::Step(p))? {
+/// The event comes so many times, and none may end a call: what it comes to the next time.
+fn take(core: &mut LogCore, event: Event, before: u8) -> Result<Option<CallEnd>, ReplayFault> {
+    for _time in 0..before {
+        if let Some(end) = core.take(event)? {
             return Ok(Some(end));
         }
     }
-    core.take(Event::Step(p))
+    core.take(event)
+}
+
+/// Events of a log of one slot in their order: how often each came before, and what it comes to.
+fn events_of_one_slot() -> [(Event, u8, Result<Option<CallEnd>, ReplayFault>); 10] {
+    let answered = CallEnd::Answered {
+        process: 1,
+        slot: 0,
+        response: Response(0),
+    };
+    [
+        (Event::Step(0), 0, Err(ReplayFault::Idle(0))),
+        (Event::Step(2), 0, Err(ReplayFault::NoSuchProcess(0))),
+        (Event::Invoke(0, 1), 0, Err(ReplayFault::NoSuchOperation(0))),
+        (Event::Invoke(1, 0), 0, Ok(None)),
+        (Event::Invoke(1, 0), 0, Err(ReplayFault::NotIdle(1))),
+        (Event::Step(1), 4, Ok(None)),
+        (Event::Step(1), 0, Ok(Some(answered))),
+        (Event::Invoke(0, 0), 0, Ok(None)),
+        (Event::Step(0), 5, Ok(Some(CallEnd::Full { process: 0 }))),
+        (Event::Invoke(1, 0), 0, Err(ReplayFault::AtEnd(14))),
+    ]
 }
 
 /// One event at a time, whatever it is. What is refused leaves the core as it was.
 #[test]
 fn events_are_taken_or_refused(rt: HostRuntime) -> Result<(), Fail> {
     let mut core = opened(&rt, rt.alloc(), 1)?;
-    assert!(rt; core.take(Event::Step(0)) == Err(ReplayFault::Idle(0)));
-    assert!(rt; core.take(Event::Step(2)) == Err(ReplayFault::NoSuchProcess(0)));
-    assert!(rt; core.take(Event::Invoke(0, 1)) == Err(ReplayFault::NoSuchOperation(0)));
-    assert!(rt; core.take(Event::Invoke(1, 0)) == Ok(None));
-    assert!(rt; core.take(Event::Invoke(1, 0)) == Err(ReplayFault::NotIdle(1)));
-    let answered = CallEnd::Answered {
-        process: 1,
-        slot: 0,
-        response: Response(0),
-    };
-    assert!(rt; take_steps(&mut core, 1, 4) == Ok(None));
-    assert!(rt; take_steps(&mut core, 1, 0) == Ok(Some(answered)));
-    assert!(rt; core.take(Event::Invoke(0, 0)) == Ok(None));
-    assert!(rt; take_steps(&mut core, 0, 5) == Ok(Some(CallEnd::Full { process: 0 })));
-    assert!(rt; core.take(Event::Invoke(1, 0)) == Err(ReplayFault::AtEnd(14)));
+    for (event, before, expected) in events_of_one_slot() {
+        assert!(rt; take(&mut core, event, before) == expected, "{event:?}");
+    }
     assert!(rt; core.schedule().len() == 14 && core.entries() == [entry(1, 0)].as_slice());
     Ok(())
 }
@@ -203,6 +221,14 @@ fn most_calls(alloc: Global) -> Result<Vec<Event>, AllocError> {
     Ok(events)
 }
 
+/// Asserts that all of 1,024 slots are fixed, and that the last of eight processes has seen them all.
+fn assert_greatest(rt: &impl Abort, core: &LogCore) {
+    assert!(rt; core.processes() == 8 && core.fixed_slots() == 1024);
+    assert!(rt; core.replayed(7) == 1024 && core.is_idle(7) && core.at_end(7));
+    let count = core.entries().len();
+    assert!(rt; count > 0 && core.slot_at(count - 1) == 1023);
+}
+
 /// The log of eight processes and 1,024 slots after these events: how many entries it has, and its
 /// last.
 fn greatest_log(
@@ -214,11 +240,8 @@ fn greatest_log(
     let object = table_of(alloc, counter_3())?;
     assert!(rt; object.states() >= 1);
     let core = replay(alloc, &plan, &object, State(0), 1024, events)?;
-    assert!(rt; core.processes() == 8 && core.fixed_slots() == 1024);
-    assert!(rt; core.replayed(7) == 1024 && core.is_idle(7) && core.at_end(7));
-    let count = core.entries().len();
-    assert!(rt; count > 0 && core.slot_at(count - 1) == 1023);
-    Ok((count, core.entries().last().copied()))
+    assert_greatest(rt, &core);
+    Ok((core.entries().len(), core.entries().last().copied()))
 }
 
 #[test]

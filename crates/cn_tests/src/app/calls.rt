@@ -4,10 +4,10 @@ use super::*;
 #[test]
 fn reads_calls(rt: HostRuntime) -> Result<(), Fail> {
     let calls = read_calls(rt.alloc(), "255,000/none/007")?;
-    assert_eq!(rt; calls.len(), 3);
-    assert_eq!(rt; calls[0].as_slice(), [255, 0].as_slice());
-    assert!(rt; calls[1].is_empty());
-    assert_eq!(rt; calls[2].as_slice(), [7].as_slice());
+    assert!(rt; calls.len() == 3);
+    for (list, expected) in calls.iter().zip([[255, 0].as_slice(), &[], &[7]]) {
+        assert!(rt; list.as_slice() == expected);
+    }
     Ok(())
 }
 
@@ -19,9 +19,9 @@ fn reads_calls_up_to_their_limit(rt: HostRuntime) -> Result<(), Fail> {
     }
     let calls = read_calls(rt.alloc(), &text)?;
     let last = calls.last().ok_or("no list")?;
-    assert_eq!(rt; last.len(), 1024);
+    assert!(rt; last.len() == 1024);
     text.push_str(",0")?;
     let calls = read_calls(rt.alloc(), &text);
-    assert_eq!(rt; calls.err(), Some(AppFault::Argument(Part::Calls)));
+    assert!(rt; calls.err() == Some(AppFault::Argument(Part::Calls)));
     Ok(())
 }

@@ -83,8 +83,7 @@ fn faults() -> [(AppFault, &'static str, u8); 26] {
 fn reads_as_the_formats_say(rt: HostRuntime) -> Result<(), Fail> {
     for (fault, text, status) in faults() {
         let said = format!(in rt.alloc(); "{fault}")?;
-        assert_eq!(rt; said.as_str(), text);
-        assert_eq!(rt; fault.status(), status, "{text}");
+        assert!(rt; said.as_str() == text && fault.status() == status, "{text}");
     }
     Ok(())
 }
@@ -110,8 +109,10 @@ fn wants_of_memory() -> [AppFault; 11] {
 fn want_of_memory_is_one_fault(rt: HostRuntime) -> Result<(), Fail> {
     for fault in wants_of_memory() {
         let said = format!(in rt.alloc(); "{fault}")?;
-        assert_eq!(rt; said.as_str(), "out of memory");
-        assert_eq!(rt; fault.status(), 5);
+        assert!(rt;
+            said.as_str() == "out of memory" && fault.status() == 5,
+            "{said}"
+        );
     }
     Ok(())
 }

@@ -27,20 +27,16 @@ fn serves_the_same_from_copies(rt: HostRuntime) -> Result<(), Fail> {
     let core = replay(alloc, &plan, &object, State(0), 4, &events)?;
     let (plan_copy, object_copy) = (plan.copy(alloc)?, object.copy(alloc)?);
     let again = replay(alloc, &plan_copy, &object_copy, State(0), 4, &events)?;
-    assert_eq!(rt; core.entries().len(), 2);
-    assert_eq!(rt; core.fixed_slots(), 1);
-    assert_eq!(rt; again.entries(), core.entries());
-    assert_eq!(rt; again.schedule(), core.schedule());
+    assert!(rt; core.entries().len() == 2 && core.fixed_slots() == 1);
+    assert!(rt; again.entries() == core.entries() && again.schedule() == core.schedule());
     Ok(())
 }
 
 #[test]
 fn reads_events_in_order(rt: HostRuntime) -> Result<(), Fail> {
     let events = read_events(rt.alloc(), "s00000000000000000002,i255:007,s000")?;
-    assert_eq!(rt;
-        events.as_slice(),
-        [Event::Step(2), Event::Invoke(255, 7), Event::Step(0)].as_slice()
-    );
+    let expected = [Event::Step(2), Event::Invoke(255, 7), Event::Step(0)];
+    assert!(rt; events.as_slice() == expected.as_slice());
     Ok(())
 }
 
@@ -49,9 +45,9 @@ fn reads_events_up_to_their_limit(rt: HostRuntime) -> Result<(), Fail> {
     let mut text = String::from_str(rt.alloc(), "i0:0")?;
     lengthen(&mut text, "s0", 65_535)?;
     let events = read_events(rt.alloc(), &text)?;
-    assert_eq!(rt; events.len(), 65_536);
+    assert!(rt; events.len() == 65_536);
     text.push_str(",s0")?;
     let events = read_events(rt.alloc(), &text);
-    assert_eq!(rt; events.err(), Some(AppFault::Argument(Part::Events)));
+    assert!(rt; events.err() == Some(AppFault::Argument(Part::Events)));
     Ok(())
 }

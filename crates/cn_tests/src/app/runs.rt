@@ -182,6 +182,11 @@ impl Command {
         }
     }
 
+    /// Whether it ended where nothing fails, and wrote its lines.
+    fn has_ended(self, ended: Result<Outcome, AppFault>, streams: &Streams) -> bool {
+        ended == Ok(Outcome::Whole) && streams.has(self.lines())
+    }
+
     /// The lines that it writes where nothing fails.
     pub(crate) fn lines(self) -> &'static str {
         match self {
@@ -224,19 +229,12 @@ where
         let mut streams = whole_streams();
         streams.cut(source, bytes);
         let ended = command.run(rt, alloc, &mut streams);
-        if command.reads(source) {
-            assert!(rt;
-                ended == Err(AppFault::Read(source)),
-                "{command:?}, {source:?} at {bytes}"
-            );
-            assert!(rt;
-                streams.is_unwritten(),
-                "{command:?}, {source:?} at {bytes}"
-            );
+        let is_told = if command.reads(source) {
+            ended == Err(AppFault::Read(source)) && streams.is_unwritten()
         } else {
-            assert!(rt; ended == Ok(Outcome::Whole), "{command:?}");
-            assert!(rt; streams.has(command.lines()), "{command:?}");
-        }
+            command.has_ended(ended, &streams)
+        };
+        assert!(rt; is_told, "{command:?}, {source:?} at {bytes}");
     }
 }
 
@@ -256,14 +254,8 @@ where
     for no_room in [NoRoom::Fails, NoRoom::TakesNone] {
         let mut streams = streams_to(page(usize::MAX, room, no_room));
         let ended = command.run(rt, alloc, &mut streams);
-        assert!(rt;
-            ended == Err(AppFault::Write),
-            "{command:?}, room for {room}"
-        );
-        assert!(rt;
-            streams.page.written.len() == room,
-            "{command:?}, room for {room}"
-        );
+        let is_told = ended == Err(AppFault::Write) && streams.page.written.len() == room;
+        assert!(rt; is_told, "{command:?}, room for {room}");
     }
 }
 
@@ -281,7 +273,6 @@ fn a_byte_a_call_suffices(rt: HostRuntime) {
     for command in all_commands() {
         let mut streams = streams_to(page(1, 512, NoRoom::Fails));
         let ended = command.run(&rt, rt.alloc(), &mut streams);
-        assert!(rt; ended == Ok(Outcome::Whole), "{command:?}");
-        assert!(rt; streams.has(command.lines()), "{command:?}");
+        assert!(rt; command.has_ended(ended, &streams), "{command:?}");
     }
 }

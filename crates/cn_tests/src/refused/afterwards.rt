@@ -21,14 +21,19 @@ fn takes_all(core: &mut LogCore, events: &[Event]) -> bool {
     true
 }
 
+/// A new log of two processes.
+fn new_core(rt: &impl Abort, alloc: Global) -> Result<LogCore, Fail> {
+    let plan = plan_for(rt, alloc, test_and_set(), 2)?;
+    let object = table_of(alloc, counter_3())?;
+    assert!(rt; object.states() >= 1);
+    Ok(LogCore::new(alloc, &plan, &object, State(0), 4)?)
+}
+
 #[test]
 fn events_of_a_log(rt: HostRuntime) -> Result<(), Fail> {
     let alloc = rt.alloc();
-    let plan = plan_for(&rt, alloc, test_and_set(), 2)?;
-    let object = table_of(alloc, counter_3())?;
     let events = helped(alloc)?;
-    assert!(rt; object.states() >= 1);
-    let mut core = LogCore::new(alloc, &plan, &object, State(0), 4)?;
+    let mut core = new_core(&rt, alloc)?;
     let refusing = Refusing::new(alloc, REFUSE_ALL + 1);
     let is_whole = takes_all(&mut core, &events) && is_helped(&core, &events);
     let is_met = refusing.is_met();

@@ -3,13 +3,14 @@ use super::*;
 use crate::agree;
 use crate::app::runs::test_and_set_shown;
 use crate::fixtures::{events_of, list_of, plan_for, table_of};
+use crate::hall::core_after;
 use crate::types::*;
 use cn_agree::{ScheduleFault, run_schedule};
 use cn_choice::Choice;
 use cn_hall::{OpenFault, open};
 use cn_log::{Event, LogCore, ReplayFault, replay};
 use cn_proto::{Plan, PlanFault};
-use cn_table::State;
+use cn_table::{State, Table};
 use std::alloc::AllocError;
 
 /// Whether it is the plan of test-and-set.
@@ -110,47 +111,60 @@ pub(super) fn is_helped(core: &LogCore, events: &[Event]) -> bool {
     core.schedule() == events && core.fixed_slots() == 1 && processes.eq([0, 1])
 }
 
+/// A new log.
+fn new_logs(rt: &impl Abort, alloc: Global, plan: &Plan, object: &Table) -> Result<(), Fail> {
+    sweep(
+        rt,
+        alloc,
+        || {
+            assert!(rt; object.states() >= 1);
+            LogCore::new(alloc, plan, object, State(0), 4)
+        },
+        |made| match made {
+            Ok(core) => Ok(Ended::whole_if(core.capacity() == 4 && core.schedule().is_empty())),
+            Err(_) => Ok(Ended::OutOfMemory),
+        },
+    )
+}
+
+/// A log after these events.
+fn replayed_logs(
+    rt: &impl Abort,
+    alloc: Global,
+    plan: &Plan,
+    object: &Table,
+    events: &[Event],
+) -> Result<(), Fail> {
+    sweep(
+        rt,
+        alloc,
+        || {
+            assert!(rt; object.states() >= 1);
+            replay(alloc, plan, object, State(0), 4, events)
+        },
+        |made| match made {
+            Ok(core) => Ok(Ended::whole_if(is_helped(&core, events))),
+            Err(fault) => Ok(Ended::out_of_memory_if(fault == ReplayFault::OutOfMemory)),
+        },
+    )
+}
+
 #[test]
 fn logs(rt: HostRuntime) -> Result<(), Fail> {
     let alloc = rt.alloc();
     let plan = plan_for(&rt, alloc, test_and_set(), 2)?;
     let object = table_of(alloc, counter_3())?;
     let events = helped(alloc)?;
-    sweep(
-        &rt,
-        alloc,
-        || {
-            assert!(rt; object.states() >= 1);
-            LogCore::new(alloc, &plan, &object, State(0), 4)
-        },
-        |made| match made {
-            Ok(core) => Ok(Ended::whole_if(core.capacity() == 4 && core.schedule().is_empty())),
-            Err(_) => Ok(Ended::OutOfMemory),
-        },
-    )?;
-    sweep(
-        &rt,
-        alloc,
-        || {
-            assert!(rt; object.states() >= 1);
-            replay(alloc, &plan, &object, State(0), 4, &events)
-        },
-        |made| match made {
-            Ok(core) => Ok(Ended::whole_if(is_helped(&core, &events))),
-            Err(fault) => Ok(Ended::out_of_memory_if(fault == ReplayFault::OutOfMemory)),
-        },
-    )
+    new_logs(&rt, alloc, &plan, &object)?;
+    replayed_logs(&rt, alloc, &plan, &object, &events)
 }
 
 /// The core comes back with its entries and its schedule, until a hall is opened over it.
 #[test]
 fn a_core_comes_back(rt: HostRuntime) -> Result<(), Fail> {
     let alloc = rt.alloc();
-    let plan = plan_for(&rt, alloc, test_and_set(), 2)?;
-    let object = table_of(alloc, counter_3())?;
     let events = helped(alloc)?;
-    assert!(rt; object.states() >= 1);
-    let mut core = replay(alloc, &plan, &object, State(0), 4, &events)?;
+    let mut core = core_after(&rt, alloc, 4, &events)?;
     for number in 1..MANY {
         let refusing = Refusing::new(alloc, REFUSE_ONE + number);
         let opened = open(&rt, alloc, core);

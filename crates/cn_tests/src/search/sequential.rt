@@ -8,7 +8,7 @@ use std::alloc::Global;
 use std::process::Abort;
 use std::test::Fail;
 
-/// Whether no process has a pair in the result sets of both teams.
+/// Whether no process has a pair in the outcome sets of both teams.
 fn keeps_apart(rt: &impl Abort, table: &Table, choice: &Choice) -> bool {
     let n = choice.a.len() + choice.b.len();
     assert!(rt; 2 <= n && n <= 8 && choice.is_for(table, n as u8));
