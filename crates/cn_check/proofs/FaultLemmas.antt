@@ -7,6 +7,7 @@ use Rattle.cn_table.specs.TypeTable.{TypeTable}
 use Rattle.cn_choice.specs.Canonical.{Choice, raw_choice_of}
 use Rattle.cn_choice.specs.Collisions.{Collision}
 use Rattle.cn_choice.specs.Discerning.{IsWitness, OutcomeSetsMeet}
+use Rattle.cn_choice.specs.FirstMeeting.{IsFirstMeeting}
 use Rattle.cn_cert.specs.Certificate.{Certificate}
 use Rattle.cn_check.specs.Conditions.{HasWitnessFor, HoldsCollision, IsInRange}
 use Rattle.cn_check.specs.Faults.{ComesSooner, HasFault, IsFirstFault}
@@ -50,9 +51,9 @@ module _ (t : TypeTable) (c : Certificate) (named : c.type_name ≡ t.name) (in_
       first TooFew s g = elim s [ inl l ↦ absurd (omega arith) | inr e ↦ absurd (omega (arith, e.0)) ]
   first_of_witness (WitnessMeets j) h = record { holds = meets c.witness h.1; first = first }
     where
-      meets : (w : Option Choice) → IsSomeAnd w (λ x. OutcomeSetsMeet t (raw_choice_of x) j × ((i : ℕ) → i < j → ¬ OutcomeSetsMeet t (raw_choice_of x) i)) → IsSomeAnd w (λ x. OutcomeSetsMeet t (raw_choice_of x) j)
+      meets : (w : Option Choice) → IsSomeAnd w (λ x. IsFirstMeeting t (raw_choice_of x) j) → IsSomeAnd w (λ x. OutcomeSetsMeet t (raw_choice_of x) j)
       meets None g = g
-      meets (Some x) g = g.0
+      meets (Some x) g = g.meets
 
       first : (f : CheckFault) → ComesSooner f (WitnessMeets j) → ¬ HasFault t c f
       first OtherType s g = g named
@@ -61,7 +62,7 @@ module _ (t : TypeTable) (c : Certificate) (named : c.type_name ≡ t.name) (in_
       first (WitnessMeets i) s g =
           elim s [
             | inl l ↦ absurd (omega arith)
-            | inr e ↦ not_some (λ x. OutcomeSetsMeet t (raw_choice_of x) j × ((i : ℕ) → i < j → ¬ OutcomeSetsMeet t (raw_choice_of x) i)) (λ x. OutcomeSetsMeet t (raw_choice_of x) i) c.witness (λ x p q. p.1 i e.1 q) h.1 g
+            | inr e ↦ not_some (λ x. IsFirstMeeting t (raw_choice_of x) j) (λ x. OutcomeSetsMeet t (raw_choice_of x) i) c.witness (λ x p q. p.least i e.1 q) h.1 g
           ]
       first Unexpected s g = elim s [ inl l ↦ absurd (omega arith) | inr e ↦ absurd (omega (arith, e.0)) ]
       first (NotNext i) s g = elim s [ inl l ↦ absurd (omega arith) | inr e ↦ absurd (omega (arith, e.0)) ]
