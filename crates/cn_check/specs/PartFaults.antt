@@ -1,5 +1,5 @@
 -- The faults of the witness alone, and of the evidence alone.
-use Rattle.std.specs.Prelude.{◌≡◌, ◌≢◌, ℕ, ◌<◌, List, [], Option, Some, IsSomeAnd}
+use Rattle.std.specs.Prelude.{◌≡◌, ◌≢◌, ℕ, List, [], Option, Some, IsSomeAnd}
 use Rattle.cn_table.specs.TypeTable.{TypeTable}
 use Rattle.cn_choice.specs.FirstMeeting.{IsFirstMeeting}
 use Rattle.cn_choice.specs.Canonical.{Choice, raw_choice_of}
