@@ -4,11 +4,10 @@ ghost use Rattle.std.specs.Prelude.{◌≡◌, ◌+◌, ◌≤◌, ◌<◌, ◌+
 ghost use Rattle.cn_table.specs.TypeTable.{transition};
 ghost use Rattle.cn_choice.specs.Canonical.{FitsTable};
 ghost use Rattle.cn_choice.specs.RawChoices.{IsRawChoice};
-ghost use Rattle.cn_choice.specs.OutcomeSets.{pair_of};
 ghost use Rattle.cn_app.specs.Lines.Explained.{both_teams, cannot_tell, choice_text, member, members, run_line, run_lines, sight, step_text, steps_text, way, way_line, way_number, ways, IsRefuted};
 
 use crate::lines::pairs::push_got;
-use cn_choice::laws::{RawChoice, pair_along_order};
+use cn_choice::laws::{RawChoice, raw_pair};
 use cn_choice::{Choice, Collision};
 use cn_table::{Operation, State, Table};
 use std::alloc::AllocError;
@@ -95,30 +94,6 @@ fn push_steps(
     Ok(())
 }
 
-/// What the process sees of the run in this order: its response, and the last state.
-fn seen_in(table: &Table, choice: &RawChoice, order: &[u8], process: u8) -> Option<(u8, u8)>
-    requires fits { IsRawChoice table.now (length choice.now.operations) choice.now }
-    requires known { All (λ p. p < length choice.now.operations) order.now }
-    ensures pair { result ≡ pair_of table.now choice.now order.now process }
-    ensures range { IfSome result (λ pair. (pair.0 < length table.now.responses) × (pair.1 < length table.now.states)) }
-{
-    pair_along_order();
-    let mut state = choice.state;
-    let mut got = None;
-    for mover in order {
-        let operation = Operation(choice.operations[*mover as usize]);
-        let (response, next) = table.apply(operation, state);
-        if *mover == process {
-            got = got.or(Some(response.0));
-        }
-        state = next;
-    }
-    match got {
-        Some(response) => Some((response, state.0)),
-        None => None,
-    }
-}
-
 /// What a process sees, if it takes part.
 fn push_sight(
     text: &mut String,
@@ -152,7 +127,12 @@ fn push_run(
     let start = table.state_name(choice.state);
     write!(text, "       {team} first:  {start}")?;
     push_steps(text, table, choice, order)?;
-    push_sight(text, table, process, seen_in(table, choice, order, process))?;
+    push_sight(
+        text,
+        table,
+        process,
+        raw_pair(table, choice, order, process),
+    )?;
     text.push_str("\n")
 }
 

@@ -1,4 +1,4 @@
-//! Whether a raw choice is a witness, by every pair of orders.
+//! What a process sees of a run, and whether a raw choice is a witness, by every pair of orders.
 ghost use Rattle.std.specs.Prelude.{◌≡◌, ◌<◌, ◌↔◌, ℕ, length, All, Any, IfOk, IfSome, IsTrue, Some};
 ghost use Rattle.cn_choice.specs.RawChoices.{IsRawChoice};
 ghost use Rattle.cn_choice.specs.OutcomeSets.{BeginsIn, pair_of};
@@ -12,13 +12,10 @@ use arrayvec::ArrayVec;
 use cn_table::{Operation, Table};
 use std::alloc::{AllocError, Global};
 
-/// What the process sees of the run in this order: its response, and the last state.
-pub(crate) fn observed(
-    table: &Table,
-    choice: &RawChoice,
-    order: &[u8],
-    process: u8,
-) -> Option<(u8, u8)>
+/// What the process sees of the run in this order: its response and the last state, and nothing
+/// where the order leaves it out. The choice is one of the table, and the order names only its
+/// processes; where it names one twice, the response to the first step counts.
+pub fn raw_pair(table: &Table, choice: &RawChoice, order: &[u8], process: u8) -> Option<(u8, u8)>
     requires fits { IsRawChoice table.now (length choice.now.operations) choice.now }
     requires known { All (λ p. p < length choice.now.operations) order.now }
     ensures pair { result ≡ pair_of table.now choice.now order.now process }
@@ -60,8 +57,8 @@ fn sees_the_same(table: &Table, choice: &RawChoice, alpha: &[u8], beta: &[u8], p
         × (pair_of table.now choice.now beta.now process ≡ Some pair)) }
 {
     match (
-        observed(table, choice, alpha, process),
-        observed(table, choice, beta, process),
+        raw_pair(table, choice, alpha, process),
+        raw_pair(table, choice, beta, process),
     ) {
         (Some((r, q)), Some((s, p))) => r == s && q == p,
         _ => false,

@@ -1,6 +1,6 @@
 use Rattle.std.proofs.Common.{◌<◌, IfSome, length}
 use Rattle.cn_choice.proofs.Walks.{Walked}
-use Rattle.cn_choice.proofs.laws.witness.observed.Given as goal
+use Rattle.cn_choice.proofs.laws.witness.raw_pair.Given as goal
 
 -- the pair so far, and its response is one of the type's
 abbrev pub invariant-loop-p : goal.invariant-loop-p
