@@ -1,18 +1,14 @@
 -- The pairs that are told are those of the outcome sets.
-use Rattle.std.proofs.Common.{◌≡◌, ℕ, ◌+◌, ◌<◌, ◌≤◌, ◌↔◌, List, [], ◌∷◌, length, length-append, get_or, refl, sym, ap, ◌∙◌, subst, arith, Bool, true, false, cond, ◌==◌, true≢false, nat_eq, Option, Some, None, option_map, All, Contains, IsTrue, position}
-use Rattle.std.specs.Prelude.{slice_index}
+use Rattle.std.proofs.Common.{◌≡◌, ℕ, ◌+◌, ◌<◌, ◌≤◌, ◌↔◌, List, [], ◌∷◌, length, length-append, refl, sym, ap, ◌∙◌, subst, arith, Bool, true, false, cond, ◌==◌, true≢false, Option, Some, None, All, Contains, IsTrue}
 use Rattle.std.specs.List.{flat_map, range_with_len}
 use Rattle.std.proofs.lemmas.Bool.{and_from, and_parts, eqb-true, eq-eqb}
 use Rattle.std.proofs.lemmas.List.Elements.{All-nil, All-cons}
 use Rattle.std.proofs.lemmas.List.Folds.{Any-from_list_any, list_any_at}
-use Rattle.std.proofs.lemmas.List.Quantifiers.{position-Some}
-use Rattle.cn_table.specs.Run.{run}
 use Rattle.cn_table.specs.TypeTable.{TypeTable}
 use Rattle.cn_choice.specs.Canonical.{Choice, raw_choice_of}
 use Rattle.cn_choice.specs.Orders.{IsOrder}
 use Rattle.cn_choice.specs.OrdersLeft.{as_array}
-use Rattle.cn_choice.specs.RawChoices.{RawChoice}
-use Rattle.cn_choice.specs.OutcomeSets.{BeginsIn, InOutcomeSet, operations_of, pair_of}
+use Rattle.cn_choice.specs.OutcomeSets.{BeginsIn, InOutcomeSet, pair_of}
 use Rattle.cn_choice.specs.TeamOrders.{orders_of}
 use Rattle.cn_choice.specs.declared.team.Team.{Team}
 use Rattle.cn_app.specs.Lines.Pairs.{is_pair, kept, kept_with, sees}
@@ -31,22 +27,11 @@ is_pair-Some r q (Some pair) h =
 Some-is_pair : (r q : ℕ) → is_pair r q (Some (r, q)) ≡ true
 Some-is_pair r q = and_from (r == r) (q == q) (eq-eqb r r refl) (eq-eqb q q refl)
 
--- a process that sees something takes part
-takes_part : (t : TypeTable) (c : RawChoice) (order : List ℕ) (j : ℕ) (pair : ℕ × ℕ) → pair_of t c order j ≡ Some pair → Contains order j
-unfolding pair_of
-takes_part t c order j pair h = at_place (position (λ process. nat_eq process j) order) refl h
-  where
-    at_place : (place : Option ℕ) → position (λ process. nat_eq process j) order ≡ place
-        → option_map (λ k. (slice_index (run t c.state (operations_of c order)).0 k, (run t c.state (operations_of c order)).1)) place ≡ Some pair → Contains order j
-    at_place None e f = absurd (cc f)
-    at_place (Some k) e f =
-        let p = position-Some (λ process. nat_eq process j) order k j e in
-        (k, p.0, eqb-true (get_or order k j) j p.1)
-
 -- ---- whether a process sees a pair
 
 module _ (t : TypeTable) (c : Choice) (team : Team) (j : ℕ)
-    (listed : (o : _) → Contains (orders_of c team j) o ↔ (IsOrder (length c.a + length c.b) o.items × BeginsIn (raw_choice_of c) team o.items × Contains o.items j)) where
+    (listed : (o : _) → Contains (orders_of c team j) o ↔ (IsOrder (length c.a + length c.b) o.items × BeginsIn (raw_choice_of c) team o.items × Contains o.items j))
+    (in_order : (order : List ℕ) (pair : ℕ × ℕ) → pair_of t (raw_choice_of c) order j ≡ Some pair → Contains order j) where
   many : length c.a + length c.b ≡ length (raw_choice_of c).operations
   many = sym (length-append c.a c.b)
 
@@ -59,7 +44,7 @@ module _ (t : TypeTable) (c : Choice) (team : Team) (j : ℕ)
         let facts = (listed found.1).0 (found.0, found.2, found.3) in
         (found.1.items, subst (λ (n : ℕ). IsOrder n found.1.items) many facts.0, facts.1, is_pair-Some r q (pair_of t (raw_choice_of c) found.1.items j) found.4),
     λ h.
-        let here = (listed (as_array h.0)).1 (subst (λ (n : ℕ). IsOrder n h.0) (sym many) h.1, h.2, takes_part t (raw_choice_of c) h.0 j (r, q) h.3) in
+        let here = (listed (as_array h.0)).1 (subst (λ (n : ℕ). IsOrder n h.0) (sym many) h.1, h.2, in_order h.0 (r, q) h.3) in
         list_any_at _ (orders_of c team j) here.0 (as_array h.0) here.1
         ((λ i. is_pair r q (pair_of t (raw_choice_of c) (here.2 i).items j)) ∙ (ap (is_pair r q) h.3 ∙ Some-is_pair r q)),
   )
