@@ -19,17 +19,6 @@ pub(crate) fn zeros(count: usize) -> ArrayVec<u8, MOST_PROCESSES>
     list
 }
 
-fn list_of(numbers: &[u8]) -> ArrayVec<u8, MOST_PROCESSES>
-    requires { length numbers.now ≤ MOST_PROCESSES }
-    ensures { result.items ≡ numbers.now }
-{
-    let mut list = ArrayVec::new();
-    for number in numbers {
-        list.push(*number);
-    }
-    list
-}
-
 /// The first list of team B that goes with this one of team A, where they are n together.
 pub(crate) fn first_beside(a: &[u8], n: u8) -> ArrayVec<u8, MOST_PROCESSES>
     requires half { length a.now + length a.now ≤ n }
@@ -40,7 +29,9 @@ pub(crate) fn first_beside(a: &[u8], n: u8) -> ArrayVec<u8, MOST_PROCESSES>
     if a.len() + a.len() < n as usize {
         zeros(n as usize - a.len())
     } else {
-        list_of(a)
+        let mut list = ArrayVec::new();
+        let _fits = list.try_extend_from_slice(a);
+        list
     }
 }
 
