@@ -37,6 +37,26 @@ pub trait Gate {
         ensures { result ≡ says self.now };
 }
 
+/// A gate that lets every call go on.
+#[derive(Drop)]
+pub struct AlwaysOn;
+
+impl Gate for AlwaysOn {
+    ghost use Rattle.cn_hall.specs.declared.call.Go.TheVariants.{On};
+
+    ghost says = { λ _. On };
+
+    ghost asks = { λ _ _ _ _. Unit {0} };
+
+    fn before(&mut self, _seat: &Seat, _step: u32) -> Go {
+        Go::On
+    }
+
+    fn said(&self) -> Go {
+        Go::On
+    }
+}
+
 /// The slot in which a call stands, from 0, and its response.
 #[derive(Clone, Copy, Debug, PartialEq, Eq)]
 pub struct Reply {

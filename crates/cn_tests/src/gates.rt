@@ -5,26 +5,6 @@ use cn_hall::{Gate, Go, Seat};
 use std::sync::atomic::{AtomicU32, Ordering};
 use std::thread;
 
-/// A gate that always says On.
-#[derive(Drop)]
-pub(super) struct AlwaysOn;
-
-impl Gate for AlwaysOn {
-    ghost use Rattle.cn_hall.specs.declared.call.Go.TheVariants.{On};
-
-    ghost says = { λ _. On };
-
-    ghost asks = { λ _ _ _ _. Unit {0} };
-
-    fn before(&mut self, _seat: &Seat, _step: u32) -> Go {
-        Go::On
-    }
-
-    fn said(&self) -> Go {
-        Go::On
-    }
-}
-
 /// A gate that stops before the step of one number.
 #[derive(Drop)]
 pub(super) struct StopsAt {

@@ -7,9 +7,9 @@ ghost use Rattle.cn_hall.specs.Seats.{IsSeatOf};
 ghost use Rattle.cn_hall.specs.declared.call.Go.TheVariants.{On};
 
 use crate::fixtures::{assert_texts, events_of, plan_for, table_of};
-use crate::gates::{AlwaysOn, Holds, StopsAt, WritesDown, comes_to};
+use crate::gates::{Holds, StopsAt, WritesDown, comes_to};
 use crate::types::*;
-use cn_hall::{CallFault, Gate, Go, Hall, OpenFault, Reply, Seat, open};
+use cn_hall::{AlwaysOn, CallFault, Gate, Go, Hall, OpenFault, Reply, Seat, open};
 use cn_log::{Event, LogCore, replay};
 use cn_table::{Operation, Response, State};
 use std::alloc::{AllocError, Global};

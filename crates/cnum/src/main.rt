@@ -2,7 +2,6 @@
 //! What each command does stands in the library `cn_app`.
 #![tactic(auto)]
 
-mod always_on;
 mod faults;
 mod given;
 mod given_list;
@@ -12,11 +11,11 @@ mod words;
 ghost use Rattle.cn_app.specs.Streams.SourceBytes.{IsUnread};
 ghost use Rattle.cn_app.specs.Streams.Writing.{IsUnwritten};
 
-use always_on::AlwaysOn;
 use clap::{ArgMatches, Error};
 use cn_app::{
     AppFault, Form, Linted, Named, Outcome, Output, Part, Tell, Text, classify_each, commands,
 };
+use cn_hall::AlwaysOn;
 use faults::Faults;
 use given::Given;
 use given_list::GivenList;

@@ -3,10 +3,10 @@ use super::replay::HELPED;
 use super::streams::{Drip, NoRoom, Page};
 use super::*;
 use crate::certificates::*;
-use crate::gates::AlwaysOn;
 use crate::types::*;
 use arrayvec::ArrayVec;
 use cn_app::{run_agree, run_show};
+use cn_hall::AlwaysOn;
 use std::sync::Wait;
 use std::thread::Threads;
 

@@ -4,9 +4,9 @@ ghost use Rattle.cn_hall.specs.declared.call.Go.TheVariants.{On};
 
 use super::*;
 use crate::certificates::*;
-use crate::gates::{AlwaysOn, Holds, StopsAt};
+use crate::gates::{Holds, StopsAt};
 use crate::types::*;
-use cn_hall::{Gate, Go};
+use cn_hall::{AlwaysOn, Gate, Go};
 use std::sync::Wait;
 use std::sync::atomic::AtomicU32;
 use std::thread::Threads;

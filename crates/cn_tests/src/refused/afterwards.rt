@@ -3,10 +3,10 @@
 use super::protocol::{helped, is_helped};
 use super::*;
 use crate::fixtures::{events_of, plan_for, table_of};
-use crate::gates::{AlwaysOn, StopsAt};
+use crate::gates::StopsAt;
 use crate::hall::{call, one_within_another, opened, reply, resume};
 use crate::types::*;
-use cn_hall::{CallFault, Go};
+use cn_hall::{AlwaysOn, CallFault, Go};
 use cn_log::{Event, LogCore};
 use cn_table::State;
 use std::cmp::Ordering;
