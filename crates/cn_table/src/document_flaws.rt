@@ -2,7 +2,6 @@
 //! not of their kind.
 ghost use Rattle.std.specs.Prelude.{◌≡◌, ◌++◌, OnOk, IfOk, [], codes, map, string_bytes};
 ghost use Rattle.std.specs.List.{list_all};
-ghost use Rattle.std.specs.Map.{keys_of};
 ghost use Rattle.toml.specs.Data.{get_member};
 ghost use Rattle.toml.specs.View.{table_view, view};
 ghost use Rattle.cn_table.specs.Document.{keys_in};
@@ -65,26 +64,6 @@ fn other_key_text(alloc: Global, before: &str, after: &str, key: &str) -> Result
     format!(in alloc; "{before}{key}{after}")
 }
 
-fn push_other_entries(
-    alloc: Global,
-    flaws: &mut Vec<Flaw>,
-    before: &str,
-    after: &str,
-    known: &[&str],
-    table: &Table,
-) -> Result<(), AllocError>
-    ensures { OnOk result (flaws_view flaws.new ≡ flaws_view flaws.old
-        ++ other_keys before.now after.now (map (λ k. k.now) known.now) (map (λ k. string_bytes k) (keys_of table.now.entries))) }
-{
-    for key in table.keys() {
-        if !is_one_of(known, key.as_str()) {
-            let text = other_key_text(alloc, before, after, key.as_str())?;
-            push_flaw(flaws, TableFault::UnknownKey, text)?;
-        }
-    }
-    Ok(())
-}
-
 /// The keys of the table that are none of these.
 fn push_other_keys(
     alloc: Global,
@@ -97,7 +76,13 @@ fn push_other_keys(
     ensures { OnOk result (flaws_view flaws.new ≡ flaws_view flaws.old
         ++ other_keys before.now after.now (map (λ k. k.now) known.now) (keys_in (table_view table.now))) }
 {
-    push_other_entries(alloc, flaws, before, after, known, table)
+    for key in table.keys() {
+        if !is_one_of(known, key.as_str()) {
+            let text = other_key_text(alloc, before, after, key.as_str())?;
+            push_flaw(flaws, TableFault::UnknownKey, text)?;
+        }
+    }
+    Ok(())
 }
 
 fn missing_key_text(alloc: Global, place: &str, key: &str) -> Result<String, AllocError>
