@@ -3,10 +3,7 @@
 //! `tests/memory` runs these tests under a library that refuses allocations (`refuse.c`), and takes
 //! one of the sizes below for a word to it. Without that library nothing is refused, and each call is
 //! made as usual.
-mod afterwards;
-mod commands;
-mod evidence;
-mod protocol;
+ghost use Rattle.std.specs.Prelude.{◌<◌};
 
 use std::alloc::Global;
 use std::process::Abort;
@@ -24,6 +21,9 @@ const REFUSE_NONE: usize = 1_236_000;
 
 /// More allocations than any call here makes.
 const MANY: usize = 999;
+
+/// More turns than any sweep takes.
+const MANY_TURNS: usize = 1998;
 
 /// How a call ended.
 #[derive(Clone, Copy)]
@@ -45,6 +45,15 @@ impl Ended {
             Ended::OutOfMemory
         } else {
             Ended::Other
+        }
+    }
+
+    /// Asserts that the whole answer came, or want of memory where something was refused.
+    fn judge(self, rt: &impl Abort, turn: usize, is_met: bool) {
+        match self {
+            Ended::Whole => {}
+            Ended::OutOfMemory => assert!(rt; is_met, "out of memory for no reason, {turn}"),
+            Ended::Other => panic!(rt; "another answer, {turn}"),
         }
     }
 }
@@ -75,47 +84,38 @@ fn is_refused(alloc: Global, size: usize) -> bool {
     Vec::<u8>::with_capacity(alloc, size).is_err()
 }
 
-/// Makes the call with something refused, and judges its answer when nothing is. Whether the call met
-/// the refusal.
-fn meets<T, F, J>(
-    rt: &impl Abort,
-    alloc: Global,
-    word: usize,
-    call: &F,
-    judge: &J,
-) -> Result<bool, Fail>
-where
-    F: Fn() -> T,
-    J: Fn(T) -> Result<Ended, Fail>,
-    requires call { F.IsAlwaysCallable call.now }
-    requires judge { J.IsAlwaysCallable judge.now }
+/// The word of a turn: one allocation is refused, then that one and all behind it, then the next one.
+fn word_of(turn: usize) -> usize
+    requires { turn < 1998 }
 {
-    let refusing = Refusing::new(alloc, word);
-    let answer = call();
-    let is_met = refusing.is_met();
-    match judge(answer)? {
-        Ended::Whole => {}
-        Ended::OutOfMemory => assert!(rt; is_met, "out of memory for no reason, {word}"),
-        Ended::Other => panic!(rt; "another answer, {word}"),
+    let number = turn / 2 + 1;
+    if turn % 2 == 0 {
+        REFUSE_ONE + number
+    } else {
+        REFUSE_ALL + number
     }
-    Ok(is_met)
 }
 
-/// Makes the call with its first allocation refused, with its first and all behind it, with its second,
-/// and so on until a call meets no refusal: each gives its whole answer or wants memory.
-fn sweep<T, F, J>(rt: &impl Abort, alloc: Global, call: F, judge: J) -> Result<(), Fail>
-where
-    F: Fn() -> T,
-    J: Fn(T) -> Result<Ended, Fail>,
-    requires call { F.IsAlwaysCallable call }
-    requires judge { J.IsAlwaysCallable judge }
-{
-    for number in 1..MANY {
-        let one = meets(rt, alloc, REFUSE_ONE + number, &call, &judge)?;
-        let all = meets(rt, alloc, REFUSE_ALL + number, &call, &judge)?;
-        if !one && !all {
-            return Ok(());
+/// Makes a call with its first allocation refused, with its first and all behind it, with its second,
+/// and so on until a call meets no refusal; each answer is judged when nothing is refused.
+macro_rules! sweep {
+    ($rt:expr, $alloc:expr, $answer:ident = $call:expr, $ended:expr) => {{
+        let mut was_met = true;
+        for turn in 0..MANY_TURNS {
+            let refusing = Refusing::new($alloc, word_of(turn));
+            let $answer = $call;
+            let is_met = refusing.is_met();
+            $ended.judge($rt, turn, is_met);
+            if !is_met && !was_met {
+                return Ok(());
+            }
+            was_met = is_met;
         }
-    }
-    Err("there is always something to refuse")?
+        Err("there is always something to refuse")?
+    }};
 }
+
+mod afterwards;
+mod commands;
+mod evidence;
+mod protocol;

@@ -4,60 +4,81 @@ use super::*;
 use crate::app::replay::HELPED;
 use crate::app::runs::{Command, Streams, all_commands, whole_streams};
 use cn_app::{AppFault, Outcome, read_calls, read_events, read_inputs, read_schedule};
+use cn_log::Event;
+use std::sync::Wait;
+use std::thread::Threads;
 
 /// How the reading of a list ended that says whether it is the one that is spelled.
-fn listed(list: Result<bool, AppFault>) -> Result<Ended, Fail> {
+fn list_ended(list: Result<bool, AppFault>) -> Ended {
     match list {
-        Ok(is_whole) => Ok(Ended::whole_if(is_whole)),
-        Err(fault) => Ok(Ended::out_of_memory_if(fault == AppFault::OutOfMemory)),
+        Ok(is_whole) => Ended::whole_if(is_whole),
+        Err(fault) => Ended::out_of_memory_if(fault == AppFault::OutOfMemory),
     }
 }
 
+fn are_inputs(alloc: Global) -> Result<bool, AppFault> {
+    Ok(read_inputs(alloc, "10,20")?.as_slice() == [10, 20].as_slice())
+}
+
+fn is_schedule(alloc: Global) -> Result<bool, AppFault> {
+    Ok(read_schedule(alloc, "1,1,0,0")?.as_slice() == [1, 1, 0, 0].as_slice())
+}
+
+fn are_events(alloc: Global, wanted: &[Event]) -> Result<bool, AppFault> {
+    Ok(read_events(alloc, HELPED)?.as_slice() == wanted)
+}
+
+fn are_calls(alloc: Global) -> Result<bool, AppFault> {
+    let calls = read_calls(alloc, "0,0/none")?;
+    Ok(calls.len() == 2 && calls[0].as_slice() == [0, 0].as_slice() && calls[1].is_empty())
+}
+
 #[test]
-fn lists_of_numbers(rt: HostRuntime) -> Result<(), Fail> {
+fn inputs(rt: HostRuntime) -> Result<(), Fail> {
     let alloc = rt.alloc();
-    sweep(
+    sweep!(&rt, alloc, list = are_inputs(alloc), list_ended(list))
+}
+
+#[test]
+fn schedules(rt: HostRuntime) -> Result<(), Fail> {
+    let alloc = rt.alloc();
+    sweep!(&rt, alloc, list = is_schedule(alloc), list_ended(list))
+}
+
+#[test]
+fn events(rt: HostRuntime) -> Result<(), Fail> {
+    let alloc = rt.alloc();
+    let wanted = helped(alloc)?;
+    sweep!(
         &rt,
         alloc,
-        || read_inputs(alloc, "10,20").map(|inputs| inputs.as_slice() == [10, 20].as_slice()),
-        listed,
-    )?;
-    sweep(
-        &rt,
-        alloc,
-        || read_schedule(alloc, "1,1,0,0").map(|steps| steps.as_slice() == [1, 1, 0, 0].as_slice()),
-        listed,
+        list = are_events(alloc, &wanted),
+        list_ended(list)
     )
 }
 
 #[test]
-fn lists_of_events_and_calls(rt: HostRuntime) -> Result<(), Fail> {
+fn calls(rt: HostRuntime) -> Result<(), Fail> {
     let alloc = rt.alloc();
-    let wanted = helped(alloc)?;
-    sweep(
-        &rt,
-        alloc,
-        || read_events(alloc, HELPED).map(|events| events.as_slice() == wanted.as_slice()),
-        listed,
-    )?;
-    sweep(
-        &rt,
-        alloc,
-        || {
-            read_calls(alloc, "0,0/none").map(|calls| {
-                calls.len() == 2 && calls[0].as_slice() == [0, 0].as_slice() && calls[1].is_empty()
-            })
-        },
-        listed,
-    )
+    sweep!(&rt, alloc, list = are_calls(alloc), list_ended(list))
+}
+
+/// What a command comes to, and its streams.
+fn run_of<R: Threads + Wait + Sync>(
+    rt: &R,
+    alloc: Global,
+    command: Command,
+) -> (Result<Outcome, AppFault>, Streams) {
+    let mut streams = whole_streams();
+    let outcome = command.run(rt, alloc, &mut streams);
+    (outcome, streams)
 }
 
 /// How a command ended. Where a thread could not be started for want of memory, `serve` says so.
-fn ran(command: Command, outcome: Result<Outcome, AppFault>, streams: &Streams) -> Ended {
+fn run_ended(command: Command, run: (Result<Outcome, AppFault>, Streams)) -> Ended {
+    let (outcome, streams) = run;
     match outcome {
-        Ok(outcome) => {
-            Ended::whole_if(outcome == Outcome::Whole && streams.has(command.lines()))
-        }
+        Ok(outcome) => Ended::whole_if(outcome == Outcome::Whole && streams.has(command.lines())),
         Err(fault) => {
             let is_thread = matches!(command, Command::Serve) && fault == AppFault::Thread;
             let is_out_of_memory = is_thread || fault == AppFault::OutOfMemory;
@@ -66,20 +87,22 @@ fn ran(command: Command, outcome: Result<Outcome, AppFault>, streams: &Streams) 
     }
 }
 
+fn runs_of<R>(rt: &R, alloc: Global, command: Command) -> Result<(), Fail>
+where
+    R: Threads + Wait + Sync + Abort,
+{
+    sweep!(
+        rt,
+        alloc,
+        run = run_of(rt, alloc, command),
+        run_ended(command, run)
+    )
+}
+
 #[test]
 fn runs(rt: HostRuntime) -> Result<(), Fail> {
-    let alloc = rt.alloc();
     for command in all_commands() {
-        sweep(
-            &rt,
-            alloc,
-            || {
-                let mut streams = whole_streams();
-                let outcome = command.run(&rt, alloc, &mut streams);
-                (outcome, streams)
-            },
-            |(outcome, streams)| Ok(ran(command, outcome, &streams)),
-        )?;
+        runs_of(&rt, rt.alloc(), command)?;
     }
     Ok(())
 }

@@ -8,57 +8,77 @@ use arrayvec::ArrayVec;
 use cn_cert::{CertFault, Certificate, read_certificate, write_certificate};
 use cn_choice::Team;
 use cn_choice::laws::{RawChoice, plain_orders, raw_splits};
-use cn_search::{FindFault, find, number};
-use cn_table::{State, TableFault, read_table};
+use cn_search::{FindFault, Finding, find, number};
+use cn_table::{State, Table, TableFault, read_table};
+use std::alloc::AllocError;
+
+/// How a call ended that gives the table of test-and-set.
+fn read_ended(rt: &impl Abort, read: Result<Table, TableFault>) -> Ended {
+    match read {
+        Ok(table) => {
+            assert_parts(rt, &table);
+            Ended::Whole
+        }
+        Err(fault) => Ended::out_of_memory_if(fault == TableFault::OutOfMemory),
+    }
+}
 
 #[test]
 fn tables(rt: HostRuntime) -> Result<(), Fail> {
-    let alloc = rt.alloc();
-    sweep(
+    let (alloc, text) = (rt.alloc(), test_and_set());
+    sweep!(
         &rt,
         alloc,
-        || read_table(alloc, test_and_set().as_bytes()),
-        |read| match read {
-            Ok(table) => {
-                assert_parts(&rt, &table);
-                Ok(Ended::Whole)
-            }
-            Err(fault) => Ok(Ended::out_of_memory_if(fault == TableFault::OutOfMemory)),
-        },
-    )?;
-    let table = table_of(alloc, test_and_set())?;
-    sweep(
-        &rt,
-        alloc,
-        || table.copy(alloc),
-        |copied| match copied {
-            Ok(copy) => {
-                assert_parts(&rt, &copy);
-                Ok(Ended::Whole)
-            }
-            Err(_) => Ok(Ended::OutOfMemory),
-        },
+        read = read_table(alloc, text.as_bytes()),
+        read_ended(&rt, read)
     )
+}
+
+#[test]
+fn copies_of_tables(rt: HostRuntime) -> Result<(), Fail> {
+    let alloc = rt.alloc();
+    let table = table_of(alloc, test_and_set())?;
+    sweep!(
+        &rt,
+        alloc,
+        copied = copy_of(alloc, &table),
+        read_ended(&rt, copied)
+    )
+}
+
+/// A copy of the table, or the fault of a reading that wants memory.
+fn copy_of(alloc: Global, table: &Table) -> Result<Table, TableFault> {
+    table.copy(alloc).map_err(|_| TableFault::OutOfMemory)
+}
+
+/// Whether these are the orders of two processes.
+fn are_orders(orders: &[ArrayVec<u8, 8>]) -> bool {
+    match orders {
+        [zero, one, up, down] => {
+            zero.as_slice() == [0].as_slice()
+                && one.as_slice() == [1].as_slice()
+                && up.as_slice() == [0, 1].as_slice()
+                && down.as_slice() == [1, 0].as_slice()
+        }
+        _ => false,
+    }
+}
+
+fn orders_ended(listed: Result<Vec<ArrayVec<u8, 8>>, AllocError>) -> Ended {
+    match listed {
+        Ok(orders) => Ended::whole_if(are_orders(orders.as_slice())),
+        Err(_) => Ended::OutOfMemory,
+    }
 }
 
 #[test]
 fn orders(rt: HostRuntime) -> Result<(), Fail> {
     let alloc = rt.alloc();
-    let expected: [&[u8]; 4] = [&[0], &[1], &[0, 1], &[1, 0]];
-    sweep(
+    sweep!(
         &rt,
         alloc,
-        || plain_orders(alloc, 2),
-        |listed| match listed {
-            Ok(orders) => Ok(Ended::whole_if(
-                orders.len() == 4
-                    && orders
-                        .iter()
-                        .zip(expected)
-                        .all(|(order, wanted)| order.as_slice() == wanted),
-            )),
-            Err(_) => Ok(Ended::OutOfMemory),
-        },
+        listed = plain_orders(alloc, 2),
+        orders_ended(listed)
     )
 }
 
@@ -77,50 +97,73 @@ fn witness() -> RawChoice {
     }
 }
 
+fn splits_ended(split: Result<bool, AllocError>) -> Ended {
+    match split {
+        Ok(splits) => Ended::whole_if(splits),
+        Err(_) => Ended::OutOfMemory,
+    }
+}
+
 #[test]
 fn splits(rt: HostRuntime) -> Result<(), Fail> {
     let alloc = rt.alloc();
     let table = table_of(alloc, test_and_set())?;
     let choice = witness();
-    sweep(
+    assert!(rt; choice.is_for(&table, 2));
+    sweep!(
         &rt,
         alloc,
-        || {
-            assert!(rt; choice.is_for(&table, 2));
-            raw_splits(alloc, &table, &choice)
-        },
-        |split| match split {
-            Ok(splits) => Ok(Ended::whole_if(splits)),
-            Err(_) => Ok(Ended::OutOfMemory),
-        },
+        split = raw_splits(alloc, &table, &choice),
+        splits_ended(split)
     )
 }
 
+/// Whether the certificate of the finding is the one that is spelled.
+fn is_certified(alloc: Global, table: &Table, finding: Finding) -> Result<bool, Fail> {
+    let certificate = Certificate::of_finding(alloc, table, finding);
+    let text = write_certificate(alloc, &certificate.ok().ok_or("no memory")?)?;
+    Ok(text.as_str() == found_test_and_set_at_3())
+}
+
+fn find_ended(
+    alloc: Global,
+    table: &Table,
+    found: Result<Finding, FindFault>,
+) -> Result<Ended, Fail> {
+    match found {
+        Ok(finding) => Ok(Ended::whole_if(is_certified(alloc, table, finding)?)),
+        Err(fault) => Ok(Ended::out_of_memory_if(fault == FindFault::OutOfMemory)),
+    }
+}
+
 #[test]
-fn searches(rt: HostRuntime) -> Result<(), Fail> {
+fn findings(rt: HostRuntime) -> Result<(), Fail> {
     let alloc = rt.alloc();
     let table = table_of(alloc, test_and_set())?;
-    sweep(
+    sweep!(
         &rt,
         alloc,
-        || find(&rt, alloc, &table, 3),
-        |found| match found {
-            Ok(finding) => {
-                let certificate = Certificate::of_finding(alloc, &table, finding);
-                let text = write_certificate(alloc, &certificate.ok().ok_or("no memory")?)?;
-                Ok(Ended::whole_if(text.as_str() == found_test_and_set_at_3()))
-            }
-            Err(fault) => Ok(Ended::out_of_memory_if(fault == FindFault::OutOfMemory)),
-        },
-    )?;
-    sweep(
+        found = find(&rt, alloc, &table, 3),
+        find_ended(alloc, &table, found)?
+    )
+}
+
+fn number_ended(found: Result<Option<u8>, FindFault>) -> Ended {
+    match found {
+        Ok(greatest) => Ended::whole_if(greatest == Some(2)),
+        Err(fault) => Ended::out_of_memory_if(fault == FindFault::OutOfMemory),
+    }
+}
+
+#[test]
+fn numbers(rt: HostRuntime) -> Result<(), Fail> {
+    let alloc = rt.alloc();
+    let table = table_of(alloc, test_and_set())?;
+    sweep!(
         &rt,
         alloc,
-        || number(&rt, alloc, &table, 8),
-        |found| match found {
-            Ok(greatest) => Ok(Ended::whole_if(greatest == Some(2))),
-            Err(fault) => Ok(Ended::out_of_memory_if(fault == FindFault::OutOfMemory)),
-        },
+        found = number(&rt, alloc, &table, 8),
+        number_ended(found)
     )
 }
 
@@ -149,30 +192,45 @@ fn a_finding_comes_back(rt: HostRuntime) -> Result<(), Fail> {
     Err("never made")?
 }
 
+/// Whether this is the certificate of the text.
+fn is_written(alloc: Global, certificate: &Certificate) -> Result<bool, CertFault> {
+    let text = write_certificate(alloc, certificate)?;
+    Ok(text.as_str() == test_and_set_at_3())
+}
+
+fn written_ended(written: Result<bool, CertFault>) -> Ended {
+    match written {
+        Ok(is_whole) => Ended::whole_if(is_whole),
+        Err(fault) => Ended::out_of_memory_if(fault == CertFault::OutOfMemory),
+    }
+}
+
+fn certificate_ended(alloc: Global, read: Result<Certificate, CertFault>) -> Ended {
+    match read {
+        Ok(certificate) => Ended::whole_if(is_written(alloc, &certificate) == Ok(true)),
+        Err(fault) => Ended::out_of_memory_if(fault == CertFault::OutOfMemory),
+    }
+}
+
 #[test]
 fn certificates(rt: HostRuntime) -> Result<(), Fail> {
+    let (alloc, text) = (rt.alloc(), test_and_set_at_3());
+    sweep!(
+        &rt,
+        alloc,
+        read = read_certificate(alloc, text.as_bytes()),
+        certificate_ended(alloc, read)
+    )
+}
+
+#[test]
+fn texts_of_certificates(rt: HostRuntime) -> Result<(), Fail> {
     let alloc = rt.alloc();
-    let text = test_and_set_at_3();
-    sweep(
+    let certificate = read_certificate(alloc, test_and_set_at_3().as_bytes())?;
+    sweep!(
         &rt,
         alloc,
-        || read_certificate(alloc, text.as_bytes()),
-        |read| match read {
-            Ok(certificate) => {
-                let again = write_certificate(alloc, &certificate)?;
-                Ok(Ended::whole_if(again.as_str() == text))
-            }
-            Err(fault) => Ok(Ended::out_of_memory_if(fault == CertFault::OutOfMemory)),
-        },
-    )?;
-    let certificate = read_certificate(alloc, text.as_bytes())?;
-    sweep(
-        &rt,
-        alloc,
-        || write_certificate(alloc, &certificate),
-        |written| match written {
-            Ok(again) => Ok(Ended::whole_if(again.as_str() == text)),
-            Err(fault) => Ok(Ended::out_of_memory_if(fault == CertFault::OutOfMemory)),
-        },
+        written = is_written(alloc, &certificate),
+        written_ended(written)
     )
 }

@@ -5,7 +5,7 @@ use crate::app::runs::test_and_set_shown;
 use crate::fixtures::{events_of, list_of, plan_for, table_of};
 use crate::hall::core_after;
 use crate::types::*;
-use cn_agree::{ScheduleFault, run_schedule};
+use cn_agree::{Decided, ScheduleFault, run_schedule};
 use cn_choice::Choice;
 use cn_hall::{OpenFault, open};
 use cn_log::{Event, LogCore, ReplayFault, replay};
@@ -19,6 +19,14 @@ fn is_shown(alloc: Global, plan: &Plan) -> Result<bool, AllocError> {
     Ok(text.as_str().strip_suffix("\n") == Some(test_and_set_shown()))
 }
 
+/// How a call ended that gives the plan of test-and-set.
+fn plan_ended(alloc: Global, made: Result<Plan, PlanFault>) -> Result<Ended, Fail> {
+    match made {
+        Ok(plan) => Ok(Ended::whole_if(is_shown(alloc, &plan)?)),
+        Err(fault) => Ok(Ended::out_of_memory_if(fault == PlanFault::OutOfMemory)),
+    }
+}
+
 #[test]
 fn plans(rt: HostRuntime) -> Result<(), Fail> {
     let alloc = rt.alloc();
@@ -28,69 +36,94 @@ fn plans(rt: HostRuntime) -> Result<(), Fail> {
         a: list_of(&[0]),
         b: list_of(&[0]),
     };
-    sweep(
+    assert!(rt; choice.is_for(&table, 2));
+    sweep!(
         &rt,
         alloc,
-        || {
-            assert!(rt; choice.is_for(&table, 2));
-            Plan::from_witness(alloc, &table, &choice)
-        },
-        |made| match made {
-            Ok(plan) => Ok(Ended::whole_if(is_shown(alloc, &plan)?)),
-            Err(fault) => Ok(Ended::out_of_memory_if(fault == PlanFault::OutOfMemory)),
-        },
+        made = Plan::from_witness(alloc, &table, &choice),
+        plan_ended(alloc, made)?
     )
 }
 
+fn copy_ended(alloc: Global, copied: Result<Plan, AllocError>) -> Result<Ended, Fail> {
+    match copied {
+        Ok(copy) => Ok(Ended::whole_if(is_shown(alloc, &copy)?)),
+        Err(_) => Ok(Ended::OutOfMemory),
+    }
+}
+
 #[test]
-fn copies_and_texts_of_plans(rt: HostRuntime) -> Result<(), Fail> {
+fn copies_of_plans(rt: HostRuntime) -> Result<(), Fail> {
     let alloc = rt.alloc();
     let plan = plan_for(&rt, alloc, test_and_set(), 2)?;
-    sweep(
+    sweep!(
         &rt,
         alloc,
-        || plan.copy(alloc),
-        |copied| match copied {
-            Ok(copy) => Ok(Ended::whole_if(is_shown(alloc, &copy)?)),
-            Err(_) => Ok(Ended::OutOfMemory),
-        },
-    )?;
-    sweep(
+        copied = plan.copy(alloc),
+        copy_ended(alloc, copied)?
+    )
+}
+
+fn shown_ended(shown: Result<bool, AllocError>) -> Ended {
+    match shown {
+        Ok(is_whole) => Ended::whole_if(is_whole),
+        Err(_) => Ended::OutOfMemory,
+    }
+}
+
+#[test]
+fn texts_of_plans(rt: HostRuntime) -> Result<(), Fail> {
+    let alloc = rt.alloc();
+    let plan = plan_for(&rt, alloc, test_and_set(), 2)?;
+    sweep!(
         &rt,
         alloc,
-        || is_shown(alloc, &plan),
-        |shown| match shown {
-            Ok(is_whole) => Ok(Ended::whole_if(is_whole)),
-            Err(_) => Ok(Ended::OutOfMemory),
-        },
+        shown = is_shown(alloc, &plan),
+        shown_ended(shown)
     )
 }
 
 /// Process 1 comes first and stops, and process 0 takes its value.
+const STEPS: [u8; 6] = [1, 1, 0, 0, 0, 0];
+
+/// The inputs of both processes.
+const INPUTS: [u64; 2] = [10, 20];
+
+/// What a round has fixed after these steps.
+fn fixed(rt: &impl Abort, alloc: Global, plan: &Plan) -> Result<Option<u64>, AllocError> {
+    Ok(agree::replay(rt, alloc, plan, &INPUTS, &STEPS)?.fixed())
+}
+
+fn round_ended(fixed: Result<Option<u64>, AllocError>) -> Ended {
+    match fixed {
+        Ok(value) => Ended::whole_if(value == Some(20)),
+        Err(_) => Ended::OutOfMemory,
+    }
+}
+
 #[test]
 fn rounds(rt: HostRuntime) -> Result<(), Fail> {
     let alloc = rt.alloc();
     let plan = plan_for(&rt, alloc, test_and_set(), 2)?;
-    let (inputs, schedule) = ([10u64, 20], [1u8, 1, 0, 0, 0, 0]);
-    sweep(
+    sweep!(&rt, alloc, ran = fixed(&rt, alloc, &plan), round_ended(ran))
+}
+
+fn schedule_ended(ran: Result<Decided, ScheduleFault>) -> Ended {
+    match ran {
+        Ok(decided) => Ended::whole_if(decided.decisions.as_slice() == [Some(20), None].as_slice()),
+        Err(fault) => Ended::out_of_memory_if(fault == ScheduleFault::OutOfMemory),
+    }
+}
+
+#[test]
+fn schedules(rt: HostRuntime) -> Result<(), Fail> {
+    let alloc = rt.alloc();
+    let plan = plan_for(&rt, alloc, test_and_set(), 2)?;
+    sweep!(
         &rt,
         alloc,
-        || agree::replay(&rt, alloc, &plan, &inputs, &schedule),
-        |ran| match ran {
-            Ok(round) => Ok(Ended::whole_if(round.fixed() == Some(20))),
-            Err(_) => Ok(Ended::OutOfMemory),
-        },
-    )?;
-    sweep(
-        &rt,
-        alloc,
-        || run_schedule(alloc, &plan, &inputs, &schedule),
-        |ran| match ran {
-            Ok(decided) => Ok(Ended::whole_if(
-                decided.decisions.as_slice() == [Some(20), None].as_slice(),
-            )),
-            Err(fault) => Ok(Ended::out_of_memory_if(fault == ScheduleFault::OutOfMemory)),
-        },
+        ran = run_schedule(alloc, &plan, &INPUTS, &STEPS),
+        schedule_ended(ran)
     )
 }
 
@@ -111,52 +144,47 @@ pub(super) fn is_helped(core: &LogCore, events: &[Event]) -> bool {
     core.schedule() == events && core.fixed_slots() == 1 && processes.eq([0, 1])
 }
 
-/// A new log.
-fn new_logs(rt: &impl Abort, alloc: Global, plan: &Plan, object: &Table) -> Result<(), Fail> {
-    sweep(
-        rt,
-        alloc,
-        || {
-            assert!(rt; object.states() >= 1);
-            LogCore::new(alloc, plan, object, State(0), 4)
-        },
-        |made| match made {
-            Ok(core) => Ok(Ended::whole_if(core.capacity() == 4 && core.schedule().is_empty())),
-            Err(_) => Ok(Ended::OutOfMemory),
-        },
-    )
-}
-
-/// A log after these events.
-fn replayed_logs(
-    rt: &impl Abort,
-    alloc: Global,
-    plan: &Plan,
-    object: &Table,
-    events: &[Event],
-) -> Result<(), Fail> {
-    sweep(
-        rt,
-        alloc,
-        || {
-            assert!(rt; object.states() >= 1);
-            replay(alloc, plan, object, State(0), 4, events)
-        },
-        |made| match made {
-            Ok(core) => Ok(Ended::whole_if(is_helped(&core, events))),
-            Err(fault) => Ok(Ended::out_of_memory_if(fault == ReplayFault::OutOfMemory)),
-        },
-    )
+fn new_log_ended(made: Result<LogCore, AllocError>) -> Ended {
+    match made {
+        Ok(core) => Ended::whole_if(core.capacity() == 4 && core.schedule().is_empty()),
+        Err(_) => Ended::OutOfMemory,
+    }
 }
 
 #[test]
-fn logs(rt: HostRuntime) -> Result<(), Fail> {
+fn new_logs(rt: HostRuntime) -> Result<(), Fail> {
+    let alloc = rt.alloc();
+    let plan = plan_for(&rt, alloc, test_and_set(), 2)?;
+    let object = table_of(alloc, counter_3())?;
+    assert!(rt; object.states() >= 1);
+    sweep!(
+        &rt,
+        alloc,
+        made = LogCore::new(alloc, &plan, &object, State(0), 4),
+        new_log_ended(made)
+    )
+}
+
+fn log_ended(replayed: Result<LogCore, ReplayFault>, events: &[Event]) -> Ended {
+    match replayed {
+        Ok(core) => Ended::whole_if(is_helped(&core, events)),
+        Err(fault) => Ended::out_of_memory_if(fault == ReplayFault::OutOfMemory),
+    }
+}
+
+#[test]
+fn replayed_logs(rt: HostRuntime) -> Result<(), Fail> {
     let alloc = rt.alloc();
     let plan = plan_for(&rt, alloc, test_and_set(), 2)?;
     let object = table_of(alloc, counter_3())?;
     let events = helped(alloc)?;
-    new_logs(&rt, alloc, &plan, &object)?;
-    replayed_logs(&rt, alloc, &plan, &object, &events)
+    assert!(rt; object.states() >= 1);
+    sweep!(
+        &rt,
+        alloc,
+        replayed = replay(alloc, &plan, &object, State(0), 4, &events),
+        log_ended(replayed, &events)
+    )
 }
 
 /// The core comes back with its entries and its schedule, until a hall is opened over it.
