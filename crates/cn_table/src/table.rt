@@ -34,7 +34,7 @@ impl Named for Transitions {
 /// and state one response and one next state.
 ///
 /// Tables come from [`read_table`](crate::read_table). States, operations and responses are
-/// numbered from 0 in the order of the file. No call here but [`copy`](Table::copy) takes memory.
+/// numbered from 0 in the order of the file. Only calls that answer an `AllocError` take memory.
 #[derive(Drop)]
 pub struct Table {
     pub(crate) name: String,

@@ -19,7 +19,7 @@ Codes: man cnum and docs/FORMATS.md explain the code of a fault, as that of tabl
 Exit status:
   0  done
   1  the check refuses the certificate, or it has no witness, or a call found no slot
-  2  the text of a table or of the certificate is refused
+  2  the text of a table or of the certificate is refused, or a file behind @ is too long
   3  the words, an argument, the limit, the count of choices, the schedule or an event are refused
   4  reading or writing failed, or a thread could not be started
   5  out of memory
@@ -209,8 +209,8 @@ bytes; a name is 1 to 32 bytes, each a to z, 0 to 9 or an underscore. man cnum a
 explain the code of a fault, as that of table: 8 RowLength.
 
 Exit status: 0 done, 1 the check refuses the certificate, or it has no witness, 2 the text of the
-table or of the certificate is refused, 3 the words, an argument or the schedule are refused, 4
-reading or writing failed, 5 out of memory.
+table or of the certificate is refused or a file behind @ is too long, 3 the words, an argument or
+the schedule are refused, 4 reading or writing failed, 5 out of memory.
 
 Example:
   cnum agree tests/certificates/test_and_set_at_3.json 10,20 1,1,0,0,0,0 < types/test_and_set.toml
@@ -238,8 +238,8 @@ bytes; a name is 1 to 32 bytes, each a to z, 0 to 9 or an underscore. man cnum a
 explain the code of a fault, as that of table: 8 RowLength.
 
 Exit status: 0 done, 1 some call found no slot, the check refuses the certificate, or it has no
-witness, 2 the text of a table or of the certificate is refused, 3 the words, an argument or an
-event are refused, 4 reading or writing failed, 5 out of memory.
+witness, 2 the text of a table or of the certificate is refused or a file behind @ is too long, 3
+the words, an argument or an event are refused, 4 reading or writing failed, 5 out of memory.
 
 Example:
   cnum replay tests/certificates/test_and_set_at_3.json types/counter_3.toml 0 4 i0:0,s0,s0,s0,s0 < types/test_and_set.toml
@@ -269,8 +269,9 @@ bytes; a name is 1 to 32 bytes, each a to z, 0 to 9 or an underscore. man cnum a
 explain the code of a fault, as that of table: 8 RowLength.
 
 Exit status: 0 done, 1 some call found no slot, the check refuses the certificate, or it has no
-witness, 2 the text of a table or of the certificate is refused, 3 the words or an argument are
-refused, 4 reading or writing failed or a thread could not be started, 5 out of memory.
+witness, 2 the text of a table or of the certificate is refused or a file behind @ is too long, 3
+the words or an argument are refused, 4 reading or writing failed or a thread could not be started,
+5 out of memory.
 
 Example:
   cnum serve tests/certificates/test_and_set_at_3.json types/counter_3.toml 0 4 0/none < types/test_and_set.toml

@@ -14,15 +14,18 @@ use Rattle.cn_app.specs.declared.limits.TheConstants.{MOST_TABLE_BYTES}
 abbrev pub flaw_lines : List Flaw → List ℕ
 flaw_lines flaws = flat_map (λ f. f.text ++ codes "\n") flaws
 
--- the grid of the table that the bytes spell, or else the lines of their flaws; bytes that are no TOML have one, at some place in them
+-- the grid of the table that the bytes spell, or else the lines of their flaws; bytes that are no TOML have one, at some place in them; and the bytes are not
+-- too many
 abbrev pub IsReport : List ℕ → List ℕ → Type 0
-IsReport bytes text = MatchResult (reading bytes) (λ t. IsGrid t text) (λ _. (place : ℕ) × (place ≤ length bytes) × (text ≡ flaw_lines (flaws_at place bytes)))
+IsReport bytes text = (length bytes ≤ MOST_TABLE_BYTES)
+    × MatchResult (reading bytes) (λ t. IsGrid t text) (λ _. (place : ℕ) × (place ≤ length bytes) × (text ≡ flaw_lines (flaws_at place bytes)))
 
 -- the bytes spell a table, or this is their fault
 abbrev pub Tells : Linted → List ℕ → Type 0
 Tells Accepted bytes = IsOk (reading bytes)
 Tells (Refused fault) bytes = reading bytes ≡ Err fault
 
--- the command fails with e: memory ran out, the reader failed, the bytes are too many, or the writer failed
+-- the command fails with e: memory ran out, the reader failed, the bytes are too many, or they are not and the writer failed
 abbrev pub LintFails : List ℕ → AppFault → Type 0
-LintFails bytes e = (e ≡ OutOfMemory) ⊎ ((e ≡ Read Table) ⊎ (((e ≡ TooLong Table) × (MOST_TABLE_BYTES < length bytes)) ⊎ (e ≡ Write)))
+LintFails bytes e = (e ≡ OutOfMemory) ⊎ ((e ≡ Read Table) ⊎ (((e ≡ TooLong Table) × (MOST_TABLE_BYTES < length bytes))
+    ⊎ ((e ≡ Write) × (length bytes ≤ MOST_TABLE_BYTES))))

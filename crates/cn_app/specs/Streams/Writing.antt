@@ -12,7 +12,7 @@ pub record IsUnwritten {W : Type 0} (output : Output W) : Type 0 where
   pub empty : output.bytes.items ≡ []
   pub idle : output.progress ≡ Open
 
--- on success the writer took the bytes of the output, whole and at once; a fault of the writer is told only where it had one; and on another fault nothing was
+-- on success the writer took the bytes of the output, all of them; a fault of the writer is told only where it had one; and on another fault nothing was
 -- handed to it
 pub record HasWritten {T W : Type 0} (result : Result T AppFault) (contents : W → Option (List ℕ)) (old new : Output W) : Type 0 where
   pub same : new.writer.ghost_name ≡ old.writer.ghost_name

@@ -4,6 +4,7 @@ ghost use Rattle.cn_table.specs.Flaws.{flaw_view, flaws_at};
 ghost use Rattle.cn_app.specs.Commands.Lint.{flaw_lines, IsReport, LintFails, Tells};
 ghost use Rattle.cn_app.specs.Streams.SourceBytes.{HasRead, IsUnread};
 ghost use Rattle.cn_app.specs.Streams.Writing.{HasWritten, IsUnwritten, OnHandedOver};
+ghost use Rattle.cn_app.specs.declared.limits.TheConstants.{MOST_TABLE_BYTES};
 
 use crate::fault::{AppFault, Source};
 use crate::limits::MOST_TABLE_BYTES;
@@ -50,7 +51,7 @@ fn flaw_lines(alloc: Global, bytes: &[u8]) -> Result<String, AllocError>
 }
 
 fn report_on(alloc: Global, bytes: &[u8]) -> Result<Report, AllocError>
-    requires { length bytes.now < 2 ^ 63 }
+    requires { length bytes.now ≤ MOST_TABLE_BYTES }
     ensures linted { IfOk result (λ report. Tells report.linted bytes.now) }
     ensures text { IfOk result (λ report. IsReport bytes.now (string_bytes report.text)) }
 {
