@@ -28,7 +28,7 @@ pub use fault::{AppFault, Part, Source};
 pub use forms::Form;
 pub use limits::{
     MOST_ARGUMENT_BYTES, MOST_CALLS, MOST_CERTIFICATE_BYTES, MOST_DIGITS, MOST_FILE_ITEMS,
-    MOST_ITEMS, MOST_TABLE_BYTES,
+    MOST_ITEMS, MOST_TABLE_BYTES, MOST_TOLD,
 };
 pub use run::{
     run_agree, run_check, run_classify, run_draw, run_explain, run_find, run_lint, run_replay,

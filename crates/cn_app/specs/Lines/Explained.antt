@@ -11,6 +11,7 @@ use Rattle.cn_choice.specs.OutcomeSets.{pair_of}
 use Rattle.cn_cert.specs.Certificate.{Certificate}
 use Rattle.cn_table.specs.Grid.{name_at}
 use Rattle.cn_app.specs.Lines.Pairs.{got, seen_rows}
+use Rattle.cn_app.specs.declared.limits.TheConstants.{MOST_TOLD}
 
 -- ---- the head line
 
@@ -118,9 +119,9 @@ abbrev pub ways : TypeTable → ℕ → List Collision → List ℕ
 ways t before [] = []
 ways t before (e ∷ es) = way t (before + 1) e ++ ways t (before + 1) es
 
--- the entries that are told: all of them, or the first 12
+-- the entries that are told: all of them, or the first MOST_TOLD
 abbrev pub told : Bool → List Collision → List Collision
-told all entries = if all then entries else take 12 entries
+told all entries = if all then entries else take MOST_TOLD entries
 
 -- how many more there are
 abbrev pub more_line : ℕ → List ℕ

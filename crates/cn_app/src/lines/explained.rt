@@ -6,6 +6,7 @@ ghost use Rattle.cn_check.specs.Verdict.{IsAccepted};
 ghost use Rattle.cn_app.specs.Lines.Explained.{apart_line, explain_text, head_line, left_out, more_line, movers, notes, number_told, refutation, same_ways, theorem_line, told, told_ways, ways_words, why, why_not, witness_line, witness_start, witness_text, IsRefuted};
 ghost use Rattle.cn_app.specs.Lines.Pairs.{seen_rows};
 
+use crate::limits::MOST_TOLD;
 use crate::lines::pairs::push_seen;
 use crate::lines::ways::{push_both_teams, push_ways};
 use cn_cert::Certificate;
@@ -13,9 +14,6 @@ use cn_choice::laws::{canonical_list, live_list};
 use cn_choice::{Choice, Collision};
 use cn_table::Table;
 use std::alloc::{AllocError, Global};
-
-/// How many ways are told where not all are asked for.
-const MOST_TOLD: usize = 12;
 
 /// The number in words.
 fn push_number(text: &mut String, limit: u8, number: Option<u8>) -> Result<(), AllocError>
