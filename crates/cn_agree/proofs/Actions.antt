@@ -76,7 +76,8 @@ register_cases node A B x y h = inl h
 register_cases node B A x y h = inl h
 register_cases node B B x y h = inr (refl, cc)
 
-register_mine : {V : Type 0} (node : Node V) (mine : Team) (x : V) → register (with_register node mine x) mine ≡ Some x
+-- what a register holds after a write
+pub register_mine : {V : Type 0} (node : Node V) (mine : Team) (x : V) → register (with_register node mine x) mine ≡ Some x
 register_mine node A x = refl
 register_mine node B x = refl
 

@@ -13,6 +13,7 @@ use Rattle.cn_agree.specs.declared.local.Local.TheVariants.{NotBegun, Active}
 use Rattle.cn_agree.specs.World.{World, node_at, local_at, register, with_register, untouched}
 use Rattle.cn_agree.specs.Steps.{node_after, local_after, first_after, recorded, taken, after_action, after_step, after_step_from}
 use Rattle.cn_agree.specs.AtomicStep.{Part, Object, Register, State, Value, content, touched, ActsOnce, HasPlace, LooksAlike, IsAtomic}
+use Rattle.cn_agree.proofs.Actions.{register_mine}
 
 -- a write changes its register alone
 write_leaves : {V : Type 0} (node : Node V) (mine : Team) (x : V) (part : Part) → part ≢ Register mine → content (with_register node mine x) part ≡ content node part
@@ -49,15 +50,10 @@ reads_alike P places i here x (Take response state) node other e =
     let same : register node (P.judge here.role response.0 state.0) ≡ register other (P.judge here.role response.0 state.0) = cc in
     ap (taken places i (Active i x (Take response state))) same
 
--- what a register holds after a write
-written_is : {V : Type 0} (node : Node V) (mine : Team) (x : V) → register (with_register node mine x) mine ≡ Some x
-written_is node A x = refl
-written_is node B x = refl
-
 -- two nodes at which the part that is touched is the same leave the same there
 leaves_alike : {V : Type 0} (P : Protocol) (here : Place) (x : V) (stage : Stage) (node other : Node V) → content node (touched P here stage) ≡ content other (touched P here stage)
     → content (node_after P here x stage node) (touched P here stage) ≡ content (node_after P here x stage other) (touched P here stage)
-leaves_alike P here x Write node other e = ap (λ r. Value r) (written_is node here.team x ∙ sym (written_is other here.team x))
+leaves_alike P here x Write node other e = ap (λ r. Value r) (register_mine node here.team x ∙ sym (register_mine other here.team x))
 leaves_alike P here x Apply node other e =
     let same : node.state.0 ≡ other.state.0 = cc in
     ap (λ s. State (P.act here.role s).1) same

@@ -7,7 +7,7 @@ use Rattle.json.proofs.Grammar.{items_end, items_more, members_end, members_no_k
 use Rattle.serde_json.specs.Data.{Data, array, object, no_items, item, Members, no_members, put}
 use Rattle.serde_json.specs.Read.{of_json, of_items, of_members, converted}
 
-abbrev pick : {A : Type 0} → A → Option A → A
+abbrev pub pick : {A : Type 0} → A → Option A → A
 pick d None = d
 pick d (Some a) = a
 

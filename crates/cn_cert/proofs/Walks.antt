@@ -9,14 +9,10 @@ use Rattle.json.specs.Json.{Json, Parse, parse_map, after_end_array, read_key, i
 use Rattle.json.proofs.Grammar.{left, Takes, skip_value-shorter, value_is, value-begin_array, value-begin_object, read_key-shorter}
 use Rattle.serde_json.specs.Data.{Num, Data, null, boolean, number, string, array, object, Items, no_items, item, Members, no_members, put}
 use Rattle.serde_json.specs.Read.{of_json, of_items, of_members, converted, number_of}
-use Rattle.cn_cert.proofs.Conversions.{converted_some, converted-array, converted-object, item_read, item_refused, items_over, member_read, member_refused, key_refused, members_over}
+use Rattle.cn_cert.proofs.Conversions.{converted_some, converted-array, converted-object, item_read, item_refused, items_over, member_read, member_refused, key_refused, members_over, pick}
 use Rattle.cn_cert.specs.Reads.{Refuses}
 use Rattle.cn_cert.specs.declared.fault.CertFault.{CertFault}
 use Rattle.cn_cert.specs.Tokens.{data_at, items_at, members_at, told, nothing}
-
-abbrev pick : {A : Type 0} → A → Option A → A
-pick d None = d
-pick d (Some a) = a
 
 -- ---- what is told of a value
 

@@ -22,7 +22,7 @@ pub not_some : {X : Type 0} (P Q : X → Type 0) (o : Option X) → ((x : X) →
 not_some P Q None f p q = q
 not_some P Q (Some x) f p q = f x p q
 
-not_some_if : {X : Type 0} (P Q : X → Type 0) (o : Option X) → ((x : X) → P x → Q x → ⊥) → IfSome o P → ¬ IsSomeAnd o Q
+pub not_some_if : {X : Type 0} (P Q : X → Type 0) (o : Option X) → ((x : X) → P x → Q x → ⊥) → IfSome o P → ¬ IsSomeAnd o Q
 not_some_if P Q None f p q = q
 not_some_if P Q (Some x) f p q = f x p q
 

@@ -24,7 +24,7 @@ use Rattle.cn_check.specs.Faults.{HasFault, IsFirstFault}
 use Rattle.cn_check.specs.PartFaults.{IsEvidenceFault, IsWitnessFault}
 use Rattle.cn_check.specs.Verdict.{IsAccepted}
 use Rattle.cn_check.specs.Versions.{choices_in_version, choices_to_refute_in}
-use Rattle.cn_check.proofs.FaultLemmas.{first_of_evidence, first_of_witness}
+use Rattle.cn_check.proofs.FaultLemmas.{first_of_evidence, first_of_witness, not_some_if}
 use Rattle.cn_check.specs.declared.fault.CheckFault.{CheckFault}
 use Rattle.cn_check.specs.declared.fault.CheckFault.TheVariants.{OtherType, BadNumber, WitnessShape, WitnessMeets, Unexpected, NotNext, NotACollision, TooFew}
 
@@ -75,10 +75,6 @@ zip_at t (c ∷ choices) [] i h = absurd h
 zip_at t (c ∷ choices) (e ∷ entries) zero h = (ap Some (sym h.0.0), h.0.1)
 zip_at t (c ∷ choices) (e ∷ entries) (suc i) h = zip_at t choices entries i h.1
 
-no_fault_at : {X : Type 0} (P Q : X → Type 0) (o : Option X) → ((x : X) → P x → Q x → ⊥) → IfSome o P → ¬ IsSomeAnd o Q
-no_fault_at P Q None f p q = q
-no_fault_at P Q (Some x) f p q = f x p q
-
 nothing_at_limit : (version : ℕ) (t : TypeTable) (limit : ℕ) (number : Option ℕ) → number ≡ Some limit → choices_to_refute_in version t limit number ≡ []
 nothing_at_limit version t limit None e = absurd (none-some limit e)
 nothing_at_limit version t limit (Some n) e = by_test (ltb n limit) refl
@@ -96,13 +92,13 @@ pub no_fault : (t : TypeTable) (c : Certificate) → IsAccepted t c → (e : Che
 no_fault t c a OtherType h = h a.type_name
 no_fault t c a BadNumber h = h a.in_range
 no_fault t c a WitnessShape h = h a.witness_fits
-no_fault t c a (WitnessMeets j) h = no_fault_at (λ w. IsWitness t (raw_choice_of w)) (λ w. OutcomeSetsMeet t (raw_choice_of w) j) c.witness (λ w is meet. is j meet.0 meet.1 meet.2) a.witness h
+no_fault t c a (WitnessMeets j) h = not_some_if (λ w. IsWitness t (raw_choice_of w)) (λ w. OutcomeSetsMeet t (raw_choice_of w) j) c.witness (λ w is meet. is j meet.0 meet.1 meet.2) a.witness h
 no_fault t c a Unexpected h = h.1 (no_entries t (choices_to_refute_in c.version t c.limit c.number) c.collisions (nothing_at_limit c.version t c.limit c.number h.0) a.refuted)
 no_fault t c a (NotNext i) h =
-    no_fault_at (λ e. (slice_get (choices_to_refute_in c.version t c.limit c.number) i ≡ Some e.choice) × HoldsCollision t e) (λ e. slice_get (choices_to_refute_in c.version t c.limit c.number) i ≢ Some e.choice) (slice_get c.collisions i)
+    not_some_if (λ e. (slice_get (choices_to_refute_in c.version t c.limit c.number) i ≡ Some e.choice) × HoldsCollision t e) (λ e. slice_get (choices_to_refute_in c.version t c.limit c.number) i ≢ Some e.choice) (slice_get c.collisions i)
     (λ e p q. q p.0) (zip_at t (choices_to_refute_in c.version t c.limit c.number) c.collisions i a.refuted) h
 no_fault t c a (NotACollision i) h =
-    no_fault_at (λ e. (slice_get (choices_to_refute_in c.version t c.limit c.number) i ≡ Some e.choice) × HoldsCollision t e) (λ e. ¬ HoldsCollision t e) (slice_get c.collisions i)
+    not_some_if (λ e. (slice_get (choices_to_refute_in c.version t c.limit c.number) i ≡ Some e.choice) × HoldsCollision t e) (λ e. ¬ HoldsCollision t e) (slice_get c.collisions i)
     (λ e p q. q p.1) (zip_at t (choices_to_refute_in c.version t c.limit c.number) c.collisions i a.refuted) h
 no_fault t c a TooFew h = absurd (omega (arith, h, AllZip-long (Refutes t) (choices_to_refute_in c.version t c.limit c.number) c.collisions a.refuted))
 

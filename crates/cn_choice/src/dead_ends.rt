@@ -1,5 +1,5 @@
 //! Places from which an order cannot go on into a set.
-ghost use Rattle.std.specs.Prelude.{◌≡◌, ◌<◌, ◌⊎◌, ℕ, Option, IfSome, IsTrue, Bool, true, false, slice_index_or};
+ghost use Rattle.std.specs.Prelude.{◌≡◌, ◌<◌, ◌⊎◌, ℕ, Option, IfSome, IsTrue, Bool, true, false};
 ghost use Rattle.cn_choice.specs.Tails.{IsKept, rank_of};
 ghost use Rattle.cn_choice.specs.declared.limits.TheConstants.{SUBSETS};
 

@@ -1,5 +1,5 @@
 //! A table with the images of the sets of its states, made once for many choices.
-ghost use Rattle.std.specs.Prelude.{◌≡◌, ◌<◌, ◌≤◌, ℕ, [], length, slice_index, slice_index_or, IsBitSet};
+ghost use Rattle.std.specs.Prelude.{◌≡◌, ◌<◌, ◌≤◌, ℕ, length, slice_index, IsBitSet};
 ghost use Rattle.cn_table.specs.TypeTable.{transition};
 ghost use Rattle.cn_choice.specs.Images.{HaveImages, IsImageFrom};
 ghost use Rattle.cn_choice.specs.Subsets.{Below};

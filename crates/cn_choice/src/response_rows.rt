@@ -1,5 +1,5 @@
 //! Rows for one process and one response of it, by the subsets of the other processes.
-ghost use Rattle.std.specs.Prelude.{◌≡◌, ◌≢◌, ◌<◌, ◌≤◌, ◌↔◌, ◌*◌, ◌^◌, ℕ, length, slice_get, slice_index, IsBitSet, Some};
+ghost use Rattle.std.specs.Prelude.{◌≡◌, ◌<◌, ◌≤◌, ◌↔◌, ◌*◌, ◌^◌, ℕ, length, slice_get, slice_index, IsBitSet, Some};
 ghost use Rattle.cn_table.specs.TypeTable.{transition};
 ghost use Rattle.cn_choice.specs.RawChoices.{IsRawChoice};
 ghost use Rattle.cn_choice.specs.ResponseRows.{AreAsked, AreGivenRows, AreRowsWithout, GivesWith};

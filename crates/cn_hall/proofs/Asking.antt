@@ -13,7 +13,7 @@ use Rattle.cn_log.specs.declared.event.Event.TheVariants.{Invoke, Step}
 use Rattle.cn_log.specs.declared.event.StepAnswer.{StepAnswer}
 use Rattle.cn_proto.specs.Plan.{processes_of}
 use Rattle.cn_hall.specs.Calls.{GoesOn, IsSameSeat}
-use Rattle.cn_hall.specs.Gates.{HasTaken, IsAsked, numbers, steps_since}
+use Rattle.cn_hall.specs.Gates.{HasTaken, IsAsked, steps_since}
 use Rattle.cn_hall.specs.Seats.{SeatState, IsInvoke, IsLog, IsStep, pending}
 use Rattle.cn_hall.specs.declared.call.Go.{Go}
 use Rattle.cn_hall.specs.declared.call.Go.TheVariants.{On}
@@ -132,9 +132,3 @@ module _ {G : Type 0} (asks : G → SeatState → ℕ → G → Type 0) (says : 
 
   pub since_call : (a b d : SeatState) (operation : ℕ) → IsSameSeat a b → IsInvoke a.process operation a.core b.core → GoesOn b.process b.core d.core → steps_since b.process b.core d.core ≡ steps_since a.process a.core d.core
   since_call a b d operation same invoke goes = ap (λ p. steps_since p b.core d.core) same.1 ∙ sym (since_invoke a.process operation a.core b.core d.core invoke (goes.1, goes.2)).0
-
-  -- a gate that keeps the list of the numbers that it was asked has 1, 2, .., k at its end
-  pub asked_numbers : (list : G → List ℕ) → ((a : G) (seat : SeatState) (n : ℕ) (b : G) → asks a seat n b → list b ≡ list a ++ n ∷ []) → (mine : Entry) (start : SeatState) (k : ℕ) (old new : G)
-      → IsAsked asks says mine start k old new → list new ≡ list old ++ numbers k
-  asked_numbers list keeps mine start zero old new h = ap list h ∙ sym (append-nil (list old))
-  asked_numbers list keeps mine start (suc k) old new h = keeps h.0 h.1 (suc k) new h.5 ∙ ap (λ l. l ++ suc k ∷ []) (asked_numbers list keeps mine start k old h.0 h.2) ∙ append_assoc (list old) (numbers k) (suc k ∷ [])

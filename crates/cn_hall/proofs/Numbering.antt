@@ -5,7 +5,7 @@ use Rattle.cn_log.specs.Callers.{call_of, calls_by, calls_from, entries_by}
 use Rattle.cn_log.specs.declared.entry.Entry.{Entry}
 use Rattle.cn_log.specs.declared.event.Event.{Event}
 use Rattle.cn_log.specs.declared.event.Event.TheVariants.{Invoke, Step}
-use Rattle.cn_table.proofs.Lists.{get_low, get_push_new}
+use Rattle.cn_table.proofs.Lists.{get_front, get_low, get_push_new}
 use Rattle.cn_proto.specs.Plan.{processes_of}
 use Rattle.cn_log.specs.Batches.{entries_in, members}
 use Rattle.cn_log.proofs.Places.{in_entries}
@@ -34,11 +34,6 @@ filtered p (e ∷ es) (suc k) x own h = go (e.process == p) refl (filtered p es 
     go : (b : Bool) → (e.process == p) ≡ b → (j : ℕ) × (slice_get (entries_by p es) j ≡ Some x) → (j : ℕ) × (slice_get (entries_by p (e ∷ es)) j ≡ Some x)
     go true t r = (suc r.0, rw t r.1)
     go false t r = (r.0, rw t r.1)
-
-get_front : (xs ys : List Entry) (k : ℕ) (x : Entry) → slice_get xs k ≡ Some x → slice_get (xs ++ ys) k ≡ Some x
-get_front [] ys k x h = absurd cc
-get_front (z ∷ xs) ys zero x h = h
-get_front (z ∷ xs) ys (suc k) x h = get_front xs ys k x h
 
 pub next_unseen : Owned → Called → (s : SeatState) (operation : ℕ) → IsLog s.core → s.process < processes_of s.core.opening.plan → IsUnseen (next_call s operation) s
 next_unseen owned called s operation log lt k b at has =

@@ -30,11 +30,6 @@ IsAsked asks says mine start zero old new = new ≡ old
 IsAsked {G} asks says mine start (suc k) old new = (mid : G) × (seat : SeatState) × IsAsked asks says mine start k old mid × (says mid ≡ On)
     × HasTaken mine k start seat × asks mid seat (suc k) new
 
--- 1, 2, .. up to this number
-abbrev pub numbers : ℕ → List ℕ
-numbers zero = []
-numbers (suc k) = numbers k ++ suc k ∷ []
-
 -- how often a call with this answer asked that took so many steps: before each, and once more where it was stopped
 abbrev pub asked_times : Result Reply CallFault → ℕ → ℕ
 asked_times (Ok r) steps = steps

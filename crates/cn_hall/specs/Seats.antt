@@ -50,7 +50,7 @@ is_in_call (Runs mine) = true
 abbrev pub caller : SeatState → Caller
 caller s = caller_at s.core s.process
 
--- the batches of the slots that the seat has seen: its process has replayed them
+-- the batches of the slots that the seat has seen: its process has applied them
 abbrev pub slots_seen : SeatState → List Batch
 slots_seen s = (caller s).seen
 

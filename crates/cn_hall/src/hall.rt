@@ -180,7 +180,7 @@ impl Hall {
     }
 
     /// Takes the core out for good. It carries each seat's core further, with no event since of the
-    /// seat's process; so the process has replayed there what the seat has seen, and that stands
+    /// seat's process; so the process has applied there what the seat has seen, and that stands
     /// first among its entries. What all threads did is linearized, no call was passed by for long,
     /// and each was over within so many steps of its process.
     pub fn close<R: Wait>(self, rt: &R, seats: Vec<Seat>) -> LogCore

@@ -1,6 +1,6 @@
 //! One removal of the core from the queue, or its return.
 ghost use Rattle.std.specs.Prelude.{◌≡◌, ◌<◌, Some, []};
-ghost use Rattle.cn_hall.specs.Rule.{Agrees, Holds, IsOneEventLater, IsOneSeatMore, MayPut, bare_view, first_view, holding_view, later_view, opened_view, seated_view};
+ghost use Rattle.cn_hall.specs.Rule.{FitsItem, Holds, IsOneEventLater, IsOneSeatMore, MayPut, bare_view, first_view, holding_view, later_view, opened_view, seated_view};
 ghost use Rattle.cn_hall.specs.declared.rule.Stage.TheVariants.{Live};
 ghost use Rattle.cn_proto.specs.Plan.{processes_of};
 ghost use Rattle.cn_hall.specs.Seats.{IsLog, IsStanding};
@@ -49,7 +49,7 @@ pub(crate) fn take<R: Wait>(rt: &R, queue: &Queue, pass: &mut Pass) -> Item
     requires live { (view pass.old).stage ≡ Live }
     ensures same { IsSamePass pass.old pass.new }
     ensures held { view pass.new ≡ holding_view (view pass.old) result }
-    ensures agrees { Agrees (view pass.old) result }
+    ensures agrees { FitsItem (view pass.old) result }
 {
     for _ in rt.forever() {
         if let Some(item) = queue.try_pop_as::<Takes>(pass) {

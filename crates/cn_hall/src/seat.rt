@@ -1,6 +1,6 @@
 //! A seat of a hall.
 ghost use Rattle.std.specs.Prelude.{◌≡◌, ◌≢◌, ◌≤◌, ◌↔◌, IsFalse, IsTrue, None, length};
-ghost use Rattle.cn_log.specs.Callers.{HasReplayedItsOwn};
+ghost use Rattle.cn_log.specs.Callers.{HasAppliedItsOwn};
 ghost use Rattle.cn_log.specs.Opening.{setting};
 ghost use Rattle.cn_hall.specs.Seats.{IsLog, pending, entries_seen, slots_seen};
 
@@ -38,7 +38,7 @@ impl Seat {
     /// order, and then the one that has no answer, if there is one.
     pub fn has_its_calls(&self)
         ensures log { IsLog self.now.core }
-        ensures calls { HasReplayedItsOwn (setting self.now.core) self.now.core.schedule self.now.process }
+        ensures calls { HasAppliedItsOwn (setting self.now.core) self.now.core.schedule self.now.process }
     {
         cn_log::laws::every_call();
         let _process = self.process;
@@ -59,14 +59,14 @@ impl Seat {
         self.standing.in_call
     }
 
-    /// How many entries the seat has seen, in the slots that its process has replayed.
+    /// How many entries the seat has seen, in the slots that its process has applied.
     pub fn seen_len(&self) -> u16
         ensures number { result ≡ length (entries_seen self.now) }
     {
         self.standing.seen
     }
 
-    /// How many slots the seat has seen: its process has replayed them.
+    /// How many slots the seat has seen: its process has applied them.
     pub fn seen_slots(&self) -> u16
         ensures number { result ≡ length (slots_seen self.now) }
         ensures range { result ≤ self.now.core.opening.capacity }

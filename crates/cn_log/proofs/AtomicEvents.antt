@@ -19,7 +19,7 @@ use Rattle.cn_log.specs.declared.event.Event.TheVariants.{Invoke, Step}
 use Rattle.cn_log.specs.declared.event.StepAnswer.{StepAnswer}
 use Rattle.cn_log.specs.declared.progress.Phase.{Phase}
 use Rattle.cn_log.specs.declared.progress.Phase.TheVariants.{Idle, Looks, Runs}
-use Rattle.cn_log.specs.Agreement.{Agrees}
+use Rattle.cn_log.specs.Agreement.{RoundsAgree}
 use Rattle.cn_log.specs.AtomicEvent.{LogWorld, LogPart, Announcement, InRound, LogContent, Announced, AtNode, IsSameLocally, log_content, touched_in, touched_by_step, touched_by, LooksOn, LooksOnce, ActsInRound, Steps, Happens, answer_to, LogsLookAlike, IsAtomicEvent}
 use Rattle.cn_log.specs.Callers.{call_of, process_of}
 use Rattle.cn_log.specs.Log.{Setting, Caller, put, gathered, entries_of_batches, first_look, after_gathering, after_look, after_decision, after_run, after_step, after_event, first_world, state_of, answer_with, answer_from, MayCome, MayStep, IsEventList}
@@ -61,7 +61,7 @@ module _ (law : RoundLaw) (atomic : (P : Protocol) (p : ℕ) → IsAtomic Batch 
   abbrev IsSafe : LogWorld → Type 0
   IsSafe w = Holds L Good w
 
-  agrees : Agrees L Good
+  agrees : RoundsAgree L Good
   agrees = agrees_of law o opening.plan
 
   -- who has begun in a round and not decided stands at a place of its path

@@ -3,12 +3,12 @@ use Rattle.std.proofs.Common.{ℕ, zero, suc, ◌≡◌, ◌⊎◌, inl, inr, �
 use Rattle.cn_log.specs.declared.batch.Batch.{Batch}
 use Rattle.cn_log.specs.declared.entry.Entry.{Entry}
 use Rattle.cn_log.specs.Log.{Setting, World, Note, Called, Replied, Refused, first_world}
-use Rattle.cn_log.specs.Agreement.{Agrees}
+use Rattle.cn_log.specs.Agreement.{RoundsAgree}
 use Rattle.cn_log.specs.Batches.{Has}
 use Rattle.cn_log.proofs.Invariant.{IsNoted, IsPending, Holds, Facts, Stands, StandsBy, IsOrdered, in_order, stands_once, fixed_begun}
-use Rattle.cn_log.proofs.ListLemmas.{get_within}
+use Rattle.cn_log.proofs.ListLemmas.{there_is}
 
-module _ {R : Type 0} (L : Setting R) (Good : R → Type 0) (agrees : Agrees L Good) (w : World R) (holds : Holds L Good w) (facts : Facts L w) where
+module _ {R : Type 0} (L : Setting R) (Good : R → Type 0) (agrees : RoundsAgree L Good) (w : World R) (holds : Holds L Good w) (facts : Facts L w) where
   -- once slot since + 1 is fixed, a call made at since stands at or before it
   pub helped_by : (e : Entry) (since : ℕ) → IsNoted (Called e since) w.history → e.process < L.processes → (y : Batch) → since + 1 < L.capacity → L.consensus.fixed (w.round (since + 1)) ≡ Some y → StandsBy L w e (since + 1)
   helped_by e since noted lt y room h =
@@ -62,7 +62,7 @@ module _ {R : Type 0} (L : Setting R) (Good : R → Type 0) (agrees : Agrees L G
       let low = facts.stood e called.since k called.noted h in
       (f.0, j.0, f.2, f.3, (let l = j.1 in omega arith), j.2)
 
-  -- a process whose call was made at since has replayed no more than since + 1 slots while it is pending
+  -- a process whose call was made at since has applied no more than since + 1 slots while it is pending
   pub pending_low : (p : ℕ) (mine : Entry) → p < L.processes → IsPending L w p mine → (since : ℕ) → IsNoted (Called mine since) w.history → length (w.caller p).seen ≤ since + 1
   pending_low p mine lt pend since noted = go (cases_le (length (w.caller p).seen) (since + 1))
     where
@@ -72,17 +72,17 @@ module _ {R : Type 0} (L : Setting R) (Good : R → Type 0) (agrees : Agrees L G
       go : (length (w.caller p).seen ≤ since + 1) ⊎ (since + 1 < length (w.caller p).seen) → length (w.caller p).seen ≤ since + 1
       go (inl le) = le
       go (inr more) =
-          let g = get_within (w.caller p).seen (since + 1) more in
+          let g = there_is (w.caller p).seen (since + 1) more in
           let room = pend.room in
           let s = helped_by mine since noted (rw pend.process lt) g.0 (omega arith) (holds.seen p (since + 1) g.0 g.1) in
-          let x = get_within (w.caller p).seen s.slot (let l = s.low in omega arith) in
+          let x = there_is (w.caller p).seen s.slot (let l = s.low in omega arith) in
           let fixed = holds.seen p s.slot x.0 x.1 in
           let there = s.stands.fixed in
           let same : s.stands.batch ≡ x.0 = cc (fixed, there) in
           absurd (pend.unseen s.slot x.0 x.1 (subst (λ (z : Batch). Has z mine) same s.stands.has))
 
 -- what holds before any event
-module _ {R : Type 0} (L : Setting R) (Good : R → Type 0) (agrees : Agrees L Good) where
+module _ {R : Type 0} (L : Setting R) (Good : R → Type 0) (agrees : RoundsAgree L Good) where
   none_noted : (note : Note) → IsNoted note [] → ⊥
   none_noted note h = let g = h.there in cc g
 

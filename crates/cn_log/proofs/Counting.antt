@@ -1,11 +1,11 @@
--- Of each process, a process has replayed its first so many calls: so their number tells which.
+-- Of each process, a process has applied its first so many calls: so their number tells which.
 use Rattle.std.proofs.Common.{ℕ, zero, suc, ◌≡◌, Bool, true, false, ◌+◌, ◌<◌, ◌≤◌, ◌==◌, nat_lt, List, [], ◌∷◌, length, take, slice_get, Option, Some, None, refl, ap, ◌∙◌, subst, arith, if◌then◌else◌}
 use Rattle.std.proofs.lemmas.Bool.Decides.{nat_tests}
 use Rattle.cn_log.specs.declared.batch.Batch.{Batch}
 use Rattle.cn_log.specs.declared.entry.Entry.{Entry}
 use Rattle.cn_log.specs.declared.event.Event.{Event}
 use Rattle.cn_log.specs.declared.event.Event.TheVariants.{Invoke, Step}
-use Rattle.cn_log.specs.Agreement.{Agrees}
+use Rattle.cn_log.specs.Agreement.{RoundsAgree}
 use Rattle.cn_log.specs.Batches.{and_entry, entry_at, members, with_entry}
 use Rattle.cn_log.specs.Callers.{call_of, calls_from, calls_by, entries_by, seen_of}
 use Rattle.cn_log.specs.Fields.{gathered_by}
@@ -14,10 +14,10 @@ use Rattle.cn_log.specs.Log.{Setting, has_entry, gathered, state_of, IsEventList
 use Rattle.cn_log.proofs.EventLists.{calls_cons}
 use Rattle.cn_log.proofs.Invariant.{IsCalled, IsShaped}
 use Rattle.cn_log.proofs.Linearizing.{called_event, holds_after}
-use Rattle.cn_log.proofs.ListLemmas.{get_low, get_within, has_not, has_yes}
+use Rattle.cn_log.proofs.ListLemmas.{get_low, there_is, has_not, has_yes}
 use Rattle.cn_log.proofs.OwnCalls.{seen_made}
 use Rattle.cn_log.proofs.Owning.{own_none, own_one}
-use Rattle.cn_log.proofs.Places.{get_left}
+use Rattle.cn_table.proofs.Lists.{get_front}
 
 -- calls have the numbers of their places
 number_at : (p k : ℕ) (events : List Event) (i : ℕ) (x : Entry) → slice_get (calls_from p k events) i ≡ Some x → x.call ≡ k + i
@@ -93,16 +93,16 @@ own_at n p b shaped low = go (entry_at b p) refl
     go None is = own_none n 0 p b shaped is
     go (Some e) is = own_one n 0 p b e shaped (omega arith) (omega (arith, low)) is
 
-module _ {R : Type 0} (L : Setting R) (Good : R → Type 0) (agrees : Agrees L Good) (events : List Event) (may : IsEventList L events) (p q : ℕ) where
+module _ {R : Type 0} (L : Setting R) (Good : R → Type 0) (agrees : RoundsAgree L Good) (events : List Event) (may : IsEventList L events) (p q : ℕ) where
   abbrev known : List Entry
   known = seen_of L events p
 
   abbrev own : List Entry
   own = entries_by q known
 
-  -- what process p has replayed of process q are the first calls of process q
+  -- what process p has applied of process q are the first calls of process q
   first_calls : (i : ℕ) (x : Entry) → slice_get own i ≡ Some x → slice_get (calls_by q events) i ≡ Some x
-  first_calls i x h = let m = seen_made L Good agrees q events may p in ap (λ l. slice_get l i) m.1 ∙ get_left own m.0 i x h
+  first_calls i x h = let m = seen_made L Good agrees q events may p in ap (λ l. slice_get l i) m.1 ∙ get_front own m.0 i x h
 
   module _ (e : Entry) (called : IsCalled e (state_of L events).history) (whose : e.process ≡ q) where
     -- the call stands at its number among those of its process
@@ -124,14 +124,14 @@ module _ {R : Type 0} (L : Setting R) (Good : R → Type 0) (agrees : Agrees L G
 
     low_replayed : has_entry known e ≡ false → e.call < length own → ⊥
     low_replayed h low =
-        let x = get_within own e.call low in
+        let x = there_is own e.call low in
         let a = first_calls e.call x.0 x.1 in
         let b = at_number in
         let same : x.0 ≡ e = cc (a, b) in
         let f = from_own q known e.call e (x.1 ∙ ap Some same) in
         has_not known e h f.0 f.1
 
-    -- the call is among what process p has replayed where its number is below how many of the calls of its process are
+    -- the call is among what process p has applied where its number is below how many of the calls of its process are
     pub by_number : nat_lt e.call (length own) ≡ has_entry known e
     by_number = go (has_entry known e) refl
       where

@@ -11,7 +11,7 @@ use Rattle.cn_log.specs.declared.event.Event.TheVariants.{Invoke, Step}
 use Rattle.cn_log.specs.declared.progress.Phase.{Phase}
 use Rattle.cn_log.specs.declared.progress.Phase.TheVariants.{Idle, Looks, Runs}
 use Rattle.cn_log.specs.declared.progress.Progress.{Progress}
-use Rattle.cn_log.specs.Agreement.{Agrees}
+use Rattle.cn_log.specs.Agreement.{RoundsAgree}
 use Rattle.cn_log.specs.Fields.{no_calls, no_progress, IsProgressOf, Kept, Fits, Keeps, IsAt}
 use Rattle.cn_log.specs.Log.{Setting, World, Caller, put, gathered, first_look, batches_of, after_events, after_event, after_gathering, after_step, after_decision, phase_after, first_world, state_of, MayCome, MayAllCome, IsEventList, MayInvoke}
 use Rattle.cn_log.proofs.ListLemmas.{put_same, put_other}
@@ -31,13 +31,13 @@ keeps_shown {L = L} {s = s} keeps shows = subst (Keeps L s) (sym shows) keeps
 
 -- a process in this phase, and how far it has come, as it was read from what is kept
 pub record Found {R : Type 0} (L : Setting R) (Good : R → Type 0) (s : List Event) (kept : Kept R) (p : ℕ) (phase : Phase) (here : Progress) : Type 0 where
-  pub agrees : Agrees L Good
+  pub agrees : RoundsAgree L Good
   pub at : IsAt L s kept p phase
   pub read : here ≡ get_or kept.progress p here
 
 -- so a method finds it that reads it from fields that show what is kept
 pub found : {R : Type 0} {L : Setting R} {Good : R → Type 0} {s : List Event} {shown kept : Kept R} {p k : ℕ} {phase : Phase} {here : Progress}
-    → Agrees L Good → IsAt L s kept p phase → shown ≡ kept → here ≡ get_or shown.progress k here → k ≡ p → Found L Good s shown p phase here
+    → RoundsAgree L Good → IsAt L s kept p phase → shown ≡ kept → here ≡ get_or shown.progress k here → k ≡ p → Found L Good s shown p phase here
 found {L = L} {s = s} {shown = shown} {p = p} {phase = phase} agrees at shows read same = record {
   agrees = agrees;
   at = subst (λ k. IsAt L s k p phase) (sym shows) at;
@@ -49,7 +49,7 @@ busy Idle = 0
 busy (Looks e q batch) = 1
 busy (Runs e) = 1
 
--- a process has replayed a slot for each of its calls but the pending one
+-- a process has applied a slot for each of its calls but the pending one
 abbrev IsLow : ℕ → Caller → Type 0
 IsLow capacity here = (here.calls ≤ length here.seen + busy here.phase) × (length here.seen ≤ capacity)
 
@@ -123,7 +123,7 @@ module _ {R : Type 0} (L : Setting R) where
       let is : here ≡ get_or kept.progress p no_progress = read ∙ get_or_default kept.progress p here no_progress (omega arith) in
       rw is (keeps.fits.caller p lt)
 
-module _ {R : Type 0} (L : Setting R) (Good : R → Type 0) (agrees : Agrees L Good) where
+module _ {R : Type 0} (L : Setting R) (Good : R → Type 0) (agrees : RoundsAgree L Good) where
   low_event : (w : World R) → Holds L Good w → ((q : ℕ) → IsLow L.capacity (w.caller q)) → (e : Event) → MayCome L w e → (q : ℕ) → IsLow L.capacity ((after_event L w e).caller q)
   low_event w holds low (Invoke p operation) may q = put_low L w low p _ (low_invoke L w low p operation may).1 q
   low_event w holds low (Step p) may q = low_step L w low p (w.caller p) refl (w.caller p).phase refl (holds.phases p) q

@@ -4,7 +4,7 @@ use Rattle.cn_log.specs.declared.batch.Batch.{Batch}
 use Rattle.cn_log.specs.declared.entry.Entry.{Entry}
 use Rattle.cn_log.specs.declared.progress.Phase.{Phase}
 use Rattle.cn_log.specs.declared.progress.Phase.TheVariants.{Idle, Looks, Runs}
-use Rattle.cn_log.specs.Agreement.{Agrees}
+use Rattle.cn_log.specs.Agreement.{RoundsAgree}
 use Rattle.cn_log.specs.Batches.{Has, entry_at}
 use Rattle.cn_log.specs.Callers.{IsUnseen}
 use Rattle.cn_log.specs.Log.{Setting, World, Note, Called, Replied, Refused, response_in}
@@ -23,7 +23,7 @@ IsRuns Idle = ⊥
 IsRuns (Looks e q batch) = ⊥
 IsRuns (Runs e) = Unit {0}
 
--- a pending entry is the process's last call, announced, and in no slot that the process has replayed
+-- a pending entry is the process's last call, announced, and in no slot that the process has applied
 pub record IsPending {R : Type 0} (L : Setting R) (w : World R) (p : ℕ) (mine : Entry) : Type 0 where
   pub unseen : IsUnseen (w.caller p).seen mine
   pub called : IsCalled mine w.history
@@ -36,7 +36,7 @@ pub record IsPending {R : Type 0} (L : Setting R) (w : World R) (p : ℕ) (mine 
 abbrev pub IsShaped : Batch → Type 0
 IsShaped b = (q : ℕ) (e : Entry) → entry_at b q ≡ Some e → e.process ≡ q
 
--- a batch that a process gathers for its next slot: calls, none of them in a slot that the process has replayed
+-- a batch that a process gathers for its next slot: calls, none of them in a slot that the process has applied
 pub record IsGathered (seen : List Batch) (history : List Note) (batch : Batch) : Type 0 where
   pub places : length batch.entries ≡ 8
   pub shaped : IsShaped batch
@@ -68,9 +68,9 @@ pub record IsBegun {R : Type 0} (L : Setting R) (w : World R) (k : ℕ) (v : Bat
 
 pub record Holds {R : Type 0} (L : Setting R) (Good : R → Type 0) (w : World R) : Type 0 where
   pub good : (k : ℕ) → Good (w.round k)
-  -- what a process has replayed is what is fixed
+  -- what a process has applied is what is fixed
   pub seen : (p k : ℕ) (x : Batch) → slice_get (w.caller p).seen k ≡ Some x → L.consensus.fixed (w.round k) ≡ Some x
-  -- a process has begun in the slots that it has replayed, and in the one that it runs
+  -- a process has begun in the slots that it has applied, and in the one that it runs
   pub entered : (k q : ℕ) (v : Batch) → L.consensus.input (w.round k) q ≡ Some v → (k < length (w.caller q).seen) ⊎ ((k ≡ length (w.caller q).seen) × IsRuns (w.caller q).phase)
   -- who runs in a slot has begun there and not decided
   pub running : (q : ℕ) → IsRuns (w.caller q).phase → (v : Batch) × (L.consensus.input (w.round (length (w.caller q).seen)) q ≡ Some v) × (L.consensus.decided (w.round (length (w.caller q).seen)) q ≡ None)
@@ -85,7 +85,7 @@ pub record Stands {R : Type 0} (L : Setting R) (w : World R) (e : Entry) (k : �
   pub fixed : L.consensus.fixed (w.round k) ≡ Some batch
   pub has : Has batch e
 
-module _ {R : Type 0} (L : Setting R) (Good : R → Type 0) (agrees : Agrees L Good) (w : World R) (holds : Holds L Good w) where
+module _ {R : Type 0} (L : Setting R) (Good : R → Type 0) (agrees : RoundsAgree L Good) (w : World R) (holds : Holds L Good w) where
   -- what is fixed was begun
   pub fixed_begun : (k : ℕ) (y : Batch) → L.consensus.fixed (w.round k) ≡ Some y → IsBegun L w k y
   fixed_begun k y h = let b = agrees.valid (w.round k) y (holds.good k) h in holds.begun k b.0 y b.1
@@ -163,7 +163,7 @@ pub record Facts {R : Type 0} (L : Setting R) (w : World R) : Type 0 where
   -- a call that ended with no answer stands nowhere, and every slot is fixed
   pub ended : (e : Entry) → IsNoted (Refused e) w.history → (k : ℕ) → k < L.capacity → IsOther L (w.round k) e
   pub ordered : IsOrdered w.history
-  -- a call is pending, or its process has replayed it, or has replayed every slot
+  -- a call is pending, or its process has applied it, or has applied every slot
   pub done : (e : Entry) → IsCalled e w.history → IsMine (w.caller e.process).phase e ⊎ (IsSeen (w.caller e.process).seen e ⊎ (L.capacity ≤ length (w.caller e.process).seen))
   pub gathers : (p : ℕ) → HasGathered L w (w.caller p).seen (w.caller p).phase
   -- in a slot behind the next one, all begin with e, once it is called, or e stands by then

@@ -10,8 +10,8 @@ use Rattle.cn_log.specs.declared.progress.Phase.{Phase}
 use Rattle.cn_log.specs.declared.progress.Phase.TheVariants.{Idle, Looks, Runs}
 use Rattle.cn_log.specs.declared.event.Event.{Event}
 use Rattle.cn_log.specs.declared.event.Event.TheVariants.{Invoke, Step}
-use Rattle.cn_log.specs.Agreement.{Agrees}
-use Rattle.cn_log.proofs.ListLemmas.{put_same, put_other, get_within}
+use Rattle.cn_log.specs.Agreement.{RoundsAgree}
+use Rattle.cn_log.proofs.ListLemmas.{put_same, put_other, there_is}
 use Rattle.cn_log.proofs.Invariant.{IsNoted, IsCalled, IsRuns, IsPending, IsLooking, PhaseHolds, IsOther, Holds, HasGathered, fixed_begun, in_order, Facts, IsMine, IsSeen, Stands, StandsBy, IsReply}
 use Rattle.cn_log.proofs.Looking.{keeps_look, look_facts}
 use Rattle.cn_log.proofs.Running.{keeps_run, run_facts, called_more, none_at}
@@ -38,7 +38,7 @@ module _ {R : Type 0} (L : Setting R) (round : ℕ → R) where
       go (Some y) e (inl end) = inl (rw e (ap suc end))
       go (Some y) e (inr none) = inr (rw e (let z : k + suc (length (fixed_from L slots (suc k) round)) ≡ suc k + length (fixed_from L slots (suc k) round) = omega arith in rw z none))
 
-module _ {R : Type 0} (L : Setting R) (Good : R → Type 0) (agrees : Agrees L Good) (w : World R) (holds : Holds L Good w)
+module _ {R : Type 0} (L : Setting R) (Good : R → Type 0) (agrees : RoundsAgree L Good) (w : World R) (holds : Holds L Good w)
     (p operation : ℕ) (lt : p < L.processes) (is : (w.caller p).phase ≡ Idle) (room : length (w.caller p).seen < L.capacity) where
   abbrev here : Caller
   here = w.caller p
@@ -183,12 +183,12 @@ module _ {R : Type 0} (L : Setting R) (Good : R → Type 0) (agrees : Agrees L G
     by_now : (f : Entry) (k : ℕ) → StandsBy L w f k → StandsBy L w' f k
     by_now f k s = record { slot = s.slot; low = s.low; stands = stands_now f s.slot s.stands }
 
-    -- a process has replayed no more slots than are fixed
+    -- a process has applied no more slots than are fixed
     seen_low : (i : ℕ) → length (w.caller i).seen ≤ L.capacity → length (w.caller i).seen ≤ top
     seen_low i few = go (cases_le top (length (w.caller i).seen))
       where
         go : (top < length (w.caller i).seen) ⊎ (length (w.caller i).seen ≤ top) → length (w.caller i).seen ≤ top
-        go (inl more) = let none = top_open (omega (arith, more, few)) in let y = get_within (w.caller i).seen top more in let some = holds.seen i top y.0 y.1 in absurd (cc (none, some))
+        go (inl more) = let none = top_open (omega (arith, more, few)) in let y = there_is (w.caller i).seen top more in let some = holds.seen i top y.0 y.1 in absurd (cc (none, some))
         go (inr le) = le
 
     reply_same : (f : Entry) (k r : ℕ) → IsReply L w f k r → IsReply L w' f k r
@@ -292,7 +292,7 @@ module _ {R : Type 0} (L : Setting R) (Good : R → Type 0) (agrees : Agrees L G
         mine_new : (f : Entry) → e ≡ f → IsMine (w'.caller f.process).phase f
         mine_new f same = rw (← same) (rw (put_same w.caller p caller') refl)
 
-module _ {R : Type 0} (L : Setting R) (Good : R → Type 0) (agrees : Agrees L Good) where
+module _ {R : Type 0} (L : Setting R) (Good : R → Type 0) (agrees : RoundsAgree L Good) where
   pub keeps_event : (w : World R) → Holds L Good w → (event : Event) → MayCome L w event → Holds L Good (after_event L w event)
   keeps_event w holds (Invoke p operation) may = keeps_invoke L Good agrees w holds p operation may.process may.idle may.not_at_end
   keeps_event w holds (Step p) may = go (w.caller p).phase refl

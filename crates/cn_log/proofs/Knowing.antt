@@ -11,7 +11,7 @@ use Rattle.cn_log.specs.declared.event.StepAnswer.{StepAnswer}
 use Rattle.cn_log.specs.declared.event.StepAnswer.TheVariants.{Working}
 use Rattle.cn_log.specs.declared.progress.Phase.{Phase}
 use Rattle.cn_log.specs.declared.progress.Phase.TheVariants.{Idle, Looks, Runs}
-use Rattle.cn_log.specs.Agreement.{Agrees}
+use Rattle.cn_log.specs.Agreement.{RoundsAgree}
 use Rattle.cn_log.specs.Callers.{BeginsWith, IsUnseen, process_of, Without, pending_in, call_of, caller_of, entries_by, seen_of, IsPendingCall, IsStepped, SeesOther}
 use Rattle.cn_log.specs.Linearized.{calls_of}
 use Rattle.cn_log.specs.Log.{Setting, World, Caller, Called, put, IsEventList, batches, entries, gathered, first_look, after_gathering, after_decision, after_step, after_event, after_events, first_world, state_of, phase_after, answer, answer_from, answer_with}
@@ -96,7 +96,7 @@ module _ {R : Type 0} (L : Setting R) where
       let here : Caller = caller_of L events p in
       subst (λ (w : World R). Replays here mine (w.caller p) (answer L events p)) (sym (run_append L events (Step p ∷ []) (first_world L))) (replays_phase (state_of L events) p here here.phase mine refl refl pending)
 
-module _ {R : Type 0} (L : Setting R) (Good : R → Type 0) (agrees : Agrees L Good) (events : List Event) (p : ℕ) where
+module _ {R : Type 0} (L : Setting R) (Good : R → Type 0) (agrees : RoundsAgree L Good) (events : List Event) (p : ℕ) where
   abbrev here : Caller
   here = caller_of L events p
 
@@ -107,7 +107,7 @@ module _ {R : Type 0} (L : Setting R) (Good : R → Type 0) (agrees : Agrees L G
         let few : length here.seen ≤ L.capacity = seen_few L Good agrees events may p in
         batch_of L Good agrees events may k x (omega (arith, low, few)) ((holds_after L Good agrees events may).seen p k x at)
 
-    -- what a process has replayed stands first in the log
+    -- what a process has applied stands first in the log
     pub replayed_batches : BeginsWith (batches L events) here.seen
     replayed_batches = (drop (length here.seen) (batches L events), sym (take-append-drop (length here.seen) (batches L events)) ∙ ap (λ l. l ++ drop (length here.seen) (batches L events)) (take_front here.seen (batches L events) slot_of))
 

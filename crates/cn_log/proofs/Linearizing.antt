@@ -10,13 +10,13 @@ use Rattle.cn_log.specs.declared.event.Event.TheVariants.{Invoke, Step}
 use Rattle.cn_log.specs.declared.event.StepAnswer.TheVariants.{Working, Answered, Full}
 use Rattle.cn_log.specs.declared.progress.Phase.{Phase}
 use Rattle.cn_log.specs.declared.progress.Phase.TheVariants.{Idle, Looks, Runs}
-use Rattle.cn_log.specs.Agreement.{Agrees}
+use Rattle.cn_log.specs.Agreement.{RoundsAgree}
 use Rattle.cn_log.specs.Log.{Setting, World, Caller, Note, Called, Replied, Refused, put, gathered, batches_of, response_in, after_events, after_event, after_gathering, after_step, after_decision, first_world, state_of, MayInvoke, MayCome, MayAllCome, IsEventList, batches, entries, answer_from, answer_with}
 use Rattle.cn_log.specs.Linearized.{calls_of, IsCall, IsStepOf, IsAnswered, IsEnded, IsInSlot, StandsIn, entry_slots, IsLinearized, BeginsInTurn, Grows}
 use Rattle.cn_log.specs.Linearized.{Stands as StandsAt}
 use Rattle.cn_log.proofs.Places.{slot_of, before, in_entries, front, members_in_order, slots_in_order, entries_put}
 use Rattle.cn_log.specs.Bypass.{fixed_before, IsBypassBounded}
-use Rattle.cn_log.proofs.ListLemmas.{put_same, put_other, get_within, get_low, take_front}
+use Rattle.cn_log.proofs.ListLemmas.{put_same, put_other, there_is, get_low, take_front}
 use Rattle.cn_log.proofs.Invariant.{IsNoted, IsCalled, IsPending, PhaseHolds, Holds, Facts, Stands, IsReply, fixed_begun, stands_once, in_order}
 use Rattle.cn_log.proofs.Invoking.{keeps_events, facts_events, keeps_event}
 use Rattle.cn_log.proofs.Bypassing.{first_holds, first_facts, none_left_out, bypass, bypass_none}
@@ -24,7 +24,7 @@ use Rattle.cn_log.proofs.EventLists.{get_take, get_take_low, take_take, split_at
 use Rattle.cn_log.proofs.Records.{noted_run, calls_run, noted_invoked}
 use Rattle.cn_log.proofs.EntryLists.{entry_fixed, fixed_entry, all_fixed, entries_few, entries_stay, response_there}
 
-module _ {R : Type 0} (L : Setting R) (Good : R → Type 0) (agrees : Agrees L Good) where
+module _ {R : Type 0} (L : Setting R) (Good : R → Type 0) (agrees : RoundsAgree L Good) where
   abbrev IsSafe : World R → Type 0
   IsSafe w = Holds L Good w
 
@@ -388,7 +388,7 @@ module _ {R : Type 0} (L : Setting R) (Good : R → Type 0) (agrees : Agrees L G
         not_beyond : fixed_before L events i + 1 < L.capacity → L.consensus.fixed (w.round (fixed_before L events i + 1)) ≡ None → length (batches L events) ≤ fixed_before L events i + 1
         not_beyond room o = elim (cases_le (length (batches L events)) (fixed_before L events i + 1)) [
           | inl le ↦ le
-          | inr more ↦ (let x = get_within (batches L events) (fixed_before L events i + 1) more in let f = fixed_of (fixed_before L events i + 1) x.0 x.1 in absurd (cc (f, o)))
+          | inr more ↦ (let x = there_is (batches L events) (fixed_before L events i + 1) more in let f = fixed_of (fixed_before L events i + 1) x.0 x.1 in absurd (cc (f, o)))
         ]
 
     stands_in : (place k : ℕ) (e : Entry) → StandsIn L events place k e → (k < L.capacity) × Stands L w e k

@@ -1,7 +1,7 @@
 -- Reads of a function changed at one place, and of entries.
 use Rattle.std.proofs.Common.{ℕ, zero, suc, ◌≡◌, ◌≢◌, ◌⊎◌, inl, inr, Bool, true, false, ◌<◌, ◌==◌, List, [], ◌∷◌, ◌++◌, length, take, slice_get, Some, refl, sym, ap, arith, true≢false}
 use Rattle.std.proofs.lemmas.Bool.Decides.{nat_tests}
-pub use Rattle.cn_table.proofs.Lists.{get_push_old, get_push_new, get_low}
+pub use Rattle.cn_table.proofs.Lists.{get_low, get_push_cases, get_push_new, get_push_old, there_is}
 use Rattle.cn_log.specs.declared.entry.Entry.{Entry}
 use Rattle.cn_log.specs.Batches.{same_entry}
 use Rattle.cn_log.specs.Log.{has_entry, put}
@@ -48,17 +48,6 @@ has_not (f ∷ es) e h k s = go (same_entry f e) refl (has_not es e) k s
 pub get_seam : {A : Type 0} (xs : List A) (x : A) (ys : List A) → slice_get (xs ++ x ∷ ys) (length xs) ≡ Some x
 get_seam [] x ys = refl
 get_seam (y ∷ xs) x ys = get_seam xs x ys
-
-pub get_push_cases : {A : Type 0} (xs : List A) (x : A) (k : ℕ) (y : A) → slice_get (xs ++ x ∷ []) k ≡ Some y → (slice_get xs k ≡ Some y) ⊎ ((k ≡ length xs) × (x ≡ y))
-get_push_cases [] x zero y h = inr (refl, cc)
-get_push_cases [] x (suc k) y h = absurd cc
-get_push_cases (z ∷ xs) x zero y h = inl h
-get_push_cases (z ∷ xs) x (suc k) y h = elim (get_push_cases xs x k y h) [ inl a ↦ inl a | inr b ↦ inr (ap suc b.0, b.1) ]
-
-pub get_within : {A : Type 0} (xs : List A) (k : ℕ) → k < length xs → (x : A) × (slice_get xs k ≡ Some x)
-get_within [] k lt = absurd (omega arith)
-get_within (x ∷ xs) zero lt = (x, refl)
-get_within (x ∷ xs) (suc k) lt = get_within xs k (omega arith)
 
 -- what is found is there
 pub has_yes : (es : List Entry) (e : Entry) → has_entry es e ≡ true → (k : ℕ) × (k < length es) × (slice_get es k ≡ Some e)

@@ -6,11 +6,11 @@ use Rattle.cn_log.specs.declared.batch.Batch.{Batch}
 use Rattle.cn_log.specs.declared.entry.Entry.{Entry}
 use Rattle.cn_log.specs.declared.progress.Phase.{Phase}
 use Rattle.cn_log.specs.declared.progress.Phase.TheVariants.{Idle, Looks, Runs}
-use Rattle.cn_log.specs.Agreement.{Agrees}
+use Rattle.cn_log.specs.Agreement.{RoundsAgree}
 use Rattle.cn_log.specs.Batches.{Has, entry_at, with_entry, entries_in}
 use Rattle.cn_log.specs.Callers.{IsUnseen}
 use Rattle.cn_log.specs.Log.{Setting, World, Caller, Called, put, has_entry, gathered, after_gathering, after_step}
-use Rattle.cn_log.proofs.ListLemmas.{put_same, put_other, has_not, has_yes, get_within, get_low}
+use Rattle.cn_log.proofs.ListLemmas.{put_same, put_other, has_not, has_yes, there_is, get_low}
 use Rattle.cn_log.proofs.Invariant.{IsNoted, IsCalled, IsRuns, IsPending, IsGathered, IsLooking, PhaseHolds, IsOther, IsBegun, Holds, HasGathered, Facts, IsMine, IsSeen, Stands, StandsBy, IsReply, in_order, fixed_begun}
 use Rattle.cn_log.proofs.Places.{of_entries, in_entries}
 
@@ -27,7 +27,7 @@ module _ (batch : Batch) (q : ℕ) (other : Entry) where
     | inr ne ↦ inr (sym (with_old i ne) ∙ h)
   ]
 
-module _ {R : Type 0} (L : Setting R) (Good : R → Type 0) (agrees : Agrees L Good) (w : World R) (holds : Holds L Good w)
+module _ {R : Type 0} (L : Setting R) (Good : R → Type 0) (agrees : RoundsAgree L Good) (w : World R) (holds : Holds L Good w)
     (p : ℕ) (lt : p < L.processes) (mine : Entry) (q : ℕ) (batch : Batch) (is : (w.caller p).phase ≡ Looks mine q batch) where
   abbrev here : Caller
   here = w.caller p
@@ -128,7 +128,7 @@ module _ {R : Type 0} (L : Setting R) (Good : R → Type 0) (agrees : Agrees L G
         go (Looks mine' i b) is' (inl m) = let h : IsLooking L w e.process mine' i b = subst (PhaseHolds L w e.process) is' (holds.phases e.process) in announces mine' h.pending (subst (λ z. IsMine z e) is' m)
         go (Runs mine') is' (inl m) = let h : IsPending L w e.process mine' = subst (PhaseHolds L w e.process) is' (holds.phases e.process) in announces mine' h (subst (λ z. IsMine z e) is' m)
         go ph is' (inr (inl s)) = inr (seen_by s (cases_le s.slot k0))
-        go ph is' (inr (inr full)) = let room = looking.pending.room in let g = get_within (w.caller e.process).seen k0 (omega (arith, room, full)) in inr (helped e since noted low g.0 less (holds.seen e.process k0 g.0 g.1))
+        go ph is' (inr (inr full)) = let room = looking.pending.room in let g = there_is (w.caller e.process).seen k0 (omega (arith, room, full)) in inr (helped e since noted low g.0 less (holds.seen e.process k0 g.0 g.1))
 
     -- what was gathered before stays
     gathered_kept : (a : Option Entry) (i : ℕ) → i ≢ q → entry_at (gathered a known q batch) i ≡ entry_at batch i
@@ -336,8 +336,8 @@ module _ {R : Type 0} (L : Setting R) (Good : R → Type 0) (agrees : Agrees L G
         record {
           shaped = g.shaped;
           called = g.called;
-          other = λ e has j less. (let x = get_within here.seen j less in record { batch = x.0; fixed = fixed2 j ∙ holds.seen p j x.0 x.1; other = λ h. g.unseen e has j x.0 x.1 h });
-          turn = λ j less. (let x = get_within here.seen j less in (x.0, fixed2 j ∙ holds.seen p j x.0 x.1));
+          other = λ e has j less. (let x = there_is here.seen j less in record { batch = x.0; fixed = fixed2 j ∙ holds.seen p j x.0 x.1; other = λ h. g.unseen e has j x.0 x.1 h });
+          turn = λ j less. (let x = there_is here.seen j less in (x.0, fixed2 j ∙ holds.seen p j x.0 x.1));
         }
 
     -- what stands in a round's inputs is what stood there, or what p began just now

@@ -12,8 +12,8 @@ use Rattle.cn_log.specs.declared.event.StepAnswer.{StepAnswer}
 use Rattle.cn_log.specs.declared.event.StepAnswer.TheVariants.{Working, Answered, Full}
 use Rattle.cn_log.specs.declared.progress.Phase.{Phase}
 use Rattle.cn_log.specs.declared.progress.Phase.TheVariants.{Idle, Looks, Runs}
-use Rattle.cn_log.specs.Agreement.{Agrees}
-use Rattle.cn_log.specs.Callers.{BeginsWith, seen_of, Without, pending_in, call_of, calls_from, calls_by, entries_by, caller_of, SeesOther, IsStepped, IsUnanswered, HasReplayedItsOwn, HasReplayedBy}
+use Rattle.cn_log.specs.Agreement.{RoundsAgree}
+use Rattle.cn_log.specs.Callers.{BeginsWith, seen_of, Without, pending_in, call_of, calls_from, calls_by, entries_by, caller_of, SeesOther, IsStepped, IsUnanswered, HasAppliedItsOwn, HasAppliedBy}
 use Rattle.cn_log.specs.Linearized.{calls_of}
 use Rattle.cn_log.specs.Log.{Setting, World, Caller, IsEventList, MayInvoke, MayStep, MayAllCome, batches, entries, answer, first_world, state_of}
 use Rattle.cn_log.proofs.EntryLists.{entries_few}
@@ -21,12 +21,9 @@ use Rattle.cn_log.proofs.EventLists.{calls_cons, may_right}
 use Rattle.cn_log.proofs.Invariant.{IsMine, IsBegun, fixed_begun}
 use Rattle.cn_log.proofs.Knowing.{stays, invoked, number, replayed, replayed_batches, stepped}
 use Rattle.cn_log.proofs.Linearizing.{facts_after, holds_after, prefix_may, there_of, stands_there, one_place}
-use Rattle.cn_log.proofs.Places.{entries_put, in_entries, get_left}
+use Rattle.cn_table.proofs.Lists.{get_front}
+use Rattle.cn_log.proofs.Places.{entries_put, in_entries, get_right}
 use Rattle.cn_log.proofs.ListLemmas.{get_low}
-
-get_behind : {A : Type 0} (xs ys : List A) (k : ℕ) → slice_get (xs ++ ys) (length xs + k) ≡ slice_get ys k
-get_behind [] ys k = let z : 0 + k ≡ k = omega arith in ap (slice_get ys) z
-get_behind (x ∷ xs) ys k = let z : suc (length xs) + k ≡ suc (length xs + k) = omega arith in rw z (get_behind xs ys k)
 
 -- the calls in a longer list are those in its front, and then those in the rest
 calls_join : (p k : ℕ) (before rest : List Event) → calls_from p k (before ++ rest) ≡ calls_from p k before ++ calls_from p (k + calls_of p before) rest
@@ -120,9 +117,9 @@ module _ {R : Type 0} (L : Setting R) where
   idle_unanswered : (here : Caller) (ph : Phase) (rest : List Entry) → ph ≡ Idle → IsUnanswered L here Idle rest → IsUnanswered L here ph rest
   idle_unanswered here ph rest is h = subst (λ (z : Phase). IsUnanswered L here z rest) (sym is) h
 
-module _ {R : Type 0} (L : Setting R) (Good : R → Type 0) (agrees : Agrees L Good) (p : ℕ) where
+module _ {R : Type 0} (L : Setting R) (Good : R → Type 0) (agrees : RoundsAgree L Good) (p : ℕ) where
   abbrev Own : List Event → Type 0
-  Own events = HasReplayedItsOwn L events p
+  Own events = HasAppliedItsOwn L events p
 
   own_other : (events rest : List Event) → Without p rest → Own events → Own (events ++ rest)
   own_other events rest h own =
@@ -149,7 +146,7 @@ module _ {R : Type 0} (L : Setting R) (Good : R → Type 0) (agrees : Agrees L G
 
   -- by the answer of a step
   by_answer : (events : List Event) (here : Caller) (mine : Entry) (given : StepAnswer) → calls_by p events ≡ entries_by p (entries_in L.processes here.seen) ++ mine ∷ []
-      → IsStepped L p here mine (caller_of L (events ++ Step p ∷ []) p) given → HasReplayedBy L (events ++ Step p ∷ []) p mine given
+      → IsStepped L p here mine (caller_of L (events ++ Step p ∷ []) p) given → HasAppliedBy L (events ++ Step p ∷ []) p mine given
   by_answer events here mine Working calls s = elim s.seen [
     | inl same ↦ step_calls p events ∙ calls ∙ ap (λ l. entries_by p (entries_in L.processes l) ++ mine ∷ []) (sym same)
     | inr more ↦ sees_other events here (caller_of L (events ++ Step p ∷ []) p) mine (step_calls p events ∙ calls) more
@@ -161,11 +158,11 @@ module _ {R : Type 0} (L : Setting R) (Good : R → Type 0) (agrees : Agrees L G
   pending_own : (events : List Event) (mine : Entry) → pending_in (caller_of L events p).phase ≡ Some mine → Own events → calls_by p events ≡ entries_by p (seen_of L events p) ++ mine ∷ []
   pending_own events mine is own = own.1 ∙ ap (λ l. entries_by p (seen_of L events p) ++ l) (unanswered_one L (caller_of L events p) (caller_of L events p).phase mine own.0 is own.2)
 
-  after_own : (events : List Event) (mine : Entry) → IsEventList L (events ++ Step p ∷ []) → pending_in (caller_of L events p).phase ≡ Some mine → Own events → HasReplayedBy L (events ++ Step p ∷ []) p mine (answer L events p)
+  after_own : (events : List Event) (mine : Entry) → IsEventList L (events ++ Step p ∷ []) → pending_in (caller_of L events p).phase ≡ Some mine → Own events → HasAppliedBy L (events ++ Step p ∷ []) p mine (answer L events p)
   after_own events mine may is own =
       by_answer events (caller_of L events p) mine (answer L events p) (pending_own events mine is own) (stepped L Good agrees events p may mine is)
 
-  own_answer : (events : List Event) (here : Caller) (mine : Entry) (given : StepAnswer) → IsStepped L p here mine (caller_of L events p) given → HasReplayedBy L events p mine given → Own events
+  own_answer : (events : List Event) (here : Caller) (mine : Entry) (given : StepAnswer) → IsStepped L p here mine (caller_of L events p) given → HasAppliedBy L events p mine given → Own events
   own_answer events here mine Working s h = (mine ∷ [], h, one_unanswered L (caller_of L events p) (caller_of L events p).phase mine s.pending)
   own_answer events here mine (Answered slot response) s h = ([], h ∙ sym (append-nil (entries_by p (seen_of L events p))), idle_unanswered L (caller_of L events p) (caller_of L events p).phase [] s.idle (inl refl))
   own_answer events here mine Full s h = (mine ∷ [], h, idle_unanswered L (caller_of L events p) (caller_of L events p).phase (mine ∷ []) s.idle (inr (s.all, mine, refl, s.unseen)))
@@ -195,11 +192,11 @@ module _ {R : Type 0} (L : Setting R) (Good : R → Type 0) (agrees : Agrees L G
       let all : IsEventList L ((front ++ e ∷ []) ++ rest) = subst (IsEventList L) (sym again) may in
       subst Own again (own_events (front ++ e ∷ []) rest all (own_event front e (prefix_may L Good agrees (front ++ e ∷ []) rest all) own))
 
-  -- the calls of a process are what it has replayed of its own, and then what it has no answer to
+  -- the calls of a process are what it has applied of its own, and then what it has no answer to
   pub own : (events : List Event) → IsEventList L events → Own events
   own events may = own_events [] events may ([], refl, inl refl)
 
-  pub own_stepped : (events : List Event) (mine : Entry) → IsEventList L (events ++ Step p ∷ []) → pending_in (caller_of L events p).phase ≡ Some mine → HasReplayedBy L (events ++ Step p ∷ []) p mine (answer L events p)
+  pub own_stepped : (events : List Event) (mine : Entry) → IsEventList L (events ++ Step p ∷ []) → pending_in (caller_of L events p).phase ≡ Some mine → HasAppliedBy L (events ++ Step p ∷ []) p mine (answer L events p)
   own_stepped events mine may is = after_own events mine may is (own events (prefix_may L Good agrees events (Step p ∷ []) may))
 
   module _ (events : List Event) (may : IsEventList L events) where
@@ -219,13 +216,13 @@ module _ {R : Type 0} (L : Setting R) (Good : R → Type 0) (agrees : Agrees L G
     parts = let r = replayed_batches L Good agrees events p may in ap (entries_in L.processes) r.1 ∙ entries_put L.processes here.seen r.0
 
     there : (k : ℕ) (x : Entry) → slice_get behind k ≡ Some x → slice_get (entries L events) (length known + k) ≡ Some x
-    there k x at = ap (λ l. slice_get l (length known + k)) parts ∙ get_behind known behind k ∙ at
+    there k x at = ap (λ l. slice_get l (length known + k)) parts ∙ get_right known behind k ∙ at
 
     -- an entry stands once
     once : (j k : ℕ) (x : Entry) → slice_get (entries L events) j ≡ Some x → slice_get (entries L events) k ≡ Some x → j ≡ k
     once j k x a b = one_place L Good agrees events may j k x (there_of L Good agrees events may j x a) (there_of L Good agrees events may k x b)
 
-    -- behind what the process has replayed stands no call of its own but the pending one
+    -- behind what the process has applied stands no call of its own but the pending one
     is_pending : (k : ℕ) (x : Entry) → slice_get behind k ≡ Some x → x.process ≡ p → IsMine here.phase x
     is_pending k x at own = go (there_of L Good agrees events may (length known + k) x (there k x at)).low
         (stands_there L Good agrees events may (length known + k) x (there_of L Good agrees events may (length known + k) x (there k x at))).batch
@@ -244,7 +241,7 @@ module _ {R : Type 0} (L : Setting R) (Good : R → Type 0) (agrees : Agrees L G
               let was : slice_get here.seen s.slot ≡ Some s.batch = ap (λ q. slice_get (w.caller q).seen s.slot) (sym own) ∙ s.there in
               let place : ℕ = length (entries_in L.processes (take s.slot here.seen)) + length (members x.process 0 s.batch) in
               let at' = in_entries L.processes here.seen s.slot s.batch x.process x was lt s.has in
-              let now : slice_get (entries L events) place ≡ Some x = ap (λ l. slice_get l place) parts ∙ get_left known behind place x at' in
+              let now : slice_get (entries L events) place ≡ Some x = ap (λ l. slice_get l place) parts ∙ get_front known behind place x at' in
               let same = once place (length known + k) x now (there k x at) in
               let less = get_low known place x at' in
               absurd (omega (arith, same, less))
@@ -273,7 +270,7 @@ module _ {R : Type 0} (L : Setting R) (Good : R → Type 0) (agrees : Agrees L G
         let same = once (length known + j) (length known + k) mine (there j mine a) (there k mine b) in
         omega (arith, same)
 
-    -- what stands behind what the process has replayed of its own begins what it has no answer to
+    -- what stands behind what the process has applied of its own begins what it has no answer to
     begins : (o : Option Entry) (rest : List Entry) → pending_in here.phase ≡ o → IsUnanswered L here here.phase rest → BeginsWith rest (entries_by p behind)
     begins None rest is h = (rest, ap (λ l. l ++ rest) (sym (none_by p behind (λ k x at own. no_mine here.phase x is (is_pending k x at own)))))
     begins (Some mine) rest is h = elim (one_by p mine behind (λ k x at own. the_mine here.phase mine x is (is_pending k x at own)) (twice mine)) [
@@ -288,7 +285,7 @@ module _ {R : Type 0} (L : Setting R) (Good : R → Type 0) (agrees : Agrees L G
         let log : entries_by p (entries L events) ≡ entries_by p known ++ entries_by p behind = ap (λ l. entries_by p l) parts ∙ by_append p known behind in
         (more.0, mine.1 ∙ ap (λ l. entries_by p known ++ l) more.1 ∙ sym (append_assoc (entries_by p known) (entries_by p behind) more.0) ∙ ap (λ l. l ++ more.0) (sym log))
 
-    -- and so in what any process has replayed
+    -- and so in what any process has applied
     pub seen_made : (q : ℕ) → BeginsWith (calls_by p events) (entries_by p (seen_of L events q))
     seen_made q =
         let his = replayed L Good agrees events q may in

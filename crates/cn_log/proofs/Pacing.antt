@@ -10,7 +10,7 @@ use Rattle.cn_log.specs.declared.event.Event.{Event}
 use Rattle.cn_log.specs.declared.event.Event.TheVariants.{Invoke, Step}
 use Rattle.cn_log.specs.declared.progress.Phase.{Phase}
 use Rattle.cn_log.specs.declared.progress.Phase.TheVariants.{Idle, Looks, Runs}
-use Rattle.cn_log.specs.Agreement.{Agrees}
+use Rattle.cn_log.specs.Agreement.{RoundsAgree}
 use Rattle.cn_log.specs.Batches.{entries_in}
 use Rattle.cn_log.specs.Bypass.{fixed_before}
 use Rattle.cn_log.specs.Callers.{caller_of, pending_in, process_of}
@@ -22,7 +22,7 @@ use Rattle.cn_log.proofs.EventLists.{run_append, may_right, split_at}
 use Rattle.cn_log.proofs.Invariant.{IsRuns, IsPending, IsLooking, PhaseHolds, Holds}
 use Rattle.cn_log.proofs.Invoking.{keeps_event}
 use Rattle.cn_log.proofs.Linearizing.{holds_after, facts_after, prefix_may, call_noted, call_may, batch_of}
-use Rattle.cn_log.proofs.ListLemmas.{put_same, put_other, get_within, get_low}
+use Rattle.cn_log.proofs.ListLemmas.{put_same, put_other, there_is, get_low}
 
 -- what an event counts for process p, where a call counts a, and a step one
 abbrev pub weight : ℕ → ℕ → Event → ℕ
@@ -45,7 +45,7 @@ module _ {R : Type 0} (L : Setting R) where
   steps_into a w p k (Looks mine q batch) = a + q
   steps_into a w p k (Runs mine) = a + (L.processes + L.consensus.taken (w.round k) p)
 
-  -- how far a process has come, where each slot that it has replayed counts as much as a call and its steps there can
+  -- how far a process has come, where each slot that it has applied counts as much as a call and its steps there can
   abbrev pub way_of : ℕ → World R → ℕ → ℕ
   way_of a w p = length (w.caller p).seen * (slot_cost L.processes + a) + steps_into a w p (length (w.caller p).seen) (w.caller p).phase
 
@@ -57,7 +57,7 @@ module _ {R : Type 0} (L : Setting R) where
   abbrev pub HasRoom : List Event → Type 0
   HasRoom events = length events ≤ L.processes * (L.capacity * (5 * L.processes - 3))
 
-module _ {R : Type 0} (L : Setting R) (Good : R → Type 0) (agrees : Agrees L Good) (a : ℕ) where
+module _ {R : Type 0} (L : Setting R) (Good : R → Type 0) (agrees : RoundsAgree L Good) (a : ℕ) where
   abbrev cost : ℕ
   cost = slot_cost L.processes
 
@@ -271,7 +271,7 @@ total_few (suc n) most events all =
     let s : suc n * most ≡ (n + 1) * most = (let z : suc n ≡ n + 1 = omega arith in ap (λ i. i * most) z) in
     omega (arith, r, h, m, s)
 
-module _ {R : Type 0} (L : Setting R) (Good : R → Type 0) (agrees : Agrees L Good) where
+module _ {R : Type 0} (L : Setting R) (Good : R → Type 0) (agrees : RoundsAgree L Good) where
   process_low : (w : World R) (e : Event) → MayCome L w e → process_of e < L.processes
   process_low w (Invoke p operation) may = may.process
   process_low w (Step p) may = may.process
@@ -304,7 +304,7 @@ module _ {R : Type 0} (L : Setting R) (Good : R → Type 0) (agrees : Agrees L G
       let m : (length (w.caller p).seen + 1) * cost1 a ≡ length (w.caller p).seen * cost1 a + 1 * cost1 a = add-mul (length (w.caller p).seen) 1 (cost1 a) in
       (omega (arith, y, m, f), h.room)
 
-  -- a process has replayed no more slots than there are: only a process with a call pending replays one, and then there was one left
+  -- a process has applied no more slots than there are: only a process with a call pending replays one, and then there was one left
   seen_event : (w : World R) → Holds L Good w → ((q : ℕ) → length (w.caller q).seen ≤ L.capacity) → (e : Event) → MayCome L w e → (q : ℕ) → length ((after_event L w e).caller q).seen ≤ L.capacity
   seen_event w holds few e may q = go e may
     where
@@ -415,7 +415,7 @@ module _ {R : Type 0} (L : Setting R) (Good : R → Type 0) (agrees : Agrees L G
     low = pending_low L Good agrees (state_of L events) (holds_after L Good agrees events may) (facts_after L Good agrees events may) p e lt
         (is_pending (caller_of L events p).phase refl pending ((holds_after L Good agrees events may).phases p)) since (call_noted L Good agrees events may i e c)
 
-    -- the process had replayed no more slots than were fixed
+    -- the process had applied no more slots than were fixed
     pub k_low : k ≤ since
     k_low = go (cases_le since k)
       where
@@ -425,7 +425,7 @@ module _ {R : Type 0} (L : Setting R) (Good : R → Type 0) (agrees : Agrees L G
         go : (since < k) ⊎ (k ≤ since) → k ≤ since
         go (inl more) =
             let few = seen_few (take i events) may_before p in
-            let y = get_within (caller_of L (take i events) p).seen since more in
+            let y = there_is (caller_of L (take i events) p).seen since more in
             let f = (holds_after L Good agrees (take i events) may_before).seen p since y.0 y.1 in
             let b = batch_of L Good agrees (take i events) may_before since y.0 (omega (arith, more, few)) f in
             absurd (let l = get_low (batches L (take i events)) since y.0 b in omega (arith, l))

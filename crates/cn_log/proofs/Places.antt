@@ -2,13 +2,9 @@
 use Rattle.std.proofs.Common.{ℕ, zero, suc, ◌≡◌, ◌⊎◌, inl, inr, ◌+◌, ◌*◌, ◌<◌, ◌≤◌, List, [], ◌∷◌, ◌++◌, length, map, take, slice_get, Option, Some, None, refl, sym, ap, ◌∙◌, arith, length-append, append_assoc}
 use Rattle.std.proofs.lemmas.List.{length-map}
 use Rattle.cn_log.specs.declared.entry.Entry.{Entry}
+use Rattle.cn_table.proofs.Lists.{get_front}
 use Rattle.cn_log.specs.declared.batch.Batch.{Batch}
 use Rattle.cn_log.specs.Batches.{each_slot, entry_at, and_entry, members, entries_in, slots_from}
-
-pub get_left : {A : Type 0} (xs ys : List A) (k : ℕ) (x : A) → slice_get xs k ≡ Some x → slice_get (xs ++ ys) k ≡ Some x
-get_left [] ys k x h = absurd cc
-get_left (z ∷ xs) ys zero x h = h
-get_left (z ∷ xs) ys (suc k) x h = get_left xs ys k x h
 
 pub get_right : {A : Type 0} (xs ys : List A) (k : ℕ) → slice_get (xs ++ ys) (length xs + k) ≡ slice_get ys k
 get_right [] ys k = let z : 0 + k ≡ k = omega arith in ap (slice_get ys) z
@@ -112,7 +108,7 @@ module _ (n : ℕ) (bs : List Batch) (k : ℕ) (b : Batch) (q : ℕ) (e : Entry)
       ap (λ l. slice_get l (length (entries_in n (take k bs)) + length (members q 0 b))) split.1 ∙ ap (slice_get (before ++ e ∷ split.0)) (sym z) ∙ r
 
   pub front : (j : ℕ) (x : Entry) → slice_get before j ≡ Some x → slice_get (entries_in n bs) j ≡ Some x
-  front j x h = ap (λ l. slice_get l j) split.1 ∙ get_left before (e ∷ split.0) j x h
+  front j x h = ap (λ l. slice_get l j) split.1 ∙ get_front before (e ∷ split.0) j x h
 
 -- one entry's place is before that of an entry in a later slot
 pub slots_in_order : (n : ℕ) (bs : List Batch) (j k : ℕ) (b c : Batch) (p q : ℕ) (e : Entry) → slice_get bs j ≡ Some b → slice_get bs k ≡ Some c → j < k → p < n → entry_at b p ≡ Some e
@@ -159,7 +155,7 @@ slot_of n base (b ∷ bs) place e h = elim (get_cases (members n 0 b) (entries_i
     m.1,
     rw z at m.2,
     (let p = m.3 in omega (arith, p)),
-    get_left (map (λ (x : Entry). base) (members n 0 b)) (slots_from n (suc base) bs) place base
+    get_front (map (λ (x : Entry). base) (members n 0 b)) (slots_from n (suc base) bs) place base
         (get_map (λ (x : Entry). base) (members n 0 b) place e now) ∙ ap Some (sym y),
   ))
   | inr later ↦ (let r = slot_of n (suc base) bs later.0 e later.2 in

@@ -15,7 +15,7 @@ use Rattle.cn_agree.proofs.Lists.{count_here}
 use Rattle.cn_agree.specs.Steps.{after_step, after_step_from}
 use Rattle.cn_agree.specs.World.{World, local_at, input_at}
 use Rattle.cn_log.specs.declared.batch.Batch.{Batch}
-use Rattle.cn_log.specs.Agreement.{Agrees}
+use Rattle.cn_log.specs.Agreement.{RoundsAgree}
 use Rattle.cn_log.specs.Opening.{Opening, setting_of}
 
 min_low : (a b : ℕ) → a ≤ b → min a b ≡ a
@@ -97,7 +97,7 @@ module _ (law : RoundLaw) (o : Opening) (plan : IsPlan o.plan) where
       let c : occurrences (good.0 ++ p ∷ []) p ≡ occurrences good.0 p + 1 = count_here p p good.0 refl in
       s ∙ min_low (occurrences (good.0 ++ p ∷ []) p) (4 * length (P.path p)) (omega (arith, u, c)) ∙ c ∙ ap (λ z. z + 1) (sym t.0)
 
-  pub agrees_of : Agrees (setting_of o) (RunsBy o.plan)
+  pub agrees_of : RoundsAgree (setting_of o) (RunsBy o.plan)
   agrees_of = record {
     good_untouched = round_at [] _ Opens;
     good_begin = λ r p v lt good none. round_at good.0 _ (Begins p v lt ((begun_of r good p lt).1 none) good.1.reached);

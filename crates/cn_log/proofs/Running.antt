@@ -8,8 +8,8 @@ use Rattle.cn_log.specs.Batches.{Has, has}
 use Rattle.cn_log.specs.Log.{Setting, World, Caller, Note, Called, Replied, Refused, put, phase_after, after_decision, after_step, first_look, response_in}
 use Rattle.cn_log.specs.declared.progress.Phase.{Phase}
 use Rattle.cn_log.specs.declared.progress.Phase.TheVariants.{Idle, Looks, Runs}
-use Rattle.cn_log.specs.Agreement.{Agrees}
-use Rattle.cn_log.proofs.ListLemmas.{put_same, put_other, get_push_cases, get_push_old, get_push_new, get_within}
+use Rattle.cn_log.specs.Agreement.{RoundsAgree}
+use Rattle.cn_log.proofs.ListLemmas.{put_same, put_other, get_push_cases, get_push_old, get_push_new, there_is}
 use Rattle.cn_log.proofs.Having.{has_is, has_isnt}
 use Rattle.cn_log.proofs.Invariant.{IsNoted, IsCalled, IsRuns, IsPending, PhaseHolds, IsOther, IsBegun, Holds, HasGathered, Facts, IsMine, IsSeen, Stands, StandsBy, IsReply, IsOrdered}
 
@@ -22,7 +22,7 @@ none_at zero i f h = cc
 none_at (suc n) zero f h = cc
 none_at (suc n) (suc i) f h = none_at n i f h
 
-module _ {R : Type 0} (L : Setting R) (Good : R → Type 0) (agrees : Agrees L Good) (w : World R) (holds : Holds L Good w)
+module _ {R : Type 0} (L : Setting R) (Good : R → Type 0) (agrees : RoundsAgree L Good) (w : World R) (holds : Holds L Good w)
     (p : ℕ) (lt : p < L.processes) (mine : Entry) (is : (w.caller p).phase ≡ Runs mine) where
   abbrev here : Caller
   here = w.caller p
@@ -353,7 +353,7 @@ module _ {R : Type 0} (L : Setting R) (Good : R → Type 0) (agrees : Agrees L G
       ended_now notes (End f m) e h k room = at h.place h.there
         where
           fresh : (k < k0) ⊎ (k ≡ k0) → IsOther L (round' k) mine
-          fresh (inl less) = let g = get_within here.seen k less in record { batch = g.0; fixed = fixed_kept k g.0 (holds.seen p k g.0 g.1); other = λ s. pending.unseen k g.0 g.1 s }
+          fresh (inl less) = let g = there_is here.seen k less in record { batch = g.0; fixed = fixed_kept k g.0 (holds.seen p k g.0 g.1); other = λ s. pending.unseen k g.0 g.1 s }
           fresh (inr same) = record { batch = x; fixed = rw same fixed_x; other = f }
 
           last : (k : ℕ) → k < L.capacity → k0 + 1 ≡ L.capacity → (k < k0) ⊎ (k ≡ k0)

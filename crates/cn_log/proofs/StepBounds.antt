@@ -11,16 +11,16 @@ use Rattle.cn_log.specs.declared.event.StepAnswer.{StepAnswer}
 use Rattle.cn_log.specs.declared.event.StepAnswer.TheVariants.{Working, Answered, Full}
 use Rattle.cn_log.specs.declared.progress.Phase.{Phase}
 use Rattle.cn_log.specs.declared.progress.Phase.TheVariants.{Idle, Looks, Runs}
-use Rattle.cn_log.specs.Agreement.{Agrees}
+use Rattle.cn_log.specs.Agreement.{RoundsAgree}
 use Rattle.cn_log.specs.Bypass.{fixed_before}
 use Rattle.cn_log.specs.Callers.{process_of, pending_in, caller_of, call_of, IsStepped}
 use Rattle.cn_log.specs.Linearized.{calls_of, IsCall}
 use Rattle.cn_log.specs.Log.{Setting, World, Caller, first_world, state_of, batches, answer, IsEventList}
-use Rattle.cn_log.specs.OwnSteps.{is_step_of, steps_of, steps_between, replayed_before, IsOver}
+use Rattle.cn_log.specs.OwnSteps.{is_step_of, steps_of, steps_between, applied_before, IsOver}
 use Rattle.cn_log.proofs.EventLists.{get_take, take_take, run_append}
 use Rattle.cn_log.proofs.Knowing.{other_event, pending, stepped, number, invoked}
 use Rattle.cn_log.proofs.Linearizing.{prefix_may, event_may}
-use Rattle.cn_log.proofs.ListLemmas.{get_low, get_within}
+use Rattle.cn_log.proofs.ListLemmas.{get_low, there_is}
 use Rattle.cn_log.proofs.Pacing.{ends_in_time, k_low}
 
 steps_cons : (p : ℕ) (e : Event) (events : List Event) → steps_of p (e ∷ events) ≡ cond (is_step_of p e) 1 0 + steps_of p events
@@ -42,15 +42,15 @@ between_next p (x ∷ events) i zero e less h = absurd (omega arith)
 between_next p (x ∷ events) zero (suc j) e less h = steps_take p events j e h
 between_next p (x ∷ events) (suc i) (suc j) e less h = between_next p events i j e (omega arith) h
 
-module _ {R : Type 0} (L : Setting R) (Good : R → Type 0) (agrees : Agrees L Good) where
+module _ {R : Type 0} (L : Setting R) (Good : R → Type 0) (agrees : RoundsAgree L Good) where
   -- a call that is still pending has not had that many steps
   still : (events : List Event) (may : IsEventList L events) (i : ℕ) (e : Entry) → IsCall events i e → pending_in (caller_of L events e.process).phase ≡ Some e
-      → steps_of e.process (drop (suc i) events) < (fixed_before L events i + 2 - replayed_before L events i e.process) * (5 * L.processes - 4)
+      → steps_of e.process (drop (suc i) events) < (fixed_before L events i + 2 - applied_before L events i e.process) * (5 * L.processes - 4)
   still events may i e c is =
       let h = ends_in_time L Good agrees events may i e c is in
       let k = k_low L Good agrees events may i e c is in
       let d : steps_of e.process (drop i events) ≡ steps_of e.process (drop (suc i) events) = drops events i c.invoke in
-      let m : fixed_before L events i - replayed_before L events i e.process + 2 ≡ fixed_before L events i + 2 - replayed_before L events i e.process = omega (arith, k) in
+      let m : fixed_before L events i - applied_before L events i e.process + 2 ≡ fixed_before L events i + 2 - applied_before L events i e.process = omega (arith, k) in
       subst (λ z. steps_of e.process (drop (suc i) events) < z * (5 * L.processes - 4)) m (omega (arith, h, d))
     where
       drops : (xs : List Event) (j : ℕ) → slice_get xs j ≡ Some (Invoke e.process e.operation.0) → steps_of e.process (drop j xs) ≡ steps_of e.process (drop (suc j) xs)
@@ -62,7 +62,7 @@ module _ {R : Type 0} (L : Setting R) (Good : R → Type 0) (agrees : Agrees L G
   -- where a process takes enough steps, its call is over
   module _ (events : List Event) (may : IsEventList L events) (i : ℕ) (e : Entry) (c : IsCall events i e) where
     abbrev enough : ℕ
-    enough = (fixed_before L events i + 2 - replayed_before L events i e.process) * (5 * L.processes - 4)
+    enough = (fixed_before L events i + 2 - applied_before L events i e.process) * (5 * L.processes - 4)
 
     may_front : (j : ℕ) → IsEventList L (take j events)
     may_front j = prefix_may L Good agrees (take j events) (drop j events) (rw (take-append-drop j events) may)
@@ -131,7 +131,7 @@ module _ {R : Type 0} (L : Setting R) (Good : R → Type 0) (agrees : Agrees L G
         let same = ap (λ k. steps_between e.process events i k) here in
         absurd (omega (arith, early, same, late))
     search_over (suc m) j end less is late =
-        let x = get_within events j (omega (arith, end)) in
+        let x = there_is events j (omega (arith, end)) in
         elim (next_event j x.0 less x.1 is) [
           | inl on ↦ search_over m (suc j) (omega (arith, end)) (omega (arith, less)) on late
           | inr over ↦ over

@@ -4,7 +4,7 @@ use Rattle.cn_log.specs.declared.batch.Batch.{Batch}
 use Rattle.cn_log.specs.Log.{Setting}
 
 -- every good round keeps consensus, and all rounds are good that a log comes to
-pub record Agrees {R : Type 0} (L : Setting R) (Good : R → Type 0) : Type 0 where
+pub record RoundsAgree {R : Type 0} (L : Setting R) (Good : R → Type 0) : Type 0 where
   -- a round in which nothing has happened is good, and stays so where a process begins that has not begun, and where one takes a step that has
   pub good_untouched : Good L.untouched
   pub good_begin : (r : R) (p : ℕ) (v : Batch) → p < L.processes → Good r → L.consensus.input r p ≡ None → Good (L.consensus.begin p v r)

@@ -84,11 +84,11 @@ module _ {R : Type 0} (L : Setting R) where
   abbrev pub caller_of : List Event → ℕ → Caller
   caller_of events p = (state_of L events).caller p
 
-  -- the entries that process p has replayed, in log order
+  -- the entries that process p has applied, in log order
   abbrev pub seen_of : List Event → ℕ → List Entry
   seen_of events p = entries_of_batches L (caller_of events p).seen
 
-  -- the pending call of process p: the last that it has made. The process has replayed neither this call nor every slot
+  -- the pending call of process p: the last that it has made. The process has applied neither this call nor every slot
   pub record IsPendingCall (events : List Event) (p : ℕ) (mine : Entry) : Type 0 where
     pub process : mine.process ≡ p
     pub last : mine.call + 1 ≡ calls_of p events
@@ -106,7 +106,7 @@ module _ {R : Type 0} (L : Setting R) where
     pub slot : k ≡ length before.seen
     pub response : given ≡ response_in L before.seen batch mine
 
-  -- a step of process p that ends the pending call with no answer: the process has replayed every slot, and the call stands in none
+  -- a step of process p that ends the pending call with no answer: the process has applied every slot, and the call stands in none
   pub record EndsFull (p : ℕ) (before : Caller) (mine : Entry) (after : Caller) : Type 0 where
     pub idle : after.phase ≡ Idle
     pub calls : after.calls ≡ before.calls
@@ -120,19 +120,19 @@ module _ {R : Type 0} (L : Setting R) where
   IsStepped p before mine after (Answered slot response) = EndsAnswered p before mine after slot response.0
   IsStepped p before mine after Full = EndsFull p before mine after
 
-  -- the calls that a process has no answer to: in a call, that one; else none, but perhaps one where it has replayed every slot and that stands in none
+  -- the calls that a process has no answer to: in a call, that one; else none, but perhaps one where it has applied every slot and that stands in none
   abbrev pub IsUnanswered : Caller → Phase → List Entry → Type 0
   IsUnanswered here Idle calls = (calls ≡ []) ⊎ ((length here.seen ≡ L.capacity) × (e : Entry) × (calls ≡ e ∷ []) × IsUnseen here.seen e)
   IsUnanswered here (Looks mine q batch) calls = calls ≡ mine ∷ []
   IsUnanswered here (Runs mine) calls = calls ≡ mine ∷ []
 
-  -- the calls of process p are the entries of its own that it has replayed, and then what it has no answer to
-  abbrev pub HasReplayedItsOwn : List Event → ℕ → Type 0
-  HasReplayedItsOwn events p = (rest : List Entry) × (calls_by p events ≡ entries_by p (seen_of events p) ++ rest)
+  -- the calls of process p are the entries of its own that it has applied, and then what it has no answer to
+  abbrev pub HasAppliedItsOwn : List Event → ℕ → Type 0
+  HasAppliedItsOwn events p = (rest : List Entry) × (calls_by p events ≡ entries_by p (seen_of events p) ++ rest)
       × IsUnanswered (caller_of events p) (caller_of events p).phase rest
 
   -- the same after a step of process p with this call pending, by its answer
-  abbrev pub HasReplayedBy : List Event → ℕ → Entry → StepAnswer → Type 0
-  HasReplayedBy events p mine Working = calls_by p events ≡ entries_by p (seen_of events p) ++ mine ∷ []
-  HasReplayedBy events p mine (Answered slot response) = calls_by p events ≡ entries_by p (seen_of events p)
-  HasReplayedBy events p mine Full = calls_by p events ≡ entries_by p (seen_of events p) ++ mine ∷ []
+  abbrev pub HasAppliedBy : List Event → ℕ → Entry → StepAnswer → Type 0
+  HasAppliedBy events p mine Working = calls_by p events ≡ entries_by p (seen_of events p) ++ mine ∷ []
+  HasAppliedBy events p mine (Answered slot response) = calls_by p events ≡ entries_by p (seen_of events p)
+  HasAppliedBy events p mine Full = calls_by p events ≡ entries_by p (seen_of events p) ++ mine ∷ []

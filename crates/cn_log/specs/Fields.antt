@@ -28,7 +28,7 @@ count_at counts p = slice_index_or counts.calls p 0
 abbrev pub no_progress : Progress
 no_progress = record { replayed = 0; seen = 0; calls_seen = no_calls; calls = 0; phase = Idle; state = record { 0 = 0 } }
 
--- what a process has gathered that has read the announcement of process q, where so many calls of process q stand in the slots that it has replayed
+-- what a process has gathered that has read the announcement of process q, where so many calls of process q stand in the slots that it has applied
 abbrev pub gathered_by : Option Entry → ℕ → ℕ → Batch → Batch
 gathered_by None calls q batch = batch
 gathered_by (Some other) calls q batch = if nat_lt other.call calls then batch else with_entry batch q other

@@ -24,7 +24,7 @@ pub record Setting (R : Type 0) : Type 0 where
   pub object : TypeTable
   pub start : ℕ
 
--- what a process knows: the batch of each slot that it has replayed, how many calls it has made, and what it does next
+-- what a process knows: the batch of each slot that it has applied, how many calls it has made, and what it does next
 pub record Caller : Type 0 where
   pub seen : List Batch
   pub calls : ℕ
@@ -56,7 +56,7 @@ abbrev pub operations_of : List Entry → List ℕ
 operations_of entries = map (λ e. e.operation.0) entries
 
 -- what a process has gathered that has read the announcement of process q: also the call that it finds there, unless that stands in the slots that it has
--- replayed
+-- applied
 abbrev pub gathered : Option Entry → List Entry → ℕ → Batch → Batch
 gathered None seen q batch = batch
 gathered (Some other) seen q batch = if has_entry seen other then batch else with_entry batch q other
@@ -180,7 +180,7 @@ module _ {R : Type 0} (L : Setting R) where
   abbrev pub state_of : List Event → World R
   state_of events = after_events events first_world
 
-  -- process p can make a call of operation o: both exist, p is in no call, and p has not replayed every slot
+  -- process p can make a call of operation o: both exist, p is in no call, and p has not applied every slot
   pub record MayInvoke (w : World R) (p o : ℕ) : Type 0 where
     pub process : p < L.processes
     pub operation : o < length L.object.operations
@@ -213,7 +213,7 @@ module _ {R : Type 0} (L : Setting R) where
   abbrev pub entries : List Event → List Entry
   entries events = entries_of (state_of events)
 
-  -- what a process that has replayed these batches answers, with this call pending, once it has decided: the call is answered with its slot and its
+  -- what a process that has applied these batches answers, with this call pending, once it has decided: the call is answered with its slot and its
   -- response where it is in what was decided
   abbrev pub answer_with : List Batch → Entry → Option Batch → StepAnswer
   answer_with seen mine None = Working

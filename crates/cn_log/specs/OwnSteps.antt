@@ -27,13 +27,13 @@ abbrev pub event_room : ℕ → ℕ → ℕ
 event_room n slots = n * (slots * (5 * n - 3) + 1)
 
 module _ {R : Type 0} (L : Setting R) (events : List Event) where
-  -- how many slots process p had replayed before event i
-  abbrev pub replayed_before : ℕ → ℕ → ℕ
-  replayed_before i p = length (caller_of L (take i events) p).seen
+  -- how many slots process p had applied before event i
+  abbrev pub applied_before : ℕ → ℕ → ℕ
+  applied_before i p = length (caller_of L (take i events) p).seen
 
-  -- so many steps are enough for a call made by event i: (F - k + 2) (5n - 4), where its process had replayed k slots and F slots were fixed
+  -- so many steps are enough for a call made by event i: (F - k + 2) (5n - 4), where its process had applied k slots and F slots were fixed
   abbrev pub steps_enough : ℕ → Entry → ℕ
-  steps_enough i e = (fixed_before L events i + 2 - replayed_before i e.process) * (5 * L.processes - 4)
+  steps_enough i e = (fixed_before L events i + 2 - applied_before i e.process) * (5 * L.processes - 4)
 
   -- event j ends the call, with its answer or with none
   abbrev pub IsOver : ℕ → Entry → Type 0

@@ -1,11 +1,11 @@
-//! How many calls of each process a process has replayed.
+//! How many calls of each process a process has applied.
 ghost use Rattle.std.specs.Prelude.{◌≡◌, ◌≤◌, ◌<◌, ◌+◌, ℕ, [], length};
 ghost use Rattle.cn_log.specs.Batches.{and_entry, entry_at};
 ghost use Rattle.cn_log.specs.Fields.{count_at, no_calls};
 
 use crate::batch::Batch;
 
-/// At the place of each process, how many of its calls stand in the slots replayed: its first so
+/// At the place of each process, how many of its calls stand in the slots applied: its first so
 /// many.
 #[derive(Clone, Copy, Debug, PartialEq, Eq)]
 pub(crate) struct CallCounts {

@@ -20,7 +20,7 @@ pub enum ReplayFault {
     NotIdle(u64),
     /// A process takes a step while it is in no call.
     Idle(u64),
-    /// A process makes a call after it has replayed every slot.
+    /// A process makes a call after it has applied every slot.
     AtEnd(u64),
     /// Memory ran out.
     OutOfMemory,

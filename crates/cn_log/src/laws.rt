@@ -4,10 +4,10 @@ ghost use Rattle.cn_proto.specs.Plan.{nodes_of, processes_of, IsPlan};
 ghost use Rattle.cn_agree.specs.Rounds.{RunsBy};
 ghost use Rattle.cn_agree.specs.World.{World as RoundWorld, input_at, local_at};
 ghost use Rattle.cn_agree.specs.declared.local.Local.TheVariants.{NotBegun};
-ghost use Rattle.cn_log.specs.Agreement.{Agrees};
+ghost use Rattle.cn_log.specs.Agreement.{RoundsAgree};
 ghost use Rattle.cn_log.specs.AtomicEvent.{IsAtomicEvent};
 ghost use Rattle.cn_log.specs.Bypass.{IsBypassBounded};
-ghost use Rattle.cn_log.specs.Callers.{BeginsWith, HasReplayedBy, HasReplayedItsOwn, IsPendingCall, IsStepped, Without, call_of, caller_of, calls_by, entries_by, pending_in, seen_of};
+ghost use Rattle.cn_log.specs.Callers.{BeginsWith, HasAppliedBy, HasAppliedItsOwn, IsPendingCall, IsStepped, Without, call_of, caller_of, calls_by, entries_by, pending_in, seen_of};
 ghost use Rattle.cn_log.specs.Linearized.{BeginsInTurn, Grows, IsLinearized};
 ghost use Rattle.cn_log.specs.Faults.{event_fault};
 ghost use Rattle.cn_log.specs.Log.{IsEventList, MayCome, answer, batches, entries, first_look, state_of};
@@ -25,7 +25,7 @@ use cn_proto::laws::every_plan;
 /// The law of rounds: `agrees`, those of a plan are what a log needs; `begun` and `sizes`, what stands
 /// in them for each process.
 pub(crate) fn rounds_agree()
-    ensures agrees { (o : OpeningOf) → IsPlan o.plan → Agrees (setting_of o) (RunsBy o.plan) }
+    ensures agrees { (o : OpeningOf) → IsPlan o.plan → RoundsAgree (setting_of o) (RunsBy o.plan) }
     ensures begun { (o : OpeningOf) → IsPlan o.plan → (w : RoundWorld BatchOf) → RunsBy o.plan w → (p : ℕ) → p < processes_of o.plan
         → (local_at w p ≡ NotBegun) ↔ (input_at w p ≡ None) }
     ensures sizes { (o : OpeningOf) → IsPlan o.plan → (w : RoundWorld BatchOf) → RunsBy o.plan w → (length w.nodes ≡ nodes_of o.plan)
@@ -63,8 +63,8 @@ pub fn every_fault()
 /// The law of what a process knows: `front`, a beginning of a list of events is one; `stays`, events
 /// of others change nothing of it; `invoked`, a call adds itself, pending, and the process has seen
 /// what it had seen; `pending`, the pending call is the last that the process has made, and it has
-/// replayed neither that nor every slot; `stepped`, what a step makes of it, by its answer;
-/// `replayed`, the fixed slots begin with those that the process has replayed.
+/// applied neither that nor every slot; `stepped`, what a step makes of it, by its answer;
+/// `replayed`, the fixed slots begin with those that the process has applied.
 pub fn every_caller()
     ensures front { (o : OpeningOf) (before rest : List EventOf) → IsEventList (setting_of o) (before ++ rest) → IsEventList (setting_of o) before }
     ensures stays { (o : OpeningOf) (before rest : List EventOf) (p : ℕ) → Without p rest
@@ -86,19 +86,19 @@ pub fn every_caller()
 
 /// The law of the calls of a process: `grow`, `stay`, `called`, a call is an event of its process,
 /// and its number is how many it made before; `own`, its calls are the entries of its own that it has
-/// replayed, in order, and then the one that it has no answer to, if there is one; `own_stepped`,
+/// applied, in order, and then the one that it has no answer to, if there is one; `own_stepped`,
 /// the same after a step, by its answer; `made`, `seen_made`, the entries of the process in the log,
-/// and among those that any process has replayed, are the first of its calls, in order.
+/// and among those that any process has applied, are the first of its calls, in order.
 pub fn every_call()
     ensures grow { (before rest : List EventOf) (p : ℕ) → BeginsWith (calls_by p (before ++ rest)) (calls_by p before) }
     ensures stay { (before rest : List EventOf) (p : ℕ) → Without p rest → calls_by p (before ++ rest) ≡ calls_by p before }
     ensures called { (o : OpeningOf) (events : List EventOf) (p operation : ℕ)
         → calls_by p (events ++ Invoke p operation ∷ []) ≡ calls_by p events ++ call_of p operation (caller_of (setting_of o) events p).calls ∷ [] }
     ensures own { (o : OpeningOf) (events : List EventOf) (p : ℕ) → IsOpening o → IsEventList (setting_of o) events
-        → HasReplayedItsOwn (setting_of o) events p }
+        → HasAppliedItsOwn (setting_of o) events p }
     ensures own_stepped { (o : OpeningOf) (events : List EventOf) (p : ℕ) (mine : EntryOf) → IsOpening o
         → IsEventList (setting_of o) (events ++ Step p ∷ []) → pending_in (caller_of (setting_of o) events p).phase ≡ Some mine
-        → HasReplayedBy (setting_of o) (events ++ Step p ∷ []) p mine (answer (setting_of o) events p) }
+        → HasAppliedBy (setting_of o) (events ++ Step p ∷ []) p mine (answer (setting_of o) events p) }
     ensures made { (o : OpeningOf) (events : List EventOf) (p : ℕ) → IsOpening o → IsEventList (setting_of o) events
         → BeginsWith (calls_by p events) (entries_by p (entries (setting_of o) events)) }
     ensures seen_made { (o : OpeningOf) (events : List EventOf) (p q : ℕ) → IsOpening o → IsEventList (setting_of o) events

@@ -118,7 +118,7 @@ impl LogCore {
     }
 
     /// Process `p` makes a call of an operation of the object. It is in no call, and has not
-    /// replayed every slot.
+    /// applied every slot.
     pub fn invoke(&mut self, p: u8, operation: Operation)
         requires { MayCome (setting self.old) (state_of (setting self.old) self.old.schedule) (Invoke p operation.0) }
         ensures { self.new ≡ record self.old { schedule = self.old.schedule ++ Invoke p operation.0 ∷ [] } }
@@ -224,7 +224,7 @@ impl LogCore {
         self.opening.object.operations()
     }
 
-    /// How many slots process `p` has replayed.
+    /// How many slots process `p` has applied.
     pub fn replayed(&self, p: u8) -> u16
         requires { p < processes_of self.now.opening.plan }
         ensures number { result ≡ length ((state_of (setting self.now) self.now.schedule).caller p).seen }
@@ -234,7 +234,7 @@ impl LogCore {
         self.state.progress[usize::from(p)].replayed
     }
 
-    /// How many entries stand in the slots that process `p` has replayed.
+    /// How many entries stand in the slots that process `p` has applied.
     pub fn seen(&self, p: u8) -> u16
         requires { p < processes_of self.now.opening.plan }
         ensures { result ≡ length (seen_of (setting self.now) self.now.schedule p) }
@@ -250,7 +250,7 @@ impl LogCore {
         matches!(self.state.progress[usize::from(p)].phase, Phase::Idle)
     }
 
-    /// Whether process `p` has replayed every slot; else it has replayed fewer.
+    /// Whether process `p` has applied every slot; else it has applied fewer.
     pub fn at_end(&self, p: u8) -> bool
         requires { p < processes_of self.now.opening.plan }
         ensures end { IsTrue result ↔ (length ((state_of (setting self.now) self.now.schedule).caller p).seen ≡ self.now.opening.capacity) }

@@ -203,7 +203,7 @@ fn first_look(mine: Entry) -> Phase
 }
 
 /// What a process has gathered that has read the announcement of process q: also the call that it
-/// finds there, unless that is one of the calls of process q in the slots that it has replayed,
+/// finds there, unless that is one of the calls of process q in the slots that it has applied,
 /// which are its first so many.
 fn gathered(announced: Option<Entry>, calls_seen: u16, q: u8, batch: Batch) -> Batch
     requires { q < 8 }

@@ -6,7 +6,7 @@ ghost use Rattle.cn_proto.specs.Plan.{nodes_of, processes_of};
 ghost use Rattle.cn_log.specs.declared.batch.Batch.{Batch as BatchOf};
 ghost use Rattle.cn_log.specs.declared.limits.TheConstants.{MOST_SLOTS};
 ghost use Rattle.cn_agree.specs.Rounds.{RunsBy};
-ghost use Rattle.cn_log.specs.Agreement.{Agrees};
+ghost use Rattle.cn_log.specs.Agreement.{RoundsAgree};
 ghost use Rattle.cn_log.specs.Opening.{IsOpening, opening_of, setting_of};
 
 use crate::laws::rounds_agree;
@@ -80,7 +80,7 @@ impl Opening {
     /// needs; `begun` and `sizes`, what stands in them for each process.
     pub(crate) fn is_opening(&self)
         ensures opening { IsOpening self.now }
-        ensures agrees { Agrees (setting_of self.now) (RunsBy self.now.plan) }
+        ensures agrees { RoundsAgree (setting_of self.now) (RunsBy self.now.plan) }
         ensures begun { (w : RoundWorld BatchOf) → RunsBy self.now.plan w → (p : ℕ) → p < processes_of self.now.plan
             → (local_at w p ≡ NotBegun) ↔ (input_at w p ≡ None) }
         ensures sizes { (w : RoundWorld BatchOf) → RunsBy self.now.plan w → (length w.nodes ≡ nodes_of self.now.plan)

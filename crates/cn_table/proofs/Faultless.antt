@@ -31,7 +31,7 @@ each_read f skips P reads (x ∷ xs) ys none e =
     let whole : y ∷ more ≡ ys = cc in
     rw (← whole) (ap suc len, (reads x y here first, all))
 
-none_skipped : {X : Type 0} (xs : List X) → list_any (λ _. false) xs ≡ false
+pub none_skipped : {X : Type 0} (xs : List X) → list_any (λ _. false) xs ≡ false
 none_skipped [] = refl
 none_skipped (x ∷ xs) = none_skipped xs
 

@@ -22,6 +22,7 @@ use Rattle.cn_table.specs.declared.document_flaws.Kind.{Kind}
 use Rattle.cn_table.specs.declared.document_flaws.Kind.TheVariants.{Text, Texts, Tables}
 use Rattle.cn_table.specs.declared.document_flaws.Look.TheVariants.{OtherKeys, MissingKeys, Kinds}
 use Rattle.cn_table.specs.declared.limits.TheConstants.{MOST_OPERATIONS, MOST_RESPONSES, MOST_STATES}
+use Rattle.cn_table.proofs.Faultless.{none_skipped}
 
 -- ---- which fault comes first
 
@@ -58,10 +59,6 @@ told_each k look test skips same i [] none = refl
 told_each k look test skips same i (x ∷ xs) none =
     let (here, later) = or_parts (skips x) (list_any skips xs) none in
     told_append k (look i x) (each look (i + 1) xs) (test x) (list_any test xs) (same i x here) (told_each k look test skips same (i + 1) xs later)
-
-none_skipped : {X : Type 0} (xs : List X) → list_any (λ _. false) xs ≡ false
-none_skipped [] = refl
-none_skipped (x ∷ xs) = none_skipped xs
 
 told_each_all : {X : Type 0} (k : TableFault) (look : ℕ → X → List Flaw) (test : X → Bool)
     → ((i : ℕ) (x : X) → first_fault (look i x) ≡ told k (test x)) → (i : ℕ) (xs : List X) → first_fault (each look i xs) ≡ told k (list_any test xs)

@@ -1,5 +1,5 @@
 -- Lists: what more than one crate needs of them.
-use Rattle.std.proofs.Common.{◌≡◌, ℕ, zero, suc, ◌<◌, ◌+◌, List, [], ◌∷◌, ◌++◌, length, drop, get_or, map, slice_get, Option, Some, None, option_map, All, Contains, arith, refl, ap, subst, sym, ◌∙◌, append_assoc}
+use Rattle.std.proofs.Common.{◌≡◌, ◌⊎◌, inl, inr, ℕ, zero, suc, ◌<◌, ◌+◌, List, [], ◌∷◌, ◌++◌, length, drop, get_or, map, slice_get, Option, Some, None, option_map, All, Contains, arith, refl, ap, subst, sym, ◌∙◌, append_assoc}
 use Rattle.std.proofs.lemmas.List.{drop_more}
 use Rattle.std.proofs.lemmas.List.Elements.{All-contains, All-contains_itself, All-weaker, Contains-append_left, Contains-append_right}
 use Rattle.cn_table.specs.Draft.{all_some, ◌>>=◌}
@@ -22,6 +22,13 @@ get_push_old xs x k y h = get_front xs (x ∷ []) k y h
 pub get_push_new : {A : Type 0} (xs : List A) (x : A) → slice_get (xs ++ x ∷ []) (length xs) ≡ Some x
 get_push_new [] x = refl
 get_push_new (z ∷ xs) x = get_push_new xs x
+
+-- what stands where one more is put behind a list stood in it, or is that one
+pub get_push_cases : {A : Type 0} (xs : List A) (x : A) (k : ℕ) (y : A) → slice_get (xs ++ x ∷ []) k ≡ Some y → (slice_get xs k ≡ Some y) ⊎ ((k ≡ length xs) × (x ≡ y))
+get_push_cases [] x zero y h = inr (refl, cc)
+get_push_cases [] x (suc k) y h = absurd cc
+get_push_cases (z ∷ xs) x zero y h = inl h
+get_push_cases (z ∷ xs) x (suc k) y h = elim (get_push_cases xs x k y h) [ inl a ↦ inl a | inr b ↦ inr (ap suc b.0, b.1) ]
 
 -- each place of a list has something
 pub there_is : {A : Type 0} (xs : List A) (k : ℕ) → k < length xs → (x : A) × (slice_get xs k ≡ Some x)

@@ -1,13 +1,12 @@
 //! The flaws of a document: keys that should not be there, keys that should, and values that are
 //! not of their kind.
-ghost use Rattle.std.specs.Prelude.{◌≡◌, ◌++◌, OnOk, IfOk, [], codes, map, string_bytes};
+ghost use Rattle.std.specs.Prelude.{◌≡◌, ◌++◌, OnOk, IfOk, codes, map, string_bytes};
 ghost use Rattle.std.specs.List.{list_all};
-ghost use Rattle.toml.specs.Data.{get_member};
 ghost use Rattle.toml.specs.View.{table_view, view};
 ghost use Rattle.cn_table.specs.Document.{keys_in};
 ghost use Rattle.cn_table.specs.Faults.{is_text, is_array_of};
 ghost use Rattle.cn_table.specs.Flaws.{flaws_view, each, other_keys, missing_keys, wrong_kind, table_text};
-ghost use Rattle.cn_table.specs.Flaws.{table_flaws, no_table_flaws, item_flaws, operation_flaws, root_flaws, flaws_by};
+ghost use Rattle.cn_table.specs.Flaws.{table_flaws, no_table_flaws, item_flaws, root_flaws, flaws_by};
 ghost use Rattle.cn_table.specs.FlawText.{other_key_text, missing_key_text, kind_text, no_operation_text};
 
 use crate::fault::TableFault;

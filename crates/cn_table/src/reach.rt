@@ -1,5 +1,5 @@
 //! Where the operations of a table lead.
-ghost use Rattle.std.specs.Prelude.{◌≡◌, ◌↔◌, ◌<◌, ℕ, MatchOption, false, get_or, length, true};
+ghost use Rattle.std.specs.Prelude.{◌≡◌, ◌<◌, ℕ, MatchOption, false, get_or, length, true};
 ghost use Rattle.cn_table.specs.TypeTable.{transition, IsTypeTable};
 ghost use Rattle.cn_table.specs.declared.limits.TheConstants.{MOST_STATES};
 ghost use Rattle.cn_table.specs.Reach.{AreReached};

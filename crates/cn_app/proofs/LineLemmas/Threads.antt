@@ -1,6 +1,7 @@
 -- What threads leave, as what is written of it.
 use Rattle.std.proofs.Common.{◌≡◌, ◌<◌, ℕ, zero, suc, List, [], ◌∷◌, Option, Some, None, Vec, Global, length, map, option_map, slice_get, slice_index_or, arith, refl, sym, subst, ◌∙◌}
 use Rattle.std.proofs.lemmas.Option.{slice_get-get_or, slice_get-map}
+use Rattle.cn_table.proofs.Lists.{there_is}
 use Rattle.cn_table.specs.TypeTable.{TypeTable}
 use Rattle.cn_log.specs.Opening.{Log}
 use Rattle.cn_app.specs.Lines.Threads.{EachHasResponses, RepliesHaveResponses}
@@ -22,12 +23,6 @@ pub each_served : (core : Log) (calls : List (Vec ℕ Global)) (worked : List Wo
 each_served core calls worked served p c w there done =
     let at = at_place (λ (list : Vec ℕ Global). list.items) calls p c there in
     subst (λ (x : List ℕ). HasServed core p x w.replies.items w.end) at.2 (served p at.0 w at.1 done)
-
--- below its length a list has something
-there_is : {A : Type 0} (xs : List A) (i : ℕ) → i < length xs → (x : A) × (slice_get xs i ≡ Some x)
-there_is [] i less = absurd (omega arith)
-there_is (x ∷ xs) zero less = (x, refl)
-there_is (x ∷ xs) (suc i) less = there_is xs i (omega arith)
 
 -- the responses of the replies that the processes have are the object's
 pub each_has_responses : (object : TypeTable) (calls : List (Vec ℕ Global)) (core : Log) (worked : List Worked) → core.opening.object ≡ object → length worked ≡ length calls

@@ -3,6 +3,7 @@ use Rattle.std.proofs.Common.{◌≡◌, ℕ, zero, suc, ◌<◌, List, [], ◌�
 use Rattle.std.proofs.lemmas.Option.{get_or_from_slice_get, slice_get-get_or, slice_get_within}
 use Rattle.std.specs.Global.{Global}
 use Rattle.std.specs.List.{slice_get}
+use Rattle.cn_table.proofs.Lists.{there_is}
 use Rattle.cn_log.specs.Callers.{BeginsWith}
 use Rattle.cn_log.specs.Log.{batches}
 use Rattle.cn_log.specs.Opening.{Log, setting}
@@ -15,11 +16,6 @@ use Rattle.cn_app.specs.Threads.Serving.{HasServed, replies_in}
 use Rattle.cn_app.specs.Threads.Workers.{AllGatesWereAsked, EachHasOneGate, HasWorked, HaveAllWorked, MayAllWork, MayWork}
 use Rattle.cn_app.specs.declared.threads.workers.Worked.{Worked}
 use Rattle.cn_app.proofs.ThreadLemmas.Serving.{has_served_at}
-
-some_at : {A : Type 0} (xs : List A) (k : ℕ) → k < length xs → (x : A) × (slice_get xs k ≡ Some x)
-some_at [] k less = absurd (omega (arith, less))
-some_at (x ∷ xs) zero less = (x, refl)
-some_at (x ∷ xs) (suc k) less = some_at xs k (omega (arith, less))
 
 all_at : {A : Type 0} (P : A → Type 0) (xs : List A) → ((k : ℕ) (x : A) → slice_get xs k ≡ Some x → P x) → All P xs
 all_at P xs h k d less = h k (get_or xs k d) (slice_get-get_or xs k d less)
@@ -44,8 +40,8 @@ module _ (hall : HallId) (core : Log) (calls : List (Vec ℕ Global)) (before : 
     worked_there : (p : ℕ) (t : SeatState) → slice_get after p ≡ Some t → (c : Vec ℕ Global) × (w : Worked) × HasWorked c.items (seat_state hall p core) t w.replies.items w.end
     worked_there p t at =
         let less = slice_get_within after p t at in
-        let c = some_at calls p (omega (arith, less, also, count)) in
-        let w = some_at worked p (omega (arith, less, also, more)) in
+        let c = there_is calls p (omega (arith, less, also, count)) in
+        let w = there_is worked p (omega (arith, less, also, more)) in
         (c.0, w.0, worked_at p c.0 t w.0 c.1 at w.1)
 
     pub left_of : All (IsSeatOf hall) after
@@ -55,14 +51,14 @@ module _ (hall : HallId) (core : Log) (calls : List (Vec ℕ Global)) (before : 
     module _ (closed : Log) (carried : All (λ (t : SeatState). Carries t.process t.core closed) after) where
       pub same_opening : 0 < length calls → closed.opening ≡ core.opening
       same_opening some =
-          let t = some_at after 0 (omega (arith, some, also, count)) in
+          let t = there_is after 0 (omega (arith, some, also, count)) in
           let h = worked_there 0 t.0 t.1 in
           (at_place (λ (u : SeatState). Carries u.process u.core closed) after carried 0 t.0 t.1).0 ∙ h.2.same.2
 
       pub serve_all : All (λ (t : SeatState). BeginsWith (batches (setting closed) closed.schedule) (slots_seen t)) after → All (λ (t : SeatState). BeginsWith (replies_in closed t.process) (own t)) after
           → (p : ℕ) (c : Vec ℕ Global) (w : Worked) → slice_get calls p ≡ Some c → slice_get worked p ≡ Some w → HasServed closed p c.items w.replies.items w.end
       serve_all begins answers p c w got at =
-          let t = some_at after p (omega (arith, slice_get_within worked p w at, also, more)) in
+          let t = there_is after p (omega (arith, slice_get_within worked p w at, also, more)) in
           let h = worked_at p c t.0 w got t.1 at in
           has_served_at closed c.items (seat_state hall p core) t.0 w.replies.items w.end h (at_place (λ (u : SeatState). Carries u.process u.core closed) after carried p t.0 t.1) p h.same.1
           (at_place (λ (u : SeatState). BeginsWith (batches (setting closed) closed.schedule) (slots_seen u)) after begins p t.0 t.1) (at_place (λ (u : SeatState). BeginsWith (replies_in closed u.process) (own u)) after answers p t.0 t.1)
@@ -71,8 +67,8 @@ module _ (hall : HallId) (core : Log) (calls : List (Vec ℕ Global)) (before : 
       pub one_gate_each : {G : Type 0} (asks : G → SeatState → ℕ → G → Type 0) (says : G → Go) (made : ℕ → G → Type 0) (gates : List G) → length gates ≡ length before → AllGatesWereAsked asks says before gates after
           → ((p : ℕ) (g : G) → slice_get gates p ≡ Some g → made p g) → core.schedule ≡ [] → processes_of closed.opening.plan ≡ length calls → EachHasOneGate asks says made closed
       one_gate_each asks says made gates many all made_for empty processes p less =
-          let t = some_at after p (omega (arith, less, processes, also, count)) in
-          let g = some_at gates p (omega (arith, less, processes, many, count)) in
+          let t = there_is after p (omega (arith, less, processes, also, count)) in
+          let g = there_is gates p (omega (arith, less, processes, many, count)) in
           let w = worked_there p t.0 t.1 in
           let is : t.0.process ≡ p = w.2.same.1 in
           record {

@@ -3,29 +3,11 @@ use Rattle.std.proofs.Common.{◌≡◌, ◌⊎◌, inl, inr, ℕ, zero, suc, �
 use Rattle.std.proofs.lemmas.Option.{slice_get_read, slice_get_within}
 use Rattle.std.specs.Global.{Global}
 use Rattle.std.specs.List.{slice_get}
+use Rattle.cn_table.proofs.Lists.{get_front, get_push_cases, get_push_new}
 use Rattle.cn_hall.specs.Seats.{HallId, SeatState}
 use Rattle.cn_hall.specs.declared.call.Go.{Go}
 use Rattle.cn_app.specs.Threads.Workers.{AllGatesWereAsked, GateWasAsked, HasRoom, HasWorked, HaveAllWorked, HaveRoom, MayAllWork, MayWork}
 use Rattle.cn_app.specs.declared.threads.workers.Worked.{Worked}
-
-at_front : {A : Type 0} (xs ys : List A) (k : ℕ) (x : A) → slice_get xs k ≡ Some x → slice_get (xs ++ ys) k ≡ Some x
-at_front [] ys k x at = absurd (cc)
-at_front (y ∷ xs) ys zero x at = at
-at_front (y ∷ xs) ys (suc k) x at = at_front xs ys k x at
-
-at_last : {A : Type 0} (xs : List A) (x : A) → slice_get (xs ++ x ∷ []) (length xs) ≡ Some x
-at_last [] x = refl
-at_last (y ∷ xs) x = at_last xs x
-
-at_pushed : {A : Type 0} (xs : List A) (x : A) (k : ℕ) (y : A) → slice_get (xs ++ x ∷ []) k ≡ Some y → (slice_get xs k ≡ Some y) ⊎ ((k ≡ length xs) × (x ≡ y))
-at_pushed [] x zero y at = inr (refl, cc)
-at_pushed [] x (suc k) y at = absurd (cc)
-at_pushed (z ∷ xs) x zero y at = inl at
-at_pushed (z ∷ xs) x (suc k) y at = more (at_pushed xs x k y at)
-  where
-    more : (slice_get xs k ≡ Some y) ⊎ ((k ≡ length xs) × (x ≡ y)) → (slice_get xs k ≡ Some y) ⊎ ((suc k ≡ suc (length xs)) × (x ≡ y))
-    more (inl h) = inl h
-    more (inr h) = inr (ap suc h.0, h.1)
 
 -- the list at an index that is the length of another
 pub read_at : {A : Type 0} (cs : List A) (i j : ℕ) (x : A) → i ≡ j → j < length cs → x ≡ get_or cs i x → slice_get cs j ≡ Some x
@@ -34,22 +16,22 @@ read_at cs i j x e less is = subst (λ k. slice_get cs k ≡ Some x) e (slice_ge
 module _ (calls : List (Vec ℕ Global)) where
   module _ (hall : HallId) (seats more : List SeatState) (s : SeatState) (is : more ≡ seats ++ s ∷ []) (may : MayAllWork hall calls more) where
     pub may_all_front : MayAllWork hall calls seats
-    may_all_front p c t got at = may p c t got (ap (λ l. slice_get l p) is ∙ at_front seats (s ∷ []) p t at)
+    may_all_front p c t got at = may p c t got (ap (λ l. slice_get l p) is ∙ get_front seats (s ∷ []) p t at)
 
     pub may_last : (c : Vec ℕ Global) → slice_get calls (length seats) ≡ Some c → MayWork hall c.items s
-    may_last c got = may (length seats) c s got (ap (λ l. slice_get l (length seats)) is ∙ at_last seats s)
+    may_last c got = may (length seats) c s got (ap (λ l. slice_get l (length seats)) is ∙ get_push_new seats s)
 
   module _ (rooms more : List Worked) (w : Worked) (is : more ≡ rooms ++ w ∷ []) (room : HaveRoom calls more) where
     pub room_front : HaveRoom calls rooms
-    room_front p c v got at = room p c v got (ap (λ l. slice_get l p) is ∙ at_front rooms (w ∷ []) p v at)
+    room_front p c v got at = room p c v got (ap (λ l. slice_get l p) is ∙ get_front rooms (w ∷ []) p v at)
 
     pub room_last : (n : ℕ) → n ≡ length rooms → (c : Vec ℕ Global) → slice_get calls n ≡ Some c → HasRoom c.items w
-    room_last n e c got = room n c w got (ap (λ l. slice_get l n) is ∙ ap (slice_get (rooms ++ w ∷ [])) e ∙ at_last rooms w)
+    room_last n e c got = room n c w got (ap (λ l. slice_get l n) is ∙ ap (slice_get (rooms ++ w ∷ [])) e ∙ get_push_new rooms w)
 
   module _ (before after : List SeatState) (worked : List Worked) (s t : SeatState) (w : Worked) (count : length after ≡ length before) (also : length worked ≡ length before) where
     pub one_more_worked : HaveAllWorked calls before after worked → ((c : Vec ℕ Global) → slice_get calls (length before) ≡ Some c → HasWorked c.items s t w.replies.items w.end)
         → HaveAllWorked calls (before ++ s ∷ []) (after ++ t ∷ []) (worked ++ w ∷ [])
-    one_more_worked all last p c x y z got at_x at_y at_z = by_place (at_pushed before s p x at_x) (at_pushed after t p y at_y) (at_pushed worked w p z at_z)
+    one_more_worked all last p c x y z got at_x at_y at_z = by_place (get_push_cases before s p x at_x) (get_push_cases after t p y at_y) (get_push_cases worked w p z at_z)
       where
         by_place : (slice_get before p ≡ Some x) ⊎ ((p ≡ length before) × (s ≡ x)) → (slice_get after p ≡ Some y) ⊎ ((p ≡ length after) × (t ≡ y)) → (slice_get worked p ≡ Some z) ⊎ ((p ≡ length worked) × (w ≡ z))
             → HasWorked c.items x y z.replies.items z.end
@@ -63,7 +45,7 @@ module _ (calls : List (Vec ℕ Global)) where
 
   -- and room for the replies to one list of calls more
   pub room_pushed : (rooms : List Worked) (w : Worked) (d : Vec ℕ Global) → HaveRoom calls rooms → slice_get calls (length rooms) ≡ Some d → HasRoom d.items w → HaveRoom calls (rooms ++ w ∷ [])
-  room_pushed rooms w d room there has p c v got at = by_place (at_pushed rooms w p v at)
+  room_pushed rooms w d room there has p c v got at = by_place (get_push_cases rooms w p v at)
     where
       by_place : (slice_get rooms p ≡ Some v) ⊎ ((p ≡ length rooms) × (w ≡ v)) → HasRoom c.items v
       by_place (inl h) = room p c v got h
@@ -73,7 +55,7 @@ module _ (calls : List (Vec ℕ Global)) where
 module _ {G : Type 0} (asks : G → SeatState → ℕ → G → Type 0) (says : G → Go) (before after : List SeatState) (gates : List G) (s t : SeatState) (g : G)
     (count : length after ≡ length before) (also : length gates ≡ length before) where
   pub one_more_asked : AllGatesWereAsked asks says before gates after → GateWasAsked asks says s g t → AllGatesWereAsked asks says (before ++ s ∷ []) (gates ++ g ∷ []) (after ++ t ∷ [])
-  one_more_asked all last p x y z at_x at_z at_y = by_place (at_pushed before s p x at_x) (at_pushed after t p y at_y) (at_pushed gates g p z at_z)
+  one_more_asked all last p x y z at_x at_z at_y = by_place (get_push_cases before s p x at_x) (get_push_cases after t p y at_y) (get_push_cases gates g p z at_z)
     where
       by_place : (slice_get before p ≡ Some x) ⊎ ((p ≡ length before) × (s ≡ x)) → (slice_get after p ≡ Some y) ⊎ ((p ≡ length after) × (t ≡ y)) → (slice_get gates p ≡ Some z) ⊎ ((p ≡ length gates) × (g ≡ z))
           → GateWasAsked asks says x z y
