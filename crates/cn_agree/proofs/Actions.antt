@@ -13,8 +13,8 @@ use Rattle.cn_agree.specs.declared.local.Local.{Local}
 use Rattle.cn_agree.specs.declared.local.Local.TheVariants.{NotBegun, Active}
 use Rattle.cn_proto.specs.Order.{after, IsAnswered}
 use Rattle.cn_proto.specs.Protocol.{Protocol, place_of}
-use Rattle.cn_agree.specs.World.{World, node_at, local_at, input_at, register, with_register, untouched}
-use Rattle.cn_agree.specs.Steps.{after_action, local_after, recorded, onward}
+use Rattle.cn_agree.specs.World.{World, node_at, local_at, input_at, register, with_register, fresh_node}
+use Rattle.cn_agree.specs.Steps.{after_action, local_after, first_recorded, onward}
 use Rattle.cn_proto.specs.Sound.{IsSound, IsPlace, IsFedAlike}
 use Rattle.cn_agree.proofs.Lists.{AllByRecursion_get, slice_get_push_cases}
 use Rattle.cn_agree.proofs.OrderLemmas.{after_push, answered_last, distinct_push}
@@ -31,14 +31,14 @@ changes_both P w first p mine v node lv lp = record {
   locals_are = length-set w.locals p mine;
   local_mine = get_or-set_same w.locals p mine NotBegun lp;
   local_other = λ q ne. get_or-set_other w.locals p q mine NotBegun ne;
-  node_this = get_or-set_same w.nodes v node (untouched P.start) lv;
-  node_other = λ u ne. get_or-set_other w.nodes v u node (untouched P.start) ne;
+  node_this = get_or-set_same w.nodes v node (fresh_node P.start) lv;
+  node_other = λ u ne. get_or-set_other w.nodes v u node (fresh_node P.start) ne;
   inputs_same = refl;
 }
 
 -- a read leaves the nodes
 read_world : {V : Type 0} (P : Protocol) (w : World V) (v : ℕ) (locals : List (Local V)) → record w { nodes = slice_set w.nodes v (node_at P w v); locals = locals; first = w.first } ≡ record w { locals = locals }
-read_world P w v locals = λ d. record { nodes = set-get_or w.nodes v (untouched P.start) d; locals = locals; inputs = w.inputs; first = w.first }
+read_world P w v locals = λ d. record { nodes = set-get_or w.nodes v (fresh_node P.start) d; locals = locals; inputs = w.inputs; first = w.first }
 
 -- a write of one local state
 changes_local : {V : Type 0} (P : Protocol) (w : World V) (p : ℕ) (mine : Local V) (v : ℕ) → p < length w.locals
@@ -96,11 +96,11 @@ register_moved : {V : Type 0} (node : Node V) (state : State) (side : Team) → 
 register_moved node state A = refl
 register_moved node state B = refl
 
-noted_first : (team : ℕ → Team) (roles : List ℕ) (role : ℕ) → recorded (first_team team roles) 0 (team role) ≡ first_team team (roles ++ role ∷ [])
+noted_first : (team : ℕ → Team) (roles : List ℕ) (role : ℕ) → first_recorded (first_team team roles) 0 (team role) ≡ first_team team (roles ++ role ∷ [])
 noted_first team [] role = refl
 noted_first team (head ∷ rest) role = refl
 
-noted_later : (first : Option Team) (v : ℕ) (side : Team) → recorded first (suc v) side ≡ first
+noted_later : (first : Option Team) (v : ℕ) (side : Team) → first_recorded first (suc v) side ≡ first
 noted_later None v side = refl
 noted_later (Some f) v side = refl
 
@@ -183,7 +183,7 @@ module _ {V : Type 0} (P : Protocol) (n nodes : ℕ) (team : ℕ → Team) (soun
       let node : Node V = record old { state = record { 0 = (P.act here.role old.state.0).1 } } in
       let next : Local V = Active i x (Read (record { 0 = (P.act here.role old.state.0).0 })) in
       let changes : Changes P w (after_action P p w i x Apply here) p next here.node node =
-      changes_both P w (recorded w.first here.node here.team) p next here.node node (rw holds.nodes_are (sound.nodes_below p i mine.0)) (rw holds.locals_are lt) in
+      changes_both P w (first_recorded w.first here.node here.team) p next here.node node (rw holds.nodes_are (sound.nodes_below p i mine.0)) (rw holds.locals_are lt) in
       (changes_grow P n nodes team w (after_action P p w i x Apply here) order order holds p next here.node node [] changes (extends_none order here.node) (λ side y h. rw register_moved h)).registers v side y h
 
   holder_new : local_at w p ≡ Active i x Apply → IsPlace P n p i → (k : ℕ) → slice_get (order (place_of P p i).node) k ≢ Some (place_of P p i).role
@@ -203,7 +203,7 @@ module _ {V : Type 0} (P : Protocol) (n nodes : ℕ) (team : ℕ → Team) (soun
   written_push (h ∷ t) node role head rest old_written mine e = let same : h ≡ head = cc in rw (← same) (old_written h t refl)
 
   noted_here : (v : ℕ) → (place_of P p i).node ≡ v → Extends order (extended order (place_of P p i).node (place_of P p i).role) (place_of P p i).node ((place_of P p i).role ∷ []) → IsPlace P n p i
-      → recorded w.first (place_of P p i).node (place_of P p i).team ≡ first_team team (extended order (place_of P p i).node (place_of P p i).role 0)
+      → first_recorded w.first (place_of P p i).node (place_of P p i).team ≡ first_team team (extended order (place_of P p i).node (place_of P p i).role 0)
   noted_here zero e extends at =
       let this = rw e at extends.this in
       rw (e, this, holds.first_is, ← sound.teams p i at) (noted_first team (order 0) (place_of P p i).role)
@@ -223,7 +223,7 @@ module _ {V : Type 0} (P : Protocol) (n nodes : ℕ) (team : ℕ → Team) (soun
       let w' : World V = after_action P p w i x Apply here in
       let order' : ℕ → List ℕ = extended order v role in
       let changes : Changes P w w' p next v node =
-      changes_both P w (recorded w.first v here.team) p next v node (rw holds.nodes_are (sound.nodes_below p i mine.0)) (rw holds.locals_are lt) in
+      changes_both P w (first_recorded w.first v here.team) p next v node (rw holds.nodes_are (sound.nodes_below p i mine.0)) (rw holds.locals_are lt) in
       let extends : Extends order order' v (role ∷ []) = extends_one order v role in
       let kept : (side : Team) (y : V) → register old side ≡ Some y → register node side ≡ Some y = λ side y h. rw register_moved h in
       let grows = changes_grow P n nodes team w w' order order' holds p next v node (role ∷ []) changes extends kept in

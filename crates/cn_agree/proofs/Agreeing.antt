@@ -9,7 +9,7 @@ use Rattle.cn_agree.specs.declared.local.Local.TheVariants.{NotBegun}
 use Rattle.cn_agree.specs.World.{World}
 use Rattle.cn_agree.specs.Steps.{after_step, after_schedule}
 use Rattle.cn_agree.specs.Reached.{IsReached, Steps, HasBegun}
-use Rattle.cn_agree.specs.Rounds.{decided, decision_at}
+use Rattle.cn_agree.specs.Rounds.{decision_of, decision_at}
 use Rattle.cn_agree.specs.Consensus.{IsSchedule, HasDecided, IsConsensus}
 use Rattle.cn_agree.specs.Schedules.{all_begun, decisions_of}
 use Rattle.cn_agree.proofs.StepCounts.{inputs_step}
@@ -18,17 +18,17 @@ use Rattle.cn_agree.proofs.Fixing.{keeps_consensus}
 use Rattle.cn_agree.proofs.Beginning.{reached_all, begun_all}
 
 -- an entry of the decisions is what the local state tells
-pub decides_at : {V : Type 0} (locals : List (Local V)) (p : ℕ) (x : V) → slice_get (map decided locals) p ≡ Some (Some x) → decided (slice_index_or locals p NotBegun) ≡ Some x
+pub decides_at : {V : Type 0} (locals : List (Local V)) (p : ℕ) (x : V) → slice_get (map decision_of locals) p ≡ Some (Some x) → decision_of (slice_index_or locals p NotBegun) ≡ Some x
 decides_at [] p x h = absurd cc
 decides_at (l ∷ locals) zero x h = cc
 decides_at (l ∷ locals) (suc p) x h = decides_at locals p x h
 
-decides_within : {V : Type 0} (locals : List (Local V)) (p : ℕ) (x : V) → slice_get (map decided locals) p ≡ Some (Some x) → p < length locals
+decides_within : {V : Type 0} (locals : List (Local V)) (p : ℕ) (x : V) → slice_get (map decision_of locals) p ≡ Some (Some x) → p < length locals
 decides_within [] p x h = absurd cc
 decides_within (l ∷ locals) zero x h = omega arith
 decides_within (l ∷ locals) (suc p) x h = let k = decides_within locals p x h in omega arith
 
-entry_at : {V : Type 0} (locals : List (Local V)) (p : ℕ) → p < length locals → slice_get (map decided locals) p ≡ Some (decided (slice_index_or locals p NotBegun))
+entry_at : {V : Type 0} (locals : List (Local V)) (p : ℕ) → p < length locals → slice_get (map decision_of locals) p ≡ Some (decision_of (slice_index_or locals p NotBegun))
 entry_at [] p lt = absurd (omega arith)
 entry_at (l ∷ locals) zero lt = refl
 entry_at (l ∷ locals) (suc p) lt = entry_at locals p (omega arith)
@@ -58,7 +58,7 @@ module _ {V : Type 0} (P : Protocol) (n nodes : ℕ) (team : ℕ → Team) (soun
       let keeps = keeps_consensus P n nodes team sound r in
       let many = locals_are P n nodes team sound r in
       record {
-        entries = length-map w.locals decided ∙ many;
+        entries = length-map w.locals decision_of ∙ many;
         agreement = λ p q x y dp dq.
             (let fp = keeps.decisions p x (decides_at w.locals p x dp) in
             let fq = keeps.decisions q y (decides_at w.locals q y dq) in cc (fp, fq));

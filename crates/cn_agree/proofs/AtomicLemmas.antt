@@ -10,9 +10,9 @@ use Rattle.cn_agree.specs.declared.local.Stage.{Stage}
 use Rattle.cn_agree.specs.declared.local.Stage.TheVariants.{Write, Apply, Read, Take}
 use Rattle.cn_agree.specs.declared.local.Local.{Local}
 use Rattle.cn_agree.specs.declared.local.Local.TheVariants.{NotBegun, Active}
-use Rattle.cn_agree.specs.World.{World, node_at, local_at, register, with_register, untouched}
-use Rattle.cn_agree.specs.Steps.{node_after, local_after, first_after, recorded, taken, after_action, after_step, after_step_from}
-use Rattle.cn_agree.specs.AtomicStep.{Part, Object, Register, State, Value, content, touched, ActsOnce, HasPlace, LooksAlike, IsAtomic}
+use Rattle.cn_agree.specs.World.{World, node_at, local_at, register, with_register, fresh_node}
+use Rattle.cn_agree.specs.Steps.{node_after, local_after, first_after, first_recorded, onward_if_found, after_action, after_step, after_step_from}
+use Rattle.cn_agree.specs.AtomicStep.{Part, Object, Register, State, Value, content, part_touched, ActsOnce, HasPlace, LooksAlike, IsAtomic}
 use Rattle.cn_agree.proofs.Actions.{register_mine}
 
 -- a write changes its register alone
@@ -30,14 +30,14 @@ apply_leaves node state Object ne = absurd (ne refl)
 apply_leaves node state (Register A) ne = refl
 apply_leaves node state (Register B) ne = refl
 
-leaves : {V : Type 0} (P : Protocol) (here : Place) (x : V) (stage : Stage) (node : Node V) (part : Part) → part ≢ touched P here stage → content (node_after P here x stage node) part ≡ content node part
+leaves : {V : Type 0} (P : Protocol) (here : Place) (x : V) (stage : Stage) (node : Node V) (part : Part) → part ≢ part_touched P here stage → content (node_after P here x stage node) part ≡ content node part
 leaves P here x Write node part ne = write_leaves node here.team x part ne
 leaves P here x Apply node part ne = apply_leaves node (record { 0 = (P.act here.role node.state.0).1 }) part ne
 leaves P here x (Read response) node part ne = refl
 leaves P here x (Take response state) node part ne = refl
 
 -- two nodes at which the part that is touched is the same lead to the same local state
-reads_alike : {V : Type 0} (P : Protocol) (places i : ℕ) (here : Place) (x : V) (stage : Stage) (node other : Node V) → content node (touched P here stage) ≡ content other (touched P here stage)
+reads_alike : {V : Type 0} (P : Protocol) (places i : ℕ) (here : Place) (x : V) (stage : Stage) (node other : Node V) → content node (part_touched P here stage) ≡ content other (part_touched P here stage)
     → local_after P places i here x stage node ≡ local_after P places i here x stage other
 reads_alike P places i here x Write node other e = refl
 reads_alike P places i here x Apply node other e =
@@ -48,11 +48,11 @@ reads_alike P places i here x (Read response) node other e =
     ap (λ s. Active i x (Take response (record { 0 = s }))) same
 reads_alike P places i here x (Take response state) node other e =
     let same : register node (P.judge here.role response.0 state.0) ≡ register other (P.judge here.role response.0 state.0) = cc in
-    ap (taken places i (Active i x (Take response state))) same
+    ap (onward_if_found places i (Active i x (Take response state))) same
 
 -- two nodes at which the part that is touched is the same leave the same there
-leaves_alike : {V : Type 0} (P : Protocol) (here : Place) (x : V) (stage : Stage) (node other : Node V) → content node (touched P here stage) ≡ content other (touched P here stage)
-    → content (node_after P here x stage node) (touched P here stage) ≡ content (node_after P here x stage other) (touched P here stage)
+leaves_alike : {V : Type 0} (P : Protocol) (here : Place) (x : V) (stage : Stage) (node other : Node V) → content node (part_touched P here stage) ≡ content other (part_touched P here stage)
+    → content (node_after P here x stage node) (part_touched P here stage) ≡ content (node_after P here x stage other) (part_touched P here stage)
 leaves_alike P here x Write node other e = ap (λ r. Value r) (register_mine node here.team x ∙ sym (register_mine other here.team x))
 leaves_alike P here x Apply node other e =
     let same : node.state.0 ≡ other.state.0 = cc in
@@ -81,8 +81,8 @@ module _ {V : Type 0} (P : Protocol) (p : ℕ) where
   first_is w here Write = inl refl
   first_is w here Apply = go w.first here.node refl refl
     where
-      go : (first : Option Team) (node : ℕ) → w.first ≡ first → here.node ≡ node → (recorded w.first here.node here.team ≡ w.first)
-          ⊎ ((w.first ≡ None) × (recorded w.first here.node here.team ≡ Some here.team) × (here.node ≡ 0) × (Apply ≡ Apply))
+      go : (first : Option Team) (node : ℕ) → w.first ≡ first → here.node ≡ node → (first_recorded w.first here.node here.team ≡ w.first)
+          ⊎ ((w.first ≡ None) × (first_recorded w.first here.node here.team ≡ Some here.team) × (here.node ≡ 0) × (Apply ≡ Apply))
       go None zero e f = inr (e, rw (e, f) refl, f, refl)
       go None (suc node) e f = inl (rw (e, f) refl)
       go (Some team) node e f = inl (rw e refl)
@@ -93,8 +93,8 @@ module _ {V : Type 0} (P : Protocol) (p : ℕ) where
   acts_once w i x stage =
       let here : Place = place_of P p i in
       record {
-        other_parts = λ part ne. written_part w.nodes here.node (untouched P.start) (node_after P here x stage (node_at P w here.node)) part (leaves P here x stage (node_at P w here.node) part ne);
-        other_nodes = λ v ne. get_or-set_other w.nodes here.node v (node_after P here x stage (node_at P w here.node)) (untouched P.start) ne;
+        other_parts = λ part ne. written_part w.nodes here.node (fresh_node P.start) (node_after P here x stage (node_at P w here.node)) part (leaves P here x stage (node_at P w here.node) part ne);
+        other_nodes = λ v ne. get_or-set_other w.nodes here.node v (node_after P here x stage (node_at P w here.node)) (fresh_node P.start) ne;
         other_processes = λ q ne. get_or-set_other w.locals p q (local_after P (length (P.path p)) i here x stage (node_at P w here.node)) NotBegun ne;
         inputs = refl;
         recorded = first_is w here stage;
@@ -108,15 +108,15 @@ module _ {V : Type 0} (P : Protocol) (p : ℕ) where
   node_is : (w : World V) (i : ℕ) (x : V) (stage : Stage) → local_at w p ≡ Active i x stage → (place_of P p i).node < length w.nodes
       → node_at P (after_step P p w) (place_of P p i).node ≡ node_after P (place_of P p i) x stage (node_at P w (place_of P p i).node)
   node_is w i x stage e there =
-      ap (λ (u : World V). node_at P u (place_of P p i).node) (step_is w i x stage e) ∙ get_or-set_same w.nodes (place_of P p i).node (node_after P (place_of P p i) x stage (node_at P w (place_of P p i).node)) (untouched P.start) there
+      ap (λ (u : World V). node_at P u (place_of P p i).node) (step_is w i x stage e) ∙ get_or-set_same w.nodes (place_of P p i).node (node_after P (place_of P p i) x stage (node_at P w (place_of P p i).node)) (fresh_node P.start) there
 
   shared_alike : (w u : World V) (i : ℕ) (x : V) (stage : Stage) → HasPlace P p i w u → LooksAlike P p i x stage w u
-      → content (node_at P (after_step P p w) (place_of P p i).node) (touched P (place_of P p i) stage) ≡ content (node_at P (after_step P p u) (place_of P p i).node) (touched P (place_of P p i) stage)
+      → content (node_at P (after_step P p w) (place_of P p i).node) (part_touched P (place_of P p i) stage) ≡ content (node_at P (after_step P p u) (place_of P p i).node) (part_touched P (place_of P p i) stage)
   shared_alike w u i x stage place alike =
       let here : Place = place_of P p i in
-      ap (λ (n : Node V). content n (touched P here stage)) (node_is w i x stage alike.here place.here)
+      ap (λ (n : Node V). content n (part_touched P here stage)) (node_is w i x stage alike.here place.here)
       ∙ leaves_alike P here x stage (node_at P w here.node) (node_at P u here.node) alike.shared
-      ∙ sym (ap (λ (n : Node V). content n (touched P here stage)) (node_is u i x stage alike.there place.there))
+      ∙ sym (ap (λ (n : Node V). content n (part_touched P here stage)) (node_is u i x stage alike.there place.there))
 
   pub atomic : IsAtomic V P p
   atomic = record {

@@ -5,8 +5,8 @@ use Rattle.cn_table.proofs.Lists.{there_is}
 use Rattle.cn_proto.specs.Protocol.{Protocol}
 use Rattle.cn_agree.specs.declared.local.Stage.TheVariants.{Write}
 use Rattle.cn_agree.specs.declared.local.Local.TheVariants.{NotBegun, Active}
-use Rattle.cn_agree.specs.World.{World, untouched, local_at}
-use Rattle.cn_agree.specs.Steps.{begun}
+use Rattle.cn_agree.specs.World.{World, fresh_node, local_at}
+use Rattle.cn_agree.specs.Steps.{after_begin}
 use Rattle.cn_agree.specs.Reached.{IsReached, Opens, Begins, HasBegun}
 use Rattle.cn_agree.specs.Schedules.{all_begun}
 use Rattle.cn_agree.specs.Beginning.{front, some_begun}
@@ -42,20 +42,20 @@ module _ {V : Type 0} (P : Protocol) (n nodes : ℕ) (inputs : List V) (many : l
   pub next_waits : (i : ℕ) → i < n → local_at (some_begun P n nodes inputs i) i ≡ NotBegun
   next_waits i lt = front_next (λ x. Active 0 x Write) NotBegun n inputs i many lt
 
-  pub next_begins : (i : ℕ) (x : V) → i < n → x ≡ get_or inputs i x → begun i x (some_begun P n nodes inputs i) ≡ some_begun P n nodes inputs (i + 1)
+  pub next_begins : (i : ℕ) (x : V) → i < n → x ≡ get_or inputs i x → after_begin i x (some_begun P n nodes inputs i) ≡ some_begun P n nodes inputs (i + 1)
   next_begins i x lt read =
       let suc_is : i + 1 ≡ suc i = omega arith in
       let locals : set (front (λ (y : V). Active 0 y Write) NotBegun n inputs i) i (Active 0 x Write) ≡ front (λ y. Active 0 y Write) NotBegun n inputs (suc i) =
       ap (λ y. set (front (λ (y : V). Active 0 y Write) NotBegun n inputs i) i (Active 0 y Write)) read ∙ front_more (λ y. Active 0 y Write) NotBegun n inputs i x many lt in
       let begins : set (front (λ (y : V). Some y) None n inputs i) i (Some x) ≡ front (λ y. Some y) None n inputs (suc i) =
       ap (λ y. set (front (λ (y : V). Some y) None n inputs i) i (Some y)) read ∙ front_more (λ y. Some y) None n inputs i x many lt in
-      rw suc_is (λ d. record { nodes = replicate nodes (untouched P.start); locals = locals d; inputs = begins d; first = None })
+      rw suc_is (λ d. record { nodes = replicate nodes (fresh_node P.start); locals = locals d; inputs = begins d; first = None })
 
   pub all_is : some_begun P n nodes inputs n ≡ all_begun P nodes inputs
   all_is =
       let locals = front_all (λ (y : V). Active 0 y Write) NotBegun n inputs many in
       let begins = front_all (λ (y : V). Some y) None n inputs many in
-      λ d. record { nodes = replicate nodes (untouched P.start); locals = locals d; inputs = begins d; first = None }
+      λ d. record { nodes = replicate nodes (fresh_node P.start); locals = locals d; inputs = begins d; first = None }
 
   reached_some : (i : ℕ) → i ≤ n → IsReached P n nodes [] (some_begun P n nodes inputs i)
   reached_some zero le = Opens

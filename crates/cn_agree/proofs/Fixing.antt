@@ -12,11 +12,11 @@ use Rattle.cn_agree.specs.declared.local.Stage.TheVariants.{Write, Apply, Read, 
 use Rattle.cn_agree.specs.declared.local.Local.{Local}
 use Rattle.cn_agree.specs.declared.local.Local.TheVariants.{NotBegun, Active, Decided}
 use Rattle.cn_agree.specs.declared.node.Node.{Node}
-use Rattle.cn_agree.specs.World.{World, node_at, local_at, input_at, register, untouched}
-use Rattle.cn_agree.specs.Steps.{after_action, recorded, after_step, after_step_from, begun}
+use Rattle.cn_agree.specs.World.{World, node_at, local_at, input_at, register, fresh_node}
+use Rattle.cn_agree.specs.Steps.{after_action, first_recorded, after_step, after_step_from, after_begin}
 use Rattle.cn_agree.specs.Reached.{IsReached, Opens, Begins, Steps}
 use Rattle.cn_agree.specs.Consensus.{IsParticipant, occurrences}
-use Rattle.cn_agree.specs.Rounds.{decided, decision_at, fixed_value, steps_taken, actions_done, IsAppliedAtRoot, KeepsConsensus}
+use Rattle.cn_agree.specs.Rounds.{decision_of, decision_at, fixed_value, steps_taken, actions_done, IsAppliedAtRoot, KeepsConsensus}
 use Rattle.cn_agree.proofs.Invariant.{LocalHolds, IsDone, first_team, first_value, fixed_at}
 use Rattle.cn_agree.proofs.Actions.{registers_write, registers_apply}
 use Rattle.cn_agree.proofs.StepCounts.{Kept, IsOneMore, one_more, other_local, inputs_step, first_step}
@@ -24,10 +24,10 @@ use Rattle.cn_agree.proofs.Values.{AreOf, step_of, are_more}
 use Rattle.cn_agree.proofs.Reaching.{same_anywhere, empty_register, reached_kept, reached_steps, no_input, input_now, local_now}
 
 -- in which state an object starts doesn't matter to the registers
-root_same : {V : Type 0} (P : Protocol) (w : World V) (team : Team) → register (slice_index_or w.nodes 0 (untouched 0)) team ≡ register (node_at P w 0) team
+root_same : {V : Type 0} (P : Protocol) (w : World V) (team : Team) → register (slice_index_or w.nodes 0 (fresh_node 0)) team ≡ register (node_at P w 0) team
 root_same {V = V} P w team = go w.nodes team
   where
-    go : (nodes : List (Node V)) (team : Team) → register (slice_index_or nodes 0 (untouched 0)) team ≡ register (slice_index_or nodes 0 (untouched P.start)) team
+    go : (nodes : List (Node V)) (team : Team) → register (slice_index_or nodes 0 (fresh_node 0)) team ≡ register (slice_index_or nodes 0 (fresh_node P.start)) team
     go [] A = refl
     go [] B = refl
     go (node ∷ nodes) team = refl
@@ -37,7 +37,7 @@ module _ {V : Type 0} (P : Protocol) (n nodes : ℕ) (team : ℕ → Team) (soun
   registers_step w kept p lt v side y h = go (local_at w p) refl
     where
       read : (u : ℕ) (locals : List (Local V)) → register (node_at P (record w { nodes = slice_set w.nodes u (node_at P w u); locals = locals; first = w.first }) v) side ≡ Some y
-      read u locals = rw (set-get_or w.nodes u (untouched P.start)) h
+      read u locals = rw (set-get_or w.nodes u (fresh_node P.start)) h
 
       staged : (i : ℕ) (x : V) (stage : Stage) → local_at w p ≡ Active i x stage → register (node_at P (after_action P p w i x stage (place_of P p i)) v) side ≡ Some y
       staged i x Write e = registers_write P n nodes team sound w kept.0 kept.1 p i lt x e v side y h
@@ -57,7 +57,7 @@ module _ {V : Type 0} (P : Protocol) (n nodes : ℕ) (team : ℕ → Team) (soun
       go : (first : Option Team) → w.first ≡ first → fixed_value (after_step P p w) ≡ Some y
       go None e = let h' : None ≡ Some y = rw e at h in absurd cc
       go (Some side) e =
-          let at : register (slice_index_or w.nodes 0 (untouched 0)) side ≡ Some y = rw e at h in
+          let at : register (slice_index_or w.nodes 0 (fresh_node 0)) side ≡ Some y = rw e at h in
           let now = registers_step w (reached_kept P n nodes team sound r) p lt 0 side y (sym (root_same P w side) ∙ at) in
           rw (first_step P p w side e) (root_same P (after_step P p w) side ∙ now)
 
@@ -67,7 +67,7 @@ module _ {V : Type 0} (P : Protocol) (n nodes : ℕ) (team : ℕ → Team) (soun
       let k = reached_kept P n nodes team sound r in
       go (k.0 0) refl k.1.first_is (fixed_by k.0 (k.0 0) refl (decided_at k.0 (local_at w p) (k.1.local_holds p lt) h))
     where
-      decided_at : (order : ℕ → List ℕ) (here : Local V) → LocalHolds P n team w order p here → decided here ≡ Some y → fixed_at P team w order 0 ≡ Some y
+      decided_at : (order : ℕ → List ℕ) (here : Local V) → LocalHolds P n team w order p here → decision_of here ≡ Some y → fixed_at P team w order 0 ≡ Some y
       decided_at order NotBegun l e = absurd cc
       decided_at order (Active i x stage) l e = absurd cc
       decided_at order (Decided z) l e = l ∙ e
@@ -93,8 +93,8 @@ module _ {V : Type 0} (P : Protocol) (n nodes : ℕ) (team : ℕ → Team) (soun
     locals = λ p. rw (same_anywhere {A = Local V} n NotBegun p) tt;
   }
   values_are (Begins {schedule = schedule} {w = old} p x lt e r) =
-      let are : AreOf P (IsInput schedule (begun p x old)) (IsOwn (begun p x old)) old =
-      are_more P (IsInput schedule old) (IsInput schedule (begun p x old)) (IsOwn old) (IsOwn (begun p x old)) old (λ y i. (i.0, i.1, i.2, kept i.0 y i.3)) kept (values_are r) in
+      let are : AreOf P (IsInput schedule (after_begin p x old)) (IsOwn (after_begin p x old)) old =
+      are_more P (IsInput schedule old) (IsInput schedule (after_begin p x old)) (IsOwn old) (IsOwn (after_begin p x old)) old (λ y i. (i.0, i.1, i.2, kept i.0 y i.3)) kept (values_are r) in
       record {
         registers = are.registers;
         locals = λ q. elim (cases_eq q p) [
@@ -103,7 +103,7 @@ module _ {V : Type 0} (P : Protocol) (n nodes : ℕ) (team : ℕ → Team) (soun
         ];
       }
     where
-      kept : (q : ℕ) (y : V) → input_at old q ≡ Some y → input_at (begun p x old) q ≡ Some y
+      kept : (q : ℕ) (y : V) → input_at old q ≡ Some y → input_at (after_begin p x old) q ≡ Some y
       kept q y h = elim (cases_eq q p) [
         | inl same ↦ absurd (let a : input_at old p ≡ Some y = rw same at h in let b = no_input P n nodes team sound r p lt e in cc (a, b))
         | inr ne ↦ get_or-set_other old.inputs p q (Some x) None ne ∙ h
@@ -121,7 +121,7 @@ module _ {V : Type 0} (P : Protocol) (n nodes : ℕ) (team : ℕ → Team) (soun
     where
       go : (first : Option Team) → w.first ≡ first → IsInput schedule w y
       go None e = let h' : None ≡ Some y = rw e at h in absurd cc
-      go (Some side) e = let at : register (slice_index_or w.nodes 0 (untouched 0)) side ≡ Some y = rw e at h in (values_are r).registers 0 side y (sym (root_same P w side) ∙ at)
+      go (Some side) e = let at : register (slice_index_or w.nodes 0 (fresh_node 0)) side ≡ Some y = rw e at h in (values_are r).registers 0 side y (sym (root_same P w side) ∙ at)
 
   -- where p has applied at its place i, and that is the root, a team is recorded
   abbrev AppliesFirst : World V → ℕ → ℕ → Type 0
@@ -134,7 +134,7 @@ module _ {V : Type 0} (P : Protocol) (n nodes : ℕ) (team : ℕ → Team) (soun
     | inr ne ↦ applied_first r q i at root (rw (get_or-set_other old.locals p q (Active 0 x Write) NotBegun ne) at le)
   ]
     where
-      fresh : (q : ℕ) → q ≡ p → 4 * i + 2 ≤ steps_taken P q (local_at (begun p x old) q) → ⊥
+      fresh : (q : ℕ) → q ≡ p → 4 * i + 2 ≤ steps_taken P q (local_at (after_begin p x old) q) → ⊥
       fresh q same le = let le' : 4 * i + 2 ≤ 4 * 0 + 0 = rw (same, local_now P n nodes team sound r p lt x) at le in omega arith
   applied_first (Steps {schedule = schedule} {w = old} p lt b r) q i at root le = elim (cases_eq q p) [
     | inl same ↦ mine q same at root le (λ at root le. applied_first r p i at root le)
@@ -144,7 +144,7 @@ module _ {V : Type 0} (P : Protocol) (n nodes : ℕ) (team : ℕ → Team) (soun
       later : (side : Team) × (old.first ≡ Some side) → (side : Team) × ((after_step P p old).first ≡ Some side)
       later f = (f.0, first_step P p old f.0 f.1)
 
-      here_recorded : (first : Option Team) (node : ℕ) (side : Team) → node ≡ 0 → (t : Team) × (recorded first node side ≡ Some t)
+      here_recorded : (first : Option Team) (node : ℕ) (side : Team) → node ≡ 0 → (t : Team) × (first_recorded first node side ≡ Some t)
       here_recorded None zero side e = (side, refl)
       here_recorded None (suc node) side e = absurd (omega arith)
       here_recorded (Some t) node side e = (t, refl)
@@ -211,7 +211,7 @@ module _ {V : Type 0} (P : Protocol) (n nodes : ℕ) (team : ℕ → Team) (soun
       stages (Read response) = omega arith
       stages (Take response state) = omega arith
 
-      go : (here : Local V) → LocalHolds P n team w (reached_kept P n nodes team sound r).0 p here → steps_taken P p here ≡ min (occurrences schedule p) (4 * length (P.path p)) → IsSome (decided here)
+      go : (here : Local V) → LocalHolds P n team w (reached_kept P n nodes team sound r).0 p here → steps_taken P p here ≡ min (occurrences schedule p) (4 * length (P.path p)) → IsSome (decision_of here)
           ↔ (4 * length (P.path p) ≤ occurrences schedule p)
       go NotBegun h e = (λ s. absurd (true≢false (sym s)), λ le. absurd (let some = sound.starts p lt in omega arith))
       go (Active i y stage) h e = (λ s. absurd (true≢false (sym s)), λ le. absurd (let l = h.0.1 in let s = stages stage in omega arith))
@@ -230,7 +230,7 @@ module _ {V : Type 0} (P : Protocol) (n nodes : ℕ) (team : ℕ → Team) (soun
       process : (p : ℕ) (x : V) → decision_at w p ≡ Some x → p < n
       process p x e = rw (← (reached_kept P n nodes team sound r).1.locals_are) (within w.locals p e)
         where
-          within : (locals : List (Local V)) (p : ℕ) → decided (slice_index_or locals p NotBegun) ≡ Some x → p < length locals
+          within : (locals : List (Local V)) (p : ℕ) → decision_of (slice_index_or locals p NotBegun) ≡ Some x → p < length locals
           within [] p e = absurd cc
           within (l ∷ locals) zero e = omega arith
           within (l ∷ locals) (suc p) e = let k = within locals p e in omega arith

@@ -11,8 +11,8 @@ use Rattle.cn_agree.specs.declared.local.Local.TheVariants.{NotBegun, Active}
 use Rattle.cn_agree.specs.declared.node.Node.{Node}
 use Rattle.cn_proto.specs.declared.place.Place.{Place}
 use Rattle.cn_proto.specs.Protocol.{Protocol, place_of, nowhere}
-use Rattle.cn_agree.specs.World.{World, node_at, local_at, input_at, register, untouched}
-use Rattle.cn_agree.specs.Steps.{after_step, begun}
+use Rattle.cn_agree.specs.World.{World, node_at, local_at, input_at, register, fresh_node}
+use Rattle.cn_agree.specs.Steps.{after_step, after_begin}
 use Rattle.cn_proto.specs.Order.{after}
 use Rattle.cn_proto.specs.Sound.{IsSound}
 use Rattle.cn_agree.specs.Reached.{IsReached, Opens, Begins, Steps, first_world, HasBegun}
@@ -28,7 +28,7 @@ same_anywhere zero a v = refl
 same_anywhere (suc n) a zero = refl
 same_anywhere (suc n) a (suc v) = same_anywhere n a v
 
-pub empty_register : {V : Type 0} (start : ℕ) (side : Team) (y : V) → register (untouched start) side ≢ Some y
+pub empty_register : {V : Type 0} (start : ℕ) (side : Team) (y : V) → register (fresh_node start) side ≢ Some y
 empty_register start A y h = cc
 empty_register start B y h = cc
 
@@ -37,7 +37,7 @@ pub role_at : (P : Protocol) (n nodes : ℕ) (team : ℕ → Team) → IsSound P
 role_at P n nodes team sound p lt {path = path} pe i l = rw pe (sound.roles_below p i (lt, l))
 
 module _ {V : Type 0} (P : Protocol) (n nodes : ℕ) (team : ℕ → Team) (sound : IsSound P n nodes team) where
-  keeps_begun : (w : World V) (order : ℕ → List ℕ) → Holds P n nodes team w order → (p : ℕ) → p < n → local_at w p ≡ NotBegun → (x : V) → Holds P n nodes team (begun p x w) order
+  keeps_begun : (w : World V) (order : ℕ → List ℕ) → Holds P n nodes team w order → (p : ℕ) → p < n → local_at w p ≡ NotBegun → (x : V) → Holds P n nodes team (after_begin p x w) order
   keeps_begun w order holds p lt e x = record {
     nodes_are = holds.nodes_are;
     locals_are = length-set w.locals p (Active 0 x Write) ∙ holds.locals_are;
@@ -60,15 +60,15 @@ module _ {V : Type 0} (P : Protocol) (n nodes : ℕ) (team : ℕ → Team) (soun
       place = b.place;
       node = b.node;
       team_is = b.team_is;
-      brings = brings_grows P n team w order (begun p x w) order grows b.by b.at y b.brings;
+      brings = brings_grows P n team w order (after_begin p x w) order grows b.by b.at y b.brings;
     });
     local_holds = λ q lq. elim (cases_eq q p) [
       | inl same ↦ rw (same, get_or-set_same w.locals p (Active 0 x Write) NotBegun (rw holds.locals_are lt)) ((lt, sound.starts p lt), get_or-set_same w.inputs p (Some x) None (rw holds.inputs_are lt), tt)
-      | inr ne ↦ rw (other q ne) (local_grows P n team w order (begun p x w) order grows q (local_at w q) (λ f. get_or-set_other w.inputs p q (Some x) None ne) (holds.local_holds q lq))
+      | inr ne ↦ rw (other q ne) (local_grows P n team w order (after_begin p x w) order grows q (local_at w q) (λ f. get_or-set_other w.inputs p q (Some x) None ne) (holds.local_holds q lq))
     ];
   }
     where
-      other : (q : ℕ) → q ≢ p → local_at (begun p x w) q ≡ local_at w q
+      other : (q : ℕ) → q ≢ p → local_at (after_begin p x w) q ≡ local_at w q
       other q ne = get_or-set_other w.locals p q (Active 0 x Write) NotBegun ne
 
       none_yet : (q at : ℕ) → q ≡ p → 4 * at + 2 ≤ steps_taken P q (local_at w q) → ⊥
@@ -77,7 +77,7 @@ module _ {V : Type 0} (P : Protocol) (n nodes : ℕ) (team : ℕ → Team) (soun
       fresh : input_at w p ≡ None
       fresh = rw e at (holds.local_holds p lt)
 
-      grows : Grows P w order (begun p x w) order
+      grows : Grows P w order (after_begin p x w) order
       grows = record {
         registers = λ v side y h. h;
         inputs = λ q y h. elim (cases_eq q p) [ inl same ↦ absurd (let f : input_at w p ≡ Some y = rw same at h in cc (f, fresh)) | inr ne ↦ rw (get_or-set_other w.inputs p q (Some x) None ne) h ];
@@ -86,11 +86,11 @@ module _ {V : Type 0} (P : Protocol) (n nodes : ℕ) (team : ℕ → Team) (soun
 
   first_holds : Holds {V = V} P n nodes team (first_world P n nodes) (λ v. [])
   first_holds = record {
-    nodes_are = length-replicate nodes (untouched P.start);
+    nodes_are = length-replicate nodes (fresh_node P.start);
     locals_are = length-replicate n NotBegun;
     inputs_are = length-replicate n None;
     first_is = refl;
-    moved = λ v. ap (λ (node : Node V). node.state.0) (same_anywhere nodes (untouched P.start) v);
+    moved = λ v. ap (λ (node : Node V). node.state.0) (same_anywhere nodes (fresh_node P.start) v);
     distinct = λ v i j d lt below. absurd (omega arith);
     done = λ v k role h. absurd cc;
     written = λ v head rest h. absurd cc;
@@ -137,23 +137,23 @@ module _ {V : Type 0} (P : Protocol) (n nodes : ℕ) (team : ℕ → Team) (soun
   pub no_input : {schedule : List ℕ} {w : World V} → IsReached P n nodes schedule w → (p : ℕ) → p < n → local_at w p ≡ NotBegun → input_at w p ≡ None
   no_input r p lt e = rw e at ((reached_kept r).1.local_holds p lt)
 
-  pub input_now : {schedule : List ℕ} {w : World V} → IsReached P n nodes schedule w → (p : ℕ) → p < n → (x : V) → input_at (begun p x w) p ≡ Some x
+  pub input_now : {schedule : List ℕ} {w : World V} → IsReached P n nodes schedule w → (p : ℕ) → p < n → (x : V) → input_at (after_begin p x w) p ≡ Some x
   input_now {w = w} r p lt x = get_or-set_same w.inputs p (Some x) None (rw (inputs_are r) lt)
 
-  pub local_now : {schedule : List ℕ} {w : World V} → IsReached P n nodes schedule w → (p : ℕ) → p < n → (x : V) → local_at (begun p x w) p ≡ Active 0 x Write
+  pub local_now : {schedule : List ℕ} {w : World V} → IsReached P n nodes schedule w → (p : ℕ) → p < n → (x : V) → local_at (after_begin p x w) p ≡ Active 0 x Write
   local_now {w = w} r p lt x = get_or-set_same w.locals p (Active 0 x Write) NotBegun (rw (locals_are r) lt)
 
   -- and the other way round
   pub not_begun : {schedule : List ℕ} {w : World V} → IsReached P n nodes schedule w → (q : ℕ) → q < n → input_at w q ≡ None → local_at w q ≡ NotBegun
   not_begun Opens q lq h = same_anywhere {A = Local V} n NotBegun q
   not_begun (Begins {w = old} p x lt e r) q lq h = elim (cases_eq q p) [
-    | inl same ↦ absurd (let a : input_at (begun p x old) p ≡ None = rw same at h in let b = input_now r p lt x in cc (a, b))
+    | inl same ↦ absurd (let a : input_at (after_begin p x old) p ≡ None = rw same at h in let b = input_now r p lt x in cc (a, b))
     | inr ne ↦ get_or-set_other old.locals p q (Active 0 x Write) NotBegun ne ∙ not_begun r q lq (sym (get_or-set_other old.inputs p q (Some x) None ne) ∙ h)
   ]
-  not_begun (Steps {w = old} p lt begun r) q lq h =
+  not_begun (Steps {w = old} p lt after_begin r) q lq h =
       let was : local_at old q ≡ NotBegun = not_begun r q lq (ap (λ (is : List (Option V)). slice_index_or is q None) (sym (inputs_step P p old)) ∙ h) in
       elim (cases_eq q p) [
-        | inl same ↦ absurd (begun (rw same at was))
+        | inl same ↦ absurd (after_begin (rw same at was))
         | inr ne ↦ other_local P old p q ne ∙ was
       ]
 
@@ -168,11 +168,11 @@ module _ {V : Type 0} (P : Protocol) (n nodes : ℕ) (team : ℕ → Team) (soun
             rw (same, local_now r p lt x) (omega arith))
         | inr ne ↦ rw (get_or-set_other old.locals p q (Active 0 x Write) NotBegun ne) before
       ]
-  reached_steps (Steps {schedule = schedule} {w = old} p lt begun r) q lq =
+  reached_steps (Steps {schedule = schedule} {w = old} p lt after_begin r) q lq =
       let before = reached_steps r q lq in
       elim (cases_eq q p) [
         | inl same ↦ (let was : steps_taken P p (local_at old p) ≡ min (occurrences schedule p) (4 * length (P.path p)) = rw same at before in
-            let now = (step_count P n nodes team sound old (reached_kept r) p lt begun).1 in
+            let now = (step_count P n nodes team sound old (reached_kept r) p lt after_begin).1 in
             let more = count_here p p schedule refl in
             rw same (omega arith))
         | inr ne ↦ rw (other_local P old p q ne, count_elsewhere q p schedule (λ e. ne (sym e))) before

@@ -14,10 +14,10 @@ use Rattle.cn_proto.specs.Plan.{Plan, IsPlan, protocol_of, processes_of, nodes_o
 use Rattle.cn_proto.specs.Tournament.{team_of}
 use Rattle.cn_agree.specs.declared.local.Local.{Local}
 use Rattle.cn_agree.specs.declared.local.Local.TheVariants.{NotBegun, Active, Decided}
-use Rattle.cn_agree.specs.World.{World, local_at, untouched}
-use Rattle.cn_agree.specs.Steps.{begun, after_step, after_step_from, after_schedule}
+use Rattle.cn_agree.specs.World.{World, local_at, fresh_node}
+use Rattle.cn_agree.specs.Steps.{after_begin, after_step, after_step_from, after_schedule}
 use Rattle.cn_agree.specs.Reached.{first_world, Opens}
-use Rattle.cn_agree.specs.Rounds.{decided, decision_at, IsRoundOf, RunsBy}
+use Rattle.cn_agree.specs.Rounds.{decision_of, decision_at, IsRoundOf, RunsBy}
 use Rattle.cn_agree.specs.Beginning.{AllHaveBegun, HaveBegun}
 use Rattle.cn_agree.proofs.Reaching.{begun_stays}
 use Rattle.cn_agree.proofs.Beginning.{next_waits, next_begins, all_is, begun_all}
@@ -32,11 +32,11 @@ next_process plan inputs i w many lt h = (
   rw h.is (next_waits (protocol_of plan) (processes_of plan) (nodes_of plan) inputs many i lt),
 )
 
-pub one_more_begun : {V : Type 0} (plan : Plan) (inputs : List V) (i p : ℕ) (x : V) (w w' : World V) → length inputs ≡ processes_of plan → i < processes_of plan → HaveBegun plan inputs i w → p ≡ i → x ≡ get_or inputs i x → w' ≡ begun p x w
+pub one_more_begun : {V : Type 0} (plan : Plan) (inputs : List V) (i p : ℕ) (x : V) (w w' : World V) → length inputs ≡ processes_of plan → i < processes_of plan → HaveBegun plan inputs i w → p ≡ i → x ≡ get_or inputs i x → w' ≡ after_begin p x w
     → IsRoundOf plan [] w'
     → HaveBegun plan inputs (i + 1) w'
 one_more_begun plan inputs i p x w w' many lt h e read is r = record {
-  is = is ∙ ap (λ k. begun k x w) e ∙ ap (begun i x) h.is ∙ next_begins (protocol_of plan) (processes_of plan) (nodes_of plan) inputs many i x lt read;
+  is = is ∙ ap (λ k. after_begin k x w) e ∙ ap (after_begin i x) h.is ∙ next_begins (protocol_of plan) (processes_of plan) (nodes_of plan) inputs many i x lt read;
   round = r;
 }
 
@@ -61,7 +61,7 @@ drop_schedule plan (q ∷ schedule) (suc k) d less w = drop_schedule plan schedu
 pub stays_decided : {V : Type 0} (plan : Plan) (p : ℕ) (w : World V) (found : Option V) → is_some found ≡ true → found ≡ decision_at w p → w ≡ after_step (protocol_of plan) p w
 stays_decided {V = V} plan p w found e f = go (local_at w p) (ap is_some (sym f) ∙ e)
   where
-    go : (here : Local V) → is_some (decided here) ≡ true → w ≡ after_step_from (protocol_of plan) p w here
+    go : (here : Local V) → is_some (decision_of here) ≡ true → w ≡ after_step_from (protocol_of plan) p w here
     go NotBegun h = absurd cc
     go (Active i x stage) h = absurd cc
     go (Decided z) h = refl
@@ -86,8 +86,8 @@ pub first_is : {V : Type 0} (plan : Plan) (nodes : List (Node V)) (locals : List
     → nodes ≡ replicate k (record { state = start; register_a = None; register_b = None }) → locals ≡ replicate n NotBegun → inputs ≡ replicate n None
     → record { nodes = nodes; locals = locals; inputs = inputs; first = None } ≡ first_world (protocol_of plan) (processes_of plan) (nodes_of plan)
 first_is plan nodes locals inputs start k n s e f a b c =
-    let untouched_is : record { state = start; register_a = None; register_b = None } ≡ untouched (protocol_of plan).start = (λ d. record { state = record { 0 = s d }; register_a = None; register_b = None }) in
-    let nodes_are : nodes ≡ replicate (nodes_of plan) (untouched (protocol_of plan).start) = a ∙ ap (λ m. replicate m (record { state = start; register_a = None; register_b = None })) e ∙ ap (replicate (nodes_of plan)) untouched_is in
+    let untouched_is : record { state = start; register_a = None; register_b = None } ≡ fresh_node (protocol_of plan).start = (λ d. record { state = record { 0 = s d }; register_a = None; register_b = None }) in
+    let nodes_are : nodes ≡ replicate (nodes_of plan) (fresh_node (protocol_of plan).start) = a ∙ ap (λ m. replicate m (record { state = start; register_a = None; register_b = None })) e ∙ ap (replicate (nodes_of plan)) untouched_is in
     let locals_are : locals ≡ replicate (processes_of plan) NotBegun = b ∙ ap (λ m. replicate m NotBegun) f in
     let inputs_are : inputs ≡ replicate (processes_of plan) None = c ∙ ap (λ m. replicate m None) f in
     λ d. record { nodes = nodes_are d; locals = locals_are d; inputs = inputs_are d; first = None }

@@ -11,8 +11,8 @@ use Rattle.cn_agree.specs.declared.local.Stage.TheVariants.{Write, Apply, Read, 
 use Rattle.cn_agree.specs.declared.local.Local.{Local}
 use Rattle.cn_agree.specs.declared.local.Local.TheVariants.{NotBegun, Active, Decided}
 use Rattle.cn_proto.specs.Protocol.{Protocol, place_of}
-use Rattle.cn_agree.specs.World.{World, node_at, local_at, register, with_register, untouched}
-use Rattle.cn_agree.specs.Steps.{node_after, local_after, after_action, taken, onward, after_step, after_step_from}
+use Rattle.cn_agree.specs.World.{World, node_at, local_at, register, with_register, fresh_node}
+use Rattle.cn_agree.specs.Steps.{node_after, local_after, after_action, onward_if_found, onward, after_step, after_step_from}
 
 set_cases : {A : Type 0} (l : List A) (i : ℕ) (a : A) (j : ℕ) (d : A) → ((get_or (set l i a) j d ≡ a) × (j ≡ i)) ⊎ (get_or (set l i a) j d ≡ get_or l j d)
 set_cases [] i a j d = inr refl
@@ -49,8 +49,8 @@ module _ {V : Type 0} (P : Protocol) (Q : V → Type 0) (own : ℕ → V → Typ
   locals_of here h q = elim (set_cases w.locals p here q NotBegun) [ inl e ↦ rw (e.0, e.1) h | inr e ↦ rw e (are.locals q) ]
 
   nodes_of : (v : ℕ) (node : Node V) → ((team : Team) (y : V) → register node team ≡ Some y → Q y) → (u : ℕ) (team : Team) (y : V)
-      → register (slice_index_or (slice_set w.nodes v node) u (untouched P.start)) team ≡ Some y → Q y
-  nodes_of v node old u team y h = elim (set_cases w.nodes v node u (untouched P.start)) [ inl e ↦ old team y (rw e.0 at h) | inr e ↦ are.registers u team y (rw e at h) ]
+      → register (slice_index_or (slice_set w.nodes v node) u (fresh_node P.start)) team ≡ Some y → Q y
+  nodes_of v node old u team y h = elim (set_cases w.nodes v node u (fresh_node P.start)) [ inl e ↦ old team y (rw e.0 at h) | inr e ↦ are.registers u team y (rw e at h) ]
 
   changed_of : (here : Place) (x : V) (stage : Stage) (node : Node V) → Q x → ((team : Team) (y : V) → register node team ≡ Some y → Q y) → (team : Team) (y : V) → register (node_after P here x stage node) team ≡ Some y → Q y
   changed_of here x Write node q old team y h = written_of Q node here.team team x y old q h
@@ -62,7 +62,7 @@ module _ {V : Type 0} (P : Protocol) (Q : V → Type 0) (own : ℕ → V → Typ
   onward_of y i h true is = rw is (inr h)
   onward_of y i h false is = rw is h
 
-  taken_of : (i : ℕ) (x : V) (response : Response) (state : State) (found : Option V) → ((y : V) → found ≡ Some y → Q y) → Q x → IsOfLocal Q own p (taken (length (P.path p)) i (Active i x (Take response state)) found)
+  taken_of : (i : ℕ) (x : V) (response : Response) (state : State) (found : Option V) → ((y : V) → found ≡ Some y → Q y) → Q x → IsOfLocal Q own p (onward_if_found (length (P.path p)) i (Active i x (Take response state)) found)
   taken_of i x response state None h q = inr q
   taken_of i x response state (Some y) h q = onward_of y i (h y refl) (nat_lt (i + 1) (length (P.path p))) refl
 

@@ -25,17 +25,17 @@ content node Object = State node.state.0
 content node (Register team) = Value (register node team)
 
 -- what the next action touches: the register of the process's own team, twice the object, and the register of the team that it judges to have come first
-abbrev pub touched : Protocol → Place → Stage → Part
-touched P here Write = Register here.team
-touched P here Apply = Object
-touched P here (Read response) = Object
-touched P here (Take response state) = Register (P.judge here.role response.0 state.0)
+abbrev pub part_touched : Protocol → Place → Stage → Part
+part_touched P here Write = Register here.team
+part_touched P here Apply = Object
+part_touched P here (Read response) = Object
+part_touched P here (Take response state) = Register (P.judge here.role response.0 state.0)
 
 -- process p, at its i-th place, goes from w to w' by one action: all stays but what it touches at
 -- its node, its own local state, and the record of the first application at the root
 pub record ActsOnce {V : Type 0} (P : Protocol) (p i : ℕ) (x : V) (stage : Stage) (w w' : World V) : Type 0 where
   -- every other object and register, here and at the other nodes
-  pub other_parts : (part : Part) → part ≢ touched P (place_of P p i) stage
+  pub other_parts : (part : Part) → part ≢ part_touched P (place_of P p i) stage
       → content (node_at P w' (place_of P p i).node) part ≡ content (node_at P w (place_of P p i).node) part
   pub other_nodes : (v : ℕ) → v ≢ (place_of P p i).node → node_at P w' v ≡ node_at P w v
   pub other_processes : (q : ℕ) → q ≢ p → local_at w' q ≡ local_at w q
@@ -47,8 +47,8 @@ pub record ActsOnce {V : Type 0} (P : Protocol) (p i : ℕ) (x : V) (stage : Sta
 pub record LooksAlike {V : Type 0} (P : Protocol) (p i : ℕ) (x : V) (stage : Stage) (w u : World V) : Type 0 where
   pub here : local_at w p ≡ Active i x stage
   pub there : local_at u p ≡ Active i x stage
-  pub shared : content (node_at P w (place_of P p i).node) (touched P (place_of P p i) stage)
-      ≡ content (node_at P u (place_of P p i).node) (touched P (place_of P p i) stage)
+  pub shared : content (node_at P w (place_of P p i).node) (part_touched P (place_of P p i) stage)
+      ≡ content (node_at P u (place_of P p i).node) (part_touched P (place_of P p i) stage)
 
 -- both worlds have the node of that place
 pub record HasPlace {V : Type 0} (P : Protocol) (p i : ℕ) (w u : World V) : Type 0 where
@@ -60,5 +60,5 @@ pub record IsAtomic (V : Type 0) (P : Protocol) (p : ℕ) : Type 0 where
   pub one_action : (w : World V) (i : ℕ) (x : V) (stage : Stage) → local_at w p ≡ Active i x stage → ActsOnce P p i x stage w (after_step P p w)
   pub local : (w u : World V) (i : ℕ) (x : V) (stage : Stage) → LooksAlike P p i x stage w u → local_at (after_step P p w) p ≡ local_at (after_step P p u) p
   pub shared : (w u : World V) (i : ℕ) (x : V) (stage : Stage) → HasPlace P p i w u → LooksAlike P p i x stage w u
-      → content (node_at P (after_step P p w) (place_of P p i).node) (touched P (place_of P p i) stage)
-      ≡ content (node_at P (after_step P p u) (place_of P p i).node) (touched P (place_of P p i) stage)
+      → content (node_at P (after_step P p w) (place_of P p i).node) (part_touched P (place_of P p i) stage)
+      ≡ content (node_at P (after_step P p u) (place_of P p i).node) (part_touched P (place_of P p i) stage)

@@ -4,7 +4,7 @@ use Rattle.cn_proto.specs.Plan.{Plan, protocol_of, processes_of, nodes_of}
 use Rattle.cn_proto.specs.Protocol.{Protocol}
 use Rattle.cn_agree.specs.declared.local.Stage.TheVariants.{Write}
 use Rattle.cn_agree.specs.declared.local.Local.TheVariants.{NotBegun, Active}
-use Rattle.cn_agree.specs.World.{World, untouched}
+use Rattle.cn_agree.specs.World.{World, fresh_node}
 use Rattle.cn_agree.specs.Reached.{HasBegun}
 use Rattle.cn_agree.specs.Rounds.{IsRoundOf}
 
@@ -15,7 +15,7 @@ front f d n xs i = map f (take i xs) ++ drop i (replicate n d)
 -- the first i of n processes have begun with their inputs, and nothing else has happened
 abbrev pub some_begun : {V : Type 0} → Protocol → ℕ → ℕ → List V → ℕ → World V
 some_begun P n nodes inputs i = record {
-  nodes = replicate nodes (untouched P.start);
+  nodes = replicate nodes (fresh_node P.start);
   locals = front (λ x. Active 0 x Write) NotBegun n inputs i;
   inputs = front (λ x. Some x) None n inputs i;
   first = None;

@@ -9,23 +9,23 @@ use Rattle.cn_agree.specs.declared.local.Stage.{Stage}
 use Rattle.cn_agree.specs.declared.local.Stage.TheVariants.{Write, Apply, Read, Take}
 use Rattle.cn_agree.specs.declared.local.Local.{Local}
 use Rattle.cn_agree.specs.declared.local.Local.TheVariants.{NotBegun, Active, Decided}
-use Rattle.cn_agree.specs.World.{World, untouched, local_at, input_at, register}
+use Rattle.cn_agree.specs.World.{World, fresh_node, local_at, input_at, register}
 use Rattle.cn_agree.specs.Reached.{IsReached}
 use Rattle.cn_agree.specs.Consensus.{IsParticipant, occurrences}
 
 -- what a local state tells of a decision
-abbrev pub decided : {V : Type 0} → Local V → Option V
-decided NotBegun = None
-decided (Active i x stage) = None
-decided (Decided y) = Some y
+abbrev pub decision_of : {V : Type 0} → Local V → Option V
+decision_of NotBegun = None
+decision_of (Active i x stage) = None
+decision_of (Decided y) = Some y
 
 -- what process p has decided
 abbrev pub decision_at : {V : Type 0} → World V → ℕ → Option V
-decision_at w p = decided (local_at w p)
+decision_at w p = decision_of (local_at w p)
 
 abbrev pub value_of_team : {V : Type 0} → World V → Option Team → Option V
 value_of_team w None = None
-value_of_team w (Some team) = register (slice_index_or w.nodes 0 (untouched 0)) team
+value_of_team w (Some team) = register (slice_index_or w.nodes 0 (fresh_node 0)) team
 
 -- the value that the round has fixed: what stands at the root in the register of the team that came first there
 abbrev pub fixed_value : {V : Type 0} → World V → Option V

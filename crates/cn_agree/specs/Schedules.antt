@@ -6,9 +6,9 @@ use Rattle.cn_agree.specs.declared.local.Stage.TheVariants.{Write}
 use Rattle.cn_agree.specs.declared.local.Local.TheVariants.{Active}
 use Rattle.cn_agree.specs.declared.fault.ScheduleFault.{ScheduleFault}
 use Rattle.cn_agree.specs.declared.fault.ScheduleFault.TheVariants.{InputCount, NoSuchProcess}
-use Rattle.cn_agree.specs.World.{World, untouched}
+use Rattle.cn_agree.specs.World.{World, fresh_node}
 use Rattle.cn_agree.specs.Steps.{after_schedule}
-use Rattle.cn_agree.specs.Rounds.{decided}
+use Rattle.cn_agree.specs.Rounds.{decision_of}
 
 -- what a schedule decides: for each process its decision, if it has one
 pub record Decided : Type 0 where
@@ -17,7 +17,7 @@ pub record Decided : Type 0 where
 -- each process has begun with its input, and none has taken a step
 abbrev pub all_begun : {V : Type 0} → Protocol → ℕ → List V → World V
 all_begun P nodes inputs = record {
-  nodes = replicate nodes (untouched P.start);
+  nodes = replicate nodes (fresh_node P.start);
   locals = map (λ x. Active 0 x Write) inputs;
   inputs = map (λ x. Some x) inputs;
   first = None;
@@ -25,7 +25,7 @@ all_begun P nodes inputs = record {
 
 -- what each process of a world has decided
 abbrev pub decisions_of : {V : Type 0} → World V → List (Option V)
-decisions_of w = map decided w.locals
+decisions_of w = map decision_of w.locals
 
 -- what each process has decided after this schedule of the plan
 abbrev pub decisions_after : {V : Type 0} → Plan → List V → List ℕ → List (Option V)

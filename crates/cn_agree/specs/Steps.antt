@@ -11,8 +11,8 @@ use Rattle.cn_agree.specs.declared.local.Local.TheVariants.{NotBegun, Active, De
 use Rattle.cn_agree.specs.World.{World, node_at, local_at, register, with_register}
 
 -- process p begins with this value; that is no step
-abbrev pub begun : {V : Type 0} → ℕ → V → World V → World V
-begun p x w = record w { locals = slice_set w.locals p (Active 0 x Write); inputs = slice_set w.inputs p (Some x) }
+abbrev pub after_begin : {V : Type 0} → ℕ → V → World V → World V
+after_begin p x w = record w { locals = slice_set w.locals p (Active 0 x Write); inputs = slice_set w.inputs p (Some x) }
 
 -- the node after an action of a process that stands here with this value: the first action writes the register of its team, the second applies its operation to
 -- the object, the third and the fourth only read
@@ -27,9 +27,9 @@ abbrev pub onward : {V : Type 0} → ℕ → ℕ → V → Local V
 onward places i y = if nat_lt (i + 1) places then Active (i + 1) y Write else Decided y
 
 -- it goes on with what it found in the register that it read; an empty one would leave it where it is
-abbrev pub taken : {V : Type 0} → ℕ → ℕ → Local V → Option V → Local V
-taken places i stays None = stays
-taken places i stays (Some y) = onward places i y
+abbrev pub onward_if_found : {V : Type 0} → ℕ → ℕ → Local V → Option V → Local V
+onward_if_found places i stays None = stays
+onward_if_found places i stays (Some y) = onward places i y
 
 -- its local state after the action: it keeps the response to its operation, then the state that it reads, and the fourth action reads the register of the team
 -- that it judges by these two to have come first
@@ -38,17 +38,17 @@ local_after P places i here x Write node = Active i x Apply
 local_after P places i here x Apply node = Active i x (Read (record { 0 = (P.act here.role node.state.0).0 }))
 local_after P places i here x (Read response) node = Active i x (Take response node.state)
 local_after P places i here x (Take response state) node =
-    taken places i (Active i x (Take response state)) (register node (P.judge here.role response.0 state.0))
+    onward_if_found places i (Active i x (Take response state)) (register node (P.judge here.role response.0 state.0))
 
 -- an application at the root is recorded where none is yet
-abbrev pub recorded : Option Team → ℕ → Team → Option Team
-recorded None zero team = Some team
-recorded None (suc node) team = None
-recorded (Some first) node team = Some first
+abbrev pub first_recorded : Option Team → ℕ → Team → Option Team
+first_recorded None zero team = Some team
+first_recorded None (suc node) team = None
+first_recorded (Some first) node team = Some first
 
 abbrev pub first_after : Option Team → Place → Stage → Option Team
 first_after first here Write = first
-first_after first here Apply = recorded first here.node here.team
+first_after first here Apply = first_recorded first here.node here.team
 first_after first here (Read response) = first
 first_after first here (Take response state) = first
 

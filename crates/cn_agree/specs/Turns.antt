@@ -11,7 +11,7 @@ turn_of (Active i x stage) = Some (i, stage)
 turn_of (Decided y) = None
 
 -- the same with this next action
-abbrev pub gone_on : {V : Type 0} → Stage → Local V → Local V
-gone_on next NotBegun = NotBegun
-gone_on next (Active i x stage) = Active i x next
-gone_on next (Decided y) = Decided y
+abbrev pub with_next : {V : Type 0} → Stage → Local V → Local V
+with_next next NotBegun = NotBegun
+with_next next (Active i x stage) = Active i x next
+with_next next (Decided y) = Decided y

@@ -16,11 +16,11 @@ pub record World (V : Type 0) : Type 0 where
   pub first : Option Team
 
 -- a node where nothing has happened: its object in the start state, its registers empty
-abbrev pub untouched : {V : Type 0} → ℕ → Node V
-untouched start = record { state = record { 0 = start }; register_a = None; register_b = None }
+abbrev pub fresh_node : {V : Type 0} → ℕ → Node V
+fresh_node start = record { state = record { 0 = start }; register_a = None; register_b = None }
 
 abbrev pub node_at : {V : Type 0} → Protocol → World V → ℕ → Node V
-node_at P w v = slice_index_or w.nodes v (untouched P.start)
+node_at P w v = slice_index_or w.nodes v (fresh_node P.start)
 
 abbrev pub local_at : {V : Type 0} → World V → ℕ → Local V
 local_at w p = slice_index_or w.locals p NotBegun

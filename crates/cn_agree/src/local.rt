@@ -1,7 +1,7 @@
 //! What one process of a round knows.
 ghost use Rattle.std.specs.Prelude.{◌≡◌};
-ghost use Rattle.cn_agree.specs.Rounds.{decided as decision_of};
-ghost use Rattle.cn_agree.specs.Turns.{gone_on, turn_of};
+ghost use Rattle.cn_agree.specs.Rounds.{decision_of};
+ghost use Rattle.cn_agree.specs.Turns.{with_next, turn_of};
 
 use cn_table::{Response, State};
 
@@ -47,7 +47,7 @@ impl<V: Copy> Local<V> {
 
     /// With another next action, where it is at a place.
     pub(crate) fn go_on(&mut self, next: Stage)
-        ensures { self.new ≡ gone_on next self.old }
+        ensures { self.new ≡ with_next next self.old }
     {
         if let Local::Active { stage, .. } = self {
             *stage = next;

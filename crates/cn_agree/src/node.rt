@@ -8,8 +8,11 @@ use cn_table::State;
 /// The object of a node and the registers of its two teams, empty at first.
 #[derive(Clone, Copy, Debug, Drop)]
 pub struct Node<V> {
+    /// The state of its object.
     pub state: State,
+    /// What stands in the register of team A.
     pub register_a: Option<V>,
+    /// What stands in the register of team B.
     pub register_b: Option<V>,
 }
 

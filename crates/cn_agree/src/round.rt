@@ -4,7 +4,7 @@ ghost use Rattle.cn_proto.specs.Plan.{Plan as PlanOf, protocol_of, processes_of,
 ghost use Rattle.cn_agree.specs.Consensus.{IsParticipant, occurrences};
 ghost use Rattle.cn_agree.specs.Reached.{first_world, HasBegun};
 ghost use Rattle.cn_agree.specs.Rounds.{decision_at, fixed_value, IsAppliedAtRoot, IsRoundOf, IsRound, RunsBy};
-ghost use Rattle.cn_agree.specs.Steps.{begun, after_step};
+ghost use Rattle.cn_agree.specs.Steps.{after_begin, after_step};
 ghost use Rattle.cn_agree.specs.declared.local.Local.TheVariants.{NotBegun};
 ghost use Rattle.cn_agree.specs.World.{local_at, input_at};
 
@@ -92,7 +92,7 @@ impl<V: Copy> Round<V> {
     pub fn begin(&mut self, p: u8, value: V)
         requires process { p < length self.old.locals }
         requires not_begun { local_at self.old p ≡ NotBegun }
-        ensures world { self.new ≡ begun p value self.old }
+        ensures world { self.new ≡ after_begin p value self.old }
         ensures of_plan { (plan : PlanOf) (schedule : List ℕ) → IsRoundOf plan schedule self.old → IsRoundOf plan schedule self.new }
         ensures fixed { fixed_value self.new ≡ fixed_value self.old }
     {

@@ -17,6 +17,7 @@ use std::marker::Model;
 /// What a schedule decides: for each process its decision, if it has one.
 #[derive(Drop)]
 pub struct Decided {
+    /// By process the value that it has decided, or none.
     pub decisions: Vec<Option<u64>>,
 }
 

@@ -1,4 +1,5 @@
 //! How long texts, lists and numbers may be.
+use cn_choice::MOST_PROCESSES;
 use cn_log::MOST_SLOTS;
 
 /// How many bytes the text of a table may have, that of the type as that of an object.
@@ -13,9 +14,10 @@ pub const MOST_ARGUMENT_BYTES: usize = 1_048_576;
 /// How many items a list on the command line may have.
 pub const MOST_ITEMS: usize = 65_536;
 
-/// How many items a list in a file may have: more than a log of 8 processes has events, which for
-/// n processes and K slots is fewer than n(K(5n-3)+1).
-pub const MOST_FILE_ITEMS: usize = 8 * (MOST_SLOTS as usize * 37 + 1);
+/// How many items a list in a file may have: more than a log of the most processes and slots has
+/// events, which for n processes and K slots is fewer than n(K(5n-3)+1).
+pub const MOST_FILE_ITEMS: usize = MOST_PROCESSES
+    * (MOST_SLOTS as usize * (5 * MOST_PROCESSES - 3) + 1);
 
 /// How many digits a number in an argument may have.
 pub const MOST_DIGITS: usize = 20;

@@ -1,19 +1,19 @@
 -- Arrays, an item after another, and values of other kinds than the wanted one.
-use Rattle.std.proofs.Common.{◌≡◌, ℕ, zero, suc, append-nil, ◌-◌, ◌<◌, List, [], ◌∷◌, ◌++◌, length, Bool, true, false, Option, Some, None, Result, Ok, Err, IfOk, IfErr, option_map, option_and_then, refl, sym, ap, ◌∙◌, subst, arith, inl, inr, append_assoc, ◌==◌, Bor}
+use Rattle.std.proofs.Common.{◌≡◌, ℕ, zero, suc, append-nil, ◌-◌, ◌<◌, List, [], ◌∷◌, ◌++◌, length, Bool, true, false, Option, Some, None, Result, Ok, Err, IfOk, IfErr, option_map, option_and_then, refl, sym, ap, ◌∙◌, subst, arith, inl, inr, ◌==◌, Bor}
 use Rattle.json.specs.Json.{after_end_array, value}
 use Rattle.json.specs.Token.{Token}
 use Rattle.serde_json.specs.Data.{Num, Data, null, boolean, number, string, array, object, Items, no_items, item}
 use Rattle.serde_json.specs.Find.{as_u64, as_array}
 use Rattle.serde_json.specs.Read.{number_of}
 use Rattle.cn_table.specs.Draft.{◌>>=◌}
-use Rattle.cn_table.proofs.Lists.{with_front}
+use Rattle.cn_table.proofs.Lists.{with_front, front_one}
 use Rattle.cn_choice.specs.Canonical.{Choice}
 use Rattle.cn_choice.specs.Collisions.{Collision}
 use Rattle.cn_cert.specs.Document.{list_of}
 use Rattle.cn_cert.specs.Draft.{choice_from, choice_of, collision_from, collision_of}
 use Rattle.cn_cert.specs.Reads.{Reads, Refuses}
 use Rattle.cn_cert.specs.Values.{items_of_len, natural_of, naturals_of}
-use Rattle.cn_cert.specs.Tokens.{Opens, data_at, items_at, rest_at, told, nothing, next_item, next_choice, first_item, later_items, choice_parts, next_collision, whole, in_array, collision_parts, is_over, all_items}
+use Rattle.cn_cert.specs.Tokens.{Opens, data_at, items_at, rest_at, with_value, nothing, next_item, next_choice, first_item, later_items, choice_parts, next_collision, whole, in_array, collision_parts, is_over, all_items}
 use Rattle.cn_cert.specs.declared.fault.CertFault.{CertFault}
 use Rattle.cn_cert.specs.declared.fault.CertFault.TheVariants.{NotJson}
 use Rattle.std.proofs.lemmas.Bool.{eqb-true}
@@ -49,13 +49,13 @@ abbrev front_of : Option (ℕ × List Token) → ℕ
 front_of None = 7
 front_of (Some p) = p.0
 
-constant : {A : Type 0} (n k : ℕ) (there : Option (A × List Token)) (r : List Token) → told (λ _. n) there ≡ Some (k, r) → k ≡ n
+constant : {A : Type 0} (n k : ℕ) (there : Option (A × List Token)) (r : List Token) → with_value (λ _. n) there ≡ Some (k, r) → k ≡ n
 constant n k there r e = sym (told_of (λ _. n) there k r e).2
 
 impossible : {P : Type 0} {A : Type 0} (there : Option A) (a : A) → there ≡ None → there ≡ Some a → P
 impossible there a none some = let same : Some a ≡ None = sym some ∙ none in absurd cc
 
-pub sorted : (depth : ℕ) (t : Token) (ts : List Token) (k : ℕ) (r : List Token) → told sort (data_at depth (t ∷ ts)) ≡ Some (k, r) → k ≡ token_sort t
+pub sorted : (depth : ℕ) (t : Token) (ts : List Token) (k : ℕ) (r : List Token) → with_value sort (data_at depth (t ∷ ts)) ≡ Some (k, r) → k ≡ token_sort t
 sorted zero Token.begin_object ts k r e = impossible _ _ (object_too_deep sort ts) e
 sorted (suc d) Token.begin_object ts k r e = constant 5 k _ r (sym (object_told sort (suc d) ts (omega arith)) ∙ e)
 sorted depth Token.end_object ts k r e = impossible _ _ (none_told sort depth Token.end_object ts refl) e
@@ -75,13 +75,13 @@ sorted depth Token.bad ts k r e = impossible _ _ (none_told sort depth Token.bad
 
 -- what is told of a value that was passed over
 pub else_told : {A : Type 0} (K : Data → A) (a : A) (depth : ℕ) (t : Token) (ts r : List Token) → ((d : Data) → sort d ≡ token_sort t → K d ≡ a)
-    → told nothing (data_at depth (t ∷ ts)) ≡ Some (tt, r) → told K (data_at depth (t ∷ ts)) ≡ Some (a, r)
+    → with_value nothing (data_at depth (t ∷ ts)) ≡ Some (tt, r) → with_value K (data_at depth (t ∷ ts)) ≡ Some (a, r)
 else_told K a depth t ts r each e =
     let d = told_of nothing (data_at depth (t ∷ ts)) tt r e in
-    ap (told K) d.1 ∙ ap (λ x. Some (x, r)) (each d.0 (sorted depth t ts (sort d.0) r (ap (told sort) d.1)))
+    ap (with_value K) d.1 ∙ ap (λ x. Some (x, r)) (each d.0 (sorted depth t ts (sort d.0) r (ap (with_value sort) d.1)))
 
-pub else_none : {A B C : Type 0} (K : A → B) (L : A → C) (there : Option (A × List Token)) → told L there ≡ None → told K there ≡ None
-else_none K L there e = ap (told K) (told_none L there e)
+pub else_none : {A B C : Type 0} (K : A → B) (L : A → C) (there : Option (A × List Token)) → with_value L there ≡ None → with_value K there ≡ None
+else_none K L there e = ap (with_value K) (told_none L there e)
 
 pub not_natural : (d : Data) → (sort d ≡ 2 → ⊥) → natural_of d ≡ None
 not_natural null h = refl
@@ -152,30 +152,26 @@ number_read (Err e) (Some x) ts (inr is) = let never = is.1 in absurd cc
 pub items_over_at : (depth : ℕ) (ts r : List Token) → after_end_array ts ≡ Some r → items_at depth ts ≡ Some (no_items, r)
 items_over_at depth ts r e = items_over (value depth) (length ts) ts r (omega arith) e
 
-front_one : {X : Type 0} (front : List X) (x : X) (rest : Option (List X)) → with_front front (rest >>= (λ xs. Some (x ∷ xs))) ≡ with_front (front ++ x ∷ []) rest
-front_one front x None = refl
-front_one front x (Some xs) = ap Some (sym (append_assoc front (x ∷ []) xs))
-
-pub const_told : {A C : Type 0} (c : C) (there : Option (A × List Token)) (r : List Token) → told nothing there ≡ Some (tt, r) → told (λ _. c) there ≡ Some (c, r)
-const_told c there r e = let d = told_of nothing there tt r e in ap (told (λ _. c)) d.1
+pub const_told : {A C : Type 0} (c : C) (there : Option (A × List Token)) (r : List Token) → with_value nothing there ≡ Some (tt, r) → with_value (λ _. c) there ≡ Some (c, r)
+const_told c there r e = let d = told_of nothing there tt r e in ap (with_value (λ _. c)) d.1
 
 module _ {X : Type 0} (kind : Data → Option X) (depth : ℕ) where
   abbrev pub behind : List X → List Token → Option (Option (List X) × List Token)
-  behind front ts = told (λ ds. with_front front (all_items kind ds)) (items_at depth ts)
+  behind front ts = with_value (λ ds. with_front front (all_items kind ds)) (items_at depth ts)
 
   module _ (front : List X) (ts : List Token) where
-    pub list_next : (r : List Token) (x : X) → after_end_array ts ≡ None → told kind (data_at depth ts) ≡ Some (Some x, r) → behind front ts ≡ behind (front ++ x ∷ []) r
+    pub list_next : (r : List Token) (x : X) → after_end_array ts ≡ None → with_value kind (data_at depth ts) ≡ Some (Some x, r) → behind front ts ≡ behind (front ++ x ∷ []) r
     list_next r x going e = item_step kind depth ts going (λ ds. with_front front (all_items kind ds)) (λ ds. with_front (front ++ x ∷ []) (all_items kind ds)) r (Some x) e
         (λ d ds is. ap (λ o. with_front front (o >>= (λ y. all_items kind ds >>= (λ ys. Some (y ∷ ys))))) is ∙ front_one front x (all_items kind ds))
 
-    pub list_stops : (s r : List Token) → after_end_array ts ≡ None → told kind (data_at depth ts) ≡ Some (None, s) → told nothing (items_at depth s) ≡ Some (tt, r) → behind front ts ≡ Some (None, r)
+    pub list_stops : (s r : List Token) → after_end_array ts ≡ None → with_value kind (data_at depth ts) ≡ Some (None, s) → with_value nothing (items_at depth s) ≡ Some (tt, r) → behind front ts ≡ Some (None, r)
     list_stops s r going e rest = item_step kind depth ts going (λ ds. with_front front (all_items kind ds)) (λ ds. None) s None e
         (λ d ds is. ap (λ o. with_front front (o >>= (λ y. all_items kind ds >>= (λ ys. Some (y ∷ ys))))) is) ∙ const_told None (items_at depth s) r rest
 
-    pub list_refused : after_end_array ts ≡ None → told kind (data_at depth ts) ≡ None → behind front ts ≡ None
+    pub list_refused : after_end_array ts ≡ None → with_value kind (data_at depth ts) ≡ None → behind front ts ≡ None
     list_refused going e = item_none kind depth ts going (λ ds. with_front front (all_items kind ds)) e
 
-    pub list_cut : (s : List Token) → after_end_array ts ≡ None → told kind (data_at depth ts) ≡ Some (None, s) → told nothing (items_at depth s) ≡ None → behind front ts ≡ None
+    pub list_cut : (s : List Token) → after_end_array ts ≡ None → with_value kind (data_at depth ts) ≡ Some (None, s) → with_value nothing (items_at depth s) ≡ None → behind front ts ≡ None
     list_cut s going e rest = item_step kind depth ts going (λ ds. with_front front (all_items kind ds)) (λ ds. None) s None e
         (λ d ds is. ap (λ o. with_front front (o >>= (λ y. all_items kind ds >>= (λ ys. Some (y ∷ ys))))) is) ∙ else_none (λ _. None) nothing (items_at depth s) rest
 
@@ -249,47 +245,47 @@ collision_in_array = in_array_of 6 collision_from (whole next_collision) collisi
 -- ---- steps within such an array
 
 -- an item that is there, or is not
-pub rest_going : {X : Type 0} (kind : Data → Option X) (depth : ℕ) (ts r : List Token) (o : Option X) → after_end_array ts ≡ None → told kind (data_at depth ts) ≡ Some (o, r)
-    → told (next_item kind) (items_at depth ts) ≡ told (λ ds. (o, ds)) (items_at depth r)
+pub rest_going : {X : Type 0} (kind : Data → Option X) (depth : ℕ) (ts r : List Token) (o : Option X) → after_end_array ts ≡ None → with_value kind (data_at depth ts) ≡ Some (o, r)
+    → with_value (next_item kind) (items_at depth ts) ≡ with_value (λ ds. (o, ds)) (items_at depth r)
 rest_going kind depth ts r o going e = item_step kind depth ts going (next_item kind) (λ ds. (o, ds)) r o e (λ d ds is. ap (λ x. (x, ds)) is)
 
 -- what is made of a part, and then of the items behind it
-pub then_more : {A C : Type 0} (K : Items → A × Items) (G : A → Items → C) (a : A) (there next : Option (Items × List Token)) → told K there ≡ told (λ ds. (a, ds)) next
-    → told (λ ds. G (K ds).0 (K ds).1) there ≡ told (G a) next
+pub then_more : {A C : Type 0} (K : Items → A × Items) (G : A → Items → C) (a : A) (there next : Option (Items × List Token)) → with_value K there ≡ with_value (λ ds. (a, ds)) next
+    → with_value (λ ds. G (K ds).0 (K ds).1) there ≡ with_value (G a) next
 then_more K G a there next e =
-    sym (told_twice K (λ p. G p.0 p.1) (λ ds. G (K ds).0 (K ds).1) (λ _. refl) there) ∙ ap (told (λ p. G p.0 p.1)) e ∙ told_twice (λ ds. (a, ds)) (λ p. G p.0 p.1) (G a) (λ _. refl) next
+    sym (told_twice K (λ p. G p.0 p.1) (λ ds. G (K ds).0 (K ds).1) (λ _. refl) there) ∙ ap (with_value (λ p. G p.0 p.1)) e ∙ told_twice (λ ds. (a, ds)) (λ p. G p.0 p.1) (G a) (λ _. refl) next
 
 module _ {R X : Type 0} (kind : Data → Option X) (depth : ℕ) (f : Option R → Option X) (was now : Bool) (ts front s : List Token) (opened : was ≡ true) (same : front ≡ ts) (going : after_end_array ts ≡ None) where
-  pub next_ok : (r : Result (Option R) CertFault) → now ≡ true → IfOk r (λ o. told kind (data_at depth front) ≡ Some (f o, s))
-      → IfOk r (λ o. told (next_item kind) (rest_at was depth ts) ≡ told (λ ds. (f o, ds)) (rest_at now depth s))
+  pub next_ok : (r : Result (Option R) CertFault) → now ≡ true → IfOk r (λ o. with_value kind (data_at depth front) ≡ Some (f o, s))
+      → IfOk r (λ o. with_value (next_item kind) (rest_at was depth ts) ≡ with_value (λ ds. (f o, ds)) (rest_at now depth s))
   next_ok (Ok o) still e =
-      ap (λ b. told (next_item kind) (rest_at b depth ts)) opened ∙ rest_going kind depth ts s (f o) going (ap (λ x. told kind (data_at depth x)) (sym same) ∙ e)
-      ∙ ap (λ b. told (λ ds. (f o, ds)) (rest_at b depth s)) (sym still)
+      ap (λ b. with_value (next_item kind) (rest_at b depth ts)) opened ∙ rest_going kind depth ts s (f o) going (ap (λ x. with_value kind (data_at depth x)) (sym same) ∙ e)
+      ∙ ap (λ b. with_value (λ ds. (f o, ds)) (rest_at b depth s)) (sym still)
   next_ok (Err e) still u = u
 
-  pub next_err : (r : Result (Option R) CertFault) → IfErr r (λ e. Refuses e (told kind (data_at depth front))) → IfErr r (λ e. Refuses e (told (next_item kind) (rest_at was depth ts)))
+  pub next_err : (r : Result (Option R) CertFault) → IfErr r (λ e. Refuses e (with_value kind (data_at depth front))) → IfErr r (λ e. Refuses e (with_value (next_item kind) (rest_at was depth ts)))
   next_err (Ok o) u = u
   next_err (Err e) refused = refuse_more e _ _
-      (λ none. ap (λ b. told (next_item kind) (rest_at b depth ts)) opened ∙ item_none kind depth ts going (next_item kind) (ap (λ x. told kind (data_at depth x)) (sym same) ∙ none)) refused
+      (λ none. ap (λ b. with_value (next_item kind) (rest_at b depth ts)) opened ∙ item_none kind depth ts going (next_item kind) (ap (λ x. with_value kind (data_at depth x)) (sym same) ∙ none)) refused
 
 -- an array whose end is not next has an item
-pub not_over : (depth : ℕ) (ts r : List Token) → after_end_array ts ≡ None → told nothing (items_at depth ts) ≡ Some (tt, r) → told is_over (items_at depth ts) ≡ Some (false, r)
+pub not_over : (depth : ℕ) (ts r : List Token) → after_end_array ts ≡ None → with_value nothing (items_at depth ts) ≡ Some (tt, r) → with_value is_over (items_at depth ts) ≡ Some (false, r)
 not_over depth ts r going e = from (data_at depth ts) refl
   where
-    from : (o : Option (Data × List Token)) → data_at depth ts ≡ o → told is_over (items_at depth ts) ≡ Some (false, r)
-    from None n = impossible _ _ (item_none nothing depth ts going nothing (ap (told nothing) n)) e
+    from : (o : Option (Data × List Token)) → data_at depth ts ≡ o → with_value is_over (items_at depth ts) ≡ Some (false, r)
+    from None n = impossible _ _ (item_none nothing depth ts going nothing (ap (with_value nothing) n)) e
     from (Some p) n =
-        let rest = sym (item_step nothing depth ts going nothing nothing p.1 tt (ap (told nothing) n) (λ d ds _. refl)) ∙ e in
-        item_step nothing depth ts going is_over (λ _. false) p.1 tt (ap (told nothing) n) (λ d ds _. refl) ∙ const_told false (items_at depth p.1) r rest
+        let rest = sym (item_step nothing depth ts going nothing nothing p.1 tt (ap (with_value nothing) n) (λ d ds _. refl)) ∙ e in
+        item_step nothing depth ts going is_over (λ _. false) p.1 tt (ap (with_value nothing) n) (λ d ds _. refl) ∙ const_told false (items_at depth p.1) r rest
 
 -- ---- arrays that were opened, and other values
 
-pub opened_told : {A : Type 0} (K : Data → A) (depth : ℕ) (old new : List Token) → Opens true depth old new → told K (data_at depth old) ≡ told (λ ds. K (array ds)) (items_at (depth - 1) new)
-opened_told K depth old new opened = ap (told K) opened.1 ∙ told_twice array K (λ ds. K (array ds)) (λ _. refl) (items_at (depth - 1) new)
+pub opened_told : {A : Type 0} (K : Data → A) (depth : ℕ) (old new : List Token) → Opens true depth old new → with_value K (data_at depth old) ≡ with_value (λ ds. K (array ds)) (items_at (depth - 1) new)
+opened_told K depth old new opened = ap (with_value K) opened.1 ∙ told_twice array K (λ ds. K (array ds)) (λ _. refl) (items_at (depth - 1) new)
 
 -- a state, and two lists, one after another
-pub choice_steps : (there one two three : Option (Items × List Token)) (s : Option ℕ) (a b : Option (List ℕ)) → told (next_item natural_of) there ≡ told (λ ds. (s, ds)) one
-    → told (next_item naturals_of) one ≡ told (λ ds. (a, ds)) two → told (next_item naturals_of) two ≡ told (λ ds. (b, ds)) three → told next_choice there ≡ told (λ ds. (choice_parts s a b, ds)) three
+pub choice_steps : (there one two three : Option (Items × List Token)) (s : Option ℕ) (a b : Option (List ℕ)) → with_value (next_item natural_of) there ≡ with_value (λ ds. (s, ds)) one
+    → with_value (next_item naturals_of) one ≡ with_value (λ ds. (a, ds)) two → with_value (next_item naturals_of) two ≡ with_value (λ ds. (b, ds)) three → with_value next_choice there ≡ with_value (λ ds. (choice_parts s a b, ds)) three
 choice_steps there one two three s a b e f g =
     then_more (next_item natural_of) (λ x ds. (choice_parts x (first_item naturals_of ds) (first_item naturals_of (later_items ds)), later_items (later_items ds))) s there one e
     ∙ then_more (next_item naturals_of) (λ x ds. (choice_parts s x (first_item naturals_of ds), later_items ds)) a one two f
@@ -297,5 +293,5 @@ choice_steps there one two three s a b e f g =
 
 -- an opened array that is told by its items
 pub told_opened : {A : Type 0} (K : Data → A) (F : Items → A) (depth : ℕ) (old new : List Token) → ((ds : Items) → K (array ds) ≡ F ds) → Opens true depth old new
-    → told K (data_at depth old) ≡ told F (items_at (depth - 1) new)
+    → with_value K (data_at depth old) ≡ with_value F (items_at (depth - 1) new)
 told_opened K F depth old new each opened = opened_told K depth old new opened ∙ told_same (λ ds. K (array ds)) F each (items_at (depth - 1) new)

@@ -5,7 +5,7 @@ use Rattle.json.specs.Token.{Token}
 use Rattle.serde_json.specs.Data.{Data}
 use Rattle.cn_choice.specs.Canonical.{Choice}
 use Rattle.cn_choice.specs.Collisions.{Collision}
-use Rattle.cn_cert.specs.Tokens.{told, nothing, Slots, with_member}
+use Rattle.cn_cert.specs.Tokens.{with_value, nothing, Slots, with_member}
 
 -- what is told by way of something else
 abbrev along : {A B C : Type 0} → (A → B) → Option (A × C) → Option (B × C)
@@ -13,7 +13,7 @@ along put None = None
 along put (Some x) = Some (put x.0, x.1)
 
 told_by : {A B : Type 0} (f : Data → A) (g : Data → B) (put : A → B) → ((d : Data) → g d ≡ put (f d)) → (there : Option (Data × List Token)) (a : A) (r : List Token)
-    → told f there ≡ Some (a, r) → told g there ≡ Some (put a, r)
+    → with_value f there ≡ Some (a, r) → with_value g there ≡ Some (put a, r)
 told_by f g put same None a r e = absurd cc
 told_by f g put same (Some p) a r e = ap (λ x. Some (x, p.1)) (same p.0) ∙ ap (along put) e
 
@@ -38,13 +38,13 @@ put_witness s x = record { collisions = s.collisions; limit = s.limit; number = 
 
 -- the value at a key that is one of the six
 pub key_told : {X : Type 0} (key name : List ℕ) (s : Slots) (kind : Data → X) (put : X → Slots) → ((d : Data) → with_member name s d ≡ put (kind d))
-    → (there : Option (Data × List Token)) (x : X) (r : List Token) → bytes_eq key name ≡ true → told kind there ≡ Some (x, r) → told (with_member key s) there ≡ Some (put x, r)
+    → (there : Option (Data × List Token)) (x : X) (r : List Token) → bytes_eq key name ≡ true → with_value kind there ≡ Some (x, r) → with_value (with_member key s) there ≡ Some (put x, r)
 key_told key name s kind put same there x r e read =
-    ap (λ k. told (with_member k s) there) ((bytes_eq-Decides key name).0 e) ∙ told_by kind (with_member name s) put same there x r read
+    ap (λ k. with_value (with_member k s) there) ((bytes_eq-Decides key name).0 e) ∙ told_by kind (with_member name s) put same there x r read
 
 -- the value at a key that is none of them
 pub other_key_told : (key : List ℕ) (s : Slots) (there : Option (Data × List Token)) (u : Unit {0}) (r : List Token)
     → bytes_eq key (codes "collisions") ≡ false → bytes_eq key (codes "limit") ≡ false → bytes_eq key (codes "number") ≡ false
     → bytes_eq key (codes "type") ≡ false → bytes_eq key (codes "version") ≡ false → bytes_eq key (codes "witness") ≡ false
-    → told nothing there ≡ Some (u, r) → told (with_member key s) there ≡ Some (s, r)
+    → with_value nothing there ≡ Some (u, r) → with_value (with_member key s) there ≡ Some (s, r)
 other_key_told key s there u r e1 e2 e3 e4 e5 e6 read = told_by nothing (with_member key s) (λ _. s) (λ d. rw (e1, e2, e3, e4, e5, e6) refl) there u r read

@@ -10,7 +10,7 @@ use Rattle.serde_json.proofs.Views.{get_member-put, get_member-put_other}
 use Rattle.cn_cert.specs.Document.{members_len}
 use Rattle.cn_cert.specs.Draft.{choice_of, collisions_of, draft_from, draft_of}
 use Rattle.cn_cert.specs.Values.{natural_of, nullable, at_key}
-use Rattle.cn_cert.specs.Tokens.{data_at, told, Slots, slots_of, with_member, draft_parts, keys_of}
+use Rattle.cn_cert.specs.Tokens.{data_at, with_value, Slots, slots_of, with_member, draft_parts, keys_of}
 use Rattle.cn_cert.proofs.Walks.{told_of}
 use Rattle.cn_cert.proofs.ArrayWalks.{sort, token_sort, sorted}
 
@@ -47,12 +47,12 @@ number_or_null_read None ts o e = absurd cc
 number_or_null_read (Some x) ts o e = ap (option_map (λ k. (option_map Some k, ts))) e
 
 -- a value that is not null, read as one of a kind or null
-pub some_or_null : {X : Type 0} (kind : Data → Option X) (depth : ℕ) (t : Token) (ts r : List Token) (o : Option X) → (token_sort t ≡ 0 → ⊥) → told kind (data_at depth (t ∷ ts)) ≡ Some (o, r)
-    → told (nullable kind) (data_at depth (t ∷ ts)) ≡ Some (option_map Some o, r)
+pub some_or_null : {X : Type 0} (kind : Data → Option X) (depth : ℕ) (t : Token) (ts r : List Token) (o : Option X) → (token_sort t ≡ 0 → ⊥) → with_value kind (data_at depth (t ∷ ts)) ≡ Some (o, r)
+    → with_value (nullable kind) (data_at depth (t ∷ ts)) ≡ Some (option_map Some o, r)
 some_or_null kind depth t ts r o other e =
     let d = told_of kind (data_at depth (t ∷ ts)) o r e in
-    let same = sorted depth t ts (sort d.0) r (ap (told sort) d.1) in
-    ap (told (nullable kind)) d.1 ∙ ap (λ x. Some (x, r)) (not_null kind d.0 (λ h. other (sym same ∙ h)) ∙ ap (option_map Some) d.2)
+    let same = sorted depth t ts (sort d.0) r (ap (with_value sort) d.1) in
+    ap (with_value (nullable kind)) d.1 ∙ ap (λ x. Some (x, r)) (not_null kind d.0 (λ h. other (sym same ∙ h)) ∙ ap (option_map Some) d.2)
 
 -- ---- the value at a key, after one more was put
 

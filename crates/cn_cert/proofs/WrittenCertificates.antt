@@ -17,6 +17,7 @@ use Rattle.cn_cert.specs.Ranges.{is_byte, is_number_in_range, is_short, is_choic
 use Rattle.cn_cert.specs.Reading.{reading}
 use Rattle.cn_cert.proofs.PrintedValues.{IsReadBack, HoldReadBack, null_back, number_back, string_back, array_back, no_more, one_more, list_back, no_key, one_key, read_back, line_read_back}
 use Rattle.cn_cert.proofs.SpelledCertificates as spelled
+use Rattle.cn_choice.specs.declared.limits.TheConstants.{MOST_PROCESSES}
 
 -- ---- the parts, each within its range
 
@@ -35,7 +36,7 @@ version_back most n is = number_back most n (small (n == 1) (n == 2) refl refl i
     small false false e f g = absurd (cc g)
 
 numbers : (most : ℕ) (ns : List ℕ) → is_short ns ≡ true → IsReadBack (suc most) (numbers_data ns)
-numbers most ns pass = array_back most _ (list_back most (λ n. nat_le n 7) number_data (λ n. number_below most 7 n (omega arith)) ns (and_parts _ _ pass).1)
+numbers most ns pass = array_back most _ (list_back most (λ n. nat_le n (MOST_PROCESSES - 1)) number_data (λ n. number_below most (MOST_PROCESSES - 1) n (omega arith)) ns (and_parts _ _ pass).1)
 
 number : (most : ℕ) (n : Option ℕ) → is_number_in_range n ≡ true → IsReadBack most (number_or_null n)
 number most None pass = null_back most
@@ -60,7 +61,7 @@ collision most x pass =
     let orders = and_parts _ _ r.1 in
     array_back (suc most) _
     (one_more _ _ _ (number_below _ (MOST_STATES - 1) x.choice.state (omega arith) q.0) (one_more _ _ _ (numbers most x.choice.a teams.0) (one_more _ _ _ (numbers most x.choice.b teams.1)
-    (one_more _ _ _ (number_below _ 7 x.process (omega arith) r.0) (one_more _ _ _ (numbers most x.alpha orders.0) (one_more _ _ _ (numbers most x.beta orders.1) (no_more _)))))))
+    (one_more _ _ _ (number_below _ (MOST_PROCESSES - 1) x.process (omega arith) r.0) (one_more _ _ _ (numbers most x.alpha orders.0) (one_more _ _ _ (numbers most x.beta orders.1) (no_more _)))))))
 
 name_byte : (b : ℕ) → is_name_byte b ≡ true → nat_lt b 128 ≡ true
 name_byte b pass = grind (arith, nat_tests)

@@ -8,6 +8,7 @@ use Rattle.cn_table.specs.declared.limits.TheConstants.{MOST_STATES}
 use Rattle.cn_choice.specs.Canonical.{Choice}
 use Rattle.cn_choice.specs.Collisions.{Collision}
 use Rattle.cn_cert.specs.Certificate.{Certificate}
+use Rattle.cn_choice.specs.declared.limits.TheConstants.{MOST_PROCESSES}
 
 -- limits and numbers
 abbrev pub is_byte : ℕ → Bool
@@ -16,9 +17,9 @@ is_byte n = nat_le n 255
 abbrev pub is_number_in_range : Option ℕ → Bool
 is_number_in_range n = option_map_or is_byte n true
 
--- lists of operations, and of processes: at most 8, each from 0 to 7
+-- lists of operations, and of processes, of which there may be as many: at most MOST_PROCESSES, each below it
 abbrev pub is_short : List ℕ → Bool
-is_short ns = nat_le (length ns) 8 && list_all (λ n. nat_le n 7) ns
+is_short ns = nat_le (length ns) MOST_PROCESSES && list_all (λ n. nat_le n (MOST_PROCESSES - 1)) ns
 
 abbrev pub is_choice_in_range : Choice → Bool
 is_choice_in_range c = nat_le c.state (MOST_STATES - 1) && (is_short c.a && is_short c.b)
@@ -27,7 +28,7 @@ abbrev pub is_witness_in_range : Option Choice → Bool
 is_witness_in_range w = option_map_or is_choice_in_range w true
 
 abbrev pub is_collision_in_range : Collision → Bool
-is_collision_in_range x = is_choice_in_range x.choice && (nat_le x.process 7 && (is_short x.alpha && is_short x.beta))
+is_collision_in_range x = is_choice_in_range x.choice && (nat_le x.process (MOST_PROCESSES - 1) && (is_short x.alpha && is_short x.beta))
 
 -- everything is within its range, and the type is called by a name
 abbrev pub is_in_range : Certificate → Bool

@@ -10,13 +10,13 @@ use Rattle.cn_cert.specs.declared.fault.CertFault.{CertFault}
 use Rattle.cn_cert.specs.declared.fault.CertFault.TheVariants.{WrongShape, Version, Range}
 
 -- the certificate that the bytes spell, whatever its version and its numbers
-abbrev pub spelled : List ℕ → Option Certificate
-spelled bytes = option_and_then draft_of (document_of bytes)
+abbrev pub draft_spelled : List ℕ → Option Certificate
+draft_spelled bytes = option_and_then draft_of (document_of bytes)
 
 -- the first fault that the bytes have, else the certificate that they spell
 -- (bytes without a fault spell one, so the `WrongShape` here is never met)
 abbrev pub reading : List ℕ → Result Certificate CertFault
-reading bytes = option_map_or Err (fault_of bytes) (ok_or (spelled bytes) WrongShape)
+reading bytes = option_map_or Err (fault_of bytes) (ok_or (draft_spelled bytes) WrongShape)
 
 -- the certificate of a draft, else its first fault
 abbrev pub draft_reading : Certificate → Result Certificate CertFault

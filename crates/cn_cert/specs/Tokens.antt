@@ -25,8 +25,8 @@ abbrev pub members_at : ℕ → Members → List Token → Option (Members × Li
 members_at depth found ts = converted (λ ms. of_members ms found) (members (value depth) (length ts) ts)
 
 -- what is told of it, and the tokens behind it
-abbrev pub told : {A B : Type 0} → (A → B) → Option (A × List Token) → Option (B × List Token)
-told f there = option_map (λ p. (f p.0, p.1)) there
+abbrev pub with_value : {A B : Type 0} → (A → B) → Option (A × List Token) → Option (B × List Token)
+with_value f there = option_map (λ p. (f p.0, p.1)) there
 
 -- nothing is told of it
 abbrev pub nothing : {A : Type 0} → A → Unit {0}
@@ -107,12 +107,12 @@ IsLast more old new = (depth : ℕ) → rest_at more depth old ≡ Some (no_item
 
 -- from the front of what is left of an array this was taken, and that is left
 abbrev pub Takes : {X : Type 0} → (Items → Option X × Items) → ℕ → Option X → Bool → List Token → Bool → List Token → Type 0
-Takes parts depth o more old more_after new = told parts (rest_at more depth old) ≡ told (λ ds. (o, ds)) (rest_at more_after depth new)
+Takes parts depth o more old more_after new = with_value parts (rest_at more depth old) ≡ with_value (λ ds. (o, ds)) (rest_at more_after depth new)
 
 -- an array was opened, or another value passed over
 abbrev pub Opens : Bool → ℕ → List Token → List Token → Type 0
-Opens true depth old new = (0 < depth) × (data_at depth old ≡ told array (items_at (depth - 1) new))
-Opens false depth old new = told as_array (data_at depth old) ≡ Some (None, new)
+Opens true depth old new = (0 < depth) × (data_at depth old ≡ with_value array (items_at (depth - 1) new))
+Opens false depth old new = with_value as_array (data_at depth old) ≡ Some (None, new)
 
 -- what stands at the six keys
 pub record Slots : Type 0 where

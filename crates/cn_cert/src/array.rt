@@ -3,7 +3,7 @@ ghost use Rattle.std.specs.Prelude.{◌≡◌, ◌∷◌, true, IfOk, IfErr, Som
 ghost use Rattle.std.specs.Bool.{MatchBool};
 ghost use Rattle.json.specs.Reads.{token_of};
 ghost use Rattle.cn_cert.specs.Reads.{Refuses};
-ghost use Rattle.cn_cert.specs.Tokens.{IsLast, IsNext, Opens, Takes, data_at, items_at, rest_at, told};
+ghost use Rattle.cn_cert.specs.Tokens.{IsLast, IsNext, Opens, Takes, data_at, items_at, rest_at, with_value};
 ghost use Rattle.cn_cert.specs.Tokens.{next_item, choice_parts, collision_parts, is_over, all_items, in_array, whole};
 ghost use Rattle.cn_cert.specs.Values.{natural_of, naturals_of, each_of};
 
@@ -36,8 +36,8 @@ fn items<T: Kind>(
     reader: &mut Reader<'_>,
     depth: usize,
 ) -> Result<Option<Vec<T>>, CertFault>
-    ensures ok { IfOk result (λ o. told (all_items T.kind) (items_at depth reader.old) ≡ Some (option_map (λ v. v.items) o, reader.new)) }
-    ensures err { IfErr result (λ e. Refuses e (told (all_items T.kind) (items_at depth reader.old))) }
+    ensures ok { IfOk result (λ o. with_value (all_items T.kind) (items_at depth reader.old) ≡ Some (option_map (λ v. v.items) o, reader.new)) }
+    ensures err { IfErr result (λ e. Refuses e (with_value (all_items T.kind) (items_at depth reader.old))) }
 {
     let mut found = Vec::new(alloc);
     'items: while !reader.take_end_array() {
@@ -58,8 +58,8 @@ pub(crate) fn list<T: Kind>(
     reader: &mut Reader<'_>,
     depth: usize,
 ) -> Result<Option<Vec<T>>, CertFault>
-    ensures ok { IfOk result (λ o. told (each_of T.kind) (data_at depth reader.old) ≡ Some (option_map (λ v. v.items) o, reader.new)) }
-    ensures err { IfErr result (λ e. Refuses e (told (each_of T.kind) (data_at depth reader.old))) }
+    ensures ok { IfOk result (λ o. with_value (each_of T.kind) (data_at depth reader.old) ≡ Some (option_map (λ v. v.items) o, reader.new)) }
+    ensures err { IfErr result (λ e. Refuses e (with_value (each_of T.kind) (data_at depth reader.old))) }
 {
     let token = first(reader)?;
     if opens(reader, depth, token)? {
@@ -89,7 +89,7 @@ fn next_natural(
     more: &mut bool,
 ) -> Result<Option<u64>, CertFault>
     ensures ok { IfOk result (λ o. Takes (next_item natural_of) depth o more.old reader.old more.new reader.new) }
-    ensures err { IfErr result (λ e. Refuses e (told (next_item natural_of) (rest_at more.old depth reader.old))) }
+    ensures err { IfErr result (λ e. Refuses e (with_value (next_item natural_of) (rest_at more.old depth reader.old))) }
 {
     if has_next(reader, more) {
         next::<u64>(alloc, reader, depth)
@@ -105,7 +105,7 @@ fn next_naturals(
     more: &mut bool,
 ) -> Result<Option<Vec<u64>>, CertFault>
     ensures ok { IfOk result (λ o. Takes (next_item naturals_of) depth (option_map (λ v. v.items) o) more.old reader.old more.new reader.new) }
-    ensures err { IfErr result (λ e. Refuses e (told (next_item naturals_of) (rest_at more.old depth reader.old))) }
+    ensures err { IfErr result (λ e. Refuses e (with_value (next_item naturals_of) (rest_at more.old depth reader.old))) }
 {
     if has_next(reader, more) {
         list::<u64>(alloc, reader, depth)
@@ -116,8 +116,8 @@ fn next_naturals(
 
 /// Goes to the end of the array, and says whether no item stood before it.
 fn is_over(reader: &mut Reader<'_>, depth: usize, more: &mut bool) -> Result<bool, CertFault>
-    ensures ok { IfOk result (λ over. told is_over (rest_at more.old depth reader.old) ≡ Some (over, reader.new)) }
-    ensures err { IfErr result (λ e. Refuses e (told is_over (rest_at more.old depth reader.old))) }
+    ensures ok { IfOk result (λ over. with_value is_over (rest_at more.old depth reader.old) ≡ Some (over, reader.new)) }
+    ensures err { IfErr result (λ e. Refuses e (with_value is_over (rest_at more.old depth reader.old))) }
 {
     if has_next(reader, more) {
         rest_of_items(reader, depth)?;
@@ -132,7 +132,7 @@ trait Parts: Sized + Drop {
     ghost use Rattle.std.specs.Prelude.{◌≡◌, Option, IfOk, IfErr};
     ghost use Rattle.serde_json.specs.Data.{Items};
     ghost use Rattle.cn_cert.specs.Reads.{Refuses};
-    ghost use Rattle.cn_cert.specs.Tokens.{Takes, rest_at, told};
+    ghost use Rattle.cn_cert.specs.Tokens.{Takes, rest_at, with_value};
 
     ghost parts: { Items → Option Self × Items };
 
@@ -144,7 +144,7 @@ trait Parts: Sized + Drop {
         more: &mut bool,
     ) -> Result<Option<Self>, CertFault>
         ensures ok { IfOk result (λ o. Takes parts depth o more.old reader.old more.new reader.new) }
-        ensures err { IfErr result (λ e. Refuses e (told parts (rest_at more.old depth reader.old))) };
+        ensures err { IfErr result (λ e. Refuses e (with_value parts (rest_at more.old depth reader.old))) };
 }
 
 /// The rest of an array as one such thing, with nothing behind it.
@@ -153,8 +153,8 @@ fn rest_as<T: Parts>(
     reader: &mut Reader<'_>,
     depth: usize,
 ) -> Result<Option<T>, CertFault>
-    ensures ok { IfOk result (λ o. told (whole T.parts) (items_at depth reader.old) ≡ Some (o, reader.new)) }
-    ensures err { IfErr result (λ e. Refuses e (told (whole T.parts) (items_at depth reader.old))) }
+    ensures ok { IfOk result (λ o. with_value (whole T.parts) (items_at depth reader.old) ≡ Some (o, reader.new)) }
+    ensures err { IfErr result (λ e. Refuses e (with_value (whole T.parts) (items_at depth reader.old))) }
 {
     let mut more = true;
     let found = T::next(alloc, reader, depth, &mut more)?;
@@ -172,8 +172,8 @@ fn array_as<T: Parts>(
     depth: usize,
     token: Token<'_>,
 ) -> Result<Option<T>, CertFault>
-    ensures ok { IfOk result (λ o. told (in_array (whole T.parts)) (data_at depth (token_of token.entry ∷ reader.old)) ≡ Some (o, reader.new)) }
-    ensures err { IfErr result (λ e. Refuses e (told (in_array (whole T.parts)) (data_at depth (token_of token.entry ∷ reader.old)))) }
+    ensures ok { IfOk result (λ o. with_value (in_array (whole T.parts)) (data_at depth (token_of token.entry ∷ reader.old)) ≡ Some (o, reader.new)) }
+    ensures err { IfErr result (λ e. Refuses e (with_value (in_array (whole T.parts)) (data_at depth (token_of token.entry ∷ reader.old)))) }
 {
     if opens(reader, depth, token)? {
         rest_as::<T>(alloc, reader, depth - 1)

@@ -1,7 +1,7 @@
 //! Texts in the form in which certificates are written, by a way that is short and only guesses.
 //!
 //! What a text says is guessed from its digits, and the guess stands where its own text is that text.
-ghost use Rattle.std.specs.Prelude.{◌≡◌, ◌<◌, ◌≤◌, ◌⊎◌, ◌++◌, ◌∷◌, [], IfSome, IsTrue, IsUtf8, None, Ok, true, string_bytes};
+ghost use Rattle.std.specs.Prelude.{◌≡◌, ◌<◌, ◌≤◌, ◌⊎◌, ◌++◌, IfSome, IsTrue, IsUtf8, None, Ok, true, string_bytes};
 ghost use Rattle.std.specs.List.{list_all};
 ghost use Rattle.cn_table.specs.Names.{is_name};
 ghost use Rattle.cn_table.specs.declared.limits.TheConstants.{MOST_STATES};
@@ -9,13 +9,14 @@ ghost use Rattle.cn_cert.specs.Certificate.{is_version};
 ghost use Rattle.cn_cert.specs.CertificateText.{certificate_text};
 ghost use Rattle.cn_cert.specs.Ranges.{is_number_in_range, is_short, is_choice_in_range, is_collision_in_range, is_witness_in_range, is_in_range};
 ghost use Rattle.cn_cert.specs.Reading.{reading};
+ghost use Rattle.cn_table.specs.Texts.{line_feed};
 
 use crate::certificate::Certificate;
-use crate::ranges::LONGEST_LIST;
+use crate::ranges::GREATEST_NUMBER;
 use crate::write::write_certificate;
 use arrayvec::ArrayVec;
 use cn_choice::{Choice, Collision, MOST_PROCESSES};
-use cn_table::{State, is_name};
+use cn_table::{LONGEST_NAME, State, is_name};
 use std::alloc::Global;
 
 /// The bytes of a text that are still to come.
@@ -62,7 +63,7 @@ impl<'a> Bytes<'a> {
         Some(())
     }
 
-    /// A list of digits from 0 to 7.
+    /// A list of digits, each the number of an operation or a process.
     fn list(&mut self) -> Option<ArrayVec<u8, MOST_PROCESSES>>
         ensures { IfSome result (λ v. is_short v.items ≡ true) }
     {
@@ -72,8 +73,8 @@ impl<'a> Bytes<'a> {
         if byte == b']' {
             return Some(out);
         }
-        for _ in 0..LONGEST_LIST {
-            out.push(digit(byte, 7)?);
+        for _ in 0..MOST_PROCESSES {
+            out.push(digit(byte, GREATEST_NUMBER)?);
             match self.next() {
                 b',' => byte = self.next(),
                 b']' => return Some(out),
@@ -113,7 +114,7 @@ impl<'a> Bytes<'a> {
     {
         let choice = self.choice()?;
         self.pass(b',')?;
-        let process = digit(self.next(), 7)?;
+        let process = digit(self.next(), GREATEST_NUMBER)?;
         self.pass(b',')?;
         let alpha = self.list()?;
         self.pass(b',')?;
@@ -163,7 +164,7 @@ impl<'a> Bytes<'a> {
         ensures { IfSome result (λ s. is_name (string_bytes s) ≡ true) }
     {
         let mut name = String::new(alloc);
-        for _ in 0..33 {
+        for _ in 0..LONGEST_NAME + 1 {
             let byte = self.next();
             if byte == b'"' {
                 return if is_name(name.as_str()) {
@@ -220,7 +221,7 @@ impl<'a> Bytes<'a> {
 
 /// A text without the line feed at its end, if it has one.
 fn without_line_feed(bytes: &[u8]) -> &[u8]
-    ensures { (bytes.now ≡ result.now) ⊎ (bytes.now ≡ result.now ++ 10 ∷ []) }
+    ensures { (bytes.now ≡ result.now) ⊎ (bytes.now ≡ result.now ++ line_feed) }
 {
     match bytes.split_last() {
         Some((b'\n', front)) => front,

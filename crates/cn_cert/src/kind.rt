@@ -2,7 +2,7 @@
 ghost use Rattle.std.specs.Prelude.{◌≡◌, ◌∷◌, IfOk, IfErr, Some};
 ghost use Rattle.json.specs.Reads.{token_of};
 ghost use Rattle.cn_cert.specs.Reads.{Refuses};
-ghost use Rattle.cn_cert.specs.Tokens.{data_at, told};
+ghost use Rattle.cn_cert.specs.Tokens.{data_at, with_value};
 ghost use Rattle.cn_cert.specs.Values.{nullable};
 
 use crate::fault::CertFault;
@@ -17,7 +17,7 @@ pub(crate) trait Kind: Sized + Drop {
     ghost use Rattle.json.specs.Reads.{token_of};
     ghost use Rattle.serde_json.specs.Data.{Data};
     ghost use Rattle.cn_cert.specs.Reads.{Refuses};
-    ghost use Rattle.cn_cert.specs.Tokens.{data_at, told};
+    ghost use Rattle.cn_cert.specs.Tokens.{data_at, with_value};
 
     ghost kind: { Data → Option Self };
 
@@ -28,8 +28,8 @@ pub(crate) trait Kind: Sized + Drop {
         depth: usize,
         token: Token<'_>,
     ) -> Result<Option<Self>, CertFault>
-        ensures ok { IfOk result (λ o. told kind (data_at depth (token_of token.entry ∷ reader.old)) ≡ Some (o, reader.new)) }
-        ensures err { IfErr result (λ e. Refuses e (told kind (data_at depth (token_of token.entry ∷ reader.old)))) };
+        ensures ok { IfOk result (λ o. with_value kind (data_at depth (token_of token.entry ∷ reader.old)) ≡ Some (o, reader.new)) }
+        ensures err { IfErr result (λ e. Refuses e (with_value kind (data_at depth (token_of token.entry ∷ reader.old)))) };
 }
 
 impl Kind for u64 {
@@ -57,8 +57,8 @@ pub(crate) fn next<T: Kind>(
     reader: &mut Reader<'_>,
     depth: usize,
 ) -> Result<Option<T>, CertFault>
-    ensures ok { IfOk result (λ o. told T.kind (data_at depth reader.old) ≡ Some (o, reader.new)) }
-    ensures err { IfErr result (λ e. Refuses e (told T.kind (data_at depth reader.old))) }
+    ensures ok { IfOk result (λ o. with_value T.kind (data_at depth reader.old) ≡ Some (o, reader.new)) }
+    ensures err { IfErr result (λ e. Refuses e (with_value T.kind (data_at depth reader.old))) }
 {
     let token = first(reader)?;
     T::of(alloc, reader, depth, token)
@@ -70,8 +70,8 @@ pub(crate) fn next_or_null<T: Kind>(
     reader: &mut Reader<'_>,
     depth: usize,
 ) -> Result<Option<Option<T>>, CertFault>
-    ensures ok { IfOk result (λ o. told (nullable T.kind) (data_at depth reader.old) ≡ Some (o, reader.new)) }
-    ensures err { IfErr result (λ e. Refuses e (told (nullable T.kind) (data_at depth reader.old))) }
+    ensures ok { IfOk result (λ o. with_value (nullable T.kind) (data_at depth reader.old) ≡ Some (o, reader.new)) }
+    ensures err { IfErr result (λ e. Refuses e (with_value (nullable T.kind) (data_at depth reader.old))) }
 {
     let token = first(reader)?;
     if let Token::Null = token {

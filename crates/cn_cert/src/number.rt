@@ -1,9 +1,10 @@
 //! The numbers of a text.
-ghost use Rattle.std.specs.Prelude.{◌≡◌, ◌==◌, ◌<◌, length, option_map, slice_index, IfSome, IsTrue, Some, true, false};
+ghost use Rattle.std.specs.Prelude.{codes, ◌≡◌, ◌==◌, ◌<◌, length, option_map, slice_index, IfSome, IsTrue, Some, true, false};
 ghost use Rattle.serde_json.specs.Data.{unsigned};
 ghost use Rattle.serde_json.specs.Find.{as_u64};
 ghost use Rattle.serde_json.specs.Read.{number_of, number_from, float_of};
 ghost use Rattle.cn_cert.specs.Reads.{Reads};
+ghost use Rattle.cn_table.specs.Texts.{code_of};
 
 use crate::fault::CertFault;
 use fast_float::Numeral;
@@ -40,7 +41,7 @@ fn negative(numeral: &Numeral<'_>) -> Result<Option<u64>, CertFault>
 }
 
 fn has_minus(bytes: &[u8]) -> bool
-    ensures value { result ≡ (slice_index bytes.now 0 == 45) }
+    ensures value { result ≡ (slice_index bytes.now 0 == code_of (codes "-")) }
     ensures len { IsTrue result → 0 < length bytes.now }
 {
     !bytes.is_empty() && bytes[0] == b'-'

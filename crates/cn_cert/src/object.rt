@@ -6,7 +6,7 @@ ghost use Rattle.serde_json.specs.View.{members_view};
 ghost use Rattle.cn_cert.specs.Document.{members_len};
 ghost use Rattle.cn_cert.specs.Draft.{draft_of};
 ghost use Rattle.cn_cert.specs.Reads.{Refuses};
-ghost use Rattle.cn_cert.specs.Tokens.{data_at, members_at, told, nothing, slots_of, with_member, draft_parts};
+ghost use Rattle.cn_cert.specs.Tokens.{data_at, members_at, with_value, nothing, slots_of, with_member, draft_parts};
 
 use crate::array::list;
 use crate::draft::{Draft, DraftChoice, DraftCollision};
@@ -81,8 +81,8 @@ fn draft_of_slots(slots: Slots) -> Option<Draft>
 
 /// The text that a value is.
 fn text(alloc: Global, reader: &mut Reader<'_>, depth: usize) -> Result<Option<String>, CertFault>
-    ensures ok { IfOk result (λ o. told as_str (data_at depth reader.old) ≡ Some (option_map string_bytes o, reader.new)) }
-    ensures err { IfErr result (λ e. Refuses e (told as_str (data_at depth reader.old))) }
+    ensures ok { IfOk result (λ o. with_value as_str (data_at depth reader.old) ≡ Some (option_map string_bytes o, reader.new)) }
+    ensures err { IfErr result (λ e. Refuses e (with_value as_str (data_at depth reader.old))) }
 {
     let token = first(reader)?;
     if let Token::String(text) = token {
@@ -100,8 +100,8 @@ fn read_member(
     key: &str,
     slots: &mut Slots,
 ) -> Result<(), CertFault>
-    ensures ok { IfOk result (λ _. told (with_member key.now slots.old) (data_at depth reader.old) ≡ Some (slots.new, reader.new)) }
-    ensures err { IfErr result (λ e. Refuses e (told nothing (data_at depth reader.old))) }
+    ensures ok { IfOk result (λ _. with_value (with_member key.now slots.old) (data_at depth reader.old) ≡ Some (slots.new, reader.new)) }
+    ensures err { IfErr result (λ e. Refuses e (with_value nothing (data_at depth reader.old))) }
 {
     if key == "collisions" {
         slots.collisions = list::<DraftCollision>(alloc, reader, depth)?;
@@ -135,8 +135,8 @@ fn draft_members(
     reader: &mut Reader<'_>,
     depth: usize,
 ) -> Result<Option<Draft>, CertFault>
-    ensures ok { IfOk result (λ o. told (λ ms. draft_of (object ms)) (members_at depth no_members reader.old) ≡ Some (o, reader.new)) }
-    ensures err { IfErr result (λ e. Refuses e (told (λ ms. draft_of (object ms)) (members_at depth no_members reader.old))) }
+    ensures ok { IfOk result (λ o. with_value (λ ms. draft_of (object ms)) (members_at depth no_members reader.old) ≡ Some (o, reader.new)) }
+    ensures err { IfErr result (λ e. Refuses e (with_value (λ ms. draft_of (object ms)) (members_at depth no_members reader.old))) }
 {
     let mut slots = no_slots();
     let mut keys: Map<String, Value> = Map::new(alloc);
@@ -158,8 +158,8 @@ pub(crate) fn draft(
     reader: &mut Reader<'_>,
     depth: usize,
 ) -> Result<Option<Draft>, CertFault>
-    ensures ok { IfOk result (λ o. told draft_of (data_at depth reader.old) ≡ Some (o, reader.new)) }
-    ensures err { IfErr result (λ e. Refuses e (told draft_of (data_at depth reader.old))) }
+    ensures ok { IfOk result (λ o. with_value draft_of (data_at depth reader.old) ≡ Some (o, reader.new)) }
+    ensures err { IfErr result (λ e. Refuses e (with_value draft_of (data_at depth reader.old))) }
 {
     let token = first(reader)?;
     if let Token::BeginObject = token {

@@ -15,11 +15,8 @@ use std::alloc::Global;
 
 const GREATEST_STATE: u64 = MOST_STATES as u64 - 1;
 
-/// The greatest number of an operation or of a process.
-const GREATEST_NUMBER: u64 = 7;
-
-/// So many operations or processes stand in a list, and no more.
-pub(crate) const LONGEST_LIST: usize = 8;
+/// The greatest number of an operation or of a process: there may be as many of both.
+pub(crate) const GREATEST_NUMBER: u8 = MOST_PROCESSES as u8 - 1;
 
 fn byte(n: u64) -> Result<u8, CertFault>
     ensures { Reads CertFault.Range (λ n. n) result (within is_byte n) }
@@ -42,12 +39,12 @@ fn number(n: Option<u64>) -> Result<Option<u8>, CertFault>
 fn short_list(numbers: &[u64]) -> Result<ArrayVec<u8, MOST_PROCESSES>, CertFault>
     ensures { Reads CertFault.Range (λ v. v.items) result (within is_short numbers.now) }
 {
-    if numbers.len() > LONGEST_LIST {
+    if numbers.len() > MOST_PROCESSES {
         return Err(CertFault::Range);
     }
     let mut out = ArrayVec::new();
     for n in numbers {
-        if *n > GREATEST_NUMBER {
+        if *n > GREATEST_NUMBER as u64 {
             return Err(CertFault::Range);
         }
         out.push(*n as u8);
@@ -86,7 +83,7 @@ fn collision(draft: &DraftCollision) -> Result<Collision, CertFault>
     let choice = choice(&draft.choice)?;
     let alpha = short_list(draft.alpha.as_slice())?;
     let beta = short_list(draft.beta.as_slice())?;
-    if draft.process > GREATEST_NUMBER {
+    if draft.process > GREATEST_NUMBER as u64 {
         return Err(CertFault::Range);
     }
     Ok(Collision {

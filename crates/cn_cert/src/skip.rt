@@ -3,7 +3,7 @@ ghost use Rattle.std.specs.Prelude.{◌≡◌, ◌∷◌, MatchResult, IfOk, IfE
 ghost use Rattle.json.specs.Json.{read_key};
 ghost use Rattle.json.specs.Reads.{token_of};
 ghost use Rattle.cn_cert.specs.Reads.{Refuses};
-ghost use Rattle.cn_cert.specs.Tokens.{data_at, items_at, members_at, told, nothing};
+ghost use Rattle.cn_cert.specs.Tokens.{data_at, items_at, members_at, with_value, nothing};
 ghost use Rattle.serde_json.specs.Data.{no_members};
 
 use crate::fault::CertFault;
@@ -36,8 +36,8 @@ pub(crate) fn rest_of(
     depth: usize,
     token: Token<'_>,
 ) -> Result<(), CertFault>
-    ensures ok { IfOk result (λ u. told nothing (data_at depth (token_of token.entry ∷ reader.old)) ≡ Some (u, reader.new)) }
-    ensures err { IfErr result (λ e. Refuses e (told nothing (data_at depth (token_of token.entry ∷ reader.old)))) }
+    ensures ok { IfOk result (λ u. with_value nothing (data_at depth (token_of token.entry ∷ reader.old)) ≡ Some (u, reader.new)) }
+    ensures err { IfErr result (λ e. Refuses e (with_value nothing (data_at depth (token_of token.entry ∷ reader.old)))) }
 {
     match token {
         Token::String(_) | Token::Bool(_) | Token::Null => Ok(()),
@@ -63,8 +63,8 @@ pub(crate) fn rest_of(
 
 #[cycle(skip)]
 pub(crate) fn rest_of_items(reader: &mut Reader<'_>, depth: usize) -> Result<(), CertFault>
-    ensures ok { IfOk result (λ u. told nothing (items_at depth reader.old) ≡ Some (u, reader.new)) }
-    ensures err { IfErr result (λ e. Refuses e (told nothing (items_at depth reader.old))) }
+    ensures ok { IfOk result (λ u. with_value nothing (items_at depth reader.old) ≡ Some (u, reader.new)) }
+    ensures err { IfErr result (λ e. Refuses e (with_value nothing (items_at depth reader.old))) }
 {
     'items: while !reader.take_end_array() {
         let token = first(reader)?;
@@ -75,8 +75,8 @@ pub(crate) fn rest_of_items(reader: &mut Reader<'_>, depth: usize) -> Result<(),
 
 #[cycle(skip)]
 fn rest_of_members(reader: &mut Reader<'_>, depth: usize) -> Result<(), CertFault>
-    ensures ok { IfOk result (λ u. told nothing (members_at depth no_members reader.old) ≡ Some (u, reader.new)) }
-    ensures err { IfErr result (λ e. Refuses e (told nothing (members_at depth no_members reader.old))) }
+    ensures ok { IfOk result (λ u. with_value nothing (members_at depth no_members reader.old) ≡ Some (u, reader.new)) }
+    ensures err { IfErr result (λ e. Refuses e (with_value nothing (members_at depth no_members reader.old))) }
 {
     'members: while let Some(_) = key(reader)? {
         let token = first(reader)?;

@@ -13,7 +13,8 @@ use Rattle.cn_choice.specs.declared.team.Team.{Team}
 use Rattle.cn_choice.specs.RawChoices.{RawChoice}
 use Rattle.cn_choice.specs.Orders.{IsOrder}
 use Rattle.cn_choice.specs.OutcomeSets.{BeginsIn, InOutcomeSet, operations_of, response_of}
-use Rattle.cn_check.specs.Runs.{AreMoves, EndsIn, IsIn, ShowsBy, ShowsFrom, move_of, moved}
+use Rattle.cn_check.specs.Runs.{AreMoves, EndsIn, IsIn, ShowsBy, ShowsFrom, with_mover}
+use Rattle.cn_choice.specs.Subsets.{move_of}
 use Rattle.cn_check.proofs.SetLemmas.{moved_before, moved_other, moved_same, none_in_0}
 use Rattle.cn_check.proofs.WalkLemmas.{IsSeenAlong}
 
@@ -58,27 +59,27 @@ below_next P k = (
 
 -- ---- the first of some moves
 
-fresh_more : (used p : ℕ) (moves : List ℕ) → AllByRecursion (λ q. ¬ IsIn used q) moves → AllByRecursion (λ q. nat_eq p q ≡ false) moves → AllByRecursion (λ q. ¬ IsIn (moved used p) q) moves
+fresh_more : (used p : ℕ) (moves : List ℕ) → AllByRecursion (λ q. ¬ IsIn used q) moves → AllByRecursion (λ q. nat_eq p q ≡ false) moves → AllByRecursion (λ q. ¬ IsIn (with_mover used p) q) moves
 fresh_more used p [] h d = tt
 fresh_more used p (q ∷ moves) h d = (λ m. h.0 (moved_other used p q (λ e. true≢false (sym (eq-eqb p q (sym e)) ∙ d.0)) m), fresh_more used p moves h.1 d.1)
 
-fresh_less : (used p : ℕ) (moves : List ℕ) → AllByRecursion (λ q. ¬ IsIn (moved used p) q) moves → AllByRecursion (λ q. ¬ IsIn used q) moves
+fresh_less : (used p : ℕ) (moves : List ℕ) → AllByRecursion (λ q. ¬ IsIn (with_mover used p) q) moves → AllByRecursion (λ q. ¬ IsIn used q) moves
 fresh_less used p [] h = tt
 fresh_less used p (q ∷ moves) h = (λ m. h.0 (moved_before used p q m), fresh_less used p moves h.1)
 
-distinct_from : (used p : ℕ) (moves : List ℕ) → AllByRecursion (λ q. ¬ IsIn (moved used p) q) moves → AllByRecursion (λ q. nat_eq p q ≡ false) moves
+distinct_from : (used p : ℕ) (moves : List ℕ) → AllByRecursion (λ q. ¬ IsIn (with_mover used p) q) moves → AllByRecursion (λ q. nat_eq p q ≡ false) moves
 distinct_from used p [] h = tt
-distinct_from used p (q ∷ moves) h = (ne_eqb p q (λ e. h.0 (subst (IsIn (moved used p)) e (moved_same used p))), distinct_from used p moves h.1)
+distinct_from used p (q ∷ moves) h = (ne_eqb p q (λ e. h.0 (subst (IsIn (with_mover used p)) e (moved_same used p))), distinct_from used p moves h.1)
 
 pub no_moves : (n used : ℕ) → AreMoves n used []
 unfolding IsDistinct
 no_moves n used = record { known = tt; distinct = tt; fresh = tt }
 
-pub later_moves : (n used p : ℕ) (moves : List ℕ) → AreMoves n used (p ∷ moves) → AreMoves n (moved used p) moves
+pub later_moves : (n used p : ℕ) (moves : List ℕ) → AreMoves n used (p ∷ moves) → AreMoves n (with_mover used p) moves
 unfolding IsDistinct
 later_moves n used p moves h = record { known = h.known.1; distinct = h.distinct.1; fresh = fresh_more used p moves h.fresh.1 h.distinct.0 }
 
-pub first_move : (n used p : ℕ) (moves : List ℕ) → p < n → ¬ IsIn used p → AreMoves n (moved used p) moves → AreMoves n used (p ∷ moves)
+pub first_move : (n used p : ℕ) (moves : List ℕ) → p < n → ¬ IsIn used p → AreMoves n (with_mover used p) moves → AreMoves n used (p ∷ moves)
 unfolding IsDistinct
 first_move n used p moves known new h = record {
   known = (known, h.known);
@@ -98,7 +99,7 @@ order_is_moves n order = (
     all_new (p ∷ moves) = (none_in_0 p, all_new moves)
 
 -- moves from a place of a list on, by the process at the place
-pub moves_at : (n used : ℕ) (list : List ℕ) (i : ℕ) → i < length list → AreMoves n used (drop i list) ↔ ((get_or list i 0 < n) × (¬ IsIn used (get_or list i 0)) × AreMoves n (moved used (get_or list i 0)) (drop (i + 1) list))
+pub moves_at : (n used : ℕ) (list : List ℕ) (i : ℕ) → i < length list → AreMoves n used (drop i list) ↔ ((get_or list i 0 < n) × (¬ IsIn used (get_or list i 0)) × AreMoves n (with_mover used (get_or list i 0)) (drop (i + 1) list))
 moves_at n used list i l =
     let p : ℕ = get_or list i 0 in
     let split : drop i list ≡ p ∷ drop (i + 1) list = rw (add-one, drop-cons list i 0) refl in (
@@ -119,7 +120,7 @@ is_fresh used j r (p ∷ moves) (x ∷ responses) h e = by_test (λ f. is_fresh 
 module _ (t : TypeTable) (c : RawChoice) (used state : ℕ) where
   -- process p, which has not moved, moves first, and the object is left in state q
   abbrev pub EndsNext : ℕ → ℕ → Type 0
-  EndsNext q p = (¬ IsIn used p) × EndsIn t c (moved used p) (move_of t c p state).1 q
+  EndsNext q p = (¬ IsIn used p) × EndsIn t c (with_mover used p) (move_of t c p state).1 q
 
   -- process p, which has not moved, moves first, and process j gets the pair
   abbrev pub ShowsNext : ℕ → ℕ → ℕ → ℕ → Type 0
@@ -140,7 +141,7 @@ module _ (t : TypeTable) (c : RawChoice) (used state : ℕ) where
       from_moves (p ∷ moves) are e = inr (p, omega (arith, are.known.0, all), (are.fresh.0, (moves, later_moves (length c.operations) used p moves are, e)))
 
   -- what is shown after a first move of process p, or by it
-  shown_first : (p j r q : ℕ) (moves : List ℕ) → AreMoves (length c.operations) (moved used p) moves → response_of j (p ∷ moves) (responses_along t state (operations_of c (p ∷ moves))) ≡ Some r
+  shown_first : (p j r q : ℕ) (moves : List ℕ) → AreMoves (length c.operations) (with_mover used p) moves → response_of j (p ∷ moves) (responses_along t state (operations_of c (p ∷ moves))) ≡ Some r
       → state_after t (move_of t c p state).1 (operations_of c moves) ≡ q → ShowsBy t c used state p j r q
   shown_first p j r q moves are e left = by_test (p == j) refl e
     where
@@ -158,7 +159,7 @@ module _ (t : TypeTable) (c : RawChoice) (used state : ℕ) where
   first_shown p j r q known new (inl (moves, are, e, left)) = (moves, first_move (length c.operations) used p moves known new are, other, left)
     where
       apart : p ≢ j
-      apart same = is_fresh (moved used p) j r moves _ are.fresh e (subst (IsIn (moved used p)) same (moved_same used p))
+      apart same = is_fresh (with_mover used p) j r moves _ are.fresh e (subst (IsIn (with_mover used p)) same (moved_same used p))
 
       other : response_of j (p ∷ moves) (responses_along t state (operations_of c (p ∷ moves))) ≡ Some r
       other = ap (λ b. cond b (Some (move_of t c p state).0) (response_of j moves (responses_along t (move_of t c p state).1 (operations_of c moves)))) (ne_eqb p j apart) ∙ e
@@ -214,12 +215,12 @@ module _ (t : TypeTable) (c : RawChoice) (team : Team) (j r q : ℕ) where
 
 -- ---- one move and a walk from where it leads
 
-module _ (t : TypeTable) (c : RawChoice) (used state p response after u later : ℕ) (move : (response, after) ≡ move_of t c p state) (with : u ≡ moved used p) (ends : (q : ℕ) → IsIn later q ↔ EndsIn t c u after q) where
-  pub ends_by : (q : ℕ) → EndsIn t c (moved used p) (move_of t c p state).1 q ↔ IsIn later q
+module _ (t : TypeTable) (c : RawChoice) (used state p response after u later : ℕ) (move : (response, after) ≡ move_of t c p state) (with : u ≡ with_mover used p) (ends : (q : ℕ) → IsIn later q ↔ EndsIn t c u after q) where
+  pub ends_by : (q : ℕ) → EndsIn t c (with_mover used p) (move_of t c p state).1 q ↔ IsIn later q
   ends_by q =
       let same : after ≡ (move_of t c p state).1 = ap (λ (m : ℕ × ℕ). m.1) move in (
-        λ h. (ends q).1 (subst (λ (x : ℕ). EndsIn t c x after q) (sym with) (subst (λ (x : ℕ). EndsIn t c (moved used p) x q) (sym same) h)),
-        λ h. subst (λ (x : ℕ). EndsIn t c (moved used p) x q) same (subst (λ (x : ℕ). EndsIn t c x after q) with ((ends q).0 h)),
+        λ h. (ends q).1 (subst (λ (x : ℕ). EndsIn t c x after q) (sym with) (subst (λ (x : ℕ). EndsIn t c (with_mover used p) x q) (sym same) h)),
+        λ h. subst (λ (x : ℕ). EndsIn t c (with_mover used p) x q) same (subst (λ (x : ℕ). EndsIn t c x after q) with ((ends q).0 h)),
       )
 
   pub shows_by : (j r q : ℕ) → ShowsBy t c used state p j r q ↔ (ShowsFrom t c u after j r q ⊎ ((j ≡ p) × (r ≡ response) × IsIn later q))
@@ -227,11 +228,11 @@ module _ (t : TypeTable) (c : RawChoice) (used state p response after u later : 
       let first : response ≡ (move_of t c p state).0 = ap (λ (m : ℕ × ℕ). m.0) move in
       let same : after ≡ (move_of t c p state).1 = ap (λ (m : ℕ × ℕ). m.1) move in (
         λ h. elim h [
-          | inl s ↦ inl (subst (λ (x : ℕ). ShowsFrom t c x after j r q) (sym with) (subst (λ (x : ℕ). ShowsFrom t c (moved used p) x j r q) (sym same) s))
+          | inl s ↦ inl (subst (λ (x : ℕ). ShowsFrom t c x after j r q) (sym with) (subst (λ (x : ℕ). ShowsFrom t c (with_mover used p) x j r q) (sym same) s))
           | inr e ↦ inr (e.0, e.1 ∙ sym first, (ends_by q).0 e.2)
         ],
         λ h. elim h [
-          | inl s ↦ inl (subst (λ (x : ℕ). ShowsFrom t c (moved used p) x j r q) same (subst (λ (x : ℕ). ShowsFrom t c x after j r q) with s))
+          | inl s ↦ inl (subst (λ (x : ℕ). ShowsFrom t c (with_mover used p) x j r q) same (subst (λ (x : ℕ). ShowsFrom t c x after j r q) with s))
           | inr e ↦ inr (e.0, e.1 ∙ first, (ends_by q).1 e.2)
         ],
       )

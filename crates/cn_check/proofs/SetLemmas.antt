@@ -6,7 +6,7 @@ use Rattle.std.proofs.Math.Nat.{eq-or-lt_of_le}
 use Rattle.std.proofs.lemmas.Bool.{eqb-true, eq-eqb}
 use Rattle.std.proofs.lemmas.Nat.{and_le_l, le_or_l}
 use Rattle.std.proofs.lemmas.Nat.Bits.{bit_at_and, bit_at_or, bit_at-lt, bit_at-pow_same, bit_at-pow_other, bit_at-trailing_zeros, bit_at-zero}
-use Rattle.cn_check.specs.Runs.{IsIn, moved}
+use Rattle.cn_check.specs.Runs.{IsIn, with_mover}
 
 by_bit : (n k : ℕ) → (bit_at n k ≡ 0) ⊎ (bit_at n k ≡ 1)
 by_bit n k = cases (bit_at n k) refl (bit_at-lt n k)
@@ -73,19 +73,19 @@ in_both a b l = cases (nat_eq (bit_and a b) 0) refl
 
 -- ---- those that have moved
 
-pub moved_same : (used p : ℕ) → IsIn (moved used p) p
+pub moved_same : (used p : ℕ) → IsIn (with_mover used p) p
 moved_same used p = (in_either used (2 ^ p) p).1 (inr ((in_pow p p).1 refl))
 
-pub moved_before : (used p q : ℕ) → IsIn used q → IsIn (moved used p) q
+pub moved_before : (used p q : ℕ) → IsIn used q → IsIn (with_mover used p) q
 moved_before used p q h = (in_either used (2 ^ p) q).1 (inl h)
 
-pub moved_other : (used p q : ℕ) → q ≢ p → IsIn (moved used p) q → IsIn used q
+pub moved_other : (used p q : ℕ) → q ≢ p → IsIn (with_mover used p) q → IsIn used q
 moved_other used p q other h = elim ((in_either used (2 ^ p) q).0 h) [ inl a ↦ a | inr b ↦ absurd (other ((in_pow p q).0 b)) ]
 
 -- with one more the number is greater
-pub moved_more : (used p : ℕ) → ¬ IsIn used p → used < moved used p
+pub moved_more : (used p : ℕ) → ¬ IsIn used p → used < with_mover used p
 moved_more used p none = by_order (eq-or-lt_of_le (le_or_l used (2 ^ p)))
   where
-    by_order : (used ≡ moved used p) ⊎ (used < moved used p) → used < moved used p
+    by_order : (used ≡ with_mover used p) ⊎ (used < with_mover used p) → used < with_mover used p
     by_order (inl same) = absurd (none (subst (λ (n : ℕ). IsIn n p) (sym same) (moved_same used p)))
     by_order (inr less) = less

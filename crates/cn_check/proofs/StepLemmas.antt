@@ -1,6 +1,6 @@
 -- Lists that never fall: the first of its length, and the one that comes next.
 use Rattle.std.proofs.Common.{◌≡◌, ℕ, zero, suc, ◌+◌, ◌-◌, ◌<◌, ◌≤◌, List, [], ◌∷◌, ◌++◌, length, length-append, length-drop, length-take-le, append-nil, get_or, set, take, drop, drop-cons, refl, sym, ap, ◌∙◌, arith, false, ltb, replicate, All}
-use Rattle.std.specs.List.{AllByRecursion, range_with_len, refill}
+use Rattle.std.specs.List.{AllByRecursion, refill}
 use Rattle.std.proofs.lemmas.Bool.{lt-ltb}
 use Rattle.std.proofs.lemmas.Bool.Decides.{nat_tests}
 use Rattle.std.proofs.lemmas.List.{drop_all, length-replicate, set-append_right, take-append-drop, take_all}
@@ -8,12 +8,7 @@ use Rattle.std.proofs.lemmas.List.Edits.{fill_more}
 use Rattle.std.proofs.lemmas.List.Elements.{All-from_recursion, recursion_from_All}
 use Rattle.cn_choice.specs.Canonical.{second_lists}
 use Rattle.cn_choice.specs.Rising.{rising_after, rising_lists}
-
-pub range_first : (low m : ℕ) → low < m → range_with_len low (m - low) ≡ low ∷ range_with_len (low + 1) (m - (low + 1))
-range_first low m l = let e : m - low ≡ suc (m - (low + 1)) = omega arith in rw e refl
-
-range_none : (low m : ℕ) → m ≤ low → range_with_len low (m - low) ≡ []
-range_none low m l = let e : m - low ≡ 0 = omega arith in rw e refl
+use Rattle.cn_table.proofs.Lists.{range_first, range_none}
 
 zeros_below : (k m : ℕ) → 1 ≤ m → AllByRecursion (λ x. x < m) (replicate k 0)
 zeros_below zero m l = tt

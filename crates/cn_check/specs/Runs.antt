@@ -1,23 +1,20 @@
 -- Runs that go on from a point: some processes have moved, and the object is in a state.
-use Rattle.std.specs.Prelude.{◌≡◌, ℕ, ◌^◌, ◌<◌, ◌⊎◌, List, length, nat_eq, Some, bit_or, slice_index}
+use Rattle.std.specs.Prelude.{◌≡◌, ℕ, ◌^◌, ◌<◌, ◌⊎◌, List, length, nat_eq, Some, bit_or}
 use Rattle.std.specs.Int.{bit_at}
 use Rattle.std.specs.List.{AllByRecursion, IsDistinct}
 use Rattle.cn_table.specs.Run.{responses_along, state_after}
-use Rattle.cn_table.specs.TypeTable.{TypeTable, transition}
+use Rattle.cn_table.specs.TypeTable.{TypeTable}
 use Rattle.cn_choice.specs.RawChoices.{RawChoice}
 use Rattle.cn_choice.specs.OutcomeSets.{operations_of, response_of}
+use Rattle.cn_choice.specs.Subsets.{move_of}
 
 -- the number is in the set: sets of small numbers are the bits of a number
 abbrev pub IsIn : ℕ → ℕ → Type 0
 IsIn set k = bit_at set k ≡ 1
 
 -- the processes that have moved, with one more
-abbrev pub moved : ℕ → ℕ → ℕ
-moved used p = bit_or used (2 ^ p)
-
--- the response to process p when it moves in the state, and the state after it
-abbrev pub move_of : TypeTable → RawChoice → ℕ → ℕ → ℕ × ℕ
-move_of t c p state = transition t (slice_index c.operations p) state
+abbrev pub with_mover : ℕ → ℕ → ℕ
+with_mover used p = bit_or used (2 ^ p)
 
 -- moves of some of n processes that have not moved yet, of none twice
 pub record AreMoves (n used : ℕ) (moves : List ℕ) : Type 0 where
@@ -39,4 +36,4 @@ ShowsFrom t c used state j r q =
 abbrev pub ShowsBy : TypeTable → RawChoice → ℕ → ℕ → ℕ → ℕ → ℕ → ℕ → Type 0
 ShowsBy t c used state p j r q =
     let move = move_of t c p state in
-    ShowsFrom t c (moved used p) move.1 j r q ⊎ ((j ≡ p) × (r ≡ move.0) × EndsIn t c (moved used p) move.1 q)
+    ShowsFrom t c (with_mover used p) move.1 j r q ⊎ ((j ≡ p) × (r ≡ move.0) × EndsIn t c (with_mover used p) move.1 q)

@@ -4,20 +4,21 @@ use Rattle.cn_choice.specs.declared.limits.TheConstants.{MOST_PROCESSES}
 use Rattle.cn_table.specs.TypeTable.{TypeTable}
 use Rattle.cn_choice.specs.RawChoices.{RawChoice}
 use Rattle.cn_check.specs.Runs.{EndsIn, IsIn, ShowsFrom}
+use Rattle.cn_table.specs.declared.limits.TheConstants.{MOST_RESPONSES, MOST_STATES}
 
--- process j has the pair of response r and state q: there is a set of states for each process below 8 and response below 16, those of one process side by side
+-- process j has the pair of response r and state q: there is a set of states for each process and response, those of one process side by side
 abbrev pub HasPair : List ℕ → ℕ → ℕ → ℕ → Type 0
-HasPair sets j r q = (j < MOST_PROCESSES) × (r < 16) × IsIn (slice_index sets (16 * j + r)) q
+HasPair sets j r q = (j < MOST_PROCESSES) × (r < MOST_RESPONSES) × IsIn (slice_index sets (MOST_RESPONSES * j + r)) q
 
 -- process j has some pair in both
 abbrev pub HaveCommonPair : List ℕ → List ℕ → ℕ → Type 0
 HaveCommonPair sets others j = (r : ℕ) × (q : ℕ) × HasPair sets j r q × HasPair others j r q
 
--- the set that is kept for a point: there is one for each set of processes and state below 16
+-- the set that is kept for a point: there is one for each set of processes and state
 abbrev pub kept_at : List ℕ → ℕ → ℕ → ℕ
-kept_at kept used state = slice_index kept (16 * used + state)
+kept_at kept used state = slice_index kept (MOST_STATES * used + state)
 
 -- a set that is kept for a point, and not 0, is that of the states in which runs from there end; and all that they show is among the pairs
 pub record AreWalked (t : TypeTable) (c : RawChoice) (kept sets : List ℕ) : Type 0 where
-  pub ends : (used state q : ℕ) → state < 16 → kept_at kept used state ≢ 0 → IsIn (kept_at kept used state) q ↔ EndsIn t c used state q
-  pub shown : (used state j r q : ℕ) → state < 16 → kept_at kept used state ≢ 0 → ShowsFrom t c used state j r q → HasPair sets j r q
+  pub ends : (used state q : ℕ) → state < MOST_STATES → kept_at kept used state ≢ 0 → IsIn (kept_at kept used state) q ↔ EndsIn t c used state q
+  pub shown : (used state j r q : ℕ) → state < MOST_STATES → kept_at kept used state ≢ 0 → ShowsFrom t c used state j r q → HasPair sets j r q

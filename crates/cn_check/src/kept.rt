@@ -1,23 +1,30 @@
 //! What is kept of the points that were visited.
 ghost use Rattle.std.specs.Prelude.{◌≡◌, ◌≢◌, ◌<◌, ◌⊎◌, ℕ};
 ghost use Rattle.cn_check.specs.Seen.{kept_at};
+ghost use Rattle.cn_table.specs.declared.limits.TheConstants.{MOST_STATES};
 
+use cn_choice::MOST_PROCESSES;
+use cn_table::MOST_STATES;
 use std::marker::Model;
 
-/// A set of states for each point: for those of 8 processes that have moved, and a state below 16.
+/// For each set of processes that have moved a set for each state.
+const POINTS: usize = MOST_STATES << MOST_PROCESSES;
+
+/// A set of states for each point: for the processes that have moved, and a state.
 #[derive(Drop)]
 pub(crate) struct Kept {
-    sets: [u16; 4096],
+    sets: [u16; POINTS],
 }
 
 impl Model for Kept {
     ghost use Rattle.std.specs.Prelude.{◌≡◌, List, ℕ, length};
+    ghost use Rattle.cn_check.specs.declared.kept.TheConstants.{POINTS};
 
     ghost Value = { List ℕ };
 
     ghost view = { λ s. s.sets };
 
-    ghost invariant = { λ s. length s.sets ≡ 4096 };
+    ghost invariant = { λ s. length s.sets ≡ POINTS };
 }
 
 impl Kept {
@@ -25,23 +32,23 @@ impl Kept {
     pub fn new() -> Kept
         ensures { (used state : ℕ) → kept_at result used state ≡ 0 }
     {
-        Kept { sets: [0; 4096] }
+        Kept { sets: [0; POINTS] }
     }
 
     /// The set of the point.
     pub fn at(&self, used: u8, state: u8) -> u16
-        requires { state < 16 }
+        requires { state < MOST_STATES }
         ensures { result ≡ kept_at self.now used state }
     {
-        self.sets[16 * used as usize + state as usize]
+        self.sets[MOST_STATES * used as usize + state as usize]
     }
 
     /// Keeps this set for the point.
     pub fn put(&mut self, used: u8, state: u8, set: u16)
-        requires { state < 16 }
+        requires { state < MOST_STATES }
         ensures here { kept_at self.new used state ≡ set }
-        ensures others { (u s : ℕ) → s < 16 → (u ≢ used) ⊎ (s ≢ state) → kept_at self.new u s ≡ kept_at self.old u s }
+        ensures others { (u s : ℕ) → s < MOST_STATES → (u ≢ used) ⊎ (s ≢ state) → kept_at self.new u s ≡ kept_at self.old u s }
     {
-        self.sets[16 * used as usize + state as usize] = set;
+        self.sets[MOST_STATES * used as usize + state as usize] = set;
     }
 }

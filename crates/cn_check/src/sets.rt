@@ -1,7 +1,7 @@
 //! Sets of small numbers, as the bits of a number.
 ghost use Rattle.std.specs.Prelude.{◌≡◌, ◌<◌, ◌⊎◌, ◌↔◌, ℕ, IsTrue};
 ghost use Rattle.cn_choice.specs.declared.limits.TheConstants.{MOST_PROCESSES};
-ghost use Rattle.cn_check.specs.Runs.{IsIn, moved};
+ghost use Rattle.cn_check.specs.Runs.{IsIn, with_mover};
 
 /// Whether the process is one of those that have moved.
 pub(crate) fn has_moved(used: u8, process: u8) -> bool
@@ -14,7 +14,7 @@ pub(crate) fn has_moved(used: u8, process: u8) -> bool
 /// The processes that have moved, and one more.
 pub(crate) fn with_moved(used: u8, process: u8) -> u8
     requires { process < MOST_PROCESSES }
-    ensures with { result ≡ moved used process }
+    ensures with { result ≡ with_mover used process }
     ensures more { ¬ IsIn used process → used < result }
 {
     used | 1 << process

@@ -12,7 +12,7 @@ use Rattle.cn_table.specs.TypeTable.{TypeTable, transition}
 use Rattle.cn_choice.specs.OutcomeSets.{Has}
 use Rattle.cn_choice.specs.RawChoices.{RawChoice}
 use Rattle.cn_choice.specs.Subsets.{answer_of, next_of}
-use Rattle.cn_choice.specs.Tails.{AreDead, BeginsWithin, Ends, Hits, IsFirstWay, IsFresh, IsKept, IsTried, IsTurn, IsWay, NoWay, moved, seen_after}
+use Rattle.cn_choice.specs.Tails.{AreDead, BeginsWithin, Ends, Hits, IsFirstWay, IsFresh, IsKept, IsTried, IsTurn, IsWay, NoWay, count_moved, seen_after}
 use Rattle.cn_choice.proofs.BitSets.{pow_set, union_set}
 use Rattle.cn_choice.proofs.Exchange.{IsExchanged, exchange, exchange_first, exchange_other, exchange_second, exchange_twice, which}
 use Rattle.cn_choice.proofs.LastProcess.{same_or_not, set_from}
@@ -104,8 +104,8 @@ ends_seen t c j state r (p ∷ ps) pair h = ends_seen t c j (next_of t c p state
 -- ---- how many have moved
 
 -- with one more, as many as before are in the order
-pub long_after : (used p left : ℕ) → p < 8 → ¬ IsBitSet used p → 1 ≤ left → left - 1 + moved (bit_or used (2 ^ p)) ≡ left + moved used
-unfolding moved
+pub long_after : (used p left : ℕ) → p < 8 → ¬ IsBitSet used p → 1 ≤ left → left - 1 + count_moved (bit_or used (2 ^ p)) ≡ left + count_moved used
+unfolding count_moved
 long_after used p left l n some = omega (arith, count_more 8 p used l n, some)
 
 -- ---- the first process of a way
@@ -237,12 +237,12 @@ module _ (t : TypeTable) (c : RawChoice) (j : ℕ) (set : List ℕ) (left low hi
 
 module _ (t : TypeTable) (c : RawChoice) (j : ℕ) (set : List ℕ) (long : ℕ) where
   -- one place more
-  pub dead_kept : (before after : List Bool × List (List ℕ)) (used left state : ℕ) (seen : Option ℕ) → left + moved used ≡ long → NoWay t c j set left 0 (length c.operations) used state seen
+  pub dead_kept : (before after : List Bool × List (List ℕ)) (used left state : ℕ) (seen : Option ℕ) → left + count_moved used ≡ long → NoWay t c j set left 0 (length c.operations) used state seen
       → ((u q : ℕ) (s : Option ℕ) → IsKept after u s q → IsKept before u s q ⊎ ((u ≡ used) × (s ≡ seen) × (q ≡ state))) → AreDead t c j set long before → AreDead t c j set long after
   dead_kept before after used left state seen sum none added dead u q l s kept e = elim (added u q s kept) [
     | inl old ↦ dead u q l s old e
     | inr new ↦
-        let same : l ≡ left = omega (arith, e, sum, ap moved new.0) in
+        let same : l ≡ left = omega (arith, e, sum, ap count_moved new.0) in
         subst (λ (x : ℕ). NoWay t c j set x 0 (length c.operations) u q s) (sym same)
         (subst (λ (x : ℕ). NoWay t c j set left 0 (length c.operations) x q s) (sym new.0)
         (subst (λ (x : ℕ). NoWay t c j set left 0 (length c.operations) used x s) (sym new.2) (subst (λ (x : Option ℕ). NoWay t c j set left 0 (length c.operations) used state x) (sym new.1) none)))

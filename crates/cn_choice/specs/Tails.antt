@@ -7,7 +7,7 @@ use Rattle.std.specs.Ordering.{nat_cmp}
 use Rattle.std.specs.declared.cmp.Ordering.TheVariants.{Less}
 use Rattle.std.specs.Cmp.Lexicographic.{slice_cmp}
 use Rattle.cn_table.specs.TypeTable.{TypeTable}
-use Rattle.cn_choice.specs.declared.limits.TheConstants.{MOST_PROCESSES}
+use Rattle.cn_choice.specs.declared.limits.TheConstants.{MOST_PROCESSES, RANKS}
 use Rattle.cn_choice.specs.OutcomeSets.{Has}
 use Rattle.cn_choice.specs.RawChoices.{RawChoice}
 use Rattle.cn_choice.specs.Subsets.{answer_of, next_of}
@@ -44,8 +44,8 @@ count_below zero used = 0
 count_below (suc k) used = bit_at used k + count_below k used
 
 -- how many processes have moved
-unfoldable pub moved : ℕ → ℕ
-moved used = count_below MOST_PROCESSES used
+unfoldable pub count_moved : ℕ → ℕ
+count_moved used = count_below MOST_PROCESSES used
 
 -- the pair is one of the set
 abbrev pub Hits : TypeTable → RawChoice → ℕ → List ℕ → ℕ → Option ℕ → List ℕ → Type 0
@@ -63,12 +63,12 @@ rank_of (Some response) = response + 1
 -- the place is kept: for the processes that have moved there is whether their row was begun, and the row: a set of states for each response
 abbrev pub IsKept : List Bool × List (List ℕ) → ℕ → Option ℕ → ℕ → Type 0
 IsKept kept used seen state =
-    (slice_index_or kept.0 used false ≡ true) × (rank_of seen < 17) × IsBitSet (slice_index (slice_index_or kept.1 used []) (rank_of seen)) state
+    (slice_index_or kept.0 used false ≡ true) × (rank_of seen < RANKS) × IsBitSet (slice_index (slice_index_or kept.1 used []) (rank_of seen)) state
 
 -- no way to an order of this length goes on from a place that is kept
 abbrev pub AreDead : TypeTable → RawChoice → ℕ → List ℕ → ℕ → List Bool × List (List ℕ) → Type 0
 AreDead t c j set long kept =
-    (used state left : ℕ) (seen : Option ℕ) → IsKept kept used seen state → left + moved used ≡ long
+    (used state left : ℕ) (seen : Option ℕ) → IsKept kept used seen state → left + count_moved used ≡ long
     → NoWay t c j set left 0 (length c.operations) used state seen
 
 -- where this holds of the old places, it holds of the new ones

@@ -1,10 +1,11 @@
 //! Places from which an order cannot go on into a set.
 ghost use Rattle.std.specs.Prelude.{◌≡◌, ◌<◌, ◌⊎◌, ℕ, Option, IfSome, IsTrue, Bool, true, false};
+ghost use Rattle.cn_table.specs.declared.limits.TheConstants.{MOST_RESPONSES, MOST_STATES};
 ghost use Rattle.cn_choice.specs.Tails.{IsKept, rank_of};
-ghost use Rattle.cn_choice.specs.declared.limits.TheConstants.{SUBSETS};
+ghost use Rattle.cn_choice.specs.declared.limits.TheConstants.{RANKS, SUBSETS};
 
 use crate::bits::{contains, with};
-use crate::limits::SUBSETS;
+use crate::limits::{RANKS, SUBSETS};
 use crate::tails::Place;
 use std::marker::Model;
 
@@ -13,7 +14,7 @@ use std::marker::Model;
 #[derive(Drop)]
 pub(crate) struct DeadEnds {
     begun: [bool; SUBSETS],
-    rows: [[u16; 17]; SUBSETS],
+    rows: [[u16; RANKS]; SUBSETS],
 }
 
 impl Model for DeadEnds {
@@ -28,9 +29,9 @@ impl Model for DeadEnds {
 
 /// The place of the response in a row. With none yet it is the first.
 fn rank_of(seen: Option<u8>) -> usize
-    requires { IfSome seen (λ response. response < 16) }
+    requires { IfSome seen (λ response. response < MOST_RESPONSES) }
     ensures place { result ≡ rank_of seen }
-    ensures range { rank_of seen < 17 }
+    ensures range { rank_of seen < RANKS }
 {
     match seen {
         None => 0,
@@ -45,7 +46,7 @@ impl DeadEnds {
     {
         DeadEnds {
             begun: [false; SUBSETS],
-            rows: [[0; 17]; SUBSETS],
+            rows: [[0; RANKS]; SUBSETS],
         }
     }
 
@@ -59,8 +60,8 @@ impl DeadEnds {
     /// Whether the place is kept. None is with fewer than two processes to go.
     pub(crate) fn has(&self, place: Place) -> bool
         requires used { place.used < SUBSETS }
-        requires seen { IfSome place.seen (λ response. response < 16) }
-        requires state { place.state.0 < 16 }
+        requires seen { IfSome place.seen (λ response. response < MOST_RESPONSES) }
+        requires state { place.state.0 < MOST_STATES }
         ensures { IsTrue result → (1 < place.left) × IsKept self.now place.used place.seen place.state.0 }
     {
         let used = place.used as usize;
@@ -77,15 +78,15 @@ impl DeadEnds {
     {
         if !self.begun[used] {
             self.begun[used] = true;
-            self.rows[used] = [0; 17];
+            self.rows[used] = [0; RANKS];
         }
     }
 
     /// Keeps the place, if there are two processes or more to go.
     pub(crate) fn add(&mut self, place: Place)
         requires used { place.used < SUBSETS }
-        requires seen { IfSome place.seen (λ response. response < 16) }
-        requires state { place.state.0 < 16 }
+        requires seen { IfSome place.seen (λ response. response < MOST_RESPONSES) }
+        requires state { place.state.0 < MOST_STATES }
         ensures { (u q : ℕ) (s : Option ℕ) → IsKept self.new u s q → IsKept self.old u s q ⊎ ((u ≡ place.used) × (s ≡ place.seen) × (q ≡ place.state.0)) }
     {
         if place.left < 2 {

@@ -1,5 +1,6 @@
 //! The first order that leads a process into a set of pairs.
 ghost use Rattle.std.specs.Prelude.{◌≡◌, ◌≤◌, ◌<◌, ◌+◌, ℕ, length, IfNone, IfSome};
+ghost use Rattle.cn_table.specs.declared.limits.TheConstants.{MOST_RESPONSES, MOST_STATES};
 ghost use Rattle.cn_choice.specs.Canonical.{raw_choice_of};
 ghost use Rattle.cn_choice.specs.OutcomeOrders.{IsFirstInto, NoneOfLength};
 ghost use Rattle.cn_choice.specs.RawChoices.{IsRawChoice};
@@ -37,7 +38,7 @@ pub(crate) fn first_order_into(
     requires end { end ≤ TOO_LONG }
     ensures none { IfNone result ((k : ℕ) → k < end → NoneOfLength table.now raw.now team process set.now k) }
     ensures first { IfSome result (λ found. IsFirstInto table.now raw.now team process set.now found.0.items found.1) }
-    ensures in_range { IfSome result (λ found. (found.1.0 < 16) × (found.1.1 < 16)) }
+    ensures in_range { IfSome result (λ found. (found.1.0 < MOST_RESPONSES) × (found.1.1 < MOST_STATES)) }
 {
     let (low, high) = bounds(choice, team);
     for left in first..end {

@@ -5,7 +5,7 @@ ghost use Rattle.cn_choice.specs.Images.{HaveImages, IsImageFrom};
 ghost use Rattle.cn_choice.specs.Subsets.{Below};
 
 use crate::bits::{least, union, with, without};
-use cn_table::{Operation, State, Table};
+use cn_table::{MOST_OPERATIONS, Operation, State, Table};
 use std::marker::Model;
 
 /// A table, made ready for [`examine_in`](crate::examine_in): it knows to which states each
@@ -13,9 +13,9 @@ use std::marker::Model;
 #[derive(Drop)]
 pub struct Images<'t> {
     table: &'t Table,
-    // by operation, for the sets of the first eight states and for those of the others
-    low: [[u16; 256]; 8],
-    high: [[u16; 256]; 8],
+    /// By operation, for the sets of the first eight states and for those of the others.
+    low: [[u16; 256]; MOST_OPERATIONS],
+    high: [[u16; 256]; MOST_OPERATIONS],
 }
 
 impl<'t> Model for Images<'t> {
@@ -65,11 +65,11 @@ fn images_from(table: &Table, operation: Operation, first: u8) -> [u16; 256]
 }
 
 /// These images for each operation.
-fn rows_from(table: &Table, first: u8) -> [[u16; 256]; 8]
+fn rows_from(table: &Table, first: u8) -> [[u16; 256]; MOST_OPERATIONS]
     requires { first ≤ 8 }
     ensures { HaveImages table.now first result }
 {
-    let mut rows = [[0; 256]; 8];
+    let mut rows = [[0; 256]; MOST_OPERATIONS];
     for operation in 0..table.operations() {
         rows[operation as usize] = images_from(table, Operation(operation), first);
     }

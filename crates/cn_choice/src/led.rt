@@ -1,5 +1,6 @@
 //! Collisions of process 0 whose first order is short and led by it.
 ghost use Rattle.std.specs.Prelude.{◌≡◌, ◌≤◌, ◌<◌, ◌+◌, length, IfSome, None};
+ghost use Rattle.cn_table.specs.declared.limits.TheConstants.{MOST_RESPONSES, MOST_STATES};
 ghost use Rattle.cn_choice.specs.Canonical.{raw_choice_of};
 ghost use Rattle.cn_choice.specs.FirstCollision.{IsFirstCollision};
 ghost use Rattle.cn_choice.specs.RawChoices.{IsRawChoice};
@@ -32,7 +33,7 @@ fn led_alpha(
     requires short { length raw.now.operations ≤ MOST_PROCESSES }
     requires fits { IsRawChoice table.now (length raw.now.operations) raw.now }
     ensures first { IfSome result (λ found. IsFirstLed table.now raw.now set.now found.0.items found.1) }
-    ensures in_range { IfSome result (λ found. (found.1.0 < 16) × (found.1.1 < 16)) }
+    ensures in_range { IfSome result (λ found. (found.1.0 < MOST_RESPONSES) × (found.1.1 < MOST_STATES)) }
 {
     let alone = Place {
         used: 0,

@@ -1,5 +1,6 @@
 //! Outcome sets: which pairs of its response and the last state a process can get where a team moves first.
 ghost use Rattle.std.specs.Prelude.{◌≡◌, ◌≤◌, ◌<◌, ◌↔◌, ◌⊎◌, ◌+◌, ◌^◌, ℕ, length, IsBitSet, IsTrue};
+ghost use Rattle.cn_table.specs.declared.limits.TheConstants.{MOST_RESPONSES, MOST_STATES};
 ghost use Rattle.cn_choice.specs.RawChoices.{IsRawChoice};
 ghost use Rattle.cn_choice.specs.Canonical.{FitsTable, raw_choice_of};
 ghost use Rattle.cn_choice.specs.Discerning.{IsWitness};
@@ -15,58 +16,61 @@ use crate::limits::SUBSETS;
 use crate::subset_rows::{outcome_row, rows};
 use crate::twins::{first_twin, links};
 use crate::{Choice, Team};
-use cn_table::{Response, State, Table};
+use cn_table::{MOST_RESPONSES, MOST_STATES, Response, State, Table};
 use std::marker::Model;
 
-/// A set of pairs of a response and a state, each below 16.
+/// A set of pairs of a response and a state.
 #[derive(Drop)]
 pub struct OutcomeSet {
-    // by state the set of the responses
-    row: [u16; 16],
+    /// By state the set of the responses.
+    row: [u16; MOST_STATES],
 }
 
 impl Model for OutcomeSet {
+    ghost use Rattle.cn_table.specs.declared.limits.TheConstants.{MOST_STATES};
     ghost use Rattle.std.specs.Prelude.{◌≡◌, List, ℕ, length};
 
     ghost Value = { List ℕ };
 
     ghost view = { λ s. s.row };
 
-    ghost invariant = { λ s. length s.row ≡ 16 };
+    ghost invariant = { λ s. length s.row ≡ MOST_STATES };
 }
 
 impl OutcomeSet {
-    // The set of no pairs.
+    /// The set of no pairs.
     pub(crate) fn none() -> OutcomeSet
         ensures { (r q : ℕ) → ¬ Has result r q }
     {
-        OutcomeSet { row: [0; 16] }
+        OutcomeSet {
+            row: [0; MOST_STATES],
+        }
     }
 
-    // Puts the pair into the set.
+    /// Puts the pair into the set.
     pub(crate) fn add(&mut self, response: u8, state: u8)
-        requires response { response < 16 }
-        requires state { state < 16 }
+        requires response { response < MOST_RESPONSES }
+        requires state { state < MOST_STATES }
         ensures { (r q : ℕ) → Has self.new r q ↔ (Has self.old r q ⊎ ((r ≡ response) × (q ≡ state))) }
     {
         let place = state as usize;
         self.row[place] = with(self.row[place], response);
     }
 
-    // The set of one pair.
+    /// The set of one pair.
     pub(crate) fn only(response: u8, state: u8) -> OutcomeSet
-        requires response { response < 16 }
-        requires state { state < 16 }
+        requires response { response < MOST_RESPONSES }
+        requires state { state < MOST_STATES }
         ensures { (r q : ℕ) → Has result r q ↔ ((r ≡ response) × (q ≡ state)) }
     {
-        let mut row = [0; 16];
+        let mut row = [0; MOST_STATES];
         row[state as usize] = with(0, response);
         OutcomeSet { row }
     }
 
-    // The set of the pairs of the response and one of the states.
+    /// The set of the pairs of the response and one of the states.
     pub(crate) fn of_response(response: u8, states: u16) -> OutcomeSet
-        requires { response < 16 }
+        requires { response < MOST_RESPONSES }
         ensures { (r q : ℕ) → Has result r q ↔ ((r ≡ response) × IsBitSet states q) }
     {
         let mut set = OutcomeSet::none();
@@ -79,28 +83,28 @@ impl OutcomeSet {
         set
     }
 
-    /// Whether the pair is in the set. A response or state above 15 is in no pair.
+    /// Whether the pair is in the set. A response or state that no table has is in no pair.
     pub fn has(&self, response: Response, state: State) -> bool
         ensures found { IsTrue result ↔ Has self.now response.0 state.0 }
-        ensures in_range { IsTrue result → (response.0 < 16) × (state.0 < 16) }
+        ensures in_range { IsTrue result → (response.0 < MOST_RESPONSES) × (state.0 < MOST_STATES) }
     {
         let row = self.row;
-        if state.0 >= 16 {
+        if state.0 as usize >= MOST_STATES {
             return false;
         }
         let responses = row[state.0 as usize];
-        if response.0 >= 16 {
+        if response.0 as usize >= MOST_RESPONSES {
             return false;
         }
         contains(responses, response.0)
     }
 
-    // The responses of the pairs.
+    /// The responses of the pairs.
     pub(crate) fn responses(&self) -> u16
         ensures { (r q : ℕ) → Has self.now r q → IsBitSet result r }
     {
         let mut all = 0;
-        for q in 0..16 {
+        for q in 0..MOST_STATES {
             all = union(all, self.row[q]);
         }
         all
@@ -110,7 +114,7 @@ impl OutcomeSet {
     pub fn meets(&self, other: &OutcomeSet) -> bool
         ensures { IsTrue result ↔ HaveCommonPair self.now other.now }
     {
-        for q in 0..16 {
+        for q in 0..MOST_STATES {
             if share(self.row[q], other.row[q]) {
                 return true;
             }
@@ -119,7 +123,7 @@ impl OutcomeSet {
     }
 }
 
-// The outcome set of the team for process j, the first of its twins, from the team's rows.
+/// The outcome set of the team for process j, the first of its twins, from the team's rows.
 pub(crate) fn outcomes_from(
     table: &Table,
     choice: &RawChoice,
@@ -127,7 +131,7 @@ pub(crate) fn outcomes_from(
     j: u8,
     links: u16,
     rows: &[u16; SUBSETS],
-    pairs: &mut [[u16; 16]; SUBSETS],
+    pairs: &mut [[u16; MOST_STATES]; SUBSETS],
 ) -> OutcomeSet
     requires few { length choice.now.operations ≤ MOST_PROCESSES }
     requires fits { IsRawChoice table.now (length choice.now.operations) choice.now }
@@ -164,11 +168,11 @@ pub fn outcomes(table: &Table, choice: &Choice, team: Team, process: u8) -> Outc
         first,
         links,
         &rows,
-        &mut [[0; 16]; SUBSETS],
+        &mut [[0; MOST_STATES]; SUBSETS],
     )
 }
 
-// Whether the raw choice is a witness, by the outcome sets of each process that is the first of its twins.
+/// Whether the raw choice is a witness, by the outcome sets of each process that is the first of its twins.
 fn is_witness_by_rows(table: &Table, choice: &RawChoice) -> bool
     requires few { length choice.now.operations ≤ MOST_PROCESSES }
     requires fits { IsRawChoice table.now (length choice.now.operations) choice.now }
@@ -177,7 +181,7 @@ fn is_witness_by_rows(table: &Table, choice: &RawChoice) -> bool
     let links = links(choice);
     let rows_a = rows(table, choice, Team::A, links);
     let rows_b = rows(table, choice, Team::B, links);
-    let mut pairs = [[0; 16]; SUBSETS];
+    let mut pairs = [[0; MOST_STATES]; SUBSETS];
     for j in 0..choice.operations.len() as u8 {
         if contains(links, j) {
             continue;
@@ -191,7 +195,7 @@ fn is_witness_by_rows(table: &Table, choice: &RawChoice) -> bool
     true
 }
 
-// Whether the raw choice is a witness. The arrays of the rows are cleared where their function is entered, so that the short look comes before it.
+/// Whether the raw choice is a witness. The arrays of the rows are cleared where their function is entered, so that the short look comes before it.
 fn raw_is_witness(table: &Table, choice: &RawChoice) -> bool
     requires few { length choice.now.operations ≤ MOST_PROCESSES }
     requires fits { IsRawChoice table.now (length choice.now.operations) choice.now }

@@ -1,6 +1,7 @@
 //! Rows for one process and one response of it, by the subsets of the other processes.
 ghost use Rattle.std.specs.Prelude.{◌≡◌, ◌<◌, ◌≤◌, ◌↔◌, ◌*◌, ◌^◌, ℕ, length, slice_get, slice_index, IsBitSet, Some};
 ghost use Rattle.cn_table.specs.TypeTable.{transition};
+ghost use Rattle.cn_table.specs.declared.limits.TheConstants.{MOST_RESPONSES, MOST_STATES};
 ghost use Rattle.cn_choice.specs.RawChoices.{IsRawChoice};
 ghost use Rattle.cn_choice.specs.ResponseRows.{AreAsked, AreGivenRows, AreRowsWithout, GivesWith};
 ghost use Rattle.cn_choice.specs.OutcomeSets.{InOutcomeSet};
@@ -53,7 +54,7 @@ pub(crate) fn asked_first(table: &Table, choice: &RawChoice, j: u8) -> Asked
     requires fits { IsRawChoice table.now (length choice.now.operations) choice.now }
     requires j { j < length choice.now.operations }
     ensures response { result.response ≡ (transition table.now (slice_index choice.now.operations j) choice.now.state).0 }
-    ensures in_range { result.response < 16 }
+    ensures in_range { result.response < MOST_RESPONSES }
     ensures states { AreAsked table.now choice.now j result.response result.states }
 {
     let _responses = table.responses();
@@ -163,7 +164,7 @@ pub(crate) fn response_rows(
 /// count says how many such subsets there are.
 pub(crate) fn least_with(given: &[u16; SUBSETS], count: u16, state: u8) -> u8
     requires small { 2 * count ≤ SUBSETS }
-    requires state { state < 16 }
+    requires state { state < MOST_STATES }
     ensures least { (subset : ℕ) → subset < 2 * count → ¬ IsBitSet subset 0 → IsBitSet (slice_index given.now subset) state
         → result ≤ count_below MOST_PROCESSES subset }
     ensures most { result ≤ TOO_LONG }

@@ -2,10 +2,11 @@
 ghost use Rattle.std.specs.Prelude.{◌≡◌, ◌≢◌, ◌+◌, ◌-◌, ◌^◌, ◌<◌, ◌≤◌, ◌⊎◌, ℕ, [], length, slice_index};
 ghost use Rattle.std.specs.Prelude.{IfNone, IfSome, IsBitSet, IsFalse, IsTrue, Some};
 ghost use Rattle.std.specs.Int.Bits.{bit_or};
+ghost use Rattle.cn_table.specs.declared.limits.TheConstants.{MOST_RESPONSES, MOST_STATES};
 ghost use Rattle.cn_choice.specs.OutcomeSets.{Has};
 ghost use Rattle.cn_choice.specs.RawChoices.{IsRawChoice};
 ghost use Rattle.cn_choice.specs.Subsets.{answer_of, next_of};
-ghost use Rattle.cn_choice.specs.Tails.{AreDead, IsFirstWay, IsPassed, IsTurn, NoWay, StayDead, moved, seen_after};
+ghost use Rattle.cn_choice.specs.Tails.{AreDead, IsFirstWay, IsPassed, IsTurn, NoWay, StayDead, count_moved, seen_after};
 ghost use Rattle.cn_choice.specs.declared.limits.TheConstants.{MOST_PROCESSES, SUBSETS};
 
 use crate::bits::{contains, with};
@@ -45,14 +46,14 @@ fn place_after(table: &Table, choice: &RawChoice, j: u8, place: Place, process: 
     requires few { length choice.now.operations ≤ MOST_PROCESSES }
     requires left { 1 ≤ place.left }
     requires used { place.used < SUBSETS }
-    requires seen { IfSome place.seen (λ response. response < 16) }
+    requires seen { IfSome place.seen (λ response. response < MOST_RESPONSES) }
     ensures used { result.used ≡ bit_or place.used (2 ^ process) }
     ensures small { result.used < SUBSETS }
     ensures left { result.left ≡ place.left - 1 }
     ensures state { result.state.0 ≡ next_of table.now choice.now process place.state.0 }
     ensures known { result.state.0 < length table.now.states }
     ensures seen { result.seen ≡ seen_after j process (answer_of table.now choice.now process place.state.0) place.seen }
-    ensures in_range { IfSome result.seen (λ response. response < 16) }
+    ensures in_range { IfSome result.seen (λ response. response < MOST_RESPONSES) }
 {
     let _responses = table.responses();
     let (response, state) = table.apply(operation_of(choice, process), place.state);
@@ -70,7 +71,7 @@ fn end_within(set: &OutcomeSet, place: Place) -> Option<(ArrayVec<u8, MOST_PROCE
     ensures empty { IfSome result (λ found. found.0.items ≡ []) }
     ensures ends { IfSome result (λ found. (place.seen ≡ Some found.1.0) × (place.state.0 ≡ found.1.1)) }
     ensures has { IfSome result (λ found. Has set.now found.1.0 found.1.1) }
-    ensures in_range { IfSome result (λ found. (found.1.0 < 16) × (found.1.1 < 16)) }
+    ensures in_range { IfSome result (λ found. (found.1.0 < MOST_RESPONSES) × (found.1.1 < MOST_STATES)) }
 {
     let response = place.seen?;
     if set.has(Response(response), place.state) {
@@ -82,7 +83,7 @@ fn end_within(set: &OutcomeSet, place: Place) -> Option<(ArrayVec<u8, MOST_PROCE
 
 /// Whether the set has no pair of the response that was got.
 fn is_unwanted(set: &OutcomeSet, place: Place) -> bool
-    requires { IfSome place.seen (λ response. response < 16) }
+    requires { IfSome place.seen (λ response. response < MOST_RESPONSES) }
     ensures { IsTrue result → (response : ℕ) × (place.seen ≡ Some response) × ((q : ℕ) → ¬ Has set.now response q) }
 {
     match place.seen {
@@ -155,13 +156,13 @@ pub(crate) fn way_into(
     requires left { place.left ≤ MOST_PROCESSES }
     requires high { high ≤ length choice.now.operations }
     requires used { place.used < SUBSETS }
-    requires seen { IfSome place.seen (λ response. response < 16) }
+    requires seen { IfSome place.seen (λ response. response < MOST_RESPONSES) }
     requires state { place.state.0 < length table.now.states }
-    requires dead { 2 < place.left → AreDead table.now choice.now j set.now (place.left + moved place.used) dead.old }
+    requires dead { 2 < place.left → AreDead table.now choice.now j set.now (place.left + count_moved place.used) dead.old }
     ensures none { IfNone result (NoWay table.now choice.now j set.now place.left low high place.used place.state.0 place.seen) }
     ensures first { IfSome result (λ f. IsFirstWay table.now choice.now j set.now place.left low high place.used place.state.0 place.seen f.0.items f.1) }
-    ensures in_range { IfSome result (λ found. (found.1.0 < 16) × (found.1.1 < 16)) }
-    ensures dead { StayDead table.now choice.now j set.now (place.left + moved place.used) dead.old dead.new }
+    ensures in_range { IfSome result (λ found. (found.1.0 < MOST_RESPONSES) × (found.1.1 < MOST_STATES)) }
+    ensures dead { StayDead table.now choice.now j set.now (place.left + count_moved place.used) dead.old dead.new }
 {
     if place.left == 0 {
         return end_within(set, place);

@@ -1,7 +1,6 @@
 -- The questions of a gate, and the steps between them.
 use Rattle.std.proofs.Common.{◌≡◌, ℕ, zero, suc, Bool, true, false, ◌+◌, ◌*◌, ◌-◌, ◌<◌, ◌≤◌, ◌==◌, List, [], ◌∷◌, ◌++◌, drop, length, Some, refl, sym, ap, ◌∙◌, subst, arith, cond, append_assoc, append-nil, length-append}
 use Rattle.std.proofs.lemmas.Bool.Decides.{nat_tests}
-use Rattle.std.proofs.lemmas.List.Sums.{sum_by-cons}
 use Rattle.std.proofs.Math.Nat.{mul-le-mul_left}
 use Rattle.cn_log.specs.Callers.{BeginsWith, Without}
 use Rattle.cn_log.specs.Opening.{IsOpening, Log, Opening, setting_of}
@@ -18,14 +17,12 @@ use Rattle.cn_hall.specs.Seats.{SeatState, IsInvoke, IsLog, IsStep, pending}
 use Rattle.cn_hall.specs.declared.call.Go.{Go}
 use Rattle.cn_hall.specs.declared.call.Go.TheVariants.{On}
 use Rattle.cn_hall.proofs.Calling.{same_again}
+use Rattle.cn_log.proofs.OwnLemmas.{steps_cons}
 
 drop_front : {A : Type 0} (xs ys : List A) → drop (length xs) (xs ++ ys) ≡ ys
 drop_front [] [] = refl
 drop_front [] (y ∷ ys) = refl
 drop_front (x ∷ xs) ys = drop_front xs ys
-
-steps_cons : (p : ℕ) (e : Event) (events : List Event) → steps_of p (e ∷ events) ≡ cond (is_step_of p e) 1 0 + steps_of p events
-steps_cons p e events = sum_by-cons (λ x. cond (is_step_of p x) 1 0) e events
 
 steps_join : (p : ℕ) (xs ys : List Event) → steps_of p (xs ++ ys) ≡ steps_of p xs + steps_of p ys
 steps_join p [] ys = let z : steps_of p [] ≡ 0 = refl in omega (arith, z)

@@ -7,7 +7,7 @@ use Rattle.cn_log.specs.Opening.{Log, setting}
 use Rattle.cn_log.specs.declared.entry.Entry.{Entry}
 use Rattle.cn_log.specs.declared.event.Event.{Event}
 use Rattle.cn_log.specs.declared.event.Event.TheVariants.{Invoke, Step}
-use Rattle.cn_log.specs.Callers.{BeginsWith, Without, entries_by}
+use Rattle.cn_log.specs.Callers.{BeginsWith, Without, entries_by, call_of}
 use Rattle.cn_log.specs.Callers.{IsUnseen as IsIn}
 use Rattle.cn_hall.specs.Seats.{SeatState, IsInvoke, caller, calls_made, pending, own_entries_seen, entries_seen, slots_seen}
 use Rattle.cn_hall.specs.declared.call.CallFault.{CallFault}
@@ -31,12 +31,12 @@ abbrev pub GoesOn : ℕ → Log → Log → Type 0
 GoesOn p before now = (now.opening ≡ before.opening) × (rest : List Event) × (now.schedule ≡ before.schedule ++ rest) × NoCall p rest
 
 -- the process has made one call, of this operation, and then taken steps
-abbrev pub Called : ℕ → ℕ → Log → Log → Type 0
-Called p operation before now = (mid : Log) × IsInvoke p operation before mid × GoesOn p mid now
+abbrev pub MakesCall : ℕ → ℕ → Log → Log → Type 0
+MakesCall p operation before now = (mid : Log) × IsInvoke p operation before mid × GoesOn p mid now
 
 -- the next call of the seat's process, where it is of this operation
 abbrev pub next_call : SeatState → ℕ → Entry
-next_call s operation = record { process = s.process; operation = record { 0 = operation }; call = (caller s).calls }
+next_call s operation = call_of s.process operation (caller s).calls
 
 -- the last slot seen is the slot replied and holds this call, no call is pending, and the response is that of one sequential run at its place there. The
 -- entries of the seat's process that it has seen are the calls that it has made
@@ -66,8 +66,8 @@ EndsBy mine Stopped s = (pending s ≡ Some mine) × AllButLast mine s
 -- the seat had seen every slot before; else it was made, and has ended so
 abbrev pub CallFails : ℕ → CallFault → SeatState → SeatState → Type 0
 CallFails operation LogFull old new = IsFull new × IsUnseen (next_call old operation) new
-    × ((new ≡ old) ⊎ (Called old.process operation old.core new.core × AllButLast (next_call old operation) new))
-CallFails operation Stopped old new = Called old.process operation old.core new.core × EndsBy (next_call old operation) Stopped new
+    × ((new ≡ old) ⊎ (MakesCall old.process operation old.core new.core × AllButLast (next_call old operation) new))
+CallFails operation Stopped old new = MakesCall old.process operation old.core new.core × EndsBy (next_call old operation) Stopped new
 
 -- after a call with this answer, the entries of the seat's process that it has seen are the calls that it has made, each once and in order; where there was
 -- no reply, perhaps without the last
@@ -76,10 +76,10 @@ HasPlaced s (Ok r) = calls_made s ≡ own_entries_seen s
 HasPlaced s (Err e) = (calls_made s ≡ own_entries_seen s) ⊎ ((mine : Entry) × AllButLast mine s)
 
 -- what the gate has said after a call with this answer
-abbrev pub said_after : Result Reply CallFault → Go
-said_after (Ok r) = On
-said_after (Err LogFull) = On
-said_after (Err Stopped) = Stop
+abbrev pub go_after : Result Reply CallFault → Go
+go_after (Ok r) = On
+go_after (Err LogFull) = On
+go_after (Err Stopped) = Stop
 
 -- one core is the other, or has come further, with no event since of the process of the seat that saw less
 abbrev pub HaveMet : SeatState → SeatState → Type 0

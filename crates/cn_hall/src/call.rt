@@ -10,7 +10,9 @@ use std::fmt;
 /// Whether a call goes on.
 #[derive(Clone, Copy, Debug, PartialEq, Eq)]
 pub enum Go {
+    /// The call takes its next step.
     On,
+    /// The call ends here, without a reply; it stays pending.
     Stop,
 }
 
@@ -60,7 +62,9 @@ impl Gate for AlwaysOn {
 /// The slot in which a call stands, from 0, and its response.
 #[derive(Clone, Copy, Debug, PartialEq, Eq)]
 pub struct Reply {
+    /// The slot in which the call stands, from 0.
     pub slot: u16,
+    /// What the object answers it.
     pub response: Response,
 }
 

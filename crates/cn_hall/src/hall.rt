@@ -2,7 +2,7 @@
 ghost use Rattle.std.specs.Prelude.{◌≡◌, ◌≢◌, ◌<◌, ◌⊎◌, [], false, Some, None, All, Err, IfErr, IfOk, length};
 ghost use Rattle.cn_log.specs.declared.entry.Entry.{Entry};
 ghost use Rattle.cn_hall.specs.Answers.{Adds, own, replies_from};
-ghost use Rattle.cn_hall.specs.Calls.{CallFails, Called, EndsBy, GoesOn, HasOnlyMade, HasPlaced, HaveMet, IsReply, IsSameSeat, next_call, said_after};
+ghost use Rattle.cn_hall.specs.Calls.{CallFails, MakesCall, EndsBy, GoesOn, HasOnlyMade, HasPlaced, HaveMet, IsReply, IsSameSeat, next_call, go_after};
 ghost use Rattle.cn_log.specs.Callers.{BeginsWith, HasResponse};
 ghost use Rattle.cn_hall.specs.Gates.{IsAsked, asked_times, steps_since};
 ghost use Rattle.cn_hall.specs.Rule.{Carries};
@@ -96,7 +96,7 @@ impl Hall {
         ensures own { Adds (own seat.old) (own seat.new) result }
         ensures calls { HasPlaced seat.new result }
         ensures range { IfOk result (λ r. r.response.0 < length seat.old.core.opening.object.responses) }
-        ensures said { G.says gate.new ≡ said_after result }
+        ensures said { G.says gate.new ≡ go_after result }
         ensures asked { (mine : Entry) → pending seat.old ≡ Some mine
             → IsAsked G.asks G.says mine seat.old (asked_times result (steps_since seat.old.process seat.old.core seat.new.core)) gate.old gate.new }
     {
@@ -140,14 +140,14 @@ impl Hall {
         requires gate { G.says gate.old ≡ On }
         ensures same { IsSameSeat seat.old seat.new }
         ensures seen { BeginsWith (entries_seen seat.new) (entries_seen seat.old) }
-        ensures reply { IfOk result (λ r. Called seat.old.process operation.0 seat.old.core seat.new.core
+        ensures reply { IfOk result (λ r. MakesCall seat.old.process operation.0 seat.old.core seat.new.core
             × IsReply (next_call seat.old operation.0) seat.new r) }
         ensures fault { IfErr result (λ e. CallFails operation.0 e seat.old seat.new) }
         ensures told { length (slots_seen seat.old) ≡ seat.old.core.opening.capacity → (result ≡ Err LogFull) × (seat.new ≡ seat.old) × (gate.new ≡ gate.old) }
         ensures own { Adds (own seat.old) (own seat.new) result }
         ensures calls { HasPlaced seat.new result }
         ensures range { IfOk result (λ r. r.response.0 < length seat.old.core.opening.object.responses) }
-        ensures said { G.says gate.new ≡ said_after result }
+        ensures said { G.says gate.new ≡ go_after result }
         ensures asked { IsAsked G.asks G.says (next_call seat.old operation.0) seat.old
             (asked_times result (steps_since seat.old.process seat.old.core seat.new.core)) gate.old gate.new }
     {

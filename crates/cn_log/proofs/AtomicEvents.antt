@@ -4,8 +4,8 @@ use Rattle.std.proofs.lemmas.Bool.{cases_eq}
 use Rattle.cn_proto.specs.Plan.{protocol_of, processes_of, nodes_of}
 use Rattle.cn_proto.specs.Protocol.{Protocol, place_of}
 use Rattle.cn_proto.specs.Tournament.{team_of}
-use Rattle.cn_agree.specs.AtomicStep.{content, touched, ActsOnce, HasPlace, LooksAlike, IsAtomic}
-use Rattle.cn_agree.specs.Rounds.{decided, decision_at, RunsBy, KeepsConsensus, actions_done, steps_taken}
+use Rattle.cn_agree.specs.AtomicStep.{content, part_touched, ActsOnce, HasPlace, LooksAlike, IsAtomic}
+use Rattle.cn_agree.specs.Rounds.{decision_of, decision_at, RunsBy, KeepsConsensus, actions_done, steps_taken}
 use Rattle.cn_agree.specs.Consensus.{occurrences}
 use Rattle.cn_agree.specs.Steps.{after_step as round_step}
 use Rattle.cn_agree.specs.World.{World as RoundWorld, node_at, local_at, input_at}
@@ -22,7 +22,7 @@ use Rattle.cn_log.specs.declared.progress.Phase.TheVariants.{Idle, Looks, Runs}
 use Rattle.cn_log.specs.Agreement.{RoundsAgree}
 use Rattle.cn_log.specs.AtomicEvent.{LogWorld, LogPart, Announcement, InRound, LogContent, Announced, AtNode, IsSameLocally, log_content, touched_in, touched_by_step, touched_by, LooksOn, LooksOnce, ActsInRound, Steps, Happens, answer_to, LogsLookAlike, IsAtomicEvent}
 use Rattle.cn_log.specs.Callers.{call_of, process_of}
-use Rattle.cn_log.specs.Log.{Setting, Caller, put, gathered, entries_of_batches, first_look, after_gathering, after_look, after_decision, after_run, after_step, after_event, first_world, state_of, answer_with, answer_from, MayCome, MayStep, IsEventList}
+use Rattle.cn_log.specs.Log.{Setting, Caller, put, batch_with, entries_of_batches, first_look, after_gathering, after_look, after_decision, after_run, after_step, after_event, first_world, state_of, answer_with, answer_from, MayCome, MayStep, IsEventList}
 use Rattle.cn_log.specs.Opening.{Opening, IsOpening, setting_of}
 use Rattle.cn_log.proofs.EventLists.{may_left, may_right}
 use Rattle.cn_log.proofs.Fitting.{state_push, may_push}
@@ -80,7 +80,7 @@ module _ (law : RoundLaw) (atomic : (P : Protocol) (p : ℕ) → IsAtomic Batch 
     where
       go : (l : Local Batch) → local_at r p ≡ l → IsActive r p
       go NotBegun e = absurd (has_begun law o opening.plan r good p lt v began e)
-      go (Decided y) e = absurd (let f : Some y ≡ None = sym (ap decided e) ∙ undecided in cc)
+      go (Decided y) e = absurd (let f : Some y ≡ None = sym (ap decision_of e) ∙ undecided in cc)
       go (Active i x stage) e =
           let k = keeps r good in
           let taken : 4 * i + actions_done stage ≡ min (occurrences good.0 p) (4 * length (P.path p)) = ap (λ (l : Local Batch). steps_taken P p l) (sym e) ∙ k.steps p lt in
@@ -155,7 +155,7 @@ module _ (law : RoundLaw) (atomic : (P : Protocol) (p : ℕ) → IsAtomic Batch 
 
     looks_once : (p : ℕ) (here : Caller) (mine : Entry) (q : ℕ) (batch : Batch) → LooksOnce o w p here mine q batch (after_look L w p here mine q batch)
     looks_once p here mine q batch =
-        let more : Batch = gathered (w.announced q) (entries_of_batches L here.seen) q batch in
+        let more : Batch = batch_with (w.announced q) (entries_of_batches L here.seen) q batch in
         record {
           shared = look_shared p here mine q more (q + 1 == n);
           other_rounds = look_rounds p here mine q more (q + 1 == n);
@@ -216,7 +216,7 @@ module _ (law : RoundLaw) (atomic : (P : Protocol) (p : ℕ) → IsAtomic Batch 
     one_step : (p : ℕ) → p < n → (here : Caller) (ph : Phase) → w.caller p ≡ here → here.phase ≡ ph → ph ≢ Idle → IsOneStep p here ph
     one_step p lt here Idle is phase busy = absurd (busy refl)
     one_step p lt here (Looks mine q batch) is phase busy =
-        let more : Batch = gathered (w.announced q) (entries_of_batches L here.seen) q batch in
+        let more : Batch = batch_with (w.announced q) (entries_of_batches L here.seen) q batch in
         record {
           part = Announcement q;
           touches = refl;
@@ -227,7 +227,7 @@ module _ (law : RoundLaw) (atomic : (P : Protocol) (p : ℕ) → IsAtomic Batch 
     one_step p lt here (Runs mine) is phase busy =
         let at = runs_at p lt here mine is phase in
         record {
-          part = InRound (length here.seen) (place_of P p at.place).node (touched P (place_of P p at.place) at.stage);
+          part = InRound (length here.seen) (place_of P p at.place).node (part_touched P (place_of P p at.place) at.stage);
           touches = ap (touched_in o p (length here.seen)) at.is;
           other_parts = λ other ne. run_shared p here mine at other ne;
           other_processes = run_others p here mine at;
@@ -286,8 +286,8 @@ module _ (law : RoundLaw) (atomic : (P : Protocol) (p : ℕ) → IsAtomic Batch 
     looks_alike p lt here mine q batch local shared =
         let found : Announced (w.announced q) ≡ Announced (u.announced q) = shared (Announcement q) refl in
         let same : w.announced q ≡ u.announced q = cc in
-        subst (λ a. IsSameLocally p (after_look L w p here mine q batch) (after_gathering L u p here mine q (gathered a (entries_of_batches L here.seen) q batch) (q + 1 == n))) same
-        (gathers_alike p lt here mine q (gathered (w.announced q) (entries_of_batches L here.seen) q batch) (q + 1 == n) local)
+        subst (λ a. IsSameLocally p (after_look L w p here mine q batch) (after_gathering L u p here mine q (batch_with a (entries_of_batches L here.seen) q batch) (q + 1 == n))) same
+        (gathers_alike p lt here mine q (batch_with (w.announced q) (entries_of_batches L here.seen) q batch) (q + 1 == n) local)
 
     module _ (p : ℕ) (lt : p < n) (here : Caller) (mine : Entry) (is : w.caller p ≡ u.caller p) (at : IsActive (w.round (length here.seen)) p) (local : IsSameLocally p w u)
         (shared : (part : LogPart) → touched_in o p (length here.seen) (local_at (w.round (length here.seen)) p) ≡ Some part → log_content o w part ≡ log_content o u part) where
@@ -295,7 +295,7 @@ module _ (law : RoundLaw) (atomic : (P : Protocol) (p : ℕ) → IsAtomic Batch 
       k = length here.seen
 
       abbrev part_here : LogPart
-      part_here = InRound k (place_of P p at.place).node (touched P (place_of P p at.place) at.stage)
+      part_here = InRound k (place_of P p at.place).node (part_touched P (place_of P p at.place) at.stage)
 
       touches_here : touched_in o p k (local_at (w.round k) p) ≡ Some part_here
       touches_here = ap (touched_in o p k) at.is
@@ -307,11 +307,11 @@ module _ (law : RoundLaw) (atomic : (P : Protocol) (p : ℕ) → IsAtomic Batch 
       local_then = (atomic P p).local (w.round k) (u.round k) at.place at.value at.stage alike_here
 
       run_answer : answer_with L here.seen mine (decision w p here) ≡ answer_with L here.seen mine (decision u p here)
-      run_answer = ap (λ (l : Local Batch). answer_with L here.seen mine (decided l)) local_then
+      run_answer = ap (λ (l : Local Batch). answer_with L here.seen mine (decision_of l)) local_then
 
       run_local : IsSameLocally p (after_run L w p here mine) (after_run L u p here mine)
       run_local = record {
-        caller = caller_alike (ran w p here) (ran u p here) p here mine (decision w p here) is ∙ ap (λ (l : Local Batch). (after_decision L (ran u p here) p here mine (decided l)).caller p) local_then;
+        caller = caller_alike (ran w p here) (ran u p here) p here mine (decision w p here) is ∙ ap (λ (l : Local Batch). (after_decision L (ran u p here) p here mine (decision_of l)).caller p) local_then;
         rounds = λ j. ap (λ (r : RoundWorld Batch). local_at r p) (rounds_kept (ran w p here) p here mine (decision w p here) j)
             ∙ put_alike w.round u.round k j _ _ (λ (r : RoundWorld Batch). local_at r p) local_then (local.rounds j)
             ∙ ap (λ (r : RoundWorld Batch). local_at r p) (sym (rounds_kept (ran u p here) p here mine (decision u p here) j));
@@ -319,7 +319,7 @@ module _ (law : RoundLaw) (atomic : (P : Protocol) (p : ℕ) → IsAtomic Batch 
 
       part_then : log_content o (after_run L w p here mine) part_here ≡ log_content o (after_run L u p here mine) part_here
       part_then =
-          let f : RoundWorld Batch → LogContent = λ r. AtNode (content (node_at P r (place_of P p at.place).node) (touched P (place_of P p at.place) at.stage)) in
+          let f : RoundWorld Batch → LogContent = λ r. AtNode (content (node_at P r (place_of P p at.place).node) (part_touched P (place_of P p at.place) at.stage)) in
           ap f (ran_round w p here mine)
           ∙ ap (λ c. AtNode c) ((atomic P p).shared (w.round k) (u.round k) at.place at.value at.stage (has_place (w.round k) (u.round k) (safe.good k) (safe'.good k) p at.place lt at.within) alike_here)
           ∙ ap f (sym (ran_round u p here mine))
@@ -338,8 +338,8 @@ module _ (law : RoundLaw) (atomic : (P : Protocol) (p : ℕ) → IsAtomic Batch 
         → GoesAlike p (touched_by_step o w p here ph) (after_step L w p here ph) (after_step L u p here ph) (answer_from L w p here ph) (answer_from L u p here ph)
     step_alike p lt here Idle is phase busy local shared = absurd (busy refl)
     step_alike p lt here (Looks mine q batch) is phase busy local shared =
-        let more_w : Batch = gathered (w.announced q) (entries_of_batches L here.seen) q batch in
-        let more_u : Batch = gathered (u.announced q) (entries_of_batches L here.seen) q batch in
+        let more_w : Batch = batch_with (w.announced q) (entries_of_batches L here.seen) q batch in
+        let more_u : Batch = batch_with (u.announced q) (entries_of_batches L here.seen) q batch in
         record {
           local = looks_alike p lt here mine q batch local shared;
           shared = λ part h. look_shared w safe p here mine q more_w (q + 1 == n) part ∙ shared part h ∙ sym (look_shared u safe' p here mine q more_u (q + 1 == n) part);

@@ -2,7 +2,7 @@
 use Rattle.std.proofs.Common.{ℕ, zero, suc, ◌≡◌, ◌⊎◌, inl, inr, ◌+◌, ◌<◌, ◌≤◌, List, [], ◌∷◌, length, slice_get, Option, Some, None, refl, arith, subst}
 use Rattle.cn_log.specs.declared.batch.Batch.{Batch}
 use Rattle.cn_log.specs.declared.entry.Entry.{Entry}
-use Rattle.cn_log.specs.Log.{Setting, World, Note, Called, Replied, Refused, first_world}
+use Rattle.cn_log.specs.Log.{Setting, World, Note, Called, Replied, FoundFull, first_world}
 use Rattle.cn_log.specs.Agreement.{RoundsAgree}
 use Rattle.cn_log.specs.Batches.{Has}
 use Rattle.cn_log.proofs.Invariant.{IsNoted, IsPending, Holds, Facts, Stands, StandsBy, IsOrdered, in_order, stands_once, fixed_begun}
@@ -47,9 +47,9 @@ module _ {R : Type 0} (L : Setting R) (Good : R → Type 0) (agrees : RoundsAgre
   before_later (Called g s ∷ notes) ordered (suc i) zero e f k r since a b less = let same : s ≡ since = cc in rw (← same) (ordered.0 e k r (record { place = i; there = a }))
   before_later (Called g s ∷ notes) ordered (suc i) (suc j) e f k r since a b less = before_later notes ordered.1 i j e f k r since a b (omega arith)
   before_later (Replied g s t ∷ notes) ordered (suc i) (suc j) e f k r since a b less = before_later notes ordered i j e f k r since a b (omega arith)
-  before_later (Refused g ∷ notes) ordered (suc i) (suc j) e f k r since a b less = before_later notes ordered i j e f k r since a b (omega arith)
+  before_later (FoundFull g ∷ notes) ordered (suc i) (suc j) e f k r since a b less = before_later notes ordered i j e f k r since a b (omega arith)
   before_later (Replied g s t ∷ notes) ordered (suc i) zero e f k r since a b less = absurd (cc b)
-  before_later (Refused g ∷ notes) ordered (suc i) zero e f k r since a b less = absurd (cc b)
+  before_later (FoundFull g ∷ notes) ordered (suc i) zero e f k r since a b less = absurd (cc b)
   before_later (note ∷ notes) ordered zero j e f k r since a b less = absurd (omega arith)
 
   -- the calls of a process before one that stands stand before it, none left out
@@ -103,7 +103,7 @@ module _ {R : Type 0} (L : Setting R) (Good : R → Type 0) (agrees : RoundsAgre
     since_low = λ e since noted k room h. absurd (none_noted (Called e since) noted);
     stood = λ e since k noted h. absurd (none_noted (Called e since) noted);
     answered = λ e k t noted. absurd (none_noted (Replied e k t) noted);
-    ended = λ e noted k room. absurd (none_noted (Refused e) noted);
+    ended = λ e noted k room. absurd (none_noted (FoundFull e) noted);
     ordered = tt;
     done = λ e c. absurd (none_noted (Called e c.since) c.noted);
     helps = λ e since noted low k q v less room h. absurd (none_noted (Called e since) noted);

@@ -1,5 +1,5 @@
 -- Of each process, a process has applied its first so many calls: so their number tells which.
-use Rattle.std.proofs.Common.{ℕ, zero, suc, ◌≡◌, Bool, true, false, ◌+◌, ◌<◌, ◌≤◌, ◌==◌, nat_lt, List, [], ◌∷◌, length, take, slice_get, Option, Some, None, refl, ap, ◌∙◌, subst, arith, if◌then◌else◌}
+use Rattle.std.proofs.Common.{ℕ, zero, suc, ◌≡◌, if◌then◌else◌, Bool, true, false, ◌+◌, ◌<◌, ◌≤◌, ◌==◌, nat_lt, List, [], ◌∷◌, length, take, slice_get, Option, Some, None, refl, ap, ◌∙◌, subst, arith}
 use Rattle.std.proofs.lemmas.Bool.Decides.{nat_tests}
 use Rattle.cn_log.specs.declared.batch.Batch.{Batch}
 use Rattle.cn_log.specs.declared.entry.Entry.{Entry}
@@ -8,9 +8,9 @@ use Rattle.cn_log.specs.declared.event.Event.TheVariants.{Invoke, Step}
 use Rattle.cn_log.specs.Agreement.{RoundsAgree}
 use Rattle.cn_log.specs.Batches.{and_entry, entry_at, members, with_entry}
 use Rattle.cn_log.specs.Callers.{call_of, calls_from, calls_by, entries_by, seen_of}
-use Rattle.cn_log.specs.Fields.{gathered_by}
+use Rattle.cn_log.specs.Fields.{batch_with_calls}
 use Rattle.cn_log.specs.Linearized.{calls_of}
-use Rattle.cn_log.specs.Log.{Setting, has_entry, gathered, state_of, IsEventList}
+use Rattle.cn_log.specs.Log.{Setting, has_entry, batch_with, state_of, IsEventList}
 use Rattle.cn_log.proofs.EventLists.{calls_cons}
 use Rattle.cn_log.proofs.Invariant.{IsCalled, IsShaped}
 use Rattle.cn_log.proofs.Linearizing.{called_event, holds_after}
@@ -18,18 +18,7 @@ use Rattle.cn_log.proofs.ListLemmas.{get_low, there_is, has_not, has_yes}
 use Rattle.cn_log.proofs.OwnCalls.{seen_made}
 use Rattle.cn_log.proofs.Owning.{own_none, own_one}
 use Rattle.cn_table.proofs.Lists.{get_front}
-
--- calls have the numbers of their places
-number_at : (p k : ℕ) (events : List Event) (i : ℕ) (x : Entry) → slice_get (calls_from p k events) i ≡ Some x → x.call ≡ k + i
-number_at p k [] i x h = absurd cc
-number_at p k (Step q ∷ events) i x h = number_at p k events i x h
-number_at p k (Invoke q operation ∷ events) i x h = go (q == p) i h (λ j g. number_at p (k + 1) events j x g) (λ g. number_at p k events i x g)
-  where
-    go : (own : Bool) (i : ℕ) → slice_get (if own then call_of p operation k ∷ calls_from p (k + 1) events else calls_from p k events) i ≡ Some x
-        → ((j : ℕ) → slice_get (calls_from p (k + 1) events) j ≡ Some x → x.call ≡ (k + 1) + j) → (slice_get (calls_from p k events) i ≡ Some x → x.call ≡ k + i) → x.call ≡ k + i
-    go true zero h later same = let e : call_of p operation k ≡ x = cc in let n : k ≡ x.call = ap (λ (z : Entry). z.call) e in omega (arith, n)
-    go true (suc j) h later same = let n = later j h in omega (arith, n)
-    go false i h later same = same h
+use Rattle.cn_log.proofs.OwnLemmas.{number_at, to_own}
 
 -- the call that event i makes stands at its number
 call_at : (p k operation : ℕ) (events : List Event) (i : ℕ) → slice_get events i ≡ Some (Invoke p operation) → slice_get (calls_from p k events) (calls_of p (take i events)) ≡ Some (call_of p operation (k + calls_of p (take i events)))
@@ -63,18 +52,6 @@ from_own p (y ∷ xs) i x h = go (y.process == p) i h (λ j g. from_own p xs j x
     go true zero h rest = (zero, h)
     go true (suc j) h rest = let r = rest j h in (suc r.0, r.1)
     go false i h rest = let r = rest i h in (suc r.0, r.1)
-
-to_own : (p : ℕ) (xs : List Entry) (j : ℕ) (x : Entry) → x.process ≡ p → slice_get xs j ≡ Some x → (i : ℕ) × (slice_get (entries_by p xs) i ≡ Some x)
-to_own p [] j x own h = absurd cc
-to_own p (y ∷ xs) zero x own h =
-    let same : y ≡ x = cc in
-    let t : (y.process == p) ≡ true = (let e : y.process ≡ p = ap (λ (z : Entry). z.process) same ∙ own in grind (arith, nat_tests)) in
-    (zero, rw t (ap Some same))
-to_own p (y ∷ xs) (suc j) x own h = go (y.process == p) refl (to_own p xs j x own h)
-  where
-    go : (b : Bool) → (y.process == p) ≡ b → (i : ℕ) × (slice_get (entries_by p xs) i ≡ Some x) → (i : ℕ) × (slice_get (entries_by p (y ∷ xs)) i ≡ Some x)
-    go true t r = (suc r.0, rw t r.1)
-    go false t r = (r.0, rw t r.1)
 
 -- there are no more of its own than there are
 pub own_few : (p : ℕ) (xs : List Entry) → length (entries_by p xs) ≤ length xs
@@ -140,10 +117,10 @@ module _ {R : Type 0} (L : Setting R) (Good : R → Type 0) (agrees : RoundsAgre
         go false h = let high = low_replayed h in grind (arith, nat_tests)
 
   -- so a look gathers the same by the number
-  pub gathered_by_number : (batch : Batch) → gathered_by ((state_of L events).announced q) (length own) q batch ≡ gathered ((state_of L events).announced q) known q batch
+  pub gathered_by_number : (batch : Batch) → batch_with_calls ((state_of L events).announced q) (length own) q batch ≡ batch_with ((state_of L events).announced q) known q batch
   gathered_by_number batch = go ((state_of L events).announced q) refl
     where
-      go : (o : Option Entry) → (state_of L events).announced q ≡ o → gathered_by o (length own) q batch ≡ gathered o known q batch
+      go : (o : Option Entry) → (state_of L events).announced q ≡ o → batch_with_calls o (length own) q batch ≡ batch_with o known q batch
       go None is = refl
       go (Some e) is =
           let a = (holds_after L Good agrees events may).announced q e is in

@@ -13,7 +13,7 @@ use Rattle.cn_log.specs.declared.progress.Phase.TheVariants.{Idle, Looks, Runs}
 use Rattle.cn_log.specs.declared.progress.Progress.{Progress}
 use Rattle.cn_log.specs.Agreement.{RoundsAgree}
 use Rattle.cn_log.specs.Fields.{no_calls, no_progress, IsProgressOf, Kept, Fits, Keeps, IsAt}
-use Rattle.cn_log.specs.Log.{Setting, World, Caller, put, gathered, first_look, batches_of, after_events, after_event, after_gathering, after_step, after_decision, phase_after, first_world, state_of, MayCome, MayAllCome, IsEventList, MayInvoke}
+use Rattle.cn_log.specs.Log.{Setting, World, Caller, put, batch_with, first_look, batches_of, after_events, after_event, after_gathering, after_step, after_decision, phase_after, first_world, state_of, MayCome, MayAllCome, IsEventList, MayInvoke}
 use Rattle.cn_log.proofs.ListLemmas.{put_same, put_other}
 use Rattle.cn_log.proofs.Invariant.{PhaseHolds, Holds}
 use Rattle.cn_log.proofs.Invoking.{keeps_event}
@@ -85,7 +85,7 @@ module _ {R : Type 0} (L : Setting R) where
 
   low_step : (w : World R) → ((q : ℕ) → IsLow L.capacity (w.caller q)) → (p : ℕ) (here : Caller) → w.caller p ≡ here → (ph : Phase) → here.phase ≡ ph → PhaseHolds L w p ph → (q : ℕ) → IsLow L.capacity ((after_step L w p here ph).caller q)
   low_step w low p here is Idle ph holds q = low q
-  low_step w low p here is (Looks mine i batch) ph holds q = low_gathering w low p here is mine i batch (gathered (w.announced i) (entries_in L.processes here.seen) i batch) (i + 1 == L.processes) ph q
+  low_step w low p here is (Looks mine i batch) ph holds q = low_gathering w low p here is mine i batch (batch_with (w.announced i) (entries_in L.processes here.seen) i batch) (i + 1 == L.processes) ph q
   low_step w low p here is (Runs mine) ph holds q = go (L.consensus.decided (L.consensus.step p (w.round (length here.seen))) p)
     where
       w1 : World R
@@ -134,10 +134,6 @@ module _ {R : Type 0} (L : Setting R) (Good : R → Type 0) (agrees : RoundsAgre
 
   low_after : (s : List Event) → IsEventList L s → (q : ℕ) → IsLow L.capacity ((state_of L s).caller q)
   low_after s may q = low_run s (first_world L) (first_holds L Good agrees) (λ q. (omega arith, omega arith)) may q
-
-  -- a process replays no more slots than there are
-  pub seen_few : (s : List Event) → IsEventList L s → (q : ℕ) → length ((state_of L s).caller q).seen ≤ L.capacity
-  seen_few s may q = (low_after s may q).1
 
   -- a process makes no more calls than there are slots
   pub calls_few : {s : List Event} {kept : Kept R} → Keeps L s kept → {p operation : ℕ} → MayInvoke L (state_of L s) p operation → {here : Progress} → here ≡ get_or kept.progress p here → here.calls < L.capacity

@@ -7,7 +7,7 @@ use Rattle.cn_log.specs.declared.progress.Phase.TheVariants.{Idle, Looks, Runs}
 use Rattle.cn_log.specs.Agreement.{RoundsAgree}
 use Rattle.cn_log.specs.Batches.{Has, entry_at}
 use Rattle.cn_log.specs.Callers.{IsUnseen}
-use Rattle.cn_log.specs.Log.{Setting, World, Note, Called, Replied, Refused, response_in}
+use Rattle.cn_log.specs.Log.{Setting, World, Note, Called, Replied, FoundFull, response_in}
 
 pub record IsNoted (note : Note) (notes : List Note) : Type 0 where
   pub place : ℕ
@@ -140,7 +140,7 @@ abbrev pub IsOrdered : List Note → Type 0
 IsOrdered [] = Unit {0}
 IsOrdered (Called e since ∷ notes) = ((f : Entry) (k r : ℕ) → IsNoted (Replied f k r) notes → k < since) × IsOrdered notes
 IsOrdered (Replied e k r ∷ notes) = IsOrdered notes
-IsOrdered (Refused e ∷ notes) = IsOrdered notes
+IsOrdered (FoundFull e ∷ notes) = IsOrdered notes
 
 -- it stands in one of the slots up to k
 pub record StandsBy {R : Type 0} (L : Setting R) (w : World R) (e : Entry) (k : ℕ) : Type 0 where
@@ -161,7 +161,7 @@ pub record Facts {R : Type 0} (L : Setting R) (w : World R) : Type 0 where
   pub stood : (e : Entry) (since k : ℕ) → IsNoted (Called e since) w.history → Stands L w e k → since ≤ k
   pub answered : (e : Entry) (k r : ℕ) → IsNoted (Replied e k r) w.history → IsReply L w e k r
   -- a call that ended with no answer stands nowhere, and every slot is fixed
-  pub ended : (e : Entry) → IsNoted (Refused e) w.history → (k : ℕ) → k < L.capacity → IsOther L (w.round k) e
+  pub ended : (e : Entry) → IsNoted (FoundFull e) w.history → (k : ℕ) → k < L.capacity → IsOther L (w.round k) e
   pub ordered : IsOrdered w.history
   -- a call is pending, or its process has applied it, or has applied every slot
   pub done : (e : Entry) → IsCalled e w.history → IsMine (w.caller e.process).phase e ⊎ (IsSeen (w.caller e.process).seen e ⊎ (L.capacity ≤ length (w.caller e.process).seen))

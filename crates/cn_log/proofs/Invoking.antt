@@ -5,7 +5,7 @@ use Rattle.std.proofs.lemmas.Option.{slice_get_within}
 use Rattle.cn_log.specs.declared.batch.Batch.{Batch}
 use Rattle.cn_log.specs.declared.entry.Entry.{Entry}
 use Rattle.cn_log.specs.Batches.{Has, no_entries}
-use Rattle.cn_log.specs.Log.{Setting, World, Caller, Note, Called, Replied, Refused, batches_of, fixed_from, first_look, after_invoke, after_step, after_event, after_events, MayCome, MayAllCome}
+use Rattle.cn_log.specs.Log.{Setting, World, Caller, Note, Called, Replied, FoundFull, batches_of, fixed_from, first_look, after_invoke, after_step, after_event, after_events, MayCome, MayAllCome}
 use Rattle.cn_log.specs.declared.progress.Phase.{Phase}
 use Rattle.cn_log.specs.declared.progress.Phase.TheVariants.{Idle, Looks, Runs}
 use Rattle.cn_log.specs.declared.event.Event.{Event}
@@ -216,7 +216,7 @@ module _ {R : Type 0} (L : Setting R) (Good : R → Type 0) (agrees : RoundsAgre
         | inr was ↦ facts.stood f since k was (stands_was f k h)
       ];
       answered = λ f k r noted. reply_same f k r (facts.answered f k r (answered_before (Replied f k r) (λ since h. cc) noted));
-      ended = λ f noted k room. facts.ended f (answered_before (Refused f) (λ since h. cc) noted) k room;
+      ended = λ f noted k room. facts.ended f (answered_before (FoundFull f) (λ since h. cc) noted) k room;
       ordered = (λ f k r noted. (let a = facts.answered f k r noted in fixed_below k a.stands.batch a.within a.stands.fixed (cases_le k top)), facts.ordered);
       done = λ f c. elim (called_cases f c) [
         | inl new ↦ inl (mine_new f new)

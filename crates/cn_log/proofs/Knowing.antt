@@ -14,7 +14,7 @@ use Rattle.cn_log.specs.declared.progress.Phase.TheVariants.{Idle, Looks, Runs}
 use Rattle.cn_log.specs.Agreement.{RoundsAgree}
 use Rattle.cn_log.specs.Callers.{BeginsWith, IsUnseen, process_of, Without, pending_in, call_of, caller_of, entries_by, seen_of, IsPendingCall, IsStepped, SeesOther}
 use Rattle.cn_log.specs.Linearized.{calls_of}
-use Rattle.cn_log.specs.Log.{Setting, World, Caller, Called, put, IsEventList, batches, entries, gathered, first_look, after_gathering, after_decision, after_step, after_event, after_events, first_world, state_of, phase_after, answer, answer_from, answer_with}
+use Rattle.cn_log.specs.Log.{Setting, World, Caller, Called, put, IsEventList, batches, entries, batch_with, first_look, after_gathering, after_decision, after_step, after_event, after_events, first_world, state_of, phase_after, answer, answer_from, answer_with}
 use Rattle.cn_log.proofs.EventLists.{run_append, may_right}
 use Rattle.cn_log.proofs.Pacing.{seen_few}
 use Rattle.cn_log.proofs.Having.{has_is, has_isnt}
@@ -36,7 +36,7 @@ module _ {R : Type 0} (L : Setting R) where
 
   other_step : (w : World R) (q p : ℕ) (here : Caller) (ph : Phase) → p ≢ q → (after_step L w q here ph).caller p ≡ w.caller p
   other_step w q p here Idle ne = refl
-  other_step w q p here (Looks mine i batch) ne = other_gathering w q p here mine i (gathered (w.announced i) (entries_in L.processes here.seen) i batch) (i + 1 == L.processes) ne
+  other_step w q p here (Looks mine i batch) ne = other_gathering w q p here mine i (batch_with (w.announced i) (entries_in L.processes here.seen) i batch) (i + 1 == L.processes) ne
   other_step w q p here (Runs mine) ne =
       let r : R = L.consensus.step q (w.round (length here.seen)) in
       other_decision (record w { round = put w.round (length here.seen) r }) q p here mine (L.consensus.decided r q) ne
@@ -83,7 +83,7 @@ module _ {R : Type 0} (L : Setting R) where
 
   replays_phase : (w : World R) (p : ℕ) (here : Caller) (ph : Phase) (mine : Entry) → w.caller p ≡ here → here.phase ≡ ph → pending_in ph ≡ Some mine → Replays here mine ((after_step L w p here ph).caller p) (answer_from L w p here ph)
   replays_phase w p here Idle mine is phase pending = absurd (cc)
-  replays_phase w p here (Looks m i batch) mine is phase pending = replays_gathering w p here m i (gathered (w.announced i) (entries_in L.processes here.seen) i batch) (i + 1 == L.processes) mine pending
+  replays_phase w p here (Looks m i batch) mine is phase pending = replays_gathering w p here m i (batch_with (w.announced i) (entries_in L.processes here.seen) i batch) (i + 1 == L.processes) mine pending
   replays_phase w p here (Runs m) mine is phase pending =
       let r : R = L.consensus.step p (w.round (length here.seen)) in
       let v : World R = record w { round = put w.round (length here.seen) r } in

@@ -2,6 +2,7 @@ pub mod ListLemmas
 pub mod EventLists
 pub mod EntryLists
 pub mod Places
+pub mod OwnLemmas
 pub mod Invariant
 pub mod Bypassing
 pub mod Looking

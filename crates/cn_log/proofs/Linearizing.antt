@@ -11,8 +11,8 @@ use Rattle.cn_log.specs.declared.event.StepAnswer.TheVariants.{Working, Answered
 use Rattle.cn_log.specs.declared.progress.Phase.{Phase}
 use Rattle.cn_log.specs.declared.progress.Phase.TheVariants.{Idle, Looks, Runs}
 use Rattle.cn_log.specs.Agreement.{RoundsAgree}
-use Rattle.cn_log.specs.Log.{Setting, World, Caller, Note, Called, Replied, Refused, put, gathered, batches_of, response_in, after_events, after_event, after_gathering, after_step, after_decision, first_world, state_of, MayInvoke, MayCome, MayAllCome, IsEventList, batches, entries, answer_from, answer_with}
-use Rattle.cn_log.specs.Linearized.{calls_of, IsCall, IsStepOf, IsAnswered, IsEnded, IsInSlot, StandsIn, entry_slots, IsLinearized, BeginsInTurn, Grows}
+use Rattle.cn_log.specs.Log.{Setting, World, Caller, Note, Called, Replied, FoundFull, put, batch_with, batches_of, response_in, after_events, after_event, after_gathering, after_step, after_decision, first_world, state_of, MayInvoke, MayCome, MayAllCome, IsEventList, batches, entries, answer_from, answer_with}
+use Rattle.cn_log.specs.Linearized.{calls_of, IsCall, IsStepOf, IsAnswered, FindsFull, IsInSlot, StandsIn, entry_slots, IsLinearized, BeginsInTurn, Grows}
 use Rattle.cn_log.specs.Linearized.{Stands as StandsAt}
 use Rattle.cn_log.proofs.Places.{slot_of, before, in_entries, front, members_in_order, slots_in_order, entries_put}
 use Rattle.cn_log.specs.Bypass.{fixed_before, IsBypassBounded}
@@ -64,7 +64,7 @@ module _ {R : Type 0} (L : Setting R) (Good : R → Type 0) (agrees : RoundsAgre
 
   stay_stepped : (w : World R) (p : ℕ) → p < L.processes → IsSafe w → (here : Caller) (ph : Phase) → Stay w (after_step L w p here ph)
   stay_stepped w p lt holds here Idle k y h = h
-  stay_stepped w p lt holds here (Looks mine q batch) k y h = stay_gathered w p here mine q (gathered (w.announced q) (entries_in L.processes here.seen) q batch) (q + 1 == L.processes) k y h
+  stay_stepped w p lt holds here (Looks mine q batch) k y h = stay_gathered w p here mine q (batch_with (w.announced q) (entries_in L.processes here.seen) q batch) (q + 1 == L.processes) k y h
   stay_stepped w p lt holds here (Runs mine) k y h =
       let r = L.consensus.step p (w.round (length here.seen)) in
       let same = replayed_round (record w { round = put w.round (length here.seen) r }) p here mine (L.consensus.decided r p) in
@@ -107,13 +107,13 @@ module _ {R : Type 0} (L : Setting R) (Good : R → Type 0) (agrees : RoundsAgre
       with_it (Some x) h = go (has x mine) (length here.seen + 1 == L.capacity) h
         where
           go : (b d : Bool) → (if b then Answered (length here.seen) (record { 0 = response_in L here.seen x mine }) else (if d then Full else Working)) ≡ Answered slot (record { 0 = response })
-              → (if b then Replied mine (length here.seen) (response_in L here.seen x mine) ∷ w.history else (if d then Refused mine ∷ w.history else w.history)) ≡ Replied mine slot response ∷ w.history
+              → (if b then Replied mine (length here.seen) (response_in L here.seen x mine) ∷ w.history else (if d then FoundFull mine ∷ w.history else w.history)) ≡ Replied mine slot response ∷ w.history
           go true d g = let a : length here.seen ≡ slot = cc in let s : (let z : Response = record { 0 = response_in L here.seen x mine } in z) ≡ record { 0 = response } = cc in
               let b : response_in L here.seen x mine ≡ response = ap (λ (z : Response). z.0) s in rw (a, b) refl
           go false true g = absurd cc
           go false false g = absurd cc
 
-  full_noted : (w : World R) (p : ℕ) (here : Caller) (ph : Phase) → answer_from L w p here ph ≡ Full → LeftBy w p here ph (λ mine. Refused mine)
+  full_noted : (w : World R) (p : ℕ) (here : Caller) (ph : Phase) → answer_from L w p here ph ≡ Full → LeftBy w p here ph (λ mine. FoundFull mine)
   full_noted w p here Idle h = absurd cc
   full_noted w p here (Looks mine q batch) h = absurd cc
   full_noted w p here (Runs mine) h = (mine, refl, with_it (L.consensus.decided r p) h)
@@ -124,12 +124,12 @@ module _ {R : Type 0} (L : Setting R) (Good : R → Type 0) (agrees : RoundsAgre
       w1 : World R
       w1 = record w { round = put w.round (length here.seen) r }
 
-      with_it : (o : Option Batch) → answer_with L here.seen mine o ≡ Full → (after_decision L w1 p here mine o).history ≡ Refused mine ∷ w.history
+      with_it : (o : Option Batch) → answer_with L here.seen mine o ≡ Full → (after_decision L w1 p here mine o).history ≡ FoundFull mine ∷ w.history
       with_it None h = absurd cc
       with_it (Some x) h = go (has x mine) (length here.seen + 1 == L.capacity) h
         where
           go : (b d : Bool) → (if b then Answered (length here.seen) (record { 0 = response_in L here.seen x mine }) else (if d then Full else Working)) ≡ Full
-              → (if b then Replied mine (length here.seen) (response_in L here.seen x mine) ∷ w.history else (if d then Refused mine ∷ w.history else w.history)) ≡ Refused mine ∷ w.history
+              → (if b then Replied mine (length here.seen) (response_in L here.seen x mine) ∷ w.history else (if d then FoundFull mine ∷ w.history else w.history)) ≡ FoundFull mine ∷ w.history
           go true d g = absurd cc
           go false true g = refl
           go false false g = absurd cc
@@ -185,10 +185,10 @@ module _ {R : Type 0} (L : Setting R) (Good : R → Type 0) (agrees : RoundsAgre
       let w = state_of L (take i events) in
       left_note events may i e a.step (λ mine. Replied mine slot response) (answer_noted w e.process (w.caller e.process) (w.caller e.process).phase slot response a.answers)
 
-  pub ended_note : (events : List Event) → IsEventList L events → (i : ℕ) (e : Entry) → IsEnded L events i e → IsNoted (Refused e) (state_of L events).history
+  pub ended_note : (events : List Event) → IsEventList L events → (i : ℕ) (e : Entry) → FindsFull L events i e → IsNoted (FoundFull e) (state_of L events).history
   ended_note events may i e a =
       let w = state_of L (take i events) in
-      left_note events may i e a.step (λ mine. Refused mine) (full_noted w e.process (w.caller e.process) (w.caller e.process).phase a.answers)
+      left_note events may i e a.step (λ mine. FoundFull mine) (full_noted w e.process (w.caller e.process) (w.caller e.process).phase a.answers)
 
   -- what was answered within a prefix
   earlier_answer : (events : List Event) (i j : ℕ) (e : Entry) (slot response : ℕ) → i < j → IsAnswered L events i e slot response → IsAnswered L (take j events) i e slot response
@@ -416,7 +416,7 @@ module _ {R : Type 0} (L : Setting R) (Good : R → Type 0) (agrees : RoundsAgre
         let high = facts_now.stood f top k noted (stands_in place k f h).1 in
         omega arith
 
-    no_slot : (i : ℕ) (e : Entry) → IsEnded L events i e → (length (batches L events) ≡ L.capacity) × ((k : ℕ) → StandsAt L events k e → ⊥)
+    no_slot : (i : ℕ) (e : Entry) → FindsFull L events i e → (length (batches L events) ≡ L.capacity) × ((k : ℕ) → StandsAt L events k e → ⊥)
     no_slot i e a =
         let all = facts_now.ended e (ended_note events may i e a) in (
           all_fixed L w.round L.capacity 0 (λ k less. (let z : 0 + k ≡ k = omega arith in rw z ((all k less).batch, (all k less).fixed))),

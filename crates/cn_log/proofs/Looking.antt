@@ -9,7 +9,7 @@ use Rattle.cn_log.specs.declared.progress.Phase.TheVariants.{Idle, Looks, Runs}
 use Rattle.cn_log.specs.Agreement.{RoundsAgree}
 use Rattle.cn_log.specs.Batches.{Has, entry_at, with_entry, entries_in}
 use Rattle.cn_log.specs.Callers.{IsUnseen}
-use Rattle.cn_log.specs.Log.{Setting, World, Caller, Called, put, has_entry, gathered, after_gathering, after_step}
+use Rattle.cn_log.specs.Log.{Setting, World, Caller, Called, put, has_entry, batch_with, after_gathering, after_step}
 use Rattle.cn_log.proofs.ListLemmas.{put_same, put_other, has_not, has_yes, there_is, get_low}
 use Rattle.cn_log.proofs.Invariant.{IsNoted, IsCalled, IsRuns, IsPending, IsGathered, IsLooking, PhaseHolds, IsOther, IsBegun, Holds, HasGathered, Facts, IsMine, IsSeen, Stands, StandsBy, IsReply, in_order, fixed_begun}
 use Rattle.cn_log.proofs.Places.{of_entries, in_entries}
@@ -39,7 +39,7 @@ module _ {R : Type 0} (L : Setting R) (Good : R → Type 0) (agrees : RoundsAgre
   known = entries_in L.processes here.seen
 
   abbrev v : Batch
-  v = gathered (w.announced q) known q batch
+  v = batch_with (w.announced q) known q batch
 
   looking : IsLooking L w p mine q batch
   looking = let h : PhaseHolds L w p (Looks mine q batch) = subst (PhaseHolds L w p) is (holds.phases p) in h
@@ -59,7 +59,7 @@ module _ {R : Type 0} (L : Setting R) (Good : R → Type 0) (agrees : RoundsAgre
   not_found e low h k b there has = has_not known e h _ (in_entries L.processes here.seen k b e.process e there low has)
 
   -- what is gathered
-  gathered_now : (a : Option Entry) → w.announced q ≡ a → IsGathered here.seen w.history (gathered a known q batch)
+  gathered_now : (a : Option Entry) → w.announced q ≡ a → IsGathered here.seen w.history (batch_with a known q batch)
   gathered_now None e = looking.gathered
   gathered_now (Some other) e = go (has_entry known other) refl
     where
@@ -131,7 +131,7 @@ module _ {R : Type 0} (L : Setting R) (Good : R → Type 0) (agrees : RoundsAgre
         go ph is' (inr (inr full)) = let room = looking.pending.room in let g = there_is (w.caller e.process).seen k0 (omega (arith, room, full)) in inr (helped e since noted low g.0 less (holds.seen e.process k0 g.0 g.1))
 
     -- what was gathered before stays
-    gathered_kept : (a : Option Entry) (i : ℕ) → i ≢ q → entry_at (gathered a known q batch) i ≡ entry_at batch i
+    gathered_kept : (a : Option Entry) (i : ℕ) → i ≢ q → entry_at (batch_with a known q batch) i ≡ entry_at batch i
     gathered_kept None i ne = refl
     gathered_kept (Some other) i ne = go (has_entry known other)
       where

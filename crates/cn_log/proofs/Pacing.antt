@@ -15,7 +15,7 @@ use Rattle.cn_log.specs.Batches.{entries_in}
 use Rattle.cn_log.specs.Bypass.{fixed_before}
 use Rattle.cn_log.specs.Callers.{caller_of, pending_in, process_of}
 use Rattle.cn_log.specs.Linearized.{IsCall}
-use Rattle.cn_log.specs.Log.{Setting, World, Caller, put, gathered, batches, first_look, phase_after, after_gathering, after_decision, after_run, after_step, after_event, after_events, first_world, state_of, MayCome, MayAllCome, IsEventList}
+use Rattle.cn_log.specs.Log.{Setting, World, Caller, put, batch_with, batches, first_look, phase_after, after_gathering, after_decision, after_run, after_step, after_event, after_events, first_world, state_of, MayCome, MayAllCome, IsEventList}
 use Rattle.cn_log.specs.OwnSteps.{steps_of, is_step_of, event_room}
 use Rattle.cn_log.proofs.Bypassing.{pending_low, first_holds}
 use Rattle.cn_log.proofs.EventLists.{run_append, may_right, split_at}
@@ -23,6 +23,7 @@ use Rattle.cn_log.proofs.Invariant.{IsRuns, IsPending, IsLooking, PhaseHolds, Ho
 use Rattle.cn_log.proofs.Invoking.{keeps_event}
 use Rattle.cn_log.proofs.Linearizing.{holds_after, facts_after, prefix_may, call_noted, call_may, batch_of}
 use Rattle.cn_log.proofs.ListLemmas.{put_same, put_other, there_is, get_low}
+use Rattle.cn_log.proofs.OwnLemmas.{not_idle}
 
 -- what an event counts for process p, where a call counts a, and a step one
 abbrev pub weight : ℕ → ℕ → Event → ℕ
@@ -107,7 +108,7 @@ module _ {R : Type 0} (L : Setting R) (Good : R → Type 0) (agrees : RoundsAgre
 
   other_step : (w : World R) (q p : ℕ) → q ≢ p → (ph : Phase) → way_of L a (after_step L w q (w.caller q) ph) p ≡ way_of L a w p
   other_step w q p ne Idle = refl
-  other_step w q p ne (Looks mine i batch) = other_gathering w q p ne mine i (gathered (w.announced i) (entries_in L.processes (w.caller q).seen) i batch) (i + 1 == L.processes)
+  other_step w q p ne (Looks mine i batch) = other_gathering w q p ne mine i (batch_with (w.announced i) (entries_in L.processes (w.caller q).seen) i batch) (i + 1 == L.processes)
   other_step w q p ne (Runs mine) = other_run w q p ne mine
 
   -- a step of the process
@@ -181,7 +182,7 @@ module _ {R : Type 0} (L : Setting R) (Good : R → Type 0) (agrees : RoundsAgre
 
     own_step : (ph : Phase) → here.phase ≡ ph → ph ≢ Idle → way_of L a w p + 1 ≤ way_of L a (after_step L w p here ph) p
     own_step Idle is in_call = absurd (in_call refl)
-    own_step (Looks mine i batch) is in_call = own_gathering mine i batch (gathered (w.announced i) (entries_in L.processes here.seen) i batch) (i + 1 == L.processes) refl is
+    own_step (Looks mine i batch) is in_call = own_gathering mine i batch (batch_with (w.announced i) (entries_in L.processes here.seen) i batch) (i + 1 == L.processes) refl is
     own_step (Runs mine) is in_call = own_run mine is
 
     own_invoke : (operation : ℕ) → here.phase ≡ Idle → way_of L a w p + a ≤ way_of L a (after_event L w (Invoke p operation)) p
@@ -327,7 +328,7 @@ module _ {R : Type 0} (L : Setting R) (Good : R → Type 0) (agrees : RoundsAgre
 
       stepped : (p : ℕ) (ph : Phase) → (w.caller p).phase ≡ ph → length ((after_step L w p (w.caller p) ph).caller q).seen ≤ L.capacity
       stepped p Idle is = few q
-      stepped p (Looks mine i batch) is = gathering p mine i (gathered (w.announced i) (entries_in L.processes (w.caller p).seen) i batch) (i + 1 == L.processes)
+      stepped p (Looks mine i batch) is = gathering p mine i (batch_with (w.announced i) (entries_in L.processes (w.caller p).seen) i batch) (i + 1 == L.processes)
       stepped p (Runs mine) is =
           let h : IsPending L w p mine = subst (PhaseHolds L w p) is (holds.phases p) in
           let r : R = L.consensus.step p (w.round (length (w.caller p).seen)) in
@@ -405,11 +406,6 @@ module _ {R : Type 0} (L : Setting R) (Good : R → Type 0) (agrees : RoundsAgre
     is_pending Idle is h holds = absurd (cc h)
     is_pending (Looks mine q batch) is h holds = let same : mine ≡ e = cc in subst (λ (z : Entry). IsPending L (state_of L events) p z) same holds.pending
     is_pending (Runs mine) is h holds = let same : mine ≡ e = cc in subst (λ (z : Entry). IsPending L (state_of L events) p z) same holds
-
-    not_idle : (ph : Phase) → pending_in ph ≡ Some e → ph ≢ Idle
-    not_idle Idle h is = cc h
-    not_idle (Looks mine q batch) h is = cc is
-    not_idle (Runs mine) h is = cc is
 
     low : length (caller_of L events p).seen ≤ since + 1
     low = pending_low L Good agrees (state_of L events) (holds_after L Good agrees events may) (facts_after L Good agrees events may) p e lt

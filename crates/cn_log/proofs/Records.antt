@@ -7,7 +7,7 @@ use Rattle.cn_log.specs.declared.entry.Entry.{Entry}
 use Rattle.cn_log.specs.Batches.{has, entries_in}
 use Rattle.cn_log.specs.declared.event.Event.{Event}
 use Rattle.cn_log.specs.declared.event.Event.TheVariants.{Invoke, Step}
-use Rattle.cn_log.specs.Log.{Setting, World, Caller, Note, Called, Replied, Refused, put, gathered, batches_of, after_events, after_event, after_gathering, after_step, after_decision, record_after, response_in}
+use Rattle.cn_log.specs.Log.{Setting, World, Caller, Note, Called, Replied, FoundFull, put, batch_with, batches_of, after_events, after_event, after_gathering, after_step, after_decision, record_after, response_in}
 use Rattle.cn_log.specs.declared.progress.Phase.{Phase}
 use Rattle.cn_log.specs.declared.progress.Phase.TheVariants.{Idle, Looks, Runs}
 use Rattle.cn_log.proofs.ListLemmas.{put_same, put_other}
@@ -25,9 +25,9 @@ module _ {R : Type 0} (L : Setting R) where
   noted_after : (note : Note) (seen : List Batch) (mine : Entry) (x : Batch) (notes : List Note) → IsNoted note notes → IsNoted note (record_after L seen mine x notes)
   noted_after note seen mine x notes h = go (has x mine) (length seen + 1 == L.capacity)
     where
-      go : (b d : Bool) → IsNoted note (if b then Replied mine (length seen) (response_in L seen x mine) ∷ notes else (if d then Refused mine ∷ notes else notes))
+      go : (b d : Bool) → IsNoted note (if b then Replied mine (length seen) (response_in L seen x mine) ∷ notes else (if d then FoundFull mine ∷ notes else notes))
       go true d = more note (Replied mine (length seen) (response_in L seen x mine)) notes h
-      go false true = more note (Refused mine) notes h
+      go false true = more note (FoundFull mine) notes h
       go false false = h
 
   noted_replayed : (note : Note) (w : World R) (p : ℕ) (here : Caller) (mine : Entry) (o : Option Batch) → IsNoted note w.history → IsNoted note (after_decision L w p here mine o).history
@@ -40,7 +40,7 @@ module _ {R : Type 0} (L : Setting R) where
 
   noted_stepped : (note : Note) (w : World R) (p : ℕ) (here : Caller) (ph : Phase) → IsNoted note w.history → IsNoted note (after_step L w p here ph).history
   noted_stepped note w p here Idle h = h
-  noted_stepped note w p here (Looks mine q batch) h = noted_gathered note w p here mine q (gathered (w.announced q) (entries_in L.processes here.seen) q batch) (q + 1 == L.processes) h
+  noted_stepped note w p here (Looks mine q batch) h = noted_gathered note w p here mine q (batch_with (w.announced q) (entries_in L.processes here.seen) q batch) (q + 1 == L.processes) h
   noted_stepped note w p here (Runs mine) h =
       let r = L.consensus.step p (w.round (length here.seen)) in
       noted_replayed note (record w { round = put w.round (length here.seen) r }) p here mine (L.consensus.decided r p) h
@@ -70,7 +70,7 @@ module _ {R : Type 0} (L : Setting R) where
 
   calls_stepped : (w : World R) (p q : ℕ) (ph : Phase) → ((after_step L w p (w.caller p) ph).caller q).calls ≡ (w.caller q).calls
   calls_stepped w p q Idle = refl
-  calls_stepped w p q (Looks mine i batch) = calls_gathered w p q mine i (gathered (w.announced i) (entries_in L.processes (w.caller p).seen) i batch) (i + 1 == L.processes)
+  calls_stepped w p q (Looks mine i batch) = calls_gathered w p q mine i (batch_with (w.announced i) (entries_in L.processes (w.caller p).seen) i batch) (i + 1 == L.processes)
   calls_stepped w p q (Runs mine) =
       let r = L.consensus.step p (w.round (length (w.caller p).seen)) in
       calls_replayed (record w { round = put w.round (length (w.caller p).seen) r }) p q mine (L.consensus.decided r p)
@@ -103,9 +103,9 @@ module _ {R : Type 0} (L : Setting R) where
       skip other ne zero g = absurd (ne cc)
       skip other ne (suc k) g = record { place = k; there = g }
 
-      go : (b d : Bool) → IsNoted (Called e since) (if b then Replied mine (length seen) (response_in L seen x mine) ∷ notes else (if d then Refused mine ∷ notes else notes)) → IsNoted (Called e since) notes
+      go : (b d : Bool) → IsNoted (Called e since) (if b then Replied mine (length seen) (response_in L seen x mine) ∷ notes else (if d then FoundFull mine ∷ notes else notes)) → IsNoted (Called e since) notes
       go true d h = skip (Replied mine (length seen) (response_in L seen x mine)) (λ s. cc s) h.place h.there
-      go false true h = skip (Refused mine) (λ s. cc s) h.place h.there
+      go false true h = skip (FoundFull mine) (λ s. cc s) h.place h.there
       go false false h = h
 
   noted_not_replayed : (e : Entry) (since : ℕ) (w : World R) (p : ℕ) (here : Caller) (mine : Entry) (o : Option Batch) → IsNoted (Called e since) (after_decision L w p here mine o).history → IsNoted (Called e since) w.history
@@ -119,7 +119,7 @@ module _ {R : Type 0} (L : Setting R) where
 
   noted_not_stepped : (e : Entry) (since : ℕ) (w : World R) (p : ℕ) (here : Caller) (ph : Phase) → IsNoted (Called e since) (after_step L w p here ph).history → IsNoted (Called e since) w.history
   noted_not_stepped e since w p here Idle h = h
-  noted_not_stepped e since w p here (Looks mine q batch) h = noted_not_gathered e since w p here mine q (gathered (w.announced q) (entries_in L.processes here.seen) q batch) (q + 1 == L.processes) h
+  noted_not_stepped e since w p here (Looks mine q batch) h = noted_not_gathered e since w p here mine q (batch_with (w.announced q) (entries_in L.processes here.seen) q batch) (q + 1 == L.processes) h
   noted_not_stepped e since w p here (Runs mine) h =
       let r = L.consensus.step p (w.round (length here.seen)) in
       noted_not_replayed e since (record w { round = put w.round (length here.seen) r }) p here mine (L.consensus.decided r p) h

@@ -9,7 +9,7 @@ use Rattle.cn_agree.specs.declared.local.Local.{Local}
 use Rattle.cn_agree.specs.declared.local.Local.TheVariants.{NotBegun, Active, Decided}
 use Rattle.cn_agree.specs.declared.local.Stage.TheVariants.{Write}
 use Rattle.cn_agree.specs.Reached.{IsReached, Opens, Begins, Steps, HasBegun}
-use Rattle.cn_agree.specs.Rounds.{decided, fixed_value, steps_taken, RunsBy, KeepsConsensus}
+use Rattle.cn_agree.specs.Rounds.{decision_of, fixed_value, steps_taken, RunsBy, KeepsConsensus}
 use Rattle.cn_agree.specs.Consensus.{occurrences}
 use Rattle.cn_agree.proofs.Lists.{count_here}
 use Rattle.cn_agree.specs.Steps.{after_step, after_step_from}
@@ -79,15 +79,15 @@ module _ (law : RoundLaw) (o : Opening) (plan : IsPlan o.plan) where
   not_some None h s = true≢false (sym s)
   not_some (Some x) h s = absurd (cc h)
 
-  taken_is : (w : World Batch) (good : Good w) → (p : ℕ) → p < n → decided (local_at w p) ≡ None → (steps_taken P p (local_at w p) ≡ occurrences good.0 p) × (occurrences good.0 p < 4 * length (P.path p))
+  taken_is : (w : World Batch) (good : Good w) → (p : ℕ) → p < n → decision_of (local_at w p) ≡ None → (steps_taken P p (local_at w p) ≡ occurrences good.0 p) × (occurrences good.0 p < 4 * length (P.path p))
   taken_is w good p lt none =
       let k = keeps_of w good in
       let s = k.steps p lt in
       let u : occurrences good.0 p < 4 * length (P.path p) = (let cases : (4 * length (P.path p) ≤ occurrences good.0 p) ⊎ (occurrences good.0 p < 4 * length (P.path p)) = grind arith in
-      elim cases [ inl all ↦ absurd (not_some (decided (local_at w p)) none ((k.in_time p lt).1 all)) | inr few ↦ few ]) in
+      elim cases [ inl all ↦ absurd (not_some (decision_of (local_at w p)) none ((k.in_time p lt).1 all)) | inr few ↦ few ]) in
       (s ∙ min_low (occurrences good.0 p) (4 * length (P.path p)) (omega (arith, u)), u)
 
-  taken_more : (w : World Batch) (good : Good w) → (p : ℕ) (v : Batch) → p < n → input_at w p ≡ Some v → decided (local_at w p) ≡ None → steps_taken P p (local_at (after_step P p w) p) ≡ steps_taken P p (local_at w p) + 1
+  taken_more : (w : World Batch) (good : Good w) → (p : ℕ) (v : Batch) → p < n → input_at w p ≡ Some v → decision_of (local_at w p) ≡ None → steps_taken P p (local_at (after_step P p w) p) ≡ steps_taken P p (local_at w p) + 1
   taken_more w good p v lt some none =
       let t = taken_is w good p lt none in
       let u = t.1 in
@@ -111,9 +111,9 @@ module _ (law : RoundLaw) (o : Opening) (plan : IsPlan o.plan) where
     input_mine = λ r p v lt good. get_or-set_same r.inputs p (Some v) None (let s = (sizes_of r good).2 in omega arith);
     input_other = λ r p q v ne. get_or-set_other r.inputs p q (Some v) None ne;
     input_step = λ r p q. ap (λ (is : List (Option Batch)). slice_index_or is q None) (inputs_step P p r (local_at r p));
-    undecided_begin = λ r p v lt good. ap decided (get_or-set_same r.locals p (Active 0 v Write) NotBegun (let s = (sizes_of r good).1 in omega arith));
-    decided_begin = λ r p q v ne. ap decided (get_or-set_other r.locals p q (Active 0 v Write) NotBegun ne);
-    decided_step = λ r p q ne. ap decided (others_step P p q r ne (local_at r p));
+    undecided_begin = λ r p v lt good. ap decision_of (get_or-set_same r.locals p (Active 0 v Write) NotBegun (let s = (sizes_of r good).1 in omega arith));
+    decided_begin = λ r p q v ne. ap decision_of (get_or-set_other r.locals p q (Active 0 v Write) NotBegun ne);
+    decided_step = λ r p q ne. ap decision_of (others_step P p q r ne (local_at r p));
     taken_begin = λ r p v lt good. ap (steps_taken P p) (get_or-set_same r.locals p (Active 0 v Write) NotBegun (let s = (sizes_of r good).1 in omega arith));
     taken_step = λ r p v lt good some none. taken_more r good p v lt some none;
     taken_low = λ r p v lt good some none. (let t = taken_is r good p lt none in let a = t.0 in let b = t.1 in let s : length (P.path p) ≤ n - 1 = law.short_paths o.plan plan p lt in omega (arith, a, b, s));

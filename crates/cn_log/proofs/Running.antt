@@ -5,7 +5,7 @@ use Rattle.std.proofs.lemmas.Bool.Decides.{nat_tests}
 use Rattle.cn_log.specs.declared.batch.Batch.{Batch}
 use Rattle.cn_log.specs.declared.entry.Entry.{Entry}
 use Rattle.cn_log.specs.Batches.{Has, has}
-use Rattle.cn_log.specs.Log.{Setting, World, Caller, Note, Called, Replied, Refused, put, phase_after, after_decision, after_step, first_look, response_in}
+use Rattle.cn_log.specs.Log.{Setting, World, Caller, Note, Called, Replied, FoundFull, put, phase_after, after_decision, after_step, first_look, response_in}
 use Rattle.cn_log.specs.declared.progress.Phase.{Phase}
 use Rattle.cn_log.specs.declared.progress.Phase.TheVariants.{Idle, Looks, Runs}
 use Rattle.cn_log.specs.Agreement.{RoundsAgree}
@@ -116,9 +116,9 @@ module _ {R : Type 0} (L : Setting R) (Good : R → Type 0) (agrees : RoundsAgre
     called_kept : (e : Entry) → IsCalled e w.history → IsCalled e w'.history
     called_kept e c = go (has x mine) (k0 + 1 == L.capacity)
       where
-        go : (b d : Bool) → IsCalled e (if b then Replied mine k0 (response_in L here.seen x mine) ∷ w.history else (if d then Refused mine ∷ w.history else w.history))
+        go : (b d : Bool) → IsCalled e (if b then Replied mine k0 (response_in L here.seen x mine) ∷ w.history else (if d then FoundFull mine ∷ w.history else w.history))
         go true d = called_more e (Replied mine k0 (response_in L here.seen x mine)) w.history c
-        go false true = called_more e (Refused mine) w.history c
+        go false true = called_more e (FoundFull mine) w.history c
         go false false = c
 
     -- the notes of calls are the same
@@ -132,9 +132,9 @@ module _ {R : Type 0} (L : Setting R) (Good : R → Type 0) (agrees : RoundsAgre
             at zero h = absurd (ne c.since cc)
             at (suc k) h = record { since = c.since; noted = record { place = k; there = h } }
 
-        go : (b d : Bool) → IsCalled e (if b then Replied mine k0 (response_in L here.seen x mine) ∷ w.history else (if d then Refused mine ∷ w.history else w.history)) → IsCalled e w.history
+        go : (b d : Bool) → IsCalled e (if b then Replied mine k0 (response_in L here.seen x mine) ∷ w.history else (if d then FoundFull mine ∷ w.history else w.history)) → IsCalled e w.history
         go true d c = less (Replied mine k0 (response_in L here.seen x mine)) (λ since h. cc) c
-        go false true c = less (Refused mine) (λ since h. cc) c
+        go false true c = less (FoundFull mine) (λ since h. cc) c
         go false false c = c
 
     length_is : length (here.seen ++ x ∷ []) ≡ k0 + 1
@@ -304,12 +304,12 @@ module _ {R : Type 0} (L : Setting R) (Good : R → Type 0) (agrees : RoundsAgre
       data More : List Note → Type 0 where
         Same : More w.history
         Answer : Has x mine → More (Replied mine k0 reply ∷ w.history)
-        End : (Has x mine → ⊥) → k0 + 1 ≡ L.capacity → More (Refused mine ∷ w.history)
+        End : (Has x mine → ⊥) → k0 + 1 ≡ L.capacity → More (FoundFull mine ∷ w.history)
 
       more_now : More w2.history
       more_now = go (has x mine) (k0 + 1 == L.capacity) refl refl
         where
-          go : (b d : Bool) → has x mine ≡ b → (k0 + 1 == L.capacity) ≡ d → More (if b then Replied mine k0 reply ∷ w.history else (if d then Refused mine ∷ w.history else w.history))
+          go : (b d : Bool) → has x mine ≡ b → (k0 + 1 == L.capacity) ≡ d → More (if b then Replied mine k0 reply ∷ w.history else (if d then FoundFull mine ∷ w.history else w.history))
           go true d e f = Answer (has_is x mine e)
           go false true e f = End (has_isnt x mine e) (grind (arith, nat_tests))
           go false false e f = Same
@@ -323,7 +323,7 @@ module _ {R : Type 0} (L : Setting R) (Good : R → Type 0) (agrees : RoundsAgre
           at (suc k) g = record { place = k; there = g }
       invoked_before e since notes (End f m) h = at h.place h.there
         where
-          at : (k : ℕ) → slice_get (Refused mine ∷ w.history) k ≡ Some (Called e since) → IsNoted (Called e since) w.history
+          at : (k : ℕ) → slice_get (FoundFull mine ∷ w.history) k ≡ Some (Called e since) → IsNoted (Called e since) w.history
           at zero g = absurd cc
           at (suc k) g = record { place = k; there = g }
 
@@ -339,15 +339,15 @@ module _ {R : Type 0} (L : Setting R) (Good : R → Type 0) (agrees : RoundsAgre
           at (suc i) g = reply_kept w2 refl e k r (facts.answered e k r (record { place = i; there = g }))
       answered_now notes (End f m) e k r h = at h.place h.there
         where
-          at : (i : ℕ) → slice_get (Refused mine ∷ w.history) i ≡ Some (Replied e k r) → IsReply L w2 e k r
+          at : (i : ℕ) → slice_get (FoundFull mine ∷ w.history) i ≡ Some (Replied e k r) → IsReply L w2 e k r
           at zero g = absurd cc
           at (suc i) g = reply_kept w2 refl e k r (facts.answered e k r (record { place = i; there = g }))
 
-      ended_now : (notes : List Note) → More notes → (e : Entry) → IsNoted (Refused e) notes → (k : ℕ) → k < L.capacity → IsOther L (round' k) e
+      ended_now : (notes : List Note) → More notes → (e : Entry) → IsNoted (FoundFull e) notes → (k : ℕ) → k < L.capacity → IsOther L (round' k) e
       ended_now notes Same e h k room = other_kept k e (facts.ended e h k room)
       ended_now notes (Answer f) e h k room = at h.place h.there
         where
-          at : (i : ℕ) → slice_get (Replied mine k0 reply ∷ w.history) i ≡ Some (Refused e) → IsOther L (round' k) e
+          at : (i : ℕ) → slice_get (Replied mine k0 reply ∷ w.history) i ≡ Some (FoundFull e) → IsOther L (round' k) e
           at zero g = absurd cc
           at (suc i) g = other_kept k e (facts.ended e (record { place = i; there = g }) k room)
       ended_now notes (End f m) e h k room = at h.place h.there
@@ -359,7 +359,7 @@ module _ {R : Type 0} (L : Setting R) (Good : R → Type 0) (agrees : RoundsAgre
           last : (k : ℕ) → k < L.capacity → k0 + 1 ≡ L.capacity → (k < k0) ⊎ (k ≡ k0)
           last k room m = grind arith
 
-          at : (i : ℕ) → slice_get (Refused mine ∷ w.history) i ≡ Some (Refused e) → IsOther L (round' k) e
+          at : (i : ℕ) → slice_get (FoundFull mine ∷ w.history) i ≡ Some (FoundFull e) → IsOther L (round' k) e
           at zero g = let a : mine ≡ e = cc in rw (← a) (fresh (last k room m))
           at (suc i) g = other_kept k e (facts.ended e (record { place = i; there = g }) k room)
 

@@ -1,16 +1,14 @@
 -- A call is over within so many steps of its process, and a log has room for all its events.
-use Rattle.std.proofs.Common.{ℕ, zero, suc, ◌≡◌, ◌≢◌, ◌⊎◌, inl, inr, true, ◌+◌, ◌-◌, ◌*◌, ◌<◌, ◌≤◌, ◌==◌, List, [], ◌∷◌, ◌++◌, length, take, drop, slice_get, Some, refl, sym, ap, ◌∙◌, subst, arith, cond}
+use Rattle.std.proofs.Common.{ℕ, zero, suc, ◌≡◌, ◌⊎◌, inl, inr, true, ◌+◌, ◌-◌, ◌*◌, ◌<◌, ◌≤◌, ◌==◌, List, [], ◌∷◌, ◌++◌, length, take, drop, slice_get, Some, refl, sym, ap, ◌∙◌, subst, arith, cond}
 use Rattle.std.proofs.lemmas.Bool.{cases_eq}
 use Rattle.std.proofs.lemmas.Bool.Decides.{nat_tests}
 use Rattle.std.proofs.lemmas.List.{take-append-drop}
-use Rattle.std.proofs.lemmas.List.Sums.{sum_by-cons}
 use Rattle.cn_log.specs.declared.entry.Entry.{Entry}
 use Rattle.cn_log.specs.declared.event.Event.{Event}
 use Rattle.cn_log.specs.declared.event.Event.TheVariants.{Invoke, Step}
 use Rattle.cn_log.specs.declared.event.StepAnswer.{StepAnswer}
 use Rattle.cn_log.specs.declared.event.StepAnswer.TheVariants.{Working, Answered, Full}
-use Rattle.cn_log.specs.declared.progress.Phase.{Phase}
-use Rattle.cn_log.specs.declared.progress.Phase.TheVariants.{Idle, Looks, Runs}
+use Rattle.cn_log.specs.declared.progress.Phase.TheVariants.{Idle}
 use Rattle.cn_log.specs.Agreement.{RoundsAgree}
 use Rattle.cn_log.specs.Bypass.{fixed_before}
 use Rattle.cn_log.specs.Callers.{process_of, pending_in, caller_of, call_of, IsStepped}
@@ -22,9 +20,7 @@ use Rattle.cn_log.proofs.Knowing.{other_event, pending, stepped, number, invoked
 use Rattle.cn_log.proofs.Linearizing.{prefix_may, event_may}
 use Rattle.cn_log.proofs.ListLemmas.{get_low, there_is}
 use Rattle.cn_log.proofs.Pacing.{ends_in_time, k_low}
-
-steps_cons : (p : ℕ) (e : Event) (events : List Event) → steps_of p (e ∷ events) ≡ cond (is_step_of p e) 1 0 + steps_of p events
-steps_cons p e events = sum_by-cons (λ x. cond (is_step_of p x) 1 0) e events
+use Rattle.cn_log.proofs.OwnLemmas.{not_idle, steps_cons}
 
 take_next : {A : Type 0} (xs : List A) (i : ℕ) (x : A) → slice_get xs i ≡ Some x → take (suc i) xs ≡ take i xs ++ x ∷ []
 take_next [] i x h = absurd cc
@@ -78,11 +74,6 @@ module _ {R : Type 0} (L : Setting R) (Good : R → Type 0) (agrees : RoundsAgre
     abbrev Over : Type 0
     Over = (j : ℕ) × IsOver L events j e × (steps_between e.process events i (suc j) ≤ enough)
 
-    busy : (ph : Phase) → pending_in ph ≡ Some e → ph ≢ Idle
-    busy Idle is = λ idle. cc is
-    busy (Looks m q b) is = λ idle. cc idle
-    busy (Runs m) is = λ idle. cc idle
-
     -- after event j the call is pending, or it is over
     next_event : (j : ℕ) (event : Event) → i < j → slice_get events j ≡ Some event → pending_in (caller_of L (take j events) e.process).phase ≡ Some e
         → (pending_in (caller_of L (take (suc j) events) e.process).phase ≡ Some e) ⊎ Over
@@ -115,7 +106,7 @@ module _ {R : Type 0} (L : Setting R) (Good : R → Type 0) (agrees : RoundsAgre
             by Full given goes = inr (j, inr (record { step = record { call = i; before = less; is = c; last = last; step = step }; answers = given }), few)
 
         own_event : (event : Event) → process_of event ≡ e.process → slice_get events j ≡ Some event → (pending_in (caller_of L (take (suc j) events) e.process).phase ≡ Some e) ⊎ Over
-        own_event (Invoke q operation) mine at = absurd (busy (caller_of L (take j events) e.process).phase is
+        own_event (Invoke q operation) mine at = absurd (not_idle (caller_of L (take j events) e.process).phase is
             (subst (λ (p : ℕ). (caller_of L (take j events) p).phase ≡ Idle) mine (event_may L Good agrees events may j (Invoke q operation) at).idle))
         own_event (Step q) mine at =
             let step : slice_get events j ≡ Some (Step e.process) = at ∙ ap (λ (p : ℕ). Some (Step p)) mine in

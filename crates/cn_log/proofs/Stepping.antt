@@ -17,8 +17,8 @@ use Rattle.cn_log.specs.declared.event.StepAnswer.TheVariants.{Working, Answered
 use Rattle.cn_log.specs.declared.progress.Phase.{Phase}
 use Rattle.cn_log.specs.declared.progress.Phase.TheVariants.{Idle, Looks, Runs}
 use Rattle.cn_log.specs.declared.progress.Progress.{Progress}
-use Rattle.cn_log.specs.Fields.{count_at, gathered_by, next_batch, reply, IsProgressOf, Kept, Fits, Keeps}
-use Rattle.cn_log.specs.Log.{Setting, World, Caller, put, gathered, operations_of, object_after, after_step, after_gathering, after_decision, phase_after, state_of, fixed_from, batches_of, entries_of, MayStep, IsEventList, answer, answer_from, answer_with}
+use Rattle.cn_log.specs.Fields.{count_at, batch_with_calls, next_batch, reply, IsProgressOf, Kept, Fits, Keeps}
+use Rattle.cn_log.specs.Log.{Setting, World, Caller, put, batch_with, operations_of, object_after, after_step, after_gathering, after_decision, phase_after, state_of, fixed_from, batches_of, entries_of, MayStep, IsEventList, answer, answer_from, answer_with}
 use Rattle.cn_log.proofs.ListLemmas.{put_same, put_other}
 use Rattle.cn_log.proofs.Invariant.{IsRuns, IsPending, IsLooking, IsBegun, PhaseHolds, Holds, in_order, fixed_begun}
 use Rattle.cn_log.proofs.Looking.{not_begun}
@@ -30,6 +30,7 @@ use Rattle.cn_log.specs.Callers.{BeginsWith, entries_by}
 use Rattle.cn_log.proofs.Counting.{gathered_by_number, own_at, own_few}
 use Rattle.cn_log.proofs.OwnCalls.{push_batch}
 use Rattle.cn_log.proofs.Fitting.{Found, state_push, may_push, progress_put, progress_here}
+use Rattle.cn_log.specs.declared.limits.TheConstants.{MOST_ENTRIES, MOST_SLOTS}
 
 -- a run over more entries goes on from where it was
 run_join : (t : TypeTable) (state : ℕ) (xs ys : List Entry) → state_after t state (operations_of (xs ++ ys)) ≡ state_after t (state_after t state (operations_of xs)) (operations_of ys)
@@ -138,7 +139,7 @@ module _ {R : Type 0} {L : Setting R} {Good : R → Type 0} {s : List Event} {ke
   runs_begun r e = subst (λ (z : R). (v : Batch) × (L.consensus.input z p ≡ Some v) × (L.consensus.decided z p ≡ None)) (sym (round_is run runs_pending r e)) has_begun
 
   -- no more entries have been seen than so many slots can take
-  pub seen_most : L.capacity ≤ 1024 → here.seen ≤ 8192
+  pub seen_most : L.capacity ≤ MOST_SLOTS → here.seen ≤ MOST_ENTRIES
   seen_most few =
       let e = entries_few_in L.processes (caller run).seen in
       let m : L.processes * length (caller run).seen ≤ 8 * length (caller run).seen = mul-le-mul_right (length (caller run).seen) run.agrees.few in
@@ -150,7 +151,7 @@ module _ {R : Type 0} {L : Setting R} {Good : R → Type 0} {s : List Event} {ke
   calls_places = runs_is.calls_places
 
   -- and no more calls of one process
-  pub calls_most : L.capacity ≤ 1024 → (q : ℕ) → q < L.processes → count_at here.calls_seen q ≤ 8192
+  pub calls_most : L.capacity ≤ MOST_SLOTS → (q : ℕ) → q < L.processes → count_at here.calls_seen q ≤ MOST_ENTRIES
   calls_most few q low =
       let m = seen_most few in
       let a = runs_is.seen in
@@ -354,10 +355,10 @@ module _ {R : Type 0} {L : Setting R} {Good : R → Type 0} {s : List Event} {ke
 
   -- the batch that the process has after the look
   abbrev v : Batch
-  v = gathered ((w look).announced q) (entries_in L.processes (caller look).seen) q batch
+  v = batch_with ((w look).announced q) (entries_in L.processes (caller look).seen) q batch
 
-  pub gathered_is : (b : Batch) → b ≡ gathered_by (get_or kept.announced q None) (count_at here.calls_seen q) q batch → b ≡ v
-  gathered_is b e = e ∙ ap (λ o. gathered_by o (count_at here.calls_seen q) q batch) (look.at.keeps.fits.announcement q looking.next) ∙ ap (λ c. gathered_by ((w look).announced q) c q batch) (looks_is.calls_seen q looking.next)
+  pub gathered_is : (b : Batch) → b ≡ batch_with_calls (get_or kept.announced q None) (count_at here.calls_seen q) q batch → b ≡ v
+  gathered_is b e = e ∙ ap (λ o. batch_with_calls o (count_at here.calls_seen q) q batch) (look.at.keeps.fits.announcement q looking.next) ∙ ap (λ c. batch_with_calls ((w look).announced q) c q batch) (looks_is.calls_seen q looking.next)
       ∙ gathered_by_number L Good look.agrees s look.at.keeps.events p q batch
 
   now_is : (last : Bool) → (q + 1 == L.processes) ≡ last → state_of L (s ++ Step p ∷ []) ≡ after_gathering L (w look) p (caller look) mine q v last

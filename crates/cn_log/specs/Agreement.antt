@@ -2,6 +2,7 @@
 use Rattle.std.specs.Prelude.{ℕ, ◌≡◌, ◌≢◌, ◌+◌, ◌-◌, ◌*◌, ◌<◌, ◌≤◌, Some, None}
 use Rattle.cn_log.specs.declared.batch.Batch.{Batch}
 use Rattle.cn_log.specs.Log.{Setting}
+use Rattle.cn_choice.specs.declared.limits.TheConstants.{MOST_PROCESSES}
 
 -- every good round keeps consensus, and all rounds are good that a log comes to
 pub record RoundsAgree {R : Type 0} (L : Setting R) (Good : R → Type 0) : Type 0 where
@@ -34,4 +35,4 @@ pub record RoundsAgree {R : Type 0} (L : Setting R) (Good : R → Type 0) : Type
   pub taken_begin_other : (r : R) (p q : ℕ) (v : Batch) → q ≢ p → L.consensus.taken (L.consensus.begin p v r) q ≡ L.consensus.taken r q
   pub taken_step_other : (r : R) (p q : ℕ) → q ≢ p → L.consensus.taken (L.consensus.step p r) q ≡ L.consensus.taken r q
   -- a batch has a place for each process
-  pub few : L.processes ≤ 8
+  pub few : L.processes ≤ MOST_PROCESSES

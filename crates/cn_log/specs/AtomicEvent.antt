@@ -3,9 +3,9 @@
 use Rattle.std.specs.Prelude.{ℕ, ◌≡◌, ◌≢◌, ◌+◌, ◌==◌, Bool, true, false, List, [], ◌∷◌, ◌++◌, length, Option, Some, None}
 use Rattle.cn_proto.specs.Plan.{protocol_of, processes_of}
 use Rattle.cn_proto.specs.Protocol.{place_of}
-use Rattle.cn_agree.specs.AtomicStep.{Part, Content, content, touched, ActsOnce}
+use Rattle.cn_agree.specs.AtomicStep.{Part, Content, content, part_touched, ActsOnce}
 use Rattle.cn_agree.specs.Rounds.{decision_at}
-use Rattle.cn_agree.specs.Steps.{begun}
+use Rattle.cn_agree.specs.Steps.{after_begin}
 use Rattle.cn_agree.specs.World.{World as RoundWorld, node_at, local_at}
 use Rattle.cn_agree.specs.declared.local.Local.{Local}
 use Rattle.cn_agree.specs.declared.local.Local.TheVariants.{NotBegun, Active, Decided}
@@ -18,7 +18,7 @@ use Rattle.cn_log.specs.declared.event.StepAnswer.{StepAnswer}
 use Rattle.cn_log.specs.declared.progress.Phase.{Phase}
 use Rattle.cn_log.specs.declared.progress.Phase.TheVariants.{Idle, Looks, Runs}
 use Rattle.cn_log.specs.Callers.{call_of, process_of}
-use Rattle.cn_log.specs.Log.{World, Caller, entries_of_batches, first_look, gathered, state_of, answer, IsEventList}
+use Rattle.cn_log.specs.Log.{World, Caller, entries_of_batches, first_look, batch_with, state_of, answer, IsEventList}
 use Rattle.cn_log.specs.Opening.{Opening, setting_of}
 
 -- what happens in a log
@@ -49,7 +49,7 @@ module _ (o : Opening) where
   abbrev pub touched_in : ℕ → ℕ → Local Batch → Option LogPart
   touched_in p k NotBegun = None
   touched_in p k (Active i x stage) = Some (InRound k (place_of (protocol_of o.plan) p i).node
-      (touched (protocol_of o.plan) (place_of (protocol_of o.plan) p i) stage))
+      (part_touched (protocol_of o.plan) (place_of (protocol_of o.plan) p i) stage))
   touched_in p k (Decided y) = None
 
   -- what a step touches: a look the announcement that it reads, and else what the next action in the round of the slot touches
@@ -74,14 +74,14 @@ module _ (o : Opening) where
   abbrev pub LooksOn : LogWorld → ℕ → Caller → Entry → ℕ → Batch → Bool → LogWorld → Type 0
   LooksOn w p here mine q batch false w' = (w'.round (length here.seen) ≡ w.round (length here.seen))
       × (w'.caller p ≡ record here { phase = Looks mine (q + 1) batch })
-  LooksOn w p here mine q batch true w' = (w'.round (length here.seen) ≡ begun p batch (w.round (length here.seen)))
+  LooksOn w p here mine q batch true w' = (w'.round (length here.seen) ≡ after_begin p batch (w.round (length here.seen)))
       × (w'.caller p ≡ record here { phase = Runs mine })
 
   -- process p, with this call pending, looks at the announcement of process q: nothing that is shared changes
   pub record LooksOnce (w : LogWorld) (p : ℕ) (here : Caller) (mine : Entry) (q : ℕ) (batch : Batch) (w' : LogWorld) : Type 0 where
     pub shared : (part : LogPart) → log_content w' part ≡ log_content w part
     pub other_rounds : (k : ℕ) → k ≢ length here.seen → w'.round k ≡ w.round k
-    pub goes_on : LooksOn w p here mine q (gathered (w.announced q) (entries_of_batches (setting_of o) here.seen) q batch) (q + 1 == processes_of o.plan) w'
+    pub goes_on : LooksOn w p here mine q (batch_with (w.announced q) (entries_of_batches (setting_of o) here.seen) q batch) (q + 1 == processes_of o.plan) w'
 
   -- process p runs in the round of its slot: it does one action there, and what it knows of the log changes only where it decides by that
   pub record ActsInRound (w : LogWorld) (p : ℕ) (here : Caller) (w' : LogWorld) : Type 0 where

@@ -2,12 +2,13 @@
 use Rattle.std.specs.Prelude.{ℕ, zero, suc, ◌≡◌, ◌==◌, ◌&&◌, Bool, false, List, [], ◌∷◌, ◌++◌, map, replicate, slice_index_or, slice_set, Option, Some, None}
 use Rattle.cn_log.specs.declared.entry.Entry.{Entry}
 use Rattle.cn_log.specs.declared.batch.Batch.{Batch}
+use Rattle.cn_choice.specs.declared.limits.TheConstants.{MOST_PROCESSES}
 
 abbrev pub same_entry : Entry → Entry → Bool
 same_entry e f = (e.process == f.process) && ((e.operation.0 == f.operation.0) && (e.call == f.call))
 
 abbrev pub no_entries : Batch
-no_entries = record { entries = replicate 8 None }
+no_entries = record { entries = replicate MOST_PROCESSES None }
 
 -- the entry of process p
 abbrev pub entry_at : Batch → ℕ → Option Entry

@@ -2,7 +2,7 @@
 use Rattle.std.specs.Prelude.{ℕ, Option}
 use Rattle.cn_proto.specs.Protocol.{Protocol}
 use Rattle.cn_agree.specs.World.{World as RoundWorld, input_at, local_at}
-use Rattle.cn_agree.specs.Steps.{begun, after_step}
+use Rattle.cn_agree.specs.Steps.{after_begin, after_step}
 use Rattle.cn_agree.specs.Rounds.{decision_at, fixed_value, steps_taken}
 use Rattle.cn_log.specs.declared.batch.Batch.{Batch}
 
@@ -19,7 +19,7 @@ pub record Consensus (R : Type 0) : Type 0 where
 -- the rounds of a protocol are such
 abbrev pub consensus_by : Protocol → Consensus (RoundWorld Batch)
 consensus_by P = record {
-  begin = λ p x w. begun p x w;
+  begin = λ p x w. after_begin p x w;
   step = λ p w. after_step P p w;
   input = λ w p. input_at w p;
   decided = λ w p. decision_at w p;

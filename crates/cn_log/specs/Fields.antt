@@ -17,9 +17,10 @@ use Rattle.cn_log.specs.Opening.{Opening, setting_of}
 use Rattle.cn_proto.specs.Plan.{processes_of}
 use Rattle.cn_agree.specs.World.{World as RoundWorld}
 use Rattle.cn_log.specs.Log.{Setting, World, Caller, object_after, operations_of, batches_of, entries_of, entries_of_batches, state_of, IsEventList}
+use Rattle.cn_choice.specs.declared.limits.TheConstants.{MOST_PROCESSES}
 
 abbrev pub no_calls : CallCounts
-no_calls = record { calls = replicate 8 0 }
+no_calls = record { calls = replicate MOST_PROCESSES 0 }
 
 -- how many calls of process p
 abbrev pub count_at : CallCounts → ℕ → ℕ
@@ -29,9 +30,9 @@ abbrev pub no_progress : Progress
 no_progress = record { replayed = 0; seen = 0; calls_seen = no_calls; calls = 0; phase = Idle; state = record { 0 = 0 } }
 
 -- what a process has gathered that has read the announcement of process q, where so many calls of process q stand in the slots that it has applied
-abbrev pub gathered_by : Option Entry → ℕ → ℕ → Batch → Batch
-gathered_by None calls q batch = batch
-gathered_by (Some other) calls q batch = if nat_lt other.call calls then batch else with_entry batch q other
+abbrev pub batch_with_calls : Option Entry → ℕ → ℕ → Batch → Batch
+batch_with_calls None calls q batch = batch
+batch_with_calls (Some other) calls q batch = if nat_lt other.call calls then batch else with_entry batch q other
 
 -- what comes behind so many batches that are fixed: that of slot k, where it is the next one and fixed
 abbrev pub next_batch : ℕ → ℕ → Option Batch → List Batch
@@ -62,7 +63,7 @@ module _ {R : Type 0} (L : Setting R) where
   pub record IsProgressOf (progress : Progress) (caller : Caller) : Type 0 where
     pub replayed : progress.replayed ≡ length caller.seen
     pub seen : progress.seen ≡ length (entries_of_batches L caller.seen)
-    pub calls_places : length progress.calls_seen.calls ≡ 8
+    pub calls_places : length progress.calls_seen.calls ≡ MOST_PROCESSES
     pub calls_seen : (q : ℕ) → q < L.processes → count_at progress.calls_seen q ≡ length (entries_by q (entries_of_batches L caller.seen))
     pub calls : progress.calls ≡ caller.calls
     pub phase : progress.phase ≡ caller.phase

@@ -38,7 +38,7 @@ module _ {R : Type 0} (L : Setting R) (events : List Event) where
     pub answers : answer L (take i events) e.process ≡ Answered slot (record { 0 = response })
 
   -- event i is the step that ends the call with no answer, since no slot is left
-  pub record IsEnded (i : ℕ) (e : Entry) : Type 0 where
+  pub record FindsFull (i : ℕ) (e : Entry) : Type 0 where
     pub step : IsStepOf events i e
     pub answers : answer L (take i events) e.process ≡ Full
 
@@ -80,7 +80,7 @@ module _ {R : Type 0} (L : Setting R) (events : List Event) where
     pub real_time : (i j : ℕ) (e f : Entry) (slot response place k : ℕ) → IsAnswered i e slot response → IsCall events j f → i < j → StandsIn place k f
         → slot < k
     -- a call ends with no answer only where every slot is fixed, and it stands in none
-    pub full : (i : ℕ) (e : Entry) → IsEnded i e → (length (batches L events) ≡ L.capacity) × ((k : ℕ) → Stands k e → ⊥)
+    pub full : (i : ℕ) (e : Entry) → FindsFull i e → (length (batches L events) ≡ L.capacity) × ((k : ℕ) → Stands k e → ⊥)
     -- entries stand by slot: those of an earlier slot before those of a later one
     pub by_slot : (a b j k : ℕ) (e f : Entry) → StandsIn a j e → StandsIn b k f → j < k → a < b
     -- in a slot by process, of each at most one

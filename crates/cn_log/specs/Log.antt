@@ -34,7 +34,7 @@ pub record Caller : Type 0 where
 pub data Note : Type 0 where
   Called : Entry → ℕ → Note
   Replied : Entry → ℕ → ℕ → Note
-  Refused : Entry → Note
+  FoundFull : Entry → Note
 
 -- the round of each slot, the announcement register of each process, what each process knows, and what is on record, newest first, which no step reads
 pub record World (R : Type 0) : Type 0 where
@@ -57,9 +57,9 @@ operations_of entries = map (λ e. e.operation.0) entries
 
 -- what a process has gathered that has read the announcement of process q: also the call that it finds there, unless that stands in the slots that it has
 -- applied
-abbrev pub gathered : Option Entry → List Entry → ℕ → Batch → Batch
-gathered None seen q batch = batch
-gathered (Some other) seen q batch = if has_entry seen other then batch else with_entry batch q other
+abbrev pub batch_with : Option Entry → List Entry → ℕ → Batch → Batch
+batch_with None seen q batch = batch
+batch_with (Some other) seen q batch = if has_entry seen other then batch else with_entry batch q other
 
 -- with this call pending, a process goes on to its next slot, where it looks at the announcements in order
 abbrev pub first_look : Entry → Phase
@@ -124,7 +124,7 @@ module _ {R : Type 0} (L : Setting R) where
 
   -- process p, with this call pending, reads the announcement of process q
   abbrev pub after_look : World R → ℕ → Caller → Entry → ℕ → Batch → World R
-  after_look w p here mine q batch = after_gathering w p here mine q (gathered (w.announced q) (entries_of_batches here.seen) q batch) (q + 1 == L.processes)
+  after_look w p here mine q batch = after_gathering w p here mine q (batch_with (w.announced q) (entries_of_batches here.seen) q batch) (q + 1 == L.processes)
 
   -- what a process does next that has decided x in slot k: its call is over where it is in x, and where there is no slot more; else it looks for the next slot
   abbrev pub phase_after : ℕ → Entry → Batch → Phase
@@ -134,7 +134,7 @@ module _ {R : Type 0} (L : Setting R) where
   record_after seen mine x notes =
       if has x mine
       then Replied mine (length seen) (response_in seen x mine) ∷ notes
-      else (if length seen + 1 == L.capacity then Refused mine ∷ notes else notes)
+      else (if length seen + 1 == L.capacity then FoundFull mine ∷ notes else notes)
 
   -- after a step in its round, process p replays the batch that it has decided there, if it has
   abbrev pub after_decision : World R → ℕ → Caller → Entry → Option Batch → World R

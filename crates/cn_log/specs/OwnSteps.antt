@@ -5,7 +5,7 @@ use Rattle.cn_log.specs.declared.event.Event.{Event}
 use Rattle.cn_log.specs.declared.event.Event.TheVariants.{Invoke, Step}
 use Rattle.cn_log.specs.Bypass.{fixed_before}
 use Rattle.cn_log.specs.Callers.{caller_of}
-use Rattle.cn_log.specs.Linearized.{IsCall, IsAnswered, IsEnded}
+use Rattle.cn_log.specs.Linearized.{IsCall, IsAnswered, FindsFull}
 use Rattle.cn_log.specs.Log.{Setting}
 
 -- the event is a step of process p
@@ -37,7 +37,7 @@ module _ {R : Type 0} (L : Setting R) (events : List Event) where
 
   -- event j ends the call, with its answer or with none
   abbrev pub IsOver : ℕ → Entry → Type 0
-  IsOver j e = ((slot : ℕ) × (response : ℕ) × IsAnswered L events j e slot response) ⊎ IsEnded L events j e
+  IsOver j e = ((slot : ℕ) × (response : ℕ) × IsAnswered L events j e slot response) ⊎ FindsFull L events j e
 
   -- a call whose process has taken so many steps since is over, and was within them
   pub record IsWaitFree : Type 0 where

@@ -5,14 +5,16 @@ ghost use Rattle.cn_log.specs.declared.entry.Entry.{Entry as EntryOf};
 ghost use Rattle.std.specs.Vec.{vec_len, vec_capacity};
 ghost use Rattle.cn_table.specs.Run.{state_after as run_of};
 ghost use Rattle.cn_log.specs.Log.{operations_of};
+ghost use Rattle.cn_choice.specs.declared.limits.TheConstants.{MOST_PROCESSES};
 
 use crate::entry::Entry;
+use cn_choice::MOST_PROCESSES;
 use cn_table::{State, Table};
 
 /// The calls that a slot takes: at the place of each process its entry, or none.
 #[derive(Clone, Copy, Debug, PartialEq, Eq)]
 pub struct Batch {
-    entries: [Option<Entry>; 8],
+    entries: [Option<Entry>; MOST_PROCESSES],
 }
 
 impl Batch {
@@ -20,12 +22,14 @@ impl Batch {
     pub(crate) fn new() -> Batch
         ensures { result ≡ no_entries }
     {
-        Batch { entries: [None; 8] }
+        Batch {
+            entries: [None; MOST_PROCESSES],
+        }
     }
 
     /// The entry of process `p`.
     pub(crate) fn of(self, p: u8) -> Option<Entry>
-        requires { p < 8 }
+        requires { p < MOST_PROCESSES }
         ensures { result ≡ entry_at self p }
     {
         self.entries[usize::from(p)]
@@ -33,7 +37,7 @@ impl Batch {
 
     /// Whether the entry is in the batch.
     pub(crate) fn has(self, entry: Entry) -> bool
-        requires { entry.process < 8 }
+        requires { entry.process < MOST_PROCESSES }
         ensures { result ≡ has self entry }
     {
         match self.of(entry.process) {
@@ -44,7 +48,7 @@ impl Batch {
 
     /// The same with this entry of process `p`.
     pub(crate) fn with(self, p: u8, entry: Entry) -> Batch
-        requires { p < 8 }
+        requires { p < MOST_PROCESSES }
         ensures { result ≡ with_entry self p entry }
     {
         let mut entries = self.entries;
@@ -61,7 +65,7 @@ pub(crate) fn put_batch(
     slot: u16,
     batch: Batch,
 )
-    requires processes { processes ≤ 8 }
+    requires processes { processes ≤ MOST_PROCESSES }
     requires room { vec_len entries.old + processes ≤ vec_capacity entries.old }
     requires slots_room { vec_len slots.old + processes ≤ vec_capacity slots.old }
     ensures entries { entries.new.items ≡ entries.old.items ++ members processes 0 batch }
@@ -79,7 +83,7 @@ pub(crate) fn put_batch(
 
 /// How many entries the first so many processes have in the batch.
 pub(crate) fn count(processes: u8, batch: Batch) -> u16
-    requires processes { processes ≤ 8 }
+    requires processes { processes ≤ MOST_PROCESSES }
     ensures number { result ≡ length (members processes 0 batch) }
 {
     let mut count: u16 = 0;
@@ -93,7 +97,7 @@ pub(crate) fn count(processes: u8, batch: Batch) -> u16
 
 /// The state of the object after the calls of the first so many processes in the batch.
 pub(crate) fn state_after(object: &Table, processes: u8, batch: Batch, start: State) -> State
-    requires processes { processes ≤ 8 }
+    requires processes { processes ≤ MOST_PROCESSES }
     requires start { start.0 < length object.now.states }
     requires operations { (q : ℕ) (e : EntryOf) → entry_at batch q ≡ Some e → e.operation.0 < length object.now.operations }
     ensures state { result.0 ≡ run_of object.now start.0 (operations_of (members processes 0 batch)) }

@@ -2,14 +2,17 @@
 ghost use Rattle.std.specs.Prelude.{◌≡◌, ◌≤◌, ◌<◌, ◌+◌, ℕ, [], length};
 ghost use Rattle.cn_log.specs.Batches.{and_entry, entry_at};
 ghost use Rattle.cn_log.specs.Fields.{count_at, no_calls};
+ghost use Rattle.cn_choice.specs.declared.limits.TheConstants.{MOST_PROCESSES};
+ghost use Rattle.cn_log.specs.declared.limits.TheConstants.{MOST_ENTRIES};
 
 use crate::batch::Batch;
+use cn_choice::MOST_PROCESSES;
 
 /// At the place of each process, how many of its calls stand in the slots applied: its first so
 /// many.
 #[derive(Clone, Copy, Debug, PartialEq, Eq)]
 pub(crate) struct CallCounts {
-    calls: [u16; 8],
+    calls: [u16; MOST_PROCESSES],
 }
 
 impl CallCounts {
@@ -17,12 +20,14 @@ impl CallCounts {
     pub fn new() -> CallCounts
         ensures { result ≡ no_calls }
     {
-        CallCounts { calls: [0; 8] }
+        CallCounts {
+            calls: [0; MOST_PROCESSES],
+        }
     }
 
     /// How many calls of process `p`.
     pub fn of(self, p: u8) -> u16
-        requires { p < 8 }
+        requires { p < MOST_PROCESSES }
         ensures { result ≡ count_at self p }
     {
         self.calls[usize::from(p)]
@@ -30,10 +35,10 @@ impl CallCounts {
 
     /// The same with the calls of the first so many processes in the batch.
     pub fn with_batch(self, processes: u8, batch: Batch) -> CallCounts
-        requires processes { processes ≤ 8 }
-        requires places { length self.calls ≡ 8 }
-        requires few { (q : ℕ) → q < processes → count_at self q ≤ 8192 }
-        ensures places { length result.calls ≡ 8 }
+        requires processes { processes ≤ MOST_PROCESSES }
+        requires places { length self.calls ≡ MOST_PROCESSES }
+        requires few { (q : ℕ) → q < processes → count_at self q ≤ MOST_ENTRIES }
+        ensures places { length result.calls ≡ MOST_PROCESSES }
         ensures number { (q : ℕ) → q < processes → count_at result q ≡ count_at self q + length (and_entry (entry_at batch q) []) }
     {
         let mut calls = self.calls;

@@ -8,8 +8,11 @@ use cn_table::Operation;
 /// those of the process, from 0.
 #[derive(Clone, Copy, Debug, PartialEq, Eq)]
 pub struct Entry {
+    /// Whose call it is, from 0.
     pub process: u8,
+    /// What it calls, an operation of the object.
     pub operation: Operation,
+    /// Which of the calls of its process it is, from 0.
     pub call: u16,
 }
 

@@ -14,6 +14,7 @@ ghost use Rattle.cn_log.specs.Linearized.{BeginsInTurn, Grows, IsLinearized, ent
 ghost use Rattle.cn_log.specs.Log.{MayCome, IsEventList, answer, batches, entries, state_of};
 ghost use Rattle.cn_log.specs.Opening.{IsOpening, opening_of, setting, setting_of};
 ghost use Rattle.cn_log.specs.OwnSteps.{IsWaitFree, event_room};
+ghost use Rattle.cn_choice.specs.declared.limits.TheConstants.{MOST_PROCESSES};
 
 use crate::checked::{come, fault_of};
 use crate::entry::Entry;
@@ -204,7 +205,7 @@ impl LogCore {
     /// How many processes there are: 2 to 8.
     pub fn processes(&self) -> u8
         ensures number { result ≡ processes_of self.now.opening.plan }
-        ensures range { (2 ≤ result) × (result ≤ 8) }
+        ensures range { (2 ≤ result) × (result ≤ MOST_PROCESSES) }
     {
         self.opening.plan.processes()
     }

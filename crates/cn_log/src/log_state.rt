@@ -10,12 +10,13 @@ ghost use Rattle.cn_log.specs.Batches.{and_entry, entry_at, members, entries_in,
 ghost use Rattle.cn_log.specs.declared.entry.Entry.{Entry as EntryOf};
 ghost use Rattle.cn_log.specs.declared.event.Event.{Event as EventOf};
 ghost use Rattle.cn_log.specs.declared.event.Event.TheVariants.{Invoke, Step};
-ghost use Rattle.cn_log.specs.declared.limits.TheConstants.{MOST_SLOTS};
+ghost use Rattle.cn_log.specs.declared.limits.TheConstants.{MOST_SLOTS, MOST_ENTRIES};
 ghost use Rattle.cn_log.specs.declared.progress.Phase.TheVariants.{Idle, Looks, Runs};
 ghost use Rattle.cn_log.specs.Callers.{HasResponse};
-ghost use Rattle.cn_log.specs.Fields.{count_at, gathered_by, next_batch, reply, HasRoom, HasSameRoom, IsStateAfter, IsStateAt};
+ghost use Rattle.cn_log.specs.Fields.{count_at, batch_with_calls, next_batch, reply, HasRoom, HasSameRoom, IsStateAfter, IsStateAt};
 ghost use Rattle.cn_log.specs.Log.{MayInvoke, MayStep, answer, first_look, operations_of, phase_after, state_of};
 ghost use Rattle.cn_log.specs.Opening.{setting_of};
+ghost use Rattle.cn_choice.specs.declared.limits.TheConstants.{MOST_PROCESSES};
 
 use crate::batch::{Batch, count, put_batch, state_after};
 use crate::call_counts::CallCounts;
@@ -206,8 +207,8 @@ fn first_look(mine: Entry) -> Phase
 /// finds there, unless that is one of the calls of process q in the slots that it has applied,
 /// which are its first so many.
 fn gathered(announced: Option<Entry>, calls_seen: u16, q: u8, batch: Batch) -> Batch
-    requires { q < 8 }
-    ensures { result ≡ gathered_by announced calls_seen q batch }
+    requires { q < MOST_PROCESSES }
+    ensures { result ≡ batch_with_calls announced calls_seen q batch }
 {
     match announced {
         None => batch,
@@ -231,7 +232,7 @@ fn enter(
     slot: u16,
     round: &Round<Batch>,
 )
-    requires processes { processes ≤ 8 }
+    requires processes { processes ≤ MOST_PROCESSES }
     requires slot { slot < MOST_SLOTS }
     requires room { fixed.old ≡ slot → vec_len entries.old + processes ≤ vec_capacity entries.old }
     requires slots_room { fixed.old ≡ slot → vec_len slots.old + processes ≤ vec_capacity slots.old }
@@ -260,16 +261,16 @@ struct Applied {
 fn replay_batch(opening: &Opening, here: Progress, mine: Entry, batch: Batch) -> Applied
     requires slot { here.replayed < opening.now.capacity }
     requires few { opening.now.capacity ≤ MOST_SLOTS }
-    requires seen { here.seen ≤ 8192 }
-    requires calls_places { length here.calls_seen.calls ≡ 8 }
-    requires calls_seen { (q : ℕ) → q < processes_of opening.now.plan → count_at here.calls_seen q ≤ 8192 }
+    requires seen { here.seen ≤ MOST_ENTRIES }
+    requires calls_places { length here.calls_seen.calls ≡ MOST_PROCESSES }
+    requires calls_seen { (q : ℕ) → q < processes_of opening.now.plan → count_at here.calls_seen q ≤ MOST_ENTRIES }
     requires mine { mine.process < processes_of opening.now.plan }
     requires operation { mine.operation.0 < length opening.now.object.operations }
     requires operations { (q : ℕ) (e : EntryOf) → entry_at batch q ≡ Some e → e.operation.0 < length opening.now.object.operations }
     requires state { here.state.0 < length opening.now.object.states }
     ensures replayed { result.progress.replayed ≡ here.replayed + 1 }
     ensures seen { result.progress.seen ≡ here.seen + length (members (processes_of opening.now.plan) 0 batch) }
-    ensures calls_places { length result.progress.calls_seen.calls ≡ 8 }
+    ensures calls_places { length result.progress.calls_seen.calls ≡ MOST_PROCESSES }
     ensures calls_seen { (q : ℕ) → q < processes_of opening.now.plan →
         count_at result.progress.calls_seen q ≡ count_at here.calls_seen q + length (and_entry (entry_at batch q) []) }
     ensures calls { result.progress.calls ≡ here.calls }
@@ -305,7 +306,7 @@ fn replay_batch(opening: &Opening, here: Progress, mine: Entry, batch: Batch) ->
 
 /// The response to this call at its place in the batch, where the object was in this state before.
 fn response_at(opening: &Opening, state: State, batch: Batch, mine: Entry) -> Response
-    requires mine { mine.process ≤ 8 }
+    requires mine { mine.process ≤ MOST_PROCESSES }
     requires operation { mine.operation.0 < length opening.now.object.operations }
     requires operations { (q : ℕ) (e : EntryOf) → entry_at batch q ≡ Some e → e.operation.0 < length opening.now.object.operations }
     requires state { state.0 < length opening.now.object.states }

@@ -12,7 +12,8 @@ use Rattle.cn_choice.specs.Blocks.{Block, IsBlockOf}
 use Rattle.cn_choice.specs.Canonical.{Choice, raw_choice_of}
 use Rattle.cn_choice.specs.Collisions.{Collision}
 use Rattle.cn_choice.specs.Discerning.{IsWitness}
-use Rattle.cn_search.specs.Evidence.{blocks_for, IsListedBlock, IsRefutedBlock, AreRecordedFor, IsFirstAmong, IsFirstWitness, IsRecordedFor, NoneIsWitness, choices_in, choices_of_all}
+use Rattle.cn_search.specs.Evidence.{IsListedBlock, IsRefutedBlock, AreRecordedFor, IsFirstAmong, IsFirstWitness, IsRecordedFor, NoneIsWitness, choices_of_all}
+use Rattle.cn_choice.specs.Live.{live_blocks, live_in}
 
 -- what is collected of results that are all there
 AllZip-of_oks : {X Y : Type 0} (E : Type 0) (R : X → Y → Type 0) (xs : List X) (ys : List Y) → AllZip (λ x (r : Result Y E). IfOk r (R x)) xs (map Ok ys) → AllZip R xs ys
@@ -57,13 +58,13 @@ module _ (t : TypeTable) where
   search_on blocks left batch rest s parts none = record {
     before = s.before ++ batch;
     all = s.all ∙ ap (λ l. s.before ++ l) parts ∙ sym (append_assoc s.before batch rest);
-    none = subst (NoneIsWitness t) (sym (flat_map-append (choices_in t) s.before batch)) (All-append Fails (choices_of_all t s.before) (choices_of_all t batch) s.none none);
+    none = subst (NoneIsWitness t) (sym (flat_map-append (live_in t) s.before batch)) (All-append Fails (choices_of_all t s.before) (choices_of_all t batch) s.none none);
   }
 
   pub search_found : (blocks left batch rest : List Block) (w : Choice) → IsSearched blocks left → left ≡ batch ++ rest → IsFirstWitness t (choices_of_all t batch) w → IsFirstWitness t (choices_of_all t blocks) w
   search_found blocks left batch rest w s parts first =
       let whole : choices_of_all t blocks ≡ choices_of_all t s.before ++ (choices_of_all t batch ++ choices_of_all t rest) =
-      ap (flat_map (choices_in t)) (s.all ∙ ap (λ l. s.before ++ l) parts) ∙ flat_map-append (choices_in t) s.before (batch ++ rest) ∙ ap (λ l. choices_of_all t s.before ++ l) (flat_map-append (choices_in t) batch rest) in
+      ap (flat_map (live_in t)) (s.all ∙ ap (λ l. s.before ++ l) parts) ∙ flat_map-append (live_in t) s.before (batch ++ rest) ∙ ap (λ l. choices_of_all t s.before ++ l) (flat_map-append (live_in t) batch rest) in
       subst (λ l. IsFirstWitness t l w) (sym whole) (behind (choices_of_all t s.before) (choices_of_all t batch ++ choices_of_all t rest) (Some w) s.none (ahead (choices_of_all t batch) (choices_of_all t rest) w first))
 
   pub search_done : (blocks : List Block) → IsSearched blocks [] → NoneIsWitness t (choices_of_all t blocks)
@@ -73,40 +74,40 @@ module _ (t : TypeTable) where
   pub record IsJoining (blocks : List Block) (left : List (Option Choice)) : Type 0 where
     pub after : List Block
     pub searched : IsSearched blocks after
-    pub answers : AllZip (λ k o. IsFirstAmong t (choices_in t k) o) after left
+    pub answers : AllZip (λ k o. IsFirstAmong t (live_in t k) o) after left
 
-  pub join_start : (blocks : List Block) (found : List (Option Choice)) → AllZip (λ k o. IsFirstAmong t (choices_in t k) o) blocks found → IsJoining blocks found
+  pub join_start : (blocks : List Block) (found : List (Option Choice)) → AllZip (λ k o. IsFirstAmong t (live_in t k) o) blocks found → IsJoining blocks found
   join_start blocks found h = record { after = blocks; searched = search_start blocks; answers = h }
 
-  one_block : (k : Block) → choices_of_all t (k ∷ []) ≡ choices_in t k
-  one_block k = append-nil (choices_in t k)
+  one_block : (k : Block) → choices_of_all t (k ∷ []) ≡ live_in t k
+  one_block k = append-nil (live_in t k)
 
   pub join_on : (blocks : List Block) (left rest : List (Option Choice)) (o : Option Choice) → IsJoining blocks left → left ≡ o ∷ rest → is_some o ≡ false → IsJoining blocks rest
-  join_on blocks left rest o j e none = go j.after j.searched (subst (λ l. AllZip (λ k o. IsFirstAmong t (choices_in t k) o) j.after l) e j.answers)
+  join_on blocks left rest o j e none = go j.after j.searched (subst (λ l. AllZip (λ k o. IsFirstAmong t (live_in t k) o) j.after l) e j.answers)
     where
-      no : (p : Option Choice) (k : Block) → is_some p ≡ false → IsFirstAmong t (choices_in t k) p → NoneIsWitness t (choices_in t k)
+      no : (p : Option Choice) (k : Block) → is_some p ≡ false → IsFirstAmong t (live_in t k) p → NoneIsWitness t (live_in t k)
       no None k n h = h
       no (Some w) k n h = absurd (true≢false n)
 
-      go : (after : List Block) → IsSearched blocks after → AllZip (λ k o. IsFirstAmong t (choices_in t k) o) after (o ∷ rest) → IsJoining blocks rest
+      go : (after : List Block) → IsSearched blocks after → AllZip (λ k o. IsFirstAmong t (live_in t k) o) after (o ∷ rest) → IsJoining blocks rest
       go [] s h = absurd h
       go (k ∷ after) s h = record { after = after; searched = search_on blocks (k ∷ after) (k ∷ []) after s refl (subst (NoneIsWitness t) (sym (one_block k)) (no o k none h.0)); answers = h.1 }
 
   pub join_found : (blocks : List Block) (left rest : List (Option Choice)) (o : Option Choice) → IsJoining blocks left → left ≡ o ∷ rest → is_some o ≡ true → IsFirstAmong t (choices_of_all t blocks) o
-  join_found blocks left rest o j e some = go j.after j.searched (subst (λ l. AllZip (λ k o. IsFirstAmong t (choices_in t k) o) j.after l) e j.answers)
+  join_found blocks left rest o j e some = go j.after j.searched (subst (λ l. AllZip (λ k o. IsFirstAmong t (live_in t k) o) j.after l) e j.answers)
     where
-      by : (o : Option Choice) (k : Block) (after : List Block) → is_some o ≡ true → IsSearched blocks (k ∷ after) → IsFirstAmong t (choices_in t k) o → IsFirstAmong t (choices_of_all t blocks) o
+      by : (o : Option Choice) (k : Block) (after : List Block) → is_some o ≡ true → IsSearched blocks (k ∷ after) → IsFirstAmong t (live_in t k) o → IsFirstAmong t (choices_of_all t blocks) o
       by None k after n s h = absurd (true≢false (sym n))
       by (Some w) k after n s h = search_found blocks (k ∷ after) (k ∷ []) after w s refl (subst (λ l. IsFirstWitness t l w) (sym (one_block k)) h)
 
-      go : (after : List Block) → IsSearched blocks after → AllZip (λ k o. IsFirstAmong t (choices_in t k) o) after (o ∷ rest) → IsFirstAmong t (choices_of_all t blocks) o
+      go : (after : List Block) → IsSearched blocks after → AllZip (λ k o. IsFirstAmong t (live_in t k) o) after (o ∷ rest) → IsFirstAmong t (choices_of_all t blocks) o
       go [] s h = absurd h
       go (k ∷ after) s h = by o k after some s h.0
 
   pub join_done : (blocks : List Block) (left : List (Option Choice)) → IsJoining blocks left → left ≡ [] → NoneIsWitness t (choices_of_all t blocks)
-  join_done blocks left j e = go j.after j.searched (subst (λ l. AllZip (λ k o. IsFirstAmong t (choices_in t k) o) j.after l) e j.answers)
+  join_done blocks left j e = go j.after j.searched (subst (λ l. AllZip (λ k o. IsFirstAmong t (live_in t k) o) j.after l) e j.answers)
     where
-      go : (after : List Block) → IsSearched blocks after → AllZip (λ k o. IsFirstAmong t (choices_in t k) o) after [] → NoneIsWitness t (choices_of_all t blocks)
+      go : (after : List Block) → IsSearched blocks after → AllZip (λ k o. IsFirstAmong t (live_in t k) o) after [] → NoneIsWitness t (choices_of_all t blocks)
       go [] s h = search_done blocks s
       go (k ∷ after) s h = absurd h
 
@@ -155,7 +156,7 @@ module _ (t : TypeTable) where
     where
       by_list : (parts : List (List Block)) → flat_map (choices_of_all t) parts ≡ choices_of_all t (flat_map (λ l. l) parts)
       by_list [] = refl
-      by_list (part ∷ parts) = ap (λ l. choices_of_all t part ++ l) (by_list parts) ∙ sym (flat_map-append (choices_in t) part (flat_map (λ l. l) parts))
+      by_list (part ∷ parts) = ap (λ l. choices_of_all t part ++ l) (by_list parts) ∙ sym (flat_map-append (live_in t) part (flat_map (λ l. l) parts))
 
 -- an empty list
 pub nil_from_length : {X : Type 0} (xs : List X) → length xs ≡ 0 → xs ≡ []
@@ -176,13 +177,13 @@ all_by_part {X = X} P size xs pos h =
     go (part ∷ parts) h = let p = parts_of P part (flat_map (λ l. l) parts) h in (All-from_recursion P part p.0, go parts p.1)
 
 -- each block is listed, and where no choice is a witness each is refuted
-pub all_listed : (t : TypeTable) (n : ℕ) → 2 ≤ n → n ≤ 8 → ((k : Block) → n ≤ 8 → Contains (blocks_for t n) k → IsBlockOf t k × (k.n ≡ n)) → (blocks : List Block) → blocks ≡ blocks_for t n → All (IsListedBlock t) blocks
+pub all_listed : (t : TypeTable) (n : ℕ) → 2 ≤ n → n ≤ 8 → ((k : Block) → n ≤ 8 → Contains (live_blocks t n) k → IsBlockOf t k × (k.n ≡ n)) → (blocks : List Block) → blocks ≡ live_blocks t n → All (IsListedBlock t) blocks
 all_listed t n some few law blocks e = λ i d less.
     (let k : Block = slice_index_or blocks i d in
     let there : Contains blocks k = (i, less, get_or_default blocks i k d less) in
-    let listed : Contains (blocks_for t n) k = subst (λ (l : List Block). Contains l k) e there in
+    let listed : Contains (live_blocks t n) k = subst (λ (l : List Block). Contains l k) e there in
     let same : k.n ≡ n = (law k few listed).1 in
-    record { some = omega (arith, same); few = omega (arith, same); listed = subst (λ m. Contains (blocks_for t m) k) (sym same) listed })
+    record { some = omega (arith, same); few = omega (arith, same); listed = subst (λ m. Contains (live_blocks t m) k) (sym same) listed })
 
 pub all_refuted : (t : TypeTable) (blocks : List Block) → All (IsListedBlock t) blocks → NoneIsWitness t (choices_of_all t blocks) → All (IsRefutedBlock t) blocks
 all_refuted t blocks listed none = All-from_recursion (IsRefutedBlock t) blocks (go blocks (recursion_from_All (IsListedBlock t) blocks listed) (recursion_from_All (Fails t) (choices_of_all t blocks) none))
@@ -190,5 +191,5 @@ all_refuted t blocks listed none = All-from_recursion (IsRefutedBlock t) blocks 
     go : (blocks : List Block) → AllByRecursion (IsListedBlock t) blocks → AllByRecursion (Fails t) (choices_of_all t blocks) → AllByRecursion (IsRefutedBlock t) blocks
     go [] l n = tt
     go (k ∷ blocks) l n =
-        let p = parts_of (Fails t) (choices_in t k) (choices_of_all t blocks) n in
-        (record { block = l.0; none = All-from_recursion (Fails t) (choices_in t k) p.0 }, go blocks l.1 p.1)
+        let p = parts_of (Fails t) (live_in t k) (choices_of_all t blocks) n in
+        (record { block = l.0; none = All-from_recursion (Fails t) (live_in t k) p.0 }, go blocks l.1 p.1)

@@ -4,7 +4,8 @@ use Rattle.std.proofs.Math.Nat.{eq-or-lt_of_le}
 use Rattle.cn_table.specs.TypeTable.{TypeTable}
 use Rattle.cn_choice.specs.Canonical.{Choice, raw_choice_of}
 use Rattle.cn_choice.specs.Discerning.{IsDiscerning, IsNumberUpTo, IsWitness}
-use Rattle.cn_search.specs.Evidence.{IsFirstAmong, NoneIsWitness, choices_for}
+use Rattle.cn_search.specs.Evidence.{IsFirstAmong, NoneIsWitness}
+use Rattle.cn_choice.specs.Live.{live_choices}
 use Rattle.cn_search.proofs.ListLemmas.{Contains-between}
 
 -- before n processes are tried: the number up to n - 1
@@ -13,9 +14,9 @@ HasTried t n None = n ≡ 2
 HasTried t n (Some m) = (n ≡ m + 1) × (2 ≤ m) × IsDiscerning t m
 
 -- a first witness, or that there is none, tells whether the type is discerning
-pub discerning_by_witness : (t : TypeTable) (n : ℕ) → (NoneIsWitness t (choices_for t n) → ¬ IsDiscerning t n)
-    → ((c : Choice) → Contains (choices_for t n) c → IsWitness t (raw_choice_of c) → IsDiscerning t n)
-    → (found : Option Choice) → IsFirstAmong t (choices_for t n) found → IsTrue (is_some found) ↔ IsDiscerning t n
+pub discerning_by_witness : (t : TypeTable) (n : ℕ) → (NoneIsWitness t (live_choices t n) → ¬ IsDiscerning t n)
+    → ((c : Choice) → Contains (live_choices t n) c → IsWitness t (raw_choice_of c) → IsDiscerning t n)
+    → (found : Option Choice) → IsFirstAmong t (live_choices t n) found → IsTrue (is_some found) ↔ IsDiscerning t n
 discerning_by_witness t n refuted shown None h = ((λ some. absurd (true≢false (sym some))), (λ is. absurd (refuted h is)))
 discerning_by_witness t n refuted shown (Some w) h = ((λ _. shown w (Contains-between _ h.before h.after w (sym h.listed)) h.witness), (λ _. refl))
 

@@ -1,6 +1,7 @@
 -- Lists: what more than one crate needs of them.
-use Rattle.std.proofs.Common.{◌≡◌, ◌⊎◌, inl, inr, ℕ, zero, suc, ◌<◌, ◌+◌, List, [], ◌∷◌, ◌++◌, length, drop, get_or, map, slice_get, Option, Some, None, option_map, All, Contains, arith, refl, ap, subst, sym, ◌∙◌, append_assoc}
+use Rattle.std.proofs.Common.{◌≡◌, ◌⊎◌, inl, inr, ℕ, zero, suc, ◌<◌, ◌+◌, List, [], ◌∷◌, ◌++◌, length, drop, get_or, map, slice_get, Option, Some, None, option_map, All, Contains, arith, refl, ap, subst, sym, ◌∙◌, append_assoc, ◌-◌, ◌≤◌}
 use Rattle.std.proofs.lemmas.List.{drop_more}
+use Rattle.std.specs.List.{range_with_len}
 use Rattle.std.proofs.lemmas.List.Elements.{All-contains, All-contains_itself, All-weaker, Contains-append_left, Contains-append_right}
 use Rattle.cn_table.specs.Draft.{all_some, ◌>>=◌}
 use Rattle.cn_table.proofs.ListLemmas.{map_twice}
@@ -8,6 +9,13 @@ use Rattle.cn_table.proofs.ListLemmas.{map_twice}
 -- what stands between two parts of a list is in it
 pub Contains-between : {X : Type 0} (xs before after : List X) (x : X) → before ++ x ∷ after ≡ xs → Contains xs x
 Contains-between xs before after x e = subst (λ (ys : List _). Contains ys x) e (Contains-append_right before (x ∷ after) x (0, omega arith, refl))
+
+-- the numbers from low on and below m: the first and the rest, or none
+pub range_first : (low m : ℕ) → low < m → range_with_len low (m - low) ≡ low ∷ range_with_len (low + 1) (m - (low + 1))
+range_first low m l = let e : m - low ≡ suc (m - (low + 1)) = omega arith in rw e refl
+
+pub range_none : (low m : ℕ) → m ≤ low → range_with_len low (m - low) ≡ []
+range_none low m l = let e : m - low ≡ 0 = omega arith in rw e refl
 
 -- what stands in the front of a list stands in the whole
 pub get_front : {A : Type 0} (xs ys : List A) (k : ℕ) (x : A) → slice_get xs k ≡ Some x → slice_get (xs ++ ys) k ≡ Some x
@@ -55,7 +63,8 @@ All-parts P xs ys all = (
 abbrev pub with_front : {X : Type 0} → List X → Option (List X) → Option (List X)
 with_front front rest = option_map (λ xs. front ++ xs) rest
 
-front_one : {X : Type 0} (front : List X) (x : X) (rest : Option (List X)) → with_front front (rest >>= (λ xs. Some (x ∷ xs))) ≡ with_front (front ++ x ∷ []) rest
+-- one more item that was read stands behind the others
+pub front_one : {X : Type 0} (front : List X) (x : X) (rest : Option (List X)) → with_front front (rest >>= (λ xs. Some (x ∷ xs))) ≡ with_front (front ++ x ∷ []) rest
 front_one front x None = refl
 front_one front x (Some xs) = ap Some (sym (append_assoc front (x ∷ []) xs))
 

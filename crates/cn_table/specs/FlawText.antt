@@ -1,37 +1,39 @@
 -- The text of a flaw: what is wrong, and where.
-use Rattle.std.specs.Prelude.{codes, ℕ, ◌+◌, List, [], ◌∷◌, ◌++◌, length, map, flat_map, if◌then◌else◌, Bool, ◌==◌, ◌&&◌, nat_le}
+use Rattle.std.specs.Prelude.{codes, ℕ, ◌+◌, List, [], ◌∷◌, ◌++◌, length, map, if◌then◌else◌, Bool, ◌==◌, ◌&&◌, nat_le}
 use Rattle.std.specs.Fmt.{decimal}
 use Rattle.std.specs.List.{list_all}
-use Rattle.cn_table.specs.Names.{is_name}
+use Rattle.cn_table.specs.Names.{is_from, is_name}
+use Rattle.cn_table.specs.Texts.{code_of, joined_texts}
 use Rattle.cn_table.specs.declared.limits.TheConstants.{LONGEST_NAME, MOST_STATES}
 
 -- a byte as it is shown: a question mark where it is none that ASCII prints
 abbrev pub shown_byte : ℕ → ℕ
-shown_byte b = if nat_le 32 b && nat_le b 126 then b else 63
+shown_byte b = if is_from (codes " ~") b then b else code_of (codes "?")
 
 -- a text between quotation marks
-abbrev pub quoted : List ℕ → List ℕ
-quoted text = codes "\"" ++ (map shown_byte text ++ codes "\"")
+abbrev pub in_quotes : List ℕ → List ℕ
+in_quotes text = codes "\"" ++ (map shown_byte text ++ codes "\"")
 
 -- an operation: by its name, where it is one, else by its place in the array
 abbrev pub operation_text : ℕ → List ℕ → List ℕ
 operation_text i name = if is_name name then codes "operation \"" ++ (name ++ codes "\"") else codes "operation[" ++ (decimal i ++ codes "]")
 
--- the line and the column, from 1, behind these bytes, where the first of them stands at this line and column; a column counts characters
+-- a byte that goes on with a character of UTF-8
 abbrev pub goes_on : ℕ → Bool
 goes_on b = nat_le 128 b && nat_le b 191
 
+-- the line and the column, from 1, behind these bytes, where the first of them stands at this line and column; a column counts characters
 abbrev pub place_after : ℕ → ℕ → List ℕ → ℕ × ℕ
 place_after line column [] = (line, column)
 place_after line column (b ∷ bs) =
-    if b == 10 then place_after (line + 1) 1 bs else if goes_on b then place_after line column bs else place_after line (column + 1) bs
+    if b == code_of (codes "\n") then place_after (line + 1) 1 bs else if goes_on b then place_after line column bs else place_after line (column + 1) bs
 
 abbrev pub not_toml_text : ℕ × ℕ → List ℕ
 not_toml_text place = codes "line " ++ (decimal place.0 ++ (codes ", column " ++ (decimal place.1 ++ codes ": not TOML")))
 
 -- a key that should not be there: `before` says of what it is, and `after` which keys that has
 abbrev pub other_key_text : List ℕ → List ℕ → List ℕ → List ℕ
-other_key_text before after key = before ++ (quoted key ++ after)
+other_key_text before after key = before ++ (in_quotes key ++ after)
 
 -- a key that should be there
 abbrev pub missing_key_text : List ℕ → List ℕ → List ℕ
@@ -45,7 +47,7 @@ abbrev pub no_operation_text : ℕ → List ℕ
 no_operation_text i = codes "operation[" ++ (decimal i ++ codes "]: not a table")
 
 abbrev pub bad_name_text : List ℕ → List ℕ → List ℕ
-bad_name_text what name = what ++ (codes " " ++ (quoted name ++ (codes ": 1 to " ++ (decimal LONGEST_NAME ++ codes " of a-z, 0-9, _"))))
+bad_name_text what name = what ++ (codes " " ++ (in_quotes name ++ (codes ": 1 to " ++ (decimal LONGEST_NAME ++ codes " of a-z, 0-9, _"))))
 
 abbrev pub too_many_text : List ℕ → ℕ → ℕ → List ℕ
 too_many_text what most count = decimal count ++ (codes " " ++ (what ++ (codes "; at most " ++ decimal most)))
@@ -54,7 +56,7 @@ abbrev pub too_few_text : List ℕ → List ℕ
 too_few_text what = codes "0 " ++ (what ++ codes "; at least 1")
 
 abbrev pub repeated_text : List ℕ → List ℕ → List ℕ
-repeated_text what name = codes "two " ++ (what ++ (codes " are called " ++ quoted name))
+repeated_text what name = codes "two " ++ (what ++ (codes " are called " ++ in_quotes name))
 
 abbrev pub entries_text : ℕ → List ℕ
 entries_text n = if n == 1 then codes "1 entry" else decimal n ++ codes " entries"
@@ -66,16 +68,12 @@ states_text n = if n == 1 then codes "there is 1 state" else codes "there are " 
 abbrev pub length_text : List ℕ → List ℕ → ℕ → ℕ → List ℕ
 length_text operation row count states = operation ++ (codes ": " ++ (row ++ (codes " has " ++ (entries_text count ++ (codes ", " ++ states_text states)))))
 
--- the names, with a comma between two
-abbrev pub joined_names : List (List ℕ) → List ℕ
-joined_names [] = []
-joined_names (name ∷ names) = name ++ flat_map (λ t. codes ", " ++ t) names
-
 -- the names in brackets, where they are few names
-abbrev pub listed : List (List ℕ) → List ℕ
-listed names = if nat_le (length names) MOST_STATES && list_all is_name names then codes " (" ++ (joined_names names ++ codes ")") else []
+abbrev pub names_in_brackets : List (List ℕ) → List ℕ
+names_in_brackets names =
+    if nat_le (length names) MOST_STATES && list_all is_name names then codes " (" ++ (joined_texts (codes ", ") names ++ codes ")") else []
 
 -- an entry of a row that is none of the names
 abbrev pub entry_text : List ℕ → List ℕ → ℕ → List ℕ → List ℕ → List ℕ → List ℕ
 entry_text operation row k text what names =
-    operation ++ (codes ", " ++ (row ++ (codes "[" ++ (decimal k ++ (codes "]: " ++ (quoted text ++ (codes " is no " ++ (what ++ names))))))))
+    operation ++ (codes ", " ++ (row ++ (codes "[" ++ (decimal k ++ (codes "]: " ++ (in_quotes text ++ (codes " is no " ++ (what ++ names))))))))

@@ -10,7 +10,7 @@ use Rattle.cn_table.specs.Document.{keys_in, array_at}
 use Rattle.cn_table.specs.Draft.{Draft, DraftRow, row_names, draft_of, text_at}
 use Rattle.cn_table.specs.Faults.{root_keys, operation_keys, is_text, is_array_of}
 use Rattle.cn_table.specs.Names.{is_name, number_of}
-use Rattle.cn_table.specs.FlawText.{place_after, not_toml_text, operation_text, other_key_text, missing_key_text, kind_text, no_operation_text, bad_name_text, too_many_text, too_few_text, repeated_text, length_text, entry_text, listed}
+use Rattle.cn_table.specs.FlawText.{place_after, not_toml_text, operation_text, other_key_text, missing_key_text, kind_text, no_operation_text, bad_name_text, too_many_text, too_few_text, repeated_text, length_text, entry_text, names_in_brackets}
 use Rattle.cn_table.specs.declared.fault.TableFault.{TableFault}
 use Rattle.cn_table.specs.declared.fault.TableFault.TheVariants.{NotToml, UnknownKey, MissingKey, WrongKind, BadName, Count, Repeated, RowLength, UnknownName}
 use Rattle.cn_table.specs.declared.document_flaws.Kind.{Kind}
@@ -155,7 +155,7 @@ length_flaws draft = each (row_lengths (length draft.states)) 0 draft.operations
 -- an entry that is none of the names
 abbrev pub unknown_entry : List ℕ → List ℕ → List ℕ → List (List ℕ) → ℕ → List ℕ → List Flaw
 unknown_entry operation row what names k text =
-    if is_some (number_of names text) then [] else flaw UnknownName (entry_text operation row k text what (listed names))
+    if is_some (number_of names text) then [] else flaw UnknownName (entry_text operation row k text what (names_in_brackets names))
 
 abbrev pub row_entries : List (List ℕ) → List (List ℕ) → ℕ → DraftRow → List Flaw
 row_entries states responses i row =

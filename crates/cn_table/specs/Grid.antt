@@ -3,6 +3,7 @@ use Rattle.std.specs.Prelude.{◌≡◌, codes, ℕ, ◌+◌, ◌-◌, max, List
 use Rattle.std.specs.List.{range_with_len}
 use Rattle.cn_table.specs.TypeTable.{TypeTable, operation_names, transition, no_row}
 use Rattle.cn_table.specs.Reach.{AreReached}
+use Rattle.cn_table.specs.Texts.{code_of}
 
 -- how long the longest of the texts is
 abbrev pub widest : List (List ℕ) → ℕ
@@ -10,7 +11,7 @@ widest [] = 0
 widest (t ∷ ts) = max (length t) (widest ts)
 
 abbrev pub spaces : ℕ → List ℕ
-spaces n = replicate n 32
+spaces n = replicate n (code_of (codes " "))
 
 -- what a text lacks of a width
 abbrev pub padding : ℕ → List ℕ → List ℕ

@@ -1,3 +1,4 @@
+pub mod Texts
 pub mod Names
 pub mod TypeTable
 pub mod Run

@@ -54,7 +54,6 @@ fn push_document_flaws(
     push_flaws_of_draft(alloc, flaws, document)
 }
 
-/// The flaws of a document.
 fn document_flaws(alloc: Global, document: &Table) -> Result<Vec<Flaw>, AllocError>
     ensures { IfOk result (λ v. flaws_view v ≡ document_flaws (table_view document.now)) }
 {

@@ -11,7 +11,7 @@ ghost use Rattle.cn_table.specs.FlawText.{other_key_text, missing_key_text, kind
 
 use crate::fault::TableFault;
 use crate::flaw::{Flaw, push_flaw};
-use crate::flaw_text::{operation_text, quoted};
+use crate::flaw_text::{in_quotes, operation_text};
 use crate::keys::{OPERATION_KEYS, ROOT_KEYS, array_at, is_one_of, text_at, value_at};
 use std::alloc::{AllocError, Global};
 use toml::{Table, Value};
@@ -59,7 +59,7 @@ impl Kind {
 fn other_key_text(alloc: Global, before: &str, after: &str, key: &str) -> Result<String, AllocError>
     ensures { IfOk result (λ s. string_bytes s ≡ other_key_text before.now after.now key.now) }
 {
-    let key = quoted(alloc, key)?;
+    let key = in_quotes(alloc, key)?;
     format!(in alloc; "{before}{key}{after}")
 }
 

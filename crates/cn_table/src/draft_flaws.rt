@@ -6,12 +6,12 @@ ghost use Rattle.cn_table.specs.Draft.{row_names};
 ghost use Rattle.cn_table.specs.DraftView.{draft_view, row_view, texts_view};
 ghost use Rattle.cn_table.specs.Flaws.{flaw, flaws_view, each, bad_name, name_flaws, bad_count, count_flaws, repeats, repeat_flaws};
 ghost use Rattle.cn_table.specs.Flaws.{bad_length, row_lengths, length_flaws, unknown_entry, row_entries, entry_flaws, draft_flaws};
-ghost use Rattle.cn_table.specs.FlawText.{bad_name_text, too_many_text, too_few_text, repeated_text, length_text, entry_text, listed};
+ghost use Rattle.cn_table.specs.FlawText.{bad_name_text, too_many_text, too_few_text, repeated_text, length_text, entry_text, names_in_brackets};
 
 use crate::draft::{Draft, DraftRow};
 use crate::fault::TableFault;
 use crate::flaw::{Flaw, push_flaw};
-use crate::flaw_text::{entries_text, listed, operation_text, quoted, states_text};
+use crate::flaw_text::{entries_text, in_quotes, names_in_brackets, operation_text, states_text};
 use crate::limits::{LONGEST_NAME, MOST_OPERATIONS, MOST_RESPONSES, MOST_STATES};
 use crate::names::{has_namesake, is_name, number_of};
 use std::alloc::{AllocError, Global};
@@ -19,7 +19,7 @@ use std::alloc::{AllocError, Global};
 fn bad_name_text(alloc: Global, what: &str, name: &str) -> Result<String, AllocError>
     ensures { IfOk result (λ s. string_bytes s ≡ bad_name_text what.now name.now) }
 {
-    let name = quoted(alloc, name)?;
+    let name = in_quotes(alloc, name)?;
     let most = LONGEST_NAME;
     format!(in alloc; "{what} {name}: 1 to {most} of a-z, 0-9, _")
 }
@@ -53,7 +53,6 @@ fn push_bad_names(
     Ok(())
 }
 
-/// The names of the operations.
 fn operation_names(alloc: Global, rows: &[DraftRow]) -> Result<Vec<String>, AllocError>
     ensures { IfOk result (λ names. texts_view names ≡ row_names (map row_view rows.now)) }
 {
@@ -129,7 +128,7 @@ fn push_count_flaws(alloc: Global, flaws: &mut Vec<Flaw>, draft: &Draft) -> Resu
 fn repeated_text(alloc: Global, what: &str, name: &str) -> Result<String, AllocError>
     ensures { IfOk result (λ s. string_bytes s ≡ repeated_text what.now name.now) }
 {
-    let name = quoted(alloc, name)?;
+    let name = in_quotes(alloc, name)?;
     format!(in alloc; "two {what} are called {name}")
 }
 
@@ -256,7 +255,7 @@ fn entry_text(
 ) -> Result<String, AllocError>
     ensures { IfOk result (λ s. string_bytes s ≡ entry_text operation.now row.now k text.now what.now names.now) }
 {
-    let text = quoted(alloc, text)?;
+    let text = in_quotes(alloc, text)?;
     format!(in alloc; "{operation}, {row}[{k}]: {text} is no {what}{names}")
 }
 
@@ -272,7 +271,7 @@ fn push_unknown_entries(
     ensures { OnOk result (flaws_view flaws.new ≡ flaws_view flaws.old
         ++ each (unknown_entry operation.now row.now what.now (map (λ s. string_bytes s) names.now)) 0 (map (λ s. string_bytes s) texts.now)) }
 {
-    let shown = listed(alloc, names)?;
+    let shown = names_in_brackets(alloc, names)?;
     for (k, text) in texts.iter().enumerate() {
         if number_of(names, text.as_str()).is_none() {
             let said = entry_text(

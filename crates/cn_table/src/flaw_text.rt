@@ -1,6 +1,7 @@
 //! The parts of which the texts of flaws are made.
-ghost use Rattle.std.specs.Prelude.{◌≡◌, ◌<◌, ◌^◌, ◌++◌, IfOk, OnOk, length, map, string_bytes};
-ghost use Rattle.cn_table.specs.FlawText.{shown_byte, quoted, operation_text, goes_on, place_after, entries_text, states_text, joined_names, listed};
+ghost use Rattle.std.specs.Prelude.{codes, ◌≡◌, ◌<◌, ◌^◌, ◌++◌, IfOk, OnOk, length, map, string_bytes};
+ghost use Rattle.cn_table.specs.FlawText.{shown_byte, in_quotes, operation_text, goes_on, place_after, entries_text, states_text, names_in_brackets};
+ghost use Rattle.cn_table.specs.Texts.{joined_texts};
 
 use crate::limits::MOST_STATES;
 use crate::names::{are_named, is_name};
@@ -28,8 +29,8 @@ fn shown(alloc: Global, text: &str) -> Result<String, AllocError>
 }
 
 /// A text between quotation marks, with a question mark for each byte that ASCII does not print.
-pub(crate) fn quoted(alloc: Global, text: &str) -> Result<String, AllocError>
-    ensures { IfOk result (λ s. string_bytes s ≡ quoted text.now) }
+pub(crate) fn in_quotes(alloc: Global, text: &str) -> Result<String, AllocError>
+    ensures { IfOk result (λ s. string_bytes s ≡ in_quotes text.now) }
 {
     let shown = shown(alloc, text)?;
     format!(in alloc; "\"{shown}\"")
@@ -90,7 +91,7 @@ pub(crate) fn states_text(alloc: Global, count: usize) -> Result<String, AllocEr
 }
 
 fn push_names(text: &mut String, names: &[String]) -> Result<(), AllocError>
-    ensures { OnOk result (string_bytes text.new ≡ string_bytes text.old ++ joined_names (map (λ s. string_bytes s) names.now)) }
+    ensures { OnOk result (string_bytes text.new ≡ string_bytes text.old ++ joined_texts (codes ", ") (map (λ s. string_bytes s) names.now)) }
 {
     let [first, rest @ ..] = names else {
         return Ok(());
@@ -104,8 +105,8 @@ fn push_names(text: &mut String, names: &[String]) -> Result<(), AllocError>
 }
 
 /// The names in brackets, where they are few names; else nothing.
-pub(crate) fn listed(alloc: Global, names: &[String]) -> Result<String, AllocError>
-    ensures { IfOk result (λ s. string_bytes s ≡ listed (map (λ s. string_bytes s) names.now)) }
+pub(crate) fn names_in_brackets(alloc: Global, names: &[String]) -> Result<String, AllocError>
+    ensures { IfOk result (λ s. string_bytes s ≡ names_in_brackets (map (λ s. string_bytes s) names.now)) }
 {
     let mut text = String::new(alloc);
     if names.len() <= MOST_STATES && are_named(names) {

@@ -7,7 +7,7 @@ use Rattle.cn_agree.specs.declared.local.Stage.TheVariants.{Write}
 use Rattle.cn_agree.specs.declared.local.Local.{Local}
 use Rattle.cn_agree.specs.declared.local.Local.TheVariants.{NotBegun, Active}
 use Rattle.cn_agree.specs.World.{World, local_at}
-use Rattle.cn_agree.specs.Steps.{begun}
+use Rattle.cn_agree.specs.Steps.{after_begin}
 use Rattle.cn_agree.specs.Reached.{first_world, HasBegun}
 use Rattle.cn_agree.specs.Rounds.{IsRoundOf}
 use Rattle.cn_agree.specs.Beginning.{AllHaveBegun}
@@ -33,18 +33,18 @@ none_begun {V = V} plan w is r = record {
     waits (suc n) zero = refl
     waits (suc n) (suc p) = waits n p
 
-pub one_more_begun : {V : Type 0} (plan : Plan) (i : ℕ) (x : V) (w w' : World V) → i < length w.locals → HasBegunTo plan i w → w' ≡ begun i x w → IsRoundOf plan [] w' → HasBegunTo plan (i + 1) w'
+pub one_more_begun : {V : Type 0} (plan : Plan) (i : ℕ) (x : V) (w w' : World V) → i < length w.locals → HasBegunTo plan i w → w' ≡ after_begin i x w → IsRoundOf plan [] w' → HasBegunTo plan (i + 1) w'
 one_more_begun {V = V} plan i x w w' lt h is r = record {
   round = r;
   begun = λ p less. ⊎_elim (own p) (λ other. earlier p less other) (cases_eq p i);
   waiting = λ p le. at p ∙ get_or-set_other w.locals i p (Active 0 x Write) NotBegun (λ e. absurd (omega arith)) ∙ h.waiting p (omega arith);
 }
   where
-    at : (p : ℕ) → local_at w' p ≡ local_at (begun i x w) p
+    at : (p : ℕ) → local_at w' p ≡ local_at (after_begin i x w) p
     at p = ap (λ (u : World V). local_at u p) is
 
     own : (p : ℕ) → p ≡ i → HasBegun w' p
-    own p e waits = let f : Active 0 x Write ≡ NotBegun = sym (get_or-set_same w.locals i (Active 0 x Write) NotBegun lt) ∙ ap (local_at (begun i x w)) (sym e) ∙ sym (at p) ∙ waits in cc
+    own p e waits = let f : Active 0 x Write ≡ NotBegun = sym (get_or-set_same w.locals i (Active 0 x Write) NotBegun lt) ∙ ap (local_at (after_begin i x w)) (sym e) ∙ sym (at p) ∙ waits in cc
 
     earlier : (p : ℕ) → p < i + 1 → p ≢ i → HasBegun w' p
     earlier p less other waits = h.begun p (omega arith) (sym (get_or-set_other w.locals i p (Active 0 x Write) NotBegun other) ∙ sym (at p) ∙ waits)

@@ -16,7 +16,8 @@ use Rattle.cn_table.proofs.Lists.{with_front, front_next}
 use Rattle.cn_log.specs.declared.event.Event.{Event}
 use Rattle.cn_log.specs.declared.event.Event.TheVariants.{Invoke, Step}
 use Rattle.cn_app.specs.Arguments.Events.{event_of}
-use Rattle.cn_app.specs.Arguments.Lists.{code_of, items_of, list_up_to, number_up_to}
+use Rattle.cn_app.specs.Arguments.Lists.{items_of, list_up_to, number_up_to}
+use Rattle.cn_table.specs.Texts.{code_of}
 use Rattle.cn_app.proofs.ArgumentLemmas.Numbers.{small_is_some}
 
 -- a digit spells its number

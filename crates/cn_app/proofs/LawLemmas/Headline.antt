@@ -5,7 +5,7 @@ use Rattle.cn_table.specs.TypeTable.{TypeTable}
 use Rattle.cn_choice.specs.Canonical.{Choice, IsCanonical, raw_choice_of}
 use Rattle.cn_choice.specs.Live.{IsLive, live_choices}
 use Rattle.cn_choice.specs.RawChoices.{IsRawChoice}
-use Rattle.cn_search.specs.Evidence.{IsFindingFor, IsFirstWitness, choices_for}
+use Rattle.cn_search.specs.Evidence.{IsFindingFor, IsFirstWitness}
 use Rattle.cn_search.specs.Finding.{Finding}
 use Rattle.cn_proto.specs.Plan.{Plan}
 use Rattle.cn_log.specs.Linearized.{IsLinearized}
@@ -25,17 +25,17 @@ AreLinearized = (o : Opening) (events : List Event) → IsOpening o → IsEventL
 pub serves_objects : AreLinearized → (plan : Plan) → ServesObjects plan
 serves_objects linearized plan o events is same may = linearized o events is may
 
-size_of : AreListed → (t : TypeTable) (n : ℕ) (w : Choice) → IsFirstWitness t (choices_for t n) w → n ≡ length w.a + length w.b
+size_of : AreListed → (t : TypeTable) (n : ℕ) (w : Choice) → IsFirstWitness t (live_choices t n) w → n ≡ length w.a + length w.b
 size_of listed t n w first =
-    let fits = ((listed t n w).0 (Contains-between (choices_for t n) first.before first.after w (sym first.listed))).1 in
+    let fits = ((listed t n w).0 (Contains-between (live_choices t n) first.before first.after w (sym first.listed))).1 in
     sym fits.one_operation_each ∙ length-append w.a w.b
 
 -- a witness that was found is for as many processes as the number says
 pub number_of_witness : AreListed → (t : TypeTable) (limit : ℕ) (f : Finding) (w : Choice) → IsFindingFor t limit f → f.witness ≡ Some w → f.number ≡ Some (length w.a + length w.b)
 number_of_witness listed t limit f w found is = by_number f.number found.witness
   where
-    by_number : (number : Option ℕ) → MatchOption number (f.witness ≡ None) (λ n. IsSomeAnd f.witness (IsFirstWitness t (choices_for t n))) → number ≡ Some (length w.a + length w.b)
+    by_number : (number : Option ℕ) → MatchOption number (f.witness ≡ None) (λ n. IsSomeAnd f.witness (IsFirstWitness t (live_choices t n))) → number ≡ Some (length w.a + length w.b)
     by_number None none = absurd (cc (sym is ∙ none))
     by_number (Some n) some =
-        let first : IsFirstWitness t (choices_for t n) w = subst (λ (o : Option Choice). IsSomeAnd o (IsFirstWitness t (choices_for t n))) is some in
+        let first : IsFirstWitness t (live_choices t n) w = subst (λ (o : Option Choice). IsSomeAnd o (IsFirstWitness t (live_choices t n))) is some in
         ap Some (size_of listed t n w first)

@@ -11,7 +11,7 @@ use Rattle.cn_choice.specs.OrdersLeft.{as_array}
 use Rattle.cn_choice.specs.OutcomeSets.{BeginsIn, InOutcomeSet, pair_of}
 use Rattle.cn_choice.specs.TeamOrders.{orders_of}
 use Rattle.cn_choice.specs.declared.team.Team.{Team}
-use Rattle.cn_app.specs.Lines.Pairs.{is_pair, kept, kept_with, sees}
+use Rattle.cn_app.specs.Lines.Pairs.{is_pair, pair_if, pairs_if, sees}
 use Rattle.cn_app.proofs.LineLemmas.Pieces.{All-pieces}
 
 -- ---- one pair
@@ -55,24 +55,24 @@ module _ (t : TypeTable) (c : Choice) (team : Team) (j : ℕ)
 abbrev pub IsBelow : ℕ → ℕ → ℕ × ℕ → Type 0
 IsBelow responses states pair = (pair.0 < responses) × (pair.1 < states)
 
-kept_below : (responses states : ℕ) (test : ℕ → ℕ → Bool) (r q : ℕ) → r < responses → q < states → All (IsBelow responses states) (kept test r q)
+kept_below : (responses states : ℕ) (test : ℕ → ℕ → Bool) (r q : ℕ) → r < responses → q < states → All (IsBelow responses states) (pair_if test r q)
 kept_below responses states test r q low less = by_test (test r q)
   where
     by_test : (b : Bool) → All (IsBelow responses states) (cond {A = List (ℕ × ℕ)} b ((r, q) ∷ []) [])
     by_test true = All-cons (IsBelow responses states) (r, q) [] (low, less) (All-nil (IsBelow responses states))
     by_test false = All-nil (IsBelow responses states)
 
-pub all_below : (responses states : ℕ) (test : ℕ → ℕ → Bool) (n : ℕ) → n ≤ responses → All (IsBelow responses states) (flat_map (kept_with test states) (range_with_len 0 n))
+pub all_below : (responses states : ℕ) (test : ℕ → ℕ → Bool) (n : ℕ) → n ≤ responses → All (IsBelow responses states) (flat_map (pairs_if test states) (range_with_len 0 n))
 all_below responses states test n few =
-    All-pieces (kept_with test states) (IsBelow responses states) 0 n
-    (λ r low. All-pieces (kept test r) (IsBelow responses states) 0 states (λ q less. kept_below responses states test r q (omega (arith, low, few)) (omega (arith, less))))
+    All-pieces (pairs_if test states) (IsBelow responses states) 0 n
+    (λ r low. All-pieces (pair_if test r) (IsBelow responses states) 0 states (λ q less. kept_below responses states test r q (omega (arith, low, few)) (omega (arith, less))))
 
 -- ---- the pairs so far
 
-pub kept_here : (test : ℕ → ℕ → Bool) (r q : ℕ) → IsTrue (test r q) → kept test r q ≡ (r, q) ∷ []
+pub kept_here : (test : ℕ → ℕ → Bool) (r q : ℕ) → IsTrue (test r q) → pair_if test r q ≡ (r, q) ∷ []
 kept_here test r q h = ap (λ b. cond {A = List (ℕ × ℕ)} b ((r, q) ∷ []) []) h
 
-pub kept_not : (test : ℕ → ℕ → Bool) (r q : ℕ) → ¬ IsTrue (test r q) → kept test r q ≡ []
+pub kept_not : (test : ℕ → ℕ → Bool) (r q : ℕ) → ¬ IsTrue (test r q) → pair_if test r q ≡ []
 kept_not test r q none = by_test (test r q) none
   where
     by_test : (b : Bool) → ¬ IsTrue b → cond {A = List (ℕ × ℕ)} b ((r, q) ∷ []) [] ≡ []

@@ -4,13 +4,13 @@ use Rattle.std.proofs.lemmas.List.{length-take}
 use Rattle.std.proofs.lemmas.List.Elements.{All-take}
 use Rattle.cn_table.specs.TypeTable.{TypeTable}
 use Rattle.cn_choice.specs.Collisions.{Collision}
-use Rattle.cn_app.specs.Lines.Explained.{IsRefuted, told, way, ways}
+use Rattle.cn_app.specs.Lines.Explained.{IsRefuted, entries_told, way, ways}
 
-pub told_few : (all : Bool) (entries : List Collision) → length (told all entries) ≤ length entries
+pub told_few : (all : Bool) (entries : List Collision) → length (entries_told all entries) ≤ length entries
 told_few true entries = omega arith
 told_few false entries = omega (arith, length-take 12 entries)
 
-pub told_refuted : (t : TypeTable) (all : Bool) (entries : List Collision) → All (IsRefuted t) entries → All (IsRefuted t) (told all entries)
+pub told_refuted : (t : TypeTable) (all : Bool) (entries : List Collision) → All (IsRefuted t) entries → All (IsRefuted t) (entries_told all entries)
 told_refuted t true entries h = h
 told_refuted t false entries h = All-take (IsRefuted t) 12 entries h
 

@@ -8,7 +8,7 @@ use Rattle.cn_log.specs.declared.entry.Entry.{Entry}
 use Rattle.cn_log.specs.declared.event.Event.{Event}
 use Rattle.cn_log.specs.declared.event.Event.TheVariants.{Invoke, Step}
 use Rattle.cn_hall.specs.Rule.{Carries}
-use Rattle.cn_hall.specs.Calls.{Called, NoCall}
+use Rattle.cn_hall.specs.Calls.{MakesCall, NoCall}
 use Rattle.cn_app.specs.Threads.Serving.{operations_called}
 
 -- the operations of the calls, which need no numbers
@@ -61,7 +61,7 @@ pub invoked_carried : (p : ℕ) (log core : Log) → Carries p log core → oper
 invoked_carried p log core h = called_from p 0 core.schedule ∙ called_carried p log core h ∙ sym (called_from p 0 log.schedule)
 
 -- a call adds its operation
-pub invoked_called : (p operation : ℕ) (before now : Log) → Called p operation before now → operations_called p now.schedule ≡ operations_called p before.schedule ++ operation ∷ []
+pub invoked_called : (p operation : ℕ) (before now : Log) → MakesCall p operation before now → operations_called p now.schedule ≡ operations_called p before.schedule ++ operation ∷ []
 invoked_called p operation before now h =
     let mid = h.0 in
     let s = h.1.0 in

@@ -2,7 +2,7 @@
 use Rattle.std.proofs.Common.{◌≡◌, ◌⊎◌, inl, inr, ℕ, ◌+◌, ◌<◌, List, [], ◌∷◌, ◌++◌, length, take, drop, sym, ap, ◌∙◌, subst, arith}
 use Rattle.std.proofs.lemmas.List.{length-take-le, take-append-drop}
 use Rattle.cn_log.specs.Callers.{BeginsWith}
-use Rattle.cn_hall.specs.Calls.{CallFails, Called, IsSameSeat}
+use Rattle.cn_hall.specs.Calls.{CallFails, MakesCall, IsSameSeat}
 use Rattle.cn_hall.specs.Seats.{SeatState}
 use Rattle.cn_hall.specs.declared.call.CallFault.{CallFault}
 use Rattle.cn_hall.specs.declared.call.CallFault.TheVariants.{LogFull, Stopped}
@@ -19,7 +19,7 @@ begins_taken : (calls : List ℕ) (s : SeatState) (i : ℕ) → HasMade calls s 
 begins_taken calls s i made = (drop i calls, sym (take-append-drop i calls) ∙ ap (λ l. l ++ drop i calls) (sym made))
 
 -- a call without a reply was made, or the seat is as it was
-pub made_or_not : (operation : ℕ) (s t : SeatState) (fault : CallFault) → CallFails operation fault s t → (t ≡ s) ⊎ Called s.process operation s.core t.core
+pub made_or_not : (operation : ℕ) (s t : SeatState) (fault : CallFault) → CallFails operation fault s t → (t ≡ s) ⊎ MakesCall s.process operation s.core t.core
 made_or_not operation s t LogFull h = elim h.2 [
   | inl is ↦ inl is
   | inr made ↦ inr made.0
@@ -28,13 +28,13 @@ made_or_not operation s t Stopped h = inr h.0
 
 -- after so many calls of the list, the seat made the next
 module _ (calls : List ℕ) (i operation : ℕ) (more : take (i + 1) calls ≡ take i calls ++ operation ∷ []) (s t : SeatState) (same : IsSameSeat s t) (made : HasMade calls s i) where
-  pub one_more : Called s.process operation s.core t.core → HasMade calls t (i + 1)
+  pub one_more : MakesCall s.process operation s.core t.core → HasMade calls t (i + 1)
   one_more called = ap (λ p. operations_called p t.core.schedule) same.1 ∙ invoked_called s.process operation s.core t.core called ∙ ap (λ l. l ++ operation ∷ []) made ∙ sym more
 
   none_more : t ≡ s → HasMade calls t i
   none_more is = subst (λ (u : SeatState). HasMade calls u i) (sym is) made
 
-  begins_once : (t ≡ s) ⊎ Called s.process operation s.core t.core → BeginsWith calls (operations_called t.process t.core.schedule)
+  begins_once : (t ≡ s) ⊎ MakesCall s.process operation s.core t.core → BeginsWith calls (operations_called t.process t.core.schedule)
   begins_once (inl is) = begins_taken calls t i (none_more is)
   begins_once (inr called) = begins_taken calls t (i + 1) (one_more called)
 

@@ -4,7 +4,8 @@ use Rattle.std.specs.List.{slice_split, list_all}
 use Rattle.cn_table.specs.Draft.{all_some}
 use Rattle.cn_proto.specs.Plan.{processes_of}
 use Rattle.cn_log.specs.Opening.{Opening}
-use Rattle.cn_app.specs.Arguments.Lists.{code_of, list_of, number_up_to}
+use Rattle.cn_app.specs.Arguments.Lists.{list_of, number_up_to}
+use Rattle.cn_table.specs.Texts.{code_of}
 use Rattle.cn_app.specs.Arguments.Events.{capacity_of}
 use Rattle.cn_app.specs.declared.limits.TheConstants.{MOST_CALLS}
 use Rattle.cn_app.specs.declared.fault.AppFault.{AppFault}

@@ -4,7 +4,8 @@ use Rattle.std.specs.List.{before_first, after_first}
 use Rattle.cn_log.specs.declared.event.Event.{Event}
 use Rattle.cn_log.specs.declared.event.Event.TheVariants.{Step, Invoke}
 use Rattle.cn_log.specs.declared.limits.TheConstants.{MOST_SLOTS}
-use Rattle.cn_app.specs.Arguments.Lists.{code_of, number_up_to, list_of, listed}
+use Rattle.cn_app.specs.Arguments.Lists.{number_up_to, list_of, list_in}
+use Rattle.cn_table.specs.Texts.{code_of}
 use Rattle.cn_app.specs.declared.arguments.listed.Listed.{Listed}
 use Rattle.cn_app.specs.declared.fault.AppFault.{AppFault}
 use Rattle.cn_app.specs.declared.fault.AppFault.TheVariants.{Argument}
@@ -30,7 +31,7 @@ abbrev pub events_of : List ℕ → Option (List Event)
 events_of text = list_of event_of text
 
 abbrev pub listed_events : Listed → Option (List Event)
-listed_events list = listed event_of list
+listed_events list = list_in event_of list
 
 -- the number of slots, which is at least 1
 abbrev pub capacity_of : List ℕ → Option ℕ

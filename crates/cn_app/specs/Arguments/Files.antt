@@ -1,7 +1,8 @@
 -- Arguments whose text stands in a file.
-use Rattle.std.specs.Prelude.{ℕ, List, length, nat_lt, if◌then◌else◌, Result, Ok, Err}
+use Rattle.std.specs.Prelude.{codes, ℕ, List, length, nat_lt, if◌then◌else◌, Result, Ok, Err}
 use Rattle.std.specs.Io.BufRead.{strip_last}
 use Rattle.std.specs.Str.{is_utf8}
+use Rattle.cn_table.specs.Texts.{code_of}
 use Rattle.cn_app.specs.declared.limits.TheConstants.{MOST_ARGUMENT_BYTES}
 use Rattle.cn_app.specs.declared.fault.AppFault.{AppFault}
 use Rattle.cn_app.specs.declared.fault.AppFault.TheVariants as fault
@@ -10,7 +11,7 @@ use Rattle.cn_app.specs.declared.fault.Source.TheVariants as source
 
 -- without the line feed at the end, where there is one
 abbrev pub without_line_feed : List ℕ → List ℕ
-without_line_feed bytes = strip_last 10 bytes
+without_line_feed bytes = strip_last (code_of (codes "\n")) bytes
 
 -- the text that stands in a file of these bytes, or its first fault: the bytes are too many, or they are no text
 abbrev pub argument_in : Part → List ℕ → Result (List ℕ) AppFault

@@ -1,20 +1,16 @@
 -- Arguments that are lists.
-use Rattle.std.specs.Prelude.{ℕ, List, length, Option, Some, None, nat_le, ◌&&◌, if◌then◌else◌, option_and_then, map, [], ◌∷◌, codes, ◌==◌, IsSomeAnd, ◌≡◌, MatchOption}
+use Rattle.std.specs.Prelude.{ℕ, List, length, Option, Some, None, nat_le, ◌&&◌, if◌then◌else◌, option_and_then, map, [], codes, ◌==◌, IsSomeAnd, ◌≡◌, MatchOption}
 use Rattle.std.specs.Char.{is_ascii_digit}
 use Rattle.std.specs.List.{list_all, slice_split}
 use Rattle.std.specs.Str.Parse.{digits_value}
 use Rattle.std.specs.Str.{bytes_eq}
 use Rattle.cn_table.specs.Draft.{all_some}
+use Rattle.cn_table.specs.Texts.{code_of}
 use Rattle.cn_app.specs.declared.arguments.listed.Listed.{Listed}
 use Rattle.cn_app.specs.declared.limits.TheConstants.{MOST_DIGITS, MOST_ITEMS}
 use Rattle.cn_app.specs.declared.fault.AppFault.{AppFault}
 use Rattle.cn_app.specs.declared.fault.AppFault.TheVariants.{Argument}
 use Rattle.cn_app.specs.declared.fault.Part.TheVariants.{Inputs, Schedule}
-
--- the code of a letter
-abbrev pub code_of : List ℕ → ℕ
-code_of [] = 0
-code_of (code ∷ rest) = code
 
 -- the number that decimal digits write, of which there may be so many; there is no sign, and zeros may stand first
 abbrev pub number_of : List ℕ → Option ℕ
@@ -37,8 +33,8 @@ abbrev pub list_of : {X : Type 0} → (List ℕ → Option X) → List ℕ → O
 list_of item text = list_up_to MOST_ITEMS item text
 
 -- the same with as many items as are said beside the text
-abbrev pub listed : {X : Type 0} → (List ℕ → Option X) → Listed → Option (List X)
-listed item list = list_up_to list.most item list.text.now
+abbrev pub list_in : {X : Type 0} → (List ℕ → Option X) → Listed → Option (List X)
+list_in item list = list_up_to list.most item list.text.now
 
 -- the numbers that the processes begin with, and a schedule, process by process
 abbrev pub inputs_of : List ℕ → Option (List ℕ)
@@ -48,10 +44,10 @@ abbrev pub schedule_of : List ℕ → Option (List ℕ)
 schedule_of text = list_of (number_up_to 255) text
 
 abbrev pub listed_inputs : Listed → Option (List ℕ)
-listed_inputs list = listed (number_up_to 18446744073709551615) list
+listed_inputs list = list_in (number_up_to 18446744073709551615) list
 
 abbrev pub listed_schedule : Listed → Option (List ℕ)
-listed_schedule list = listed (number_up_to 255) list
+listed_schedule list = list_in (number_up_to 255) list
 
 -- both arguments spell lists, of which this holds
 abbrev pub ListsGive : Option (List ℕ) → Option (List ℕ) → (List ℕ → List ℕ → Type 0) → Type 0

@@ -3,7 +3,8 @@ use Rattle.std.specs.Prelude.{ℕ, List, [], ◌++◌, length, map, codes, decim
 use Rattle.std.specs.List.{range_with_len}
 use Rattle.cn_table.specs.TypeTable.{TypeTable}
 use Rattle.cn_proto.specs.Plan.{Plan, processes_of, nodes_of, protocol_of}
-use Rattle.cn_proto.specs.PlanText.{joined, team_text}
+use Rattle.cn_proto.specs.PlanText.{team_text}
+use Rattle.cn_table.specs.Texts.{joined_texts}
 use Rattle.cn_table.specs.Grid.{name_at}
 use Rattle.cn_proto.specs.Tournament.{team_of}
 use Rattle.cn_proto.specs.declared.place.Place.{Place}
@@ -15,7 +16,7 @@ place_json place =
 
 -- the places of a process, from its lowest node to the root, in an array
 abbrev pub path_json : Plan → ℕ → List ℕ
-path_json plan p = comma p ++ codes "[" ++ joined (codes ",") (map place_json ((protocol_of plan).path p)) ++ codes "]"
+path_json plan p = comma p ++ codes "[" ++ joined_texts (codes ",") (map place_json ((protocol_of plan).path p)) ++ codes "]"
 
 -- a response and a state
 unfoldable pub named_pair : List ℕ → List ℕ → List ℕ
@@ -30,7 +31,7 @@ role_head = codes "{\"judges\":["
 
 -- the front of a role: the pairs that it judges to be team A's
 abbrev pub judged_json : Plan → ℕ → List ℕ
-judged_json plan role = role_head ++ joined (codes ",") (map (pair_json plan.table) (slice_index_or plan.judged role []))
+judged_json plan role = role_head ++ joined_texts (codes ",") (map (pair_json plan.table) (slice_index_or plan.judged role []))
 
 -- what stands behind the pairs of a role: its operation and its team
 unfoldable pub role_end : List ℕ → List ℕ → List ℕ

@@ -10,7 +10,7 @@ use Rattle.cn_choice.specs.RawChoices.{RawChoice}
 use Rattle.cn_choice.specs.OutcomeSets.{pair_of}
 use Rattle.cn_cert.specs.Certificate.{Certificate}
 use Rattle.cn_table.specs.Grid.{name_at}
-use Rattle.cn_app.specs.Lines.Pairs.{got, seen_rows}
+use Rattle.cn_app.specs.Lines.Pairs.{pair_words, seen_rows}
 use Rattle.cn_app.specs.declared.limits.TheConstants.{MOST_TOLD}
 
 -- ---- the head line
@@ -54,7 +54,7 @@ steps_text t c state (p ∷ ps) = step_text t c state p ++ steps_text t c (trans
 -- what process j sees, if it takes part
 abbrev pub sight : TypeTable → ℕ → Option (ℕ × ℕ) → List ℕ
 sight t j None = []
-sight t j (Some pair) = codes "     p" ++ decimal j ++ codes " " ++ got t pair
+sight t j (Some pair) = codes "     p" ++ decimal j ++ codes " " ++ pair_words t pair
 
 -- a run from the start state in an order that begins in the team of this name, and what process j sees of it
 abbrev pub run_line : TypeTable → RawChoice → List ℕ → List ℕ → ℕ → List ℕ
@@ -120,8 +120,8 @@ ways t before [] = []
 ways t before (e ∷ es) = way t (before + 1) e ++ ways t (before + 1) es
 
 -- the entries that are told: all of them, or the first MOST_TOLD
-abbrev pub told : Bool → List Collision → List Collision
-told all entries = if all then entries else take MOST_TOLD entries
+abbrev pub entries_told : Bool → List Collision → List Collision
+entries_told all entries = if all then entries else take MOST_TOLD entries
 
 -- how many more there are
 abbrev pub more_line : ℕ → List ℕ
@@ -129,7 +129,7 @@ more_line more = if more == 0 then [] else (codes "  and " ++ decimal more ++ co
 
 -- the entries that are told, and how many more there are
 abbrev pub told_ways : TypeTable → List Collision → Bool → List ℕ
-told_ways t entries all = ways t 0 (told all entries) ++ more_line (length entries - length (told all entries))
+told_ways t entries all = ways t 0 (entries_told all entries) ++ more_line (length entries - length (entries_told all entries))
 
 -- how many ways there are, and that in each of them some process cannot tell
 abbrev pub ways_words : ℕ → List ℕ

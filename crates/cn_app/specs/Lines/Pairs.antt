@@ -23,26 +23,26 @@ unfoldable pub sees : TypeTable → Choice → Team → ℕ → ℕ → ℕ → 
 sees t c team j r q = list_any (λ order. is_pair r q (pair_of t (raw_choice_of c) order.items j)) (orders_of c team j)
 
 -- the pair, where it passes the test
-abbrev pub kept : (ℕ → ℕ → Bool) → ℕ → ℕ → List (ℕ × ℕ)
-kept test r q = if test r q then (r, q) ∷ [] else []
+abbrev pub pair_if : (ℕ → ℕ → Bool) → ℕ → ℕ → List (ℕ × ℕ)
+pair_if test r q = if test r q then (r, q) ∷ [] else []
 
 -- of the pairs of r and one of so many states those that pass the test, in order
-abbrev pub kept_with : (ℕ → ℕ → Bool) → ℕ → ℕ → List (ℕ × ℕ)
-kept_with test states r = flat_map (kept test r) (range_with_len 0 states)
+abbrev pub pairs_if : (ℕ → ℕ → Bool) → ℕ → ℕ → List (ℕ × ℕ)
+pairs_if test states r = flat_map (pair_if test r) (range_with_len 0 states)
 
 -- the pairs that process j sees where the team is first: by response, then by state
 abbrev pub seen_pairs : TypeTable → Choice → Team → ℕ → List (ℕ × ℕ)
-seen_pairs t c team j = flat_map (kept_with (sees t c team j) (length t.states)) (range_with_len 0 (length t.responses))
+seen_pairs t c team j = flat_map (pairs_if (sees t c team j) (length t.states)) (range_with_len 0 (length t.responses))
 
 -- ---- their text
 
-abbrev pub got : TypeTable → ℕ × ℕ → List ℕ
-got t pair = codes "got " ++ name_at t.responses pair.0 ++ codes ", reads " ++ name_at t.states pair.1
+abbrev pub pair_words : TypeTable → ℕ × ℕ → List ℕ
+pair_words t pair = codes "got " ++ name_at t.responses pair.0 ++ codes ", reads " ++ name_at t.states pair.1
 
 -- the pair on the side of team A, if there is one
 abbrev pub left_part : TypeTable → Option (ℕ × ℕ) → List ℕ
 left_part t None = []
-left_part t (Some pair) = got t pair
+left_part t (Some pair) = pair_words t pair
 
 -- the spaces behind it, as many as the widest response and state would leave it
 abbrev pub left_gap : TypeTable → Option (ℕ × ℕ) → List ℕ
@@ -59,7 +59,7 @@ before_right k = if k == 0 then codes "    B first: " else codes "             "
 -- the pair on the side of team B, if there is one, and what stands before it
 abbrev pub right_part : TypeTable → ℕ → Option (ℕ × ℕ) → Option (ℕ × ℕ) → List ℕ
 right_part t k a None = []
-right_part t k a (Some pair) = left_gap t a ++ before_right k ++ got t pair
+right_part t k a (Some pair) = left_gap t a ++ before_right k ++ pair_words t pair
 
 -- row k of process j: a pair of each side
 abbrev pub pair_row : TypeTable → ℕ → ℕ → Option (ℕ × ℕ) → Option (ℕ × ℕ) → List ℕ

@@ -6,7 +6,7 @@ use Rattle.cn_log.specs.Callers.{BeginsWith}
 use Rattle.cn_log.specs.Opening.{Log}
 use Rattle.cn_hall.specs.Seats.{HallId, IsSeatOf, SeatState, slots_seen}
 use Rattle.cn_hall.specs.Answers.{own}
-use Rattle.cn_hall.specs.Calls.{IsSameSeat, Called, next_call}
+use Rattle.cn_hall.specs.Calls.{IsSameSeat, MakesCall, next_call}
 use Rattle.cn_hall.specs.Gates.{IsAsked, asked_times, steps_since}
 use Rattle.cn_hall.specs.Rule.{Carries}
 use Rattle.cn_hall.specs.declared.call.CallFault.{CallFault}
@@ -63,7 +63,7 @@ HaveAllWorked calls before after worked =
 
 -- what a seat comes to by a call of this operation: it was made, or it was refused at once
 abbrev pub ComesBy : ℕ → SeatState → SeatState → Type 0
-ComesBy operation t u = IsSameSeat t u × ((u ≡ t) ⊎ Called t.process operation t.core u.core)
+ComesBy operation t u = IsSameSeat t u × ((u ≡ t) ⊎ MakesCall t.process operation t.core u.core)
 
 -- what a seat comes to by calls with a gate, made one after the other, and what becomes of the gate: each call asks as `call` does
 pub data HasAsked {G : Type 0} (asks : G → SeatState → ℕ → G → Type 0) (says : G → Go) (s : SeatState) (g : G) : SeatState → G → Type 0 where

@@ -3,7 +3,7 @@ ghost use Rattle.std.specs.Prelude.{◌≡◌, ◌⊎◌, ◌<◌, ℕ, map, IfO
 ghost use Rattle.std.specs.List.{list_all, slice_split};
 ghost use Rattle.std.specs.Char.{is_ascii_digit};
 ghost use Rattle.cn_table.specs.Draft.{all_some};
-ghost use Rattle.cn_app.specs.Arguments.Lists.{number_up_to, list_of, listed, inputs_of, schedule_of};
+ghost use Rattle.cn_app.specs.Arguments.Lists.{number_up_to, list_of, list_in, inputs_of, schedule_of};
 ghost use Rattle.cn_app.specs.declared.fault.AppFault.TheVariants.{Argument, OutOfMemory};
 ghost use Rattle.cn_app.specs.declared.fault.Part.TheVariants.{Inputs, Schedule};
 
@@ -88,8 +88,8 @@ pub(crate) fn read_listed<T: Item + Drop>(
     list: Listed<'_>,
     argument: Part,
 ) -> Result<Vec<T>, AppFault>
-    ensures list { IfOk result (λ items. listed T.item_of list.entry ≡ Some items.items) }
-    ensures refused { IfErr result (λ e. (e ≡ OutOfMemory) ⊎ ((e ≡ Argument argument) × (listed T.item_of list.entry ≡ None))) }
+    ensures list { IfOk result (λ items. list_in T.item_of list.entry ≡ Some items.items) }
+    ensures refused { IfErr result (λ e. (e ≡ OutOfMemory) ⊎ ((e ≡ Argument argument) × (list_in T.item_of list.entry ≡ None))) }
 {
     if list.text == "none" {
         return Ok(Vec::new(alloc));

@@ -1,7 +1,8 @@
 //! Lists of events in their short form: each number is one digit.
 ghost use Rattle.std.specs.Prelude.{◌≡◌, ◌≢◌, ◌<◌, ◌≤◌, ◌++◌, ◌∷◌, [], ℕ, List, IfOk, IfSome, Some, All, codes};
 ghost use Rattle.cn_app.specs.Arguments.Events.{event_of};
-ghost use Rattle.cn_app.specs.Arguments.Lists.{code_of, list_up_to, number_up_to};
+ghost use Rattle.cn_app.specs.Arguments.Lists.{list_up_to, number_up_to};
+ghost use Rattle.cn_table.specs.Texts.{code_of};
 
 use cn_log::Event;
 use std::alloc::{AllocError, Global};

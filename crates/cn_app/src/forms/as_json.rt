@@ -1,7 +1,7 @@
 //! A plan as JSON.
 ghost use Rattle.std.specs.Prelude.{◌≡◌, ◌<◌, ◌++◌, All, IfOk, OnOk, codes, length, map, string_bytes};
 ghost use Rattle.cn_proto.specs.Plan.{processes_of};
-ghost use Rattle.cn_proto.specs.PlanText.{joined};
+ghost use Rattle.cn_table.specs.Texts.{joined_texts};
 ghost use Rattle.cn_app.specs.Forms.Json.{each_path_json, each_role_json, end_json, judged_json, named_pair, pair_json, path_json};
 ghost use Rattle.cn_app.specs.Forms.Json.{paths_json, place_json, plan_json, role_end, role_head, role_json, roles_json, type_json};
 
@@ -49,7 +49,7 @@ fn push_path(text: &mut String, plan: &Plan, process: u8) -> Result<(), AllocErr
 }
 
 fn push_places(text: &mut String, places: &[Place]) -> Result<(), AllocError>
-    ensures { OnOk result (string_bytes text.new ≡ string_bytes text.old ++ joined (codes ",") (map place_json places.now)) }
+    ensures { OnOk result (string_bytes text.new ≡ string_bytes text.old ++ joined_texts (codes ",") (map place_json places.now)) }
 {
     let [first, rest @ ..] = places else {
         return Ok(());
@@ -137,7 +137,7 @@ fn push_role_end(text: &mut String, operation: &str, team: &str) -> Result<(), A
 
 fn push_pairs(text: &mut String, table: &Table, pairs: &[(u8, u8)]) -> Result<(), AllocError>
     requires { All (λ pair. (pair.0 < length table.now.responses) × (pair.1 < length table.now.states)) pairs.now }
-    ensures { OnOk result (string_bytes text.new ≡ string_bytes text.old ++ joined (codes ",") (map (pair_json table.now) pairs.now)) }
+    ensures { OnOk result (string_bytes text.new ≡ string_bytes text.old ++ joined_texts (codes ",") (map (pair_json table.now) pairs.now)) }
 {
     let [first, rest @ ..] = pairs else {
         return Ok(());

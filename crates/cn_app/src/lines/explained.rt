@@ -3,7 +3,7 @@ ghost use Rattle.std.specs.Prelude.{◌≡◌, ◌+◌, ◌-◌, ◌++◌, lengt
 ghost use Rattle.std.specs.List.{range_with_len};
 ghost use Rattle.cn_choice.specs.Canonical.{FitsTable};
 ghost use Rattle.cn_check.specs.Verdict.{IsAccepted};
-ghost use Rattle.cn_app.specs.Lines.Explained.{apart_line, explain_text, head_line, left_out, more_line, movers, notes, number_told, refutation, same_ways, theorem_line, told, told_ways, ways_words, why, why_not, witness_line, witness_start, witness_text, IsRefuted};
+ghost use Rattle.cn_app.specs.Lines.Explained.{apart_line, explain_text, head_line, left_out, more_line, movers, notes, number_told, refutation, same_ways, theorem_line, entries_told, told_ways, ways_words, why, why_not, witness_line, witness_start, witness_text, IsRefuted};
 ghost use Rattle.cn_app.specs.Lines.Pairs.{seen_rows};
 
 use crate::limits::MOST_TOLD;
@@ -136,9 +136,8 @@ fn push_why(
     }
 }
 
-/// The entries that are told.
-fn told(entries: &[Collision], all: bool) -> &[Collision]
-    ensures { result.now ≡ told all entries.now }
+fn entries_told(entries: &[Collision], all: bool) -> &[Collision]
+    ensures { result.now ≡ entries_told all entries.now }
 {
     if all || entries.len() <= MOST_TOLD {
         entries
@@ -182,7 +181,7 @@ fn push_told(
     requires { All (IsRefuted table.now) entries.now }
     ensures { OnOk result (string_bytes text.new ≡ string_bytes text.old ++ told_ways table.now entries.now all) }
 {
-    let told = told(entries, all);
+    let told = entries_told(entries, all);
     push_ways(text, table, told)?;
     push_more(text, entries.len() - told.len())
 }

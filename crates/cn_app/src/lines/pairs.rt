@@ -2,7 +2,7 @@
 ghost use Rattle.std.specs.Prelude.{◌≡◌, ◌↔◌, ◌+◌, ◌<◌, ◌++◌, ℕ, Bool, length, slice_get, string_bytes, All, IfOk, IfSome, IsTrue, OnOk};
 ghost use Rattle.cn_choice.specs.Canonical.{FitsTable};
 ghost use Rattle.cn_choice.specs.OutcomeSets.{Has};
-ghost use Rattle.cn_app.specs.Lines.Pairs.{before_left, before_right, got, kept_with, left_gap, left_part, pair_row, pair_rows, right_part, seen_pairs, seen_rows};
+ghost use Rattle.cn_app.specs.Lines.Pairs.{before_left, before_right, pair_words, pairs_if, left_gap, left_part, pair_row, pair_rows, right_part, seen_pairs, seen_rows};
 
 use crate::laws::told_pairs;
 use cn_choice::{Choice, OutcomeSet, Team, outcomes};
@@ -17,7 +17,7 @@ fn push_pairs(
     states: u8,
 ) -> Result<(), AllocError>
     ensures { (test : ℕ → ℕ → Bool) → ((r q : ℕ) → IsTrue (test r q) ↔ Has set.now r q)
-        → OnOk result (pairs.new.items ≡ pairs.old.items ++ kept_with test states response) }
+        → OnOk result (pairs.new.items ≡ pairs.old.items ++ pairs_if test states response) }
 {
     for state in 0..states {
         if set.has(Response(response), State(state)) {
@@ -53,7 +53,7 @@ fn pairs_of(
 pub(crate) fn push_got(text: &mut String, table: &Table, pair: (u8, u8)) -> Result<(), AllocError>
     requires response { pair.0 < length table.now.responses }
     requires state { pair.1 < length table.now.states }
-    ensures { OnOk result (string_bytes text.new ≡ string_bytes text.old ++ got table.now pair) }
+    ensures { OnOk result (string_bytes text.new ≡ string_bytes text.old ++ pair_words table.now pair) }
 {
     let response = table.response_name(Response(pair.0));
     let state = table.state_name(State(pair.1));

@@ -12,7 +12,7 @@ use std::io::Write;
 pub enum Outcome {
     /// All was done.
     Whole,
-    /// All was done, but some call found no room or was stopped, and has no reply: the output says
+    /// All was done, but some call found the log full or was stopped, and has no reply: the output says
     /// which.
     Cut,
 }
@@ -20,7 +20,9 @@ pub enum Outcome {
 /// What serving comes to: the lines, and how the command ends that writes them.
 #[derive(Drop)]
 pub(crate) struct Served {
+    /// The text of the output.
     pub lines: String,
+    /// Whether each call has its reply.
     pub outcome: Outcome,
 }
 

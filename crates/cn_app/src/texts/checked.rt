@@ -17,7 +17,9 @@ use std::io::Read;
 /// A table, and a certificate that the check accepts for it.
 #[derive(Drop)]
 pub(crate) struct Checked {
+    /// The table of the type.
     pub table: Table,
+    /// The certificate of the type.
     pub certificate: Certificate,
 }
 

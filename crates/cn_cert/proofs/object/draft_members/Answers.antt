@@ -7,7 +7,7 @@ use Rattle.serde_json.specs.declared.value.Value.{Null, the_lemmas}
 use Rattle.serde_json.proofs.Views.{members_view-insert_entry}
 use Rattle.cn_cert.specs.Document.{members_len}
 use Rattle.cn_cert.specs.Draft.{draft_of}
-use Rattle.cn_cert.specs.Tokens.{members_at, told, nothing, with_member, keys_of}
+use Rattle.cn_cert.specs.Tokens.{members_at, with_value, nothing, with_member, keys_of}
 use Rattle.cn_cert.proofs.Walks.{told-shorter, member_step, member_none, members_done, no_key, refuse_more}
 use Rattle.cn_cert.proofs.ObjectWalks.{slots_put, keys_put, draft_is}
 use Rattle.cn_cert.proofs.object.draft_members.Goals as goal
@@ -26,7 +26,7 @@ returns-in_err-read_member-clause-err c =
     let l = c.members in
     let k = c.in-Some.name.now in
     let named : read_key l.reader ≡ Some (Some k, c.key.new.reader) = grind arith in
-    let refused = refuse_more _ _ (told (λ ms. draft_of (object ms)) (members_at c.args.depth no_members c.args.reader.now))
+    let refused = refuse_more _ _ (with_value (λ ms. draft_of (object ms)) (members_at c.args.depth no_members c.args.reader.now))
     (λ none. l.invariant.1 ∙ member_none nothing (λ ms. draft_of (object ms)) c.args.depth l.invariant.0 k l.reader c.key.new.reader named none) c.in_err-read_member.ensures.err in
     grind (arith, refused)
 

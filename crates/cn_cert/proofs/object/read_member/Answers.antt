@@ -3,7 +3,7 @@ use Rattle.json.specs.Reads.{token_of}
 use Rattle.serde_json.specs.Find.{as_str}
 use Rattle.cn_cert.specs.Draft.{choice_of, collisions_of}
 use Rattle.cn_cert.specs.Values.{natural_of, nullable}
-use Rattle.cn_cert.specs.Tokens.{data_at, told, nothing, Slots, with_member}
+use Rattle.cn_cert.specs.Tokens.{data_at, with_value, nothing, Slots, with_member}
 use Rattle.cn_cert.proofs.MemberReads.{put_collisions, put_limit, put_number, put_type_name, put_version, put_witness, key_told, other_key_told}
 use Rattle.cn_cert.proofs.Walks.{empty_told}
 use Rattle.cn_cert.proofs.object.read_member.Goals as goal
@@ -12,7 +12,7 @@ use Rattle.cn_cert.proofs.object.read_member.Goals.{in-Some-1, in-None-1, in-Som
 pub returns-in_err-token-clause-err : goal.returns-in_err-token-clause-err
 returns-in_err-token-clause-err c =
     let empty : c.args.reader.now ≡ [] = grind arith in
-    let none = ap (λ ts. told nothing (data_at c.args.depth ts)) empty ∙ empty_told nothing c.args.depth in
+    let none = ap (λ ts. with_value nothing (data_at c.args.depth ts)) empty ∙ empty_told nothing c.args.depth in
     grind (arith, none)
 
 pub returns-in_ok-slots-inside-clause-ok : goal.returns-in_ok-slots-inside-clause-ok
@@ -67,7 +67,7 @@ returns-in_ok-slots-inside-6-clause-ok c =
 pub returns-in_ok-rest_of-clause-ok : goal.returns-in_ok-rest_of-clause-ok
 returns-in_ok-rest_of-clause-ok c =
     let front : c.args.reader.now ≡ token_of c.in_ok-token.token ∷ c.first.new.reader = grind arith in
-    ap (λ ts. told (with_member c.args.key.now c.args.slots.now) (data_at c.args.depth ts)) front
+    ap (λ ts. with_value (with_member c.args.key.now c.args.slots.now) (data_at c.args.depth ts)) front
     ∙ other_key_told c.args.key.now c.args.slots.now _ _ c.rest_of.new.reader (sym c.eq.ensures ∙ c.if-eq.false) (sym c.eq-else-eq.ensures ∙ c.if-eq-2.false)
     (sym c.eq-else-eq-2.ensures ∙ c.if-eq-3.false) (sym c.eq-else-eq-3.ensures ∙ c.if-eq-4.false) (sym c.eq-else-eq-4.ensures ∙ c.if-eq-5.false) (sym c.eq-else-eq-5.ensures ∙ c.if-eq-6.false)
     c.in_ok-rest_of.ensures.ok

@@ -5,8 +5,8 @@ use Rattle.cn_check.specs.Progress.{AreRefuted, counting}
 use Rattle.cn_check.specs.Versions.{choices_in_version}
 use Rattle.cn_check.proofs.EntryLemmas.{past_end}
 use Rattle.cn_check.proofs.ProgressLemmas.{all_counting, all_refuted, come_as, come_first, come_to_end, part_next, part_past}
-use Rattle.cn_check.proofs.StepLemmas.{range_first}
 use Rattle.cn_check.proofs.refutation.check_entries.Goals as goal
+use Rattle.cn_table.proofs.Lists.{range_first}
 
 pub loop-state-init : goal.loop-state-init
 loop-state-init c =

@@ -4,8 +4,8 @@ use Rattle.cn_choice.specs.Canonical.{Choice, with_size, with_state}
 use Rattle.cn_check.specs.Progress.{counting}
 use Rattle.cn_check.specs.Versions.{choices_in_version}
 use Rattle.cn_check.proofs.ProgressLemmas.{come_as, part_next, part_past}
-use Rattle.cn_check.proofs.StepLemmas.{range_first}
 use Rattle.cn_check.proofs.refutation.check_state.Goals as goal
+use Rattle.cn_table.proofs.Lists.{range_first}
 
 pub check_size-requires-clause-next : goal.check_size-requires-clause-next
 check_size-requires-clause-next c =

@@ -2,7 +2,7 @@ use Rattle.std.proofs.Common.{ℕ, ◌+◌, ◌-◌, ◌^◌, ◌≤◌, ◌≡�
 use Rattle.cn_choice.specs.RawChoices.{RawChoice}
 use Rattle.std.specs.Int.Bits.{bit_or}
 use Rattle.cn_choice.specs.Subsets.{answer_of, next_of}
-use Rattle.cn_choice.specs.Tails.{AreDead, moved, seen_after}
+use Rattle.cn_choice.specs.Tails.{AreDead, count_moved, seen_after}
 use Rattle.cn_choice.proofs.TailLemmas.{dead_closed, dead_here, dead_kept, dead_more, dead_unwanted, first_way, long_after, tried_more, tried_next, turn_first, turn_none}
 use Rattle.cn_choice.proofs.tails.+way_into.Goals as goal
 
@@ -119,7 +119,7 @@ loop-process-preserved t c =
     let here = dead_here a.table.now a.choice.now a.j a.set.now a.place.left a.low a.high a.place.used a.place.state.0 a.place.seen p c.len-n.result every some none in
     record {
       dead = dead_more a.table.now a.choice.now a.j a.set.now a.place.left a.low a.high a.place.used a.place.state.0 a.place.seen p c.loop-process.invariant.dead here;
-      kept = λ d. dead_kept a.table.now a.choice.now a.j a.set.now (a.place.left + moved a.place.used) c.way_into-found.new.dead c.add.new.self
+      kept = λ d. dead_kept a.table.now a.choice.now a.j a.set.now (a.place.left + count_moved a.place.used) c.way_into-found.new.dead c.add.new.self
           (bit_or a.place.used (2 ^ p)) (a.place.left - 1) (next_of a.table.now a.choice.now p a.place.state.0)
           (seen_after a.j p (answer_of a.table.now a.choice.now p a.place.state.0) a.place.seen) sum (rw every at none) added
           (subst (λ (k : ℕ). AreDead a.table.now a.choice.now a.j a.set.now k c.way_into-found.new.dead) sum

@@ -1,7 +1,7 @@
 use Rattle.std.proofs.Common.{◌↔◌, ◌≤◌, ℕ, Bool, IsTrue, [], arith, length}
 use Rattle.std.proofs.lemmas.List.Elements.{All-same}
 use Rattle.cn_choice.specs.OutcomeSets.{Has}
-use Rattle.cn_app.specs.Lines.Pairs.{kept_with, sees}
+use Rattle.cn_app.specs.Lines.Pairs.{pairs_if, sees}
 use Rattle.cn_app.proofs.LineLemmas.Pairs.{IsBelow, all_below}
 use Rattle.cn_app.proofs.LineLemmas.Pieces.{piece_more}
 use Rattle.cn_app.proofs.lines.pairs.pairs_of.Goals as goal
@@ -17,7 +17,7 @@ loop-response-preserved c =
       λ h. (exact r q).1 ((c.outcomes-set.ensures r q).0 h),
     ) in
     let k = c.loop-response.response in
-    piece_more (kept_with test (length t.states)) [] _ _ 0 k k (omega arith) c.loop-response.invariant
+    piece_more (pairs_if test (length t.states)) [] _ _ 0 k k (omega arith) c.loop-response.invariant
     (rw (← c.states.ensures.number) (c.in_ok-push_pairs.ensures test agree))
 
 pub returns-clause-known : goal.returns-clause-known

@@ -3,7 +3,7 @@ use Rattle.cn_log.specs.declared.entry.Entry.{Entry}
 use Rattle.cn_hall.specs.Seats.{SeatState, pending, entries_seen, slots_seen}
 use Rattle.cn_proto.specs.Plan.{processes_of}
 use Rattle.cn_hall.specs.Answers.{own}
-use Rattle.cn_hall.specs.Calls.{Called, CallFails, EndsBy, IsReply, next_call}
+use Rattle.cn_hall.specs.Calls.{MakesCall, CallFails, EndsBy, IsReply, next_call}
 use Rattle.cn_log.specs.Callers.{BeginsWith}
 use Rattle.cn_hall.specs.Gates.{IsAsked, asked_times, steps_since}
 use Rattle.cn_hall.proofs.Asking.{asked_from, since_call, since_same}
@@ -21,13 +21,13 @@ returns-clause-seen g c = subst (λ (l : List Entry). BeginsWith (entries_seen c
 
 pub returns-clause-reply : goal.returns-clause-reply
 returns-clause-reply g c = let a = c.args.seat.now in let b = c.invoke.new.seat in let d = c.resume.new.seat in let op = c.args.operation.0 in
-    let went : Called a.process op a.core d.core = called a b d op c.invoke.ensures.same c.invoke.ensures.invoked c.resume.ensures.events in
-    if_ok c.resume.result (λ r. (k : Entry) → pending b ≡ Some k → IsReply k d r) (λ r. Called a.process op a.core d.core × IsReply (next_call a op) d r)
+    let went : MakesCall a.process op a.core d.core = called a b d op c.invoke.ensures.same c.invoke.ensures.invoked c.resume.ensures.events in
+    if_ok c.resume.result (λ r. (k : Entry) → pending b ≡ Some k → IsReply k d r) (λ r. MakesCall a.process op a.core d.core × IsReply (next_call a op) d r)
     (λ r h. (went, h (next_call a op) (call_pending c.every_caller.ensures.stays c.every_caller.ensures.invoked a b op c.invoke.ensures.same c.invoke.ensures.invoked))) c.resume.ensures.reply
 
 pub returns-clause-fault : goal.returns-clause-fault
 returns-clause-fault g c = let a = c.args.seat.now in let b = c.invoke.new.seat in let d = c.resume.new.seat in let op = c.args.operation.0 in
-    let went : Called a.process op a.core d.core = called a b d op c.invoke.ensures.same c.invoke.ensures.invoked c.resume.ensures.events in
+    let went : MakesCall a.process op a.core d.core = called a b d op c.invoke.ensures.same c.invoke.ensures.invoked c.resume.ensures.events in
     if_err c.resume.result (λ e. (k : Entry) → pending b ≡ Some k → EndsBy k e d) (λ e. CallFails op e a d)
     (λ e h. fails a d op e went (h (next_call a op) (call_pending c.every_caller.ensures.stays c.every_caller.ensures.invoked a b op c.invoke.ensures.same c.invoke.ensures.invoked))) c.resume.ensures.fault
 

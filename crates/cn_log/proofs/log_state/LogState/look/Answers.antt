@@ -2,7 +2,7 @@ use Rattle.std.proofs.Common.{◌≡◌, ◌≢◌, ◌==◌, ℕ, true, false, 
 use Rattle.std.proofs.lemmas.List.{get_or_default}
 use Rattle.std.proofs.lemmas.Bool.Decides.{nat_tests}
 use Rattle.cn_proto.specs.Plan.{processes_of}
-use Rattle.cn_log.specs.Fields.{count_at, gathered_by}
+use Rattle.cn_log.specs.Fields.{count_at, batch_with_calls}
 use Rattle.cn_log.specs.Opening.{Opening}
 use Rattle.cn_log.proofs.Fitting.{found, read_at}
 use Rattle.cn_log.proofs.Stepping.{looks_next, looks_in_announced, looks_in_rounds, looks_good, looks_not_begun, gathered_is, gather_keeps, begin_keeps}
@@ -63,9 +63,9 @@ returns-clause-keeps c = λ s at. (
     let low = looks_in_announced here in
     let there : c.index-announced.result.now ≡ get_or c.self.inside.announced.items c.args.q None =
     read_at c.self.inside.announced.items c.index-announced.ensures c.from-2.ensures ∙ get_or_default c.self.inside.announced.items c.args.q c.index-announced.result.now None low in
-    let chosen : c.gathered-batch.result ≡ gathered_by (get_or c.self.inside.announced.items c.args.q None) (count_at c.index-here.result.now.calls_seen c.args.q) c.args.q c.args.batch =
-    c.gathered-batch.ensures ∙ ap (λ o. gathered_by o c.of.result c.args.q c.args.batch) there
-    ∙ ap (λ n. gathered_by (get_or c.self.inside.announced.items c.args.q None) n c.args.q c.args.batch) c.of.ensures in
+    let chosen : c.gathered-batch.result ≡ batch_with_calls (get_or c.self.inside.announced.items c.args.q None) (count_at c.index-here.result.now.calls_seen c.args.q) c.args.q c.args.batch =
+    c.gathered-batch.ensures ∙ ap (λ o. batch_with_calls o c.of.result c.args.q c.args.batch) there
+    ∙ ap (λ n. batch_with_calls (get_or c.self.inside.announced.items c.args.q None) n c.args.q c.args.batch) c.of.ensures in
     let is = gathered_is here c.gathered-batch.result chosen in
     elim c.if-q-processes.branch [
       | then-q-processes w ↦ rw (w.self-inside-is, w.phase-is, c.from-3.ensures, w.from-then-q-processes.ensures)
