@@ -1,4 +1,8 @@
 //! The lists that the command line gives.
+ghost use Rattle.std.specs.Prelude.{◌≡◌, Ok, MatchResult};
+ghost use Rattle.cnum.specs.GivenLists.{IsInFile, NamesFile, RefusesFile, most_of, text_of};
+ghost use Rattle.cnum.specs.declared.given_list.GivenList.TheVariants.{Word};
+
 use crate::lazy_file::LazyFile;
 use cn_app::{AppFault, Listed, MOST_FILE_ITEMS, MOST_ITEMS, Part, Text, read_argument};
 use std::alloc::Global;
@@ -18,7 +22,10 @@ impl<'a> GivenList<'a> {
         alloc: Global,
         word: &'a str,
         part: Part,
-    ) -> Result<GivenList<'a>, AppFault> {
+    ) -> Result<GivenList<'a>, AppFault>
+        ensures word { ¬ (NamesFile word.entry.now) → result ≡ Ok (Word word.entry) }
+        ensures file { NamesFile word.entry.now → MatchResult result (IsInFile part) (RefusesFile part) }
+    {
         let Some(path) = word.strip_prefix('@') else {
             return Ok(GivenList::Word(word));
         };
@@ -28,7 +35,10 @@ impl<'a> GivenList<'a> {
     }
 
     /// The list with its greatest number of items.
-    pub fn listed(&self) -> Listed<'_> {
+    pub fn listed(&self) -> Listed<'_>
+        ensures text { result.text.now ≡ text_of self.now }
+        ensures most { result.most ≡ most_of self.now }
+    {
         match self {
             GivenList::Word(text) => Listed {
                 text,

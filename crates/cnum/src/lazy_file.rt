@@ -1,4 +1,6 @@
 //! Files that are opened late.
+ghost use Rattle.std.specs.Prelude.{◌≡◌, None};
+
 use std::fs::File;
 use std::io;
 use std::io::Read;
@@ -8,14 +10,20 @@ use std::rt::Files;
 /// refused. A fault of opening it is a fault of that read.
 #[derive(Drop)]
 pub struct LazyFile<'a, R: Files> {
-    rt: &'a R,
-    path: &'a str,
-    file: Option<R::File>,
+    /// What opens it.
+    pub rt: &'a R,
+    /// The name of the file.
+    pub path: &'a str,
+    /// The file, once it is open.
+    pub file: Option<R::File>,
 }
 
 impl<'a, R: Files> LazyFile<'a, R> {
-    /// The file of this name.
-    pub fn new(rt: &'a R, path: &'a str) -> LazyFile<'a, R> {
+    /// The file of this name, not yet open.
+    pub fn new(rt: &'a R, path: &'a str) -> LazyFile<'a, R>
+        ensures path { result.path ≡ path.entry }
+        ensures closed { result.file ≡ None }
+    {
         LazyFile {
             rt,
             path,

@@ -1,19 +1,23 @@
 //! The words of the command line, and the help on them.
+ghost use Rattle.std.specs.Prelude.{◌≡◌, [], ◌∷◌, IfOk, MatchOption, codes};
+ghost use Rattle.std.specs.List.{list_any};
+ghost use Rattle.std.specs.Str.{bytes_eq};
+ghost use Rattle.cnum.specs.CommandLine.{HasCommands, IsArgument, IsCommand, commands, table_readers};
+ghost use Rattle.cnum.specs.WordTooMany.{IsOption, RefusesWord};
+
 use clap::builder::ValueParser;
 use clap::{Arg, ArgAction, Command, value_parser};
 use std::alloc::{AllocError, Global};
 
-const ABOUT: &str = "Finds and checks the consensus number of a shared object type";
-
-const AFTER: &str = "\
-Input: a type table in TOML on standard input, at most 65536 bytes; CERT is a file that holds a
-certificate, at most 16777216 bytes, OBJECT one that holds the table of an object, at most 65536.
-classify reads a table from each FILE. INPUTS, SCHEDULE, EVENTS and CALLS are lists, or @ and the
-name of a file that holds the list, at most 1048576 bytes.
-Output: on standard output, whole or not at all; a fault is one line on standard error. In classify
-each table has a line of output or of a fault.
-Limits: a table has 1 to 16 states, 1 to 16 responses and 1 to 8 operations; a name is 1 to 32
-bytes, each a to z, 0 to 9 or an underscore.
+// The help behind the words: what a command says of itself, the limits of a table and the exit
+// statuses, which hold of every command, and an example.
+macro_rules! help {
+    ($own:literal, $example:literal) => {
+        concat!(
+            $own,
+            "\
+Limits: a table has 1 to 16 states, 1 to 16 responses and 1 to 8 operations, and at most 65536
+bytes; a name is 1 to 32 bytes, each a to z, 0 to 9 or an underscore.
 Codes: man cnum and docs/FORMATS.md explain the code of a fault, as that of table: 8 RowLength.
 
 Exit status:
@@ -25,11 +29,30 @@ Exit status:
   5  out of memory
 
 Example:
-  cnum find --limit 3 < types/test_and_set.toml";
+",
+            $example
+        )
+    };
+}
+
+const ABOUT: &str = "Finds and checks the consensus number of a shared object type";
+
+const AFTER: &str = help!(
+    "\
+Input: a type table in TOML on standard input, at most 65536 bytes; CERT is a file that holds a
+certificate, at most 16777216 bytes, OBJECT one that holds the table of an object, at most 65536.
+classify reads a table from each FILE. INPUTS, SCHEDULE, EVENTS and CALLS are lists, or @ and the
+name of a file that holds the list, at most 1048576 bytes.
+Output: on standard output, whole or not at all; a fault is one line on standard error. In classify
+each table has a line of output or of a fault.
+",
+    "  cnum find --limit 3 < types/test_and_set.toml"
+);
 
 const FIND_ABOUT: &str = "Writes the certificate of the consensus number of the type";
 
-const FIND_AFTER: &str = "\
+const FIND_AFTER: &str = help!(
+    "\
 Reads a type table in TOML from standard input: the keys name, states, responses and, for each
 operation, name, response and next. Looks for the greatest n from 2 to N for which the type is
 n-discerning, that is, the number of processes that the type with registers can bring to
@@ -43,20 +66,15 @@ start state a collision, which shows that it is none. \"number\":null stands for
 n-discerning for no n. A number equal to N stands for at least N; a smaller one is that for every
 greater limit too.
 
-Limits: a table has 1 to 16 states, 1 to 16 responses and 1 to 8 operations, and at most 65536
-bytes; a name is 1 to 32 bytes, each a to z, 0 to 9 or an underscore. man cnum and docs/FORMATS.md
-explain the code of a fault, as that of table: 8 RowLength.
-
-Exit status: 0 done, 2 the table is refused, 3 the words, the limit or the count of choices are
-refused, 4 reading or writing failed, 5 out of memory.
-
-Example:
-  cnum find --limit 3 < types/test_and_set.toml
-writes a certificate with \"number\":2.";
+",
+    "  cnum find --limit 3 < types/test_and_set.toml
+writes a certificate with \"number\":2."
+);
 
 const CLASSIFY_ABOUT: &str = "Writes the consensus number of each of several types";
 
-const CLASSIFY_AFTER: &str = "\
+const CLASSIFY_AFTER: &str = help!(
+    "\
 Reads a type table in TOML from each FILE, one after the other; - is standard input. Looks for the
 greatest n from 2 to N for which the type is n-discerning, whatever the count of choices. N is from
 2 to 8.
@@ -66,22 +84,17 @@ where it is n-discerning for no such n; at least N where the number is N, since 
 show a greater number. A number without at least is that for every greater limit too.
 
 A table that cannot be read or is refused has a line on standard error that begins with the name of
-its file, and the others go on.
+its file, and the others go on. The exit status is that of the first fault.
 
-Limits: a table has 1 to 16 states, 1 to 16 responses and 1 to 8 operations, and at most 65536
-bytes; a name is 1 to 32 bytes, each a to z, 0 to 9 or an underscore. man cnum and docs/FORMATS.md
-explain the code of a fault, as that of table: 8 RowLength.
-
-Exit status: 0 done; else that of the first fault: 2 a table is refused, 3 the words or the limit
-are refused, 4 reading or writing failed, 5 out of memory.
-
-Example:
-  cnum classify types/test_and_set.toml types/sticky_bit.toml
-writes test_and_set: 2 and sticky_bit: at least 8.";
+",
+    "  cnum classify types/test_and_set.toml types/sticky_bit.toml
+writes test_and_set: 2 and sticky_bit: at least 8."
+);
 
 const LINT_ABOUT: &str = "Writes the table as a grid, or all that is wrong with it";
 
-const LINT_AFTER: &str = "\
+const LINT_AFTER: &str = help!(
+    "\
 Reads a type table in TOML from standard input. Writes a table as a grid: a line for each operation,
 a column for each state, and in it the response and the next state; then a line for each state to
 which no operations lead from the first one, and for each operation that changes nothing.
@@ -90,59 +103,44 @@ Of a table that is refused, writes a line for each thing that is wrong with it, 
 first, each with its place; then the fault stands on standard error, as with every command. Names,
 counts and rows are looked at where no key is missing and each value is of its kind.
 
-Limits: a table has 1 to 16 states, 1 to 16 responses and 1 to 8 operations, and at most 65536
-bytes; a name is 1 to 32 bytes, each a to z, 0 to 9 or an underscore. man cnum and docs/FORMATS.md
-explain the code of a fault, as that of table: 8 RowLength.
-
-Exit status: 0 done, 2 the table is refused, 3 the words are refused, 4 reading or writing failed, 5
-out of memory.
-
-Example:
-  cnum lint < types/test_and_set.toml
-writes three lines; the last is of tas, with zero>one below zero and one>one below one.";
+",
+    "  cnum lint < types/test_and_set.toml
+writes three lines; the last is of tas, with zero>one below zero and one>one below one."
+);
 
 const CHECK_ABOUT: &str = "Checks a certificate against the type";
 
-const CHECK_AFTER: &str = "\
+const CHECK_AFTER: &str = help!(
+    "\
 Reads a type table in TOML from standard input and a certificate in JSON from the file CERT.
 Writes ok where the certificate is of this type and shows its number: its witness is one, and it
 has a collision for each choice for one process more, in order. What find writes is accepted, and
 so is a certificate with another witness or other collisions.
 
-Limits: a table has 1 to 16 states, 1 to 16 responses and 1 to 8 operations, and at most 65536
-bytes; a name is 1 to 32 bytes, each a to z, 0 to 9 or an underscore. man cnum and docs/FORMATS.md
-explain the code of a fault, as that of table: 8 RowLength.
-
-Exit status: 0 done, 1 the check refuses the certificate, 2 the text of the table or of the
-certificate is refused, 3 the words are refused, 4 reading or writing failed, 5 out of memory.
-
-Example:
-  cnum check tests/certificates/test_and_set_at_3.json < types/test_and_set.toml
-writes ok.";
+",
+    "  cnum check tests/certificates/test_and_set_at_3.json < types/test_and_set.toml
+writes ok."
+);
 
 const EXPLAIN_ABOUT: &str = "Tells why the number of a certificate is what it is";
 
-const EXPLAIN_AFTER: &str = "\
+const EXPLAIN_AFTER: &str = help!(
+    "\
 Reads a type table in TOML from standard input and a certificate in JSON from the file CERT, and
 checks the certificate. Writes the number; the table as a grid; who does what in the witness, and
 what each process got and reads where team A was first and where team B was; and for each choice
 for one process more two runs by which one of its processes cannot tell which team was first. Of
 these choices the first 12 are told, with --all all of them.
 
-Limits: a table has 1 to 16 states, 1 to 16 responses and 1 to 8 operations, and at most 65536
-bytes; a name is 1 to 32 bytes, each a to z, 0 to 9 or an underscore. man cnum and docs/FORMATS.md
-explain the code of a fault, as that of table: 8 RowLength.
-
-Exit status: 0 done, 1 the check refuses the certificate, 2 the text of the table or of the
-certificate is refused, 3 the words are refused, 4 reading or writing failed, 5 out of memory.
-
-Example:
-  cnum explain tests/certificates/test_and_set_at_3.json < types/test_and_set.toml
-writes first test_and_set: consensus number 2 (for processes that can read the whole state).";
+",
+    "  cnum explain tests/certificates/test_and_set_at_3.json < types/test_and_set.toml
+writes first test_and_set: consensus number 2 (for processes that can read the whole state)."
+);
 
 const SHOW_ABOUT: &str = "Writes the plan of a certificate's witness";
 
-const SHOW_AFTER: &str = "\
+const SHOW_AFTER: &str = help!(
+    "\
 Reads a type table in TOML from standard input and a certificate in JSON from the file CERT, and
 checks the certificate. Writes how the processes come to agree by its witness: a line on the type,
 a line for each role with its team, its operation and the pairs response/state by which it knows
@@ -153,46 +151,35 @@ nothing; the table need not have such an operation.
 A certificate with \"number\":null stands for the number 1: it has no witness, and so no plan. A
 number equal to its limit stands for at least so many: there is a plan for as many processes.
 
-Limits: a table has 1 to 16 states, 1 to 16 responses and 1 to 8 operations, and at most 65536
-bytes; a name is 1 to 32 bytes, each a to z, 0 to 9 or an underscore. man cnum and docs/FORMATS.md
-explain the code of a fault, as that of table: 8 RowLength.
-
 With --as json this is one JSON object; with --as dot, the tournament as a picture in the language
 DOT, for Graphviz; with --as promela, a model in Promela, in which the model checker spin finds that
 all decisions are equal, are the value of a process that has moved, and come in time.
 
-Exit status: 0 done, 1 the check refuses the certificate, or it has no witness, 2 the text of the
-table or of the certificate is refused, 3 the words are refused, 4 reading or writing failed, 5 out
-of memory.
-
-Example:
-  cnum show tests/certificates/test_and_set_at_3.json < types/test_and_set.toml
-writes five lines, the last of which is process 1: node 0 B role 1.";
+",
+    "  cnum show tests/certificates/test_and_set_at_3.json < types/test_and_set.toml
+writes five lines, the last of which is process 1: node 0 B role 1."
+);
 
 /// The forms in which `show` writes a plan.
 const FORMS: [&str; 4] = ["text", "json", "dot", "promela"];
 
 const DRAW_ABOUT: &str = "Draws the states of the type";
 
-const DRAW_AFTER: &str = "\
+const DRAW_AFTER: &str = help!(
+    "\
 Reads a type table in TOML from standard input. Writes a picture of it in the language DOT, which
 the program dot of Graphviz draws: the states, and an arrow from one to another where some operation
 leads there, with a line operation/response for each such operation.
 
-Limits: a table has 1 to 16 states, 1 to 16 responses and 1 to 8 operations, and at most 65536
-bytes; a name is 1 to 32 bytes, each a to z, 0 to 9 or an underscore. man cnum and docs/FORMATS.md
-explain the code of a fault, as that of table: 8 RowLength.
-
-Exit status: 0 done, 2 the table is refused, 3 the words are refused, 4 reading or writing failed, 5
-out of memory.
-
-Example:
-  cnum draw < types/test_and_set.toml
-writes digraph \"test_and_set\" with two arrows.";
+",
+    "  cnum draw < types/test_and_set.toml
+writes digraph \"test_and_set\" with two arrows."
+);
 
 const AGREE_ABOUT: &str = "Runs the plan of a certificate's witness by a schedule";
 
-const AGREE_AFTER: &str = "\
+const AGREE_AFTER: &str = help!(
+    "\
 Reads a type table in TOML from standard input and a certificate in JSON from the file CERT, and
 checks the certificate. Lets each process of the plan begin with its number of INPUTS and take a
 step wherever SCHEDULE names it. Writes for each process P a line, P: V where it has decided V,
@@ -204,21 +191,15 @@ INPUTS are from 0 to 18446744073709551615, one for each process, SCHEDULE is pro
 @ and the name of a file stand for the list in that file: at most 1048576 bytes, with a line feed at
 the end or none, and at most 303112 items.
 
-Limits: a table has 1 to 16 states, 1 to 16 responses and 1 to 8 operations, and at most 65536
-bytes; a name is 1 to 32 bytes, each a to z, 0 to 9 or an underscore. man cnum and docs/FORMATS.md
-explain the code of a fault, as that of table: 8 RowLength.
-
-Exit status: 0 done, 1 the check refuses the certificate, or it has no witness, 2 the text of the
-table or of the certificate is refused or a file behind @ is too long, 3 the words, an argument or
-the schedule are refused, 4 reading or writing failed, 5 out of memory.
-
-Example:
-  cnum agree tests/certificates/test_and_set_at_3.json 10,20 1,1,0,0,0,0 < types/test_and_set.toml
-writes 0: 20 and 1: undecided.";
+",
+    "  cnum agree tests/certificates/test_and_set_at_3.json 10,20 1,1,0,0,0,0 < types/test_and_set.toml
+writes 0: 20 and 1: undecided."
+);
 
 const REPLAY_ABOUT: &str = "Serves an object by a list of events, with a certificate's witness";
 
-const REPLAY_AFTER: &str = "\
+const REPLAY_AFTER: &str = help!(
+    "\
 Reads a type table in TOML from standard input, a certificate in JSON from the file CERT and the
 table of an object in TOML from the file OBJECT, and checks the certificate. The processes of the
 plan serve the object, which starts in the state START, by a log of CAPACITY slots, from 1 to 1024.
@@ -233,22 +214,16 @@ for each call in the log: its slot K, which others may share, process P, operati
 and the state S of the object afterwards. Whatever the events, the answers are those of one
 sequential run, in the order of these lines.
 
-Limits: a table has 1 to 16 states, 1 to 16 responses and 1 to 8 operations, and at most 65536
-bytes; a name is 1 to 32 bytes, each a to z, 0 to 9 or an underscore. man cnum and docs/FORMATS.md
-explain the code of a fault, as that of table: 8 RowLength.
-
-Exit status: 0 done, 1 some call found no slot, the check refuses the certificate, or it has no
-witness, 2 the text of a table or of the certificate is refused or a file behind @ is too long, 3
-the words, an argument or an event are refused, 4 reading or writing failed, 5 out of memory.
-
-Example:
-  cnum replay tests/certificates/test_and_set_at_3.json types/counter_3.toml 0 4 i0:0,s0,s0,s0,s0 < types/test_and_set.toml
-writes entry 0 0 inc 0 1.";
+",
+    "  cnum replay tests/certificates/test_and_set_at_3.json types/counter_3.toml 0 4 i0:0,s0,s0,s0,s0 < types/test_and_set.toml
+writes entry 0 0 inc 0 1."
+);
 
 const SERVE_ABOUT: &str =
     "Serves an object by threads that make calls, with a certificate's witness";
 
-const SERVE_AFTER: &str = "\
+const SERVE_AFTER: &str = help!(
+    "\
 Reads a type table in TOML from standard input, a certificate in JSON from the file CERT and the
 table of an object in TOML from the file OBJECT, and checks the certificate. Each process of the
 plan makes its calls in a thread of its own; they serve the object, which starts in the state START,
@@ -264,31 +239,35 @@ process P, operation O, response R and the state S of the object afterwards. Las
 where L are the events as the threads came to make them, which replay reads. However they ran, the
 answers are those of one sequential run, in the order of the entry lines.
 
-Limits: a table has 1 to 16 states, 1 to 16 responses and 1 to 8 operations, and at most 65536
-bytes; a name is 1 to 32 bytes, each a to z, 0 to 9 or an underscore. man cnum and docs/FORMATS.md
-explain the code of a fault, as that of table: 8 RowLength.
-
-Exit status: 0 done, 1 some call found no slot, the check refuses the certificate, or it has no
-witness, 2 the text of a table or of the certificate is refused or a file behind @ is too long, 3
-the words or an argument are refused, 4 reading or writing failed or a thread could not be started,
-5 out of memory.
-
-Example:
-  cnum serve tests/certificates/test_and_set_at_3.json types/counter_3.toml 0 4 0/none < types/test_and_set.toml
-writes answer 0 0 0, entry 0 0 inc 0 1 and events i0:0,s0,s0,s0,s0,s0,s0.";
+",
+    "  cnum serve tests/certificates/test_and_set_at_3.json types/counter_3.toml 0 4 0/none < types/test_and_set.toml
+writes answer 0 0 0, entry 0 0 inc 0 1 and events i0:0,s0,s0,s0,s0,s0,s0."
+);
 
 /// The commands that read the table of the type from standard input.
 const READ_INPUT: [&str; 9] = [
     "find", "lint", "check", "explain", "show", "draw", "agree", "replay", "serve",
 ];
 
-/// Whether the command of this name reads the table of the type from standard input.
-pub fn reads_input(command: &str) -> bool {
-    READ_INPUT.iter().any(|name| *name == command)
+fn has_name(names: &[&str], name: &str) -> bool
+    ensures { result ≡ list_any (λ n. bytes_eq n.now name.now) names.now }
+{
+    names.iter().any(|n| *n == name)
 }
 
-/// The word too many that clap refuses in this text, if it is one that may be a file's name.
-pub fn word_too_many(text: &str) -> Option<&str> {
+/// Whether the command of this name reads the table of the type from standard input.
+pub fn reads_input(command: &str) -> bool
+    ensures { result ≡ list_any (λ name. bytes_eq name command.now) table_readers }
+{
+    has_name(&READ_INPUT, command)
+}
+
+/// The word too many that clap refuses in this text, if it is one that may be a file's name: one
+/// that begins with a dash is an option.
+pub fn word_too_many(text: &str) -> Option<&str>
+    ensures { MatchOption result ((word : _) → RefusesWord text.now word → IsOption word)
+        (λ w. RefusesWord text.now w.now × ¬ (IsOption w.now)) }
+{
     let line = text.strip_prefix("error: unexpected argument '")?;
     let (word, _) = line.split_once("' found\n")?;
     if word.starts_with('-') {
@@ -298,7 +277,9 @@ pub fn word_too_many(text: &str) -> Option<&str> {
 }
 
 /// The limit of a search.
-fn limit<'a>(alloc: Global) -> Arg<'a> {
+fn limit<'a>(alloc: Global) -> Arg<'a>
+    ensures { IsArgument (codes "limit") result }
+{
     Arg::new(alloc, "limit")
         .long("limit")
         .value_name("N")
@@ -307,14 +288,18 @@ fn limit<'a>(alloc: Global) -> Arg<'a> {
         .value_parser(value_parser!(u8))
 }
 
-fn find<'a>(alloc: Global) -> Result<Command<'a>, AllocError> {
+fn find<'a>(alloc: Global) -> Result<Command<'a>, AllocError>
+    ensures { IfOk result (IsCommand (codes "find", codes "limit" ∷ [])) }
+{
     Command::new(alloc, "find")
         .about(FIND_ABOUT)
         .after_help(FIND_AFTER)
         .arg(limit(alloc).required(true))
 }
 
-fn classify<'a>(alloc: Global) -> Result<Command<'a>, AllocError> {
+fn classify<'a>(alloc: Global) -> Result<Command<'a>, AllocError>
+    ensures { IfOk result (IsCommand (codes "classify", codes "limit" ∷ codes "FILE" ∷ [])) }
+{
     let files = Arg::new(alloc, "FILE")
         .help("The files that hold the type tables")
         .required(true)
@@ -327,14 +312,18 @@ fn classify<'a>(alloc: Global) -> Result<Command<'a>, AllocError> {
         .arg(files)
 }
 
-fn lint<'a>(alloc: Global) -> Command<'a> {
+fn lint<'a>(alloc: Global) -> Command<'a>
+    ensures { IsCommand (codes "lint", []) result }
+{
     Command::new(alloc, "lint")
         .about(LINT_ABOUT)
         .after_help(LINT_AFTER)
 }
 
 /// A command that tells the first of what it has to tell, or all.
-fn explain<'a>(alloc: Global) -> Result<Command<'a>, AllocError> {
+fn explain<'a>(alloc: Global) -> Result<Command<'a>, AllocError>
+    ensures { IfOk result (IsCommand (codes "explain", codes "CERT" ∷ codes "all" ∷ [])) }
+{
     let all = Arg::new(alloc, "all")
         .long("all")
         .help("Tells all choices that are refuted, not the first 12 alone")
@@ -343,7 +332,9 @@ fn explain<'a>(alloc: Global) -> Result<Command<'a>, AllocError> {
 }
 
 /// A word that has to stand there.
-fn word<'a>(alloc: Global, name: &'a str, help: &'a str) -> Arg<'a> {
+fn word<'a>(alloc: Global, name: &'a str, help: &'a str) -> Arg<'a>
+    ensures { IsArgument name.entry.now result }
+{
     Arg::new(alloc, name).help(help).required(true)
 }
 
@@ -353,14 +344,18 @@ fn with_certificate<'a>(
     name: &'a str,
     about: &'a str,
     after: &'a str,
-) -> Result<Command<'a>, AllocError> {
+) -> Result<Command<'a>, AllocError>
+    ensures { IfOk result (IsCommand (name.entry.now, codes "CERT" ∷ [])) }
+{
     Command::new(alloc, name)
         .about(about)
         .after_help(after)
         .arg(word(alloc, "CERT", "The file that holds the certificate"))
 }
 
-fn show<'a>(alloc: Global) -> Result<Command<'a>, AllocError> {
+fn show<'a>(alloc: Global) -> Result<Command<'a>, AllocError>
+    ensures { IfOk result (IsCommand (codes "show", codes "CERT" ∷ codes "as" ∷ [])) }
+{
     let form = Arg::new(alloc, "as")
         .long("as")
         .value_name("FORM")
@@ -371,7 +366,17 @@ fn show<'a>(alloc: Global) -> Result<Command<'a>, AllocError> {
     with_certificate(alloc, "show", SHOW_ABOUT, SHOW_AFTER)?.arg(form)
 }
 
-fn agree<'a>(alloc: Global) -> Result<Command<'a>, AllocError> {
+fn draw<'a>(alloc: Global) -> Command<'a>
+    ensures { IsCommand (codes "draw", []) result }
+{
+    Command::new(alloc, "draw")
+        .about(DRAW_ABOUT)
+        .after_help(DRAW_AFTER)
+}
+
+fn agree<'a>(alloc: Global) -> Result<Command<'a>, AllocError>
+    ensures { IfOk result (IsCommand (codes "agree", codes "CERT" ∷ codes "INPUTS" ∷ codes "SCHEDULE" ∷ [])) }
+{
     with_certificate(alloc, "agree", AGREE_ABOUT, AGREE_AFTER)?
         .arg(word(
             alloc,
@@ -391,7 +396,9 @@ fn with_object<'a>(
     name: &'a str,
     about: &'a str,
     after: &'a str,
-) -> Result<Command<'a>, AllocError> {
+) -> Result<Command<'a>, AllocError>
+    ensures { IfOk result (IsCommand (name.entry.now, codes "CERT" ∷ codes "OBJECT" ∷ codes "START" ∷ codes "CAPACITY" ∷ [])) }
+{
     with_certificate(alloc, name, about, after)?
         .arg(word(
             alloc,
@@ -402,7 +409,9 @@ fn with_object<'a>(
         .arg(word(alloc, "CAPACITY", "How many slots the log has"))
 }
 
-fn replay<'a>(alloc: Global) -> Result<Command<'a>, AllocError> {
+fn replay<'a>(alloc: Global) -> Result<Command<'a>, AllocError>
+    ensures { IfOk result (IsCommand (codes "replay", codes "CERT" ∷ codes "OBJECT" ∷ codes "START" ∷ codes "CAPACITY" ∷ codes "EVENTS" ∷ [])) }
+{
     with_object(alloc, "replay", REPLAY_ABOUT, REPLAY_AFTER)?.arg(word(
         alloc,
         "EVENTS",
@@ -410,7 +419,9 @@ fn replay<'a>(alloc: Global) -> Result<Command<'a>, AllocError> {
     ))
 }
 
-fn serve<'a>(alloc: Global) -> Result<Command<'a>, AllocError> {
+fn serve<'a>(alloc: Global) -> Result<Command<'a>, AllocError>
+    ensures { IfOk result (IsCommand (codes "serve", codes "CERT" ∷ codes "OBJECT" ∷ codes "START" ∷ codes "CAPACITY" ∷ codes "CALLS" ∷ [])) }
+{
     with_object(alloc, "serve", SERVE_ABOUT, SERVE_AFTER)?.arg(word(
         alloc,
         "CALLS",
@@ -418,24 +429,29 @@ fn serve<'a>(alloc: Global) -> Result<Command<'a>, AllocError> {
     ))
 }
 
-/// All that the program takes.
-pub fn command<'a>(alloc: Global) -> Result<Command<'a>, AllocError> {
+/// The program with no command yet.
+fn program<'a>(alloc: Global) -> Command<'a>
+    ensures { HasCommands (codes "cnum") [] result }
+{
     Command::new(alloc, "cnum")
         .version("0.1.0")
         .about(ABOUT)
         .after_help(AFTER)
         .subcommand_required(true)
+}
+
+/// All that the program takes: its commands in this order, each with its arguments.
+pub fn command<'a>(alloc: Global) -> Result<Command<'a>, AllocError>
+    ensures { IfOk result (HasCommands (codes "cnum") commands) }
+{
+    program(alloc)
         .subcommand(find(alloc)?)?
         .subcommand(classify(alloc)?)?
         .subcommand(lint(alloc))?
         .subcommand(with_certificate(alloc, "check", CHECK_ABOUT, CHECK_AFTER)?)?
         .subcommand(explain(alloc)?)?
         .subcommand(show(alloc)?)?
-        .subcommand(
-            Command::new(alloc, "draw")
-                .about(DRAW_ABOUT)
-                .after_help(DRAW_AFTER),
-        )?
+        .subcommand(draw(alloc))?
         .subcommand(agree(alloc)?)?
         .subcommand(replay(alloc)?)?
         .subcommand(serve(alloc)?)

@@ -1,0 +1,59 @@
+-- The word too many: at most one stands between the start and the first end behind that.
+use Rattle.std.proofs.Common.{ℕ, ◌≡◌, ◌<◌, ◌≤◌, ◌+◌, ◌∙◌, ◌⊎◌, inl, inr, List, ◌++◌, length, drop, take, Some, sym, ap, subst, arith}
+use Rattle.std.specs.Str.Pattern.{FindsText, LacksTextAt}
+use Rattle.std.proofs.Math.Seq.{drop-append_seam, take-append_seam}
+use Rattle.std.proofs.lemmas.List.{append_cancel_left, length-append, take-append-drop}
+use Rattle.std.proofs.lemmas.Bool.{cases_lt}
+use Rattle.cnum.specs.WordTooMany.{RefusesWord, word_start, word_end}
+
+-- a text with no start refuses no word
+pub no_start : (text word : List ℕ) → LacksTextAt word_start text 0 → RefusesWord text word → ⊥
+no_start text word lacks r = lacks _ r.is
+
+-- the word ends where the end stands
+ends_at : (q word rest line : List ℕ) → line ≡ word ++ (q ++ rest) → drop (length word) line ≡ q ++ rest
+ends_at q word rest line e = ap (drop (length word)) e ∙ drop-append_seam word (q ++ rest)
+
+is_within : (xs ys line : List ℕ) → line ≡ xs ++ ys → length xs ≤ length line
+is_within xs ys line e = let long : length line ≡ length xs + length ys = ap length e ∙ length-append xs ys in omega arith
+
+-- nor does a line with no end behind the start
+pub no_end : (text line word : List ℕ) → text ≡ word_start ++ line → ((i : ℕ) → i ≤ length line → LacksTextAt word_end line i)
+    → RefusesWord text word → ⊥
+no_end text line word is lacks r =
+    let e : line ≡ word ++ (word_end ++ r.rest) = append_cancel_left word_start line _ (sym is ∙ r.is) in
+    lacks (length word) (is_within word (word_end ++ r.rest) line e) r.rest (ends_at word_end word r.rest line e)
+
+-- the word that is refused is what stands before the first end
+same_word : (q line word rest : List ℕ) (i j : ℕ) → line ≡ word ++ (q ++ rest) → ((k : ℕ) → k < length word → LacksTextAt q (word ++ (q ++ rest)) k)
+    → ((k : ℕ) → k < i → LacksTextAt q line k) → drop i line ≡ q ++ drop j line → word ≡ take i line
+same_word q line word rest i j e first before at = low (cases_lt (length word) i)
+  where
+    same : length word ≡ i → word ≡ take i line
+    same it = sym (take-append_seam word (q ++ rest)) ∙ ap (take (length word)) (sym e) ∙ ap (λ n. take n line) it
+
+    high : i ≤ length word → (i < length word) ⊎ (length word ≤ i) → word ≡ take i line
+    high ge (inl more) = absurd (first i more (drop j line) (ap (drop i) (sym e) ∙ at))
+    high ge (inr le) = same (omega arith)
+
+    low : (length word < i) ⊎ (i ≤ length word) → word ≡ take i line
+    low (inl less) = absurd (before (length word) less rest (ends_at q word rest line e))
+    low (inr ge) = high ge (cases_lt i (length word))
+
+-- so it is the word that is found
+pub is_word_found : (text line word found : List ℕ) (i j : ℕ) → text ≡ word_start ++ line → FindsText word_end line (Some (i, j)) → found ≡ take i line
+    → RefusesWord text word → word ≡ found
+is_word_found text line word found i j is finds e r =
+    same_word word_end line word r.rest i j (append_cancel_left word_start line _ (sym is ∙ r.is)) r.first finds.0 finds.1.split ∙ sym e
+
+-- which is refused
+pub found_is_refused : (text line found : List ℕ) (i j : ℕ) → text ≡ word_start ++ line → FindsText word_end line (Some (i, j)) → found ≡ take i line
+    → length found ≡ i → RefusesWord text found
+found_is_refused text line found i j is finds e long =
+    let parts : line ≡ found ++ (word_end ++ drop j line) =
+    sym (take-append-drop i line) ∙ ap (λ xs. xs ++ drop i line) (sym e) ∙ ap (λ xs. found ++ xs) finds.1.split in
+    record {
+      rest = drop j line;
+      is = is ∙ ap (λ xs. word_start ++ xs) parts;
+      first = λ k low. subst (λ xs. LacksTextAt word_end xs k) parts (finds.0 k (subst (λ n. k < n) long low));
+    }

@@ -1,0 +1,10 @@
+use Rattle.std.proofs.Common.{[], ◌∷◌, codes, rules}
+use Rattle.std.proofs.lemmas.Result.{IfOk-weaker}
+use Rattle.cnum.proofs.CommandLemmas.{argument_more}
+use Rattle.cnum.proofs.words.explain.Goals as goal
+
+pub returns : goal.returns
+returns c =
+    IfOk-weaker c.arg.result _ _
+    (λ new adds. argument_more _ _ new (codes "explain") (codes "all") _ c.in_ok-with_certificate.ensures (search rules) adds)
+    c.arg.ensures

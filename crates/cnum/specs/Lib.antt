@@ -1,0 +1,3 @@
+pub mod CommandLine
+pub mod GivenLists
+pub mod WordTooMany
