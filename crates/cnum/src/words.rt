@@ -434,7 +434,7 @@ fn program<'a>(alloc: Global) -> Command<'a>
     ensures { HasCommands (codes "cnum") [] result }
 {
     Command::new(alloc, "cnum")
-        .version("0.1.0")
+        .version("0.2.0")
         .about(ABOUT)
         .after_help(AFTER)
         .subcommand_required(true)
