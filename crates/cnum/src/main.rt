@@ -6,7 +6,7 @@ mod faults;
 mod given;
 mod given_list;
 mod lazy_file;
-mod words;
+
 
 ghost use Rattle.cn_app.specs.Streams.SourceBytes.{IsUnread};
 ghost use Rattle.cn_app.specs.Streams.Writing.{IsUnwritten};
@@ -43,37 +43,100 @@ fn form_of(word: &str) -> Result<Form, AppFault> {
     }
 }
 
-// Serves an object, by events or by threads.
-fn run_on_object<T: Threads + Wait + Sync + Files, I: Read, C: Read, O: Write>(
+fn find<T: Threads + Sync, I: Read, O: Write>(
     rt: &T,
+    alloc: Global,
+    table: &mut Text<'_, I>,
+    output: &mut Output<'_, O>,
+    words: &ArgMatches<'_>,
+) -> Result<Outcome, AppFault>
+    requires table { IsUnread table.old }
+    requires output { IsUnwritten output.old }
+{
+    let limit = words.get_one::<u8>("limit").ok_or(AppFault::Words)?;
+    commands::find(rt, alloc, table, output, limit)
+}
+
+fn show<I: Read, C: Read, O: Write>(
     alloc: Global,
     table: &mut Text<'_, I>,
     certificate: &mut Text<'_, C>,
     output: &mut Output<'_, O>,
-    command: &str,
     words: &ArgMatches<'_>,
 ) -> Result<Outcome, AppFault>
     requires table { IsUnread table.old }
     requires certificate { IsUnread certificate.old }
     requires output { IsUnwritten output.old }
 {
-    let mut file = LazyFile::new(rt, text(words, "OBJECT")?);
-    let mut object = Text::new(alloc, &mut file);
+    let form = form_of(text(words, "as")?)?;
+    commands::show_as(alloc, table, certificate, output, form)
+}
+
+fn agree<T: Files, I: Read, C: Read, O: Write>(
+    rt: &T,
+    alloc: Global,
+    table: &mut Text<'_, I>,
+    certificate: &mut Text<'_, C>,
+    output: &mut Output<'_, O>,
+    words: &ArgMatches<'_>,
+) -> Result<Outcome, AppFault>
+    requires table { IsUnread table.old }
+    requires certificate { IsUnread certificate.old }
+    requires output { IsUnwritten output.old }
+{
+    let (inputs, schedule) = (text(words, "INPUTS")?, text(words, "SCHEDULE")?);
+    let inputs = GivenList::read(rt, alloc, inputs, Part::Inputs)?;
+    let schedule = GivenList::read(rt, alloc, schedule, Part::Schedule)?;
+    let (inputs, schedule) = (inputs.listed(), schedule.listed());
+    commands::agree(alloc, table, certificate, output, inputs, schedule)
+}
+
+fn replay<T: Files, I: Read, C: Read, O: Write>(
+    rt: &T,
+    alloc: Global,
+    table: &mut Text<'_, I>,
+    certificate: &mut Text<'_, C>,
+    output: &mut Output<'_, O>,
+    words: &ArgMatches<'_>,
+) -> Result<Outcome, AppFault>
+    requires table { IsUnread table.old }
+    requires certificate { IsUnread certificate.old }
+    requires output { IsUnwritten output.old }
+{
+    let (path, events) = (text(words, "OBJECT")?, text(words, "EVENTS")?);
     let (start, capacity) = (text(words, "START")?, text(words, "CAPACITY")?);
-    if command == "replay" {
-        let events = GivenList::read(rt, alloc, text(words, "EVENTS")?, Part::Events)?;
-        return commands::replay(
-            alloc,
-            table,
-            certificate,
-            &mut object,
-            output,
-            start,
-            capacity,
-            events.listed(),
-        );
-    }
-    let calls = GivenList::read(rt, alloc, text(words, "CALLS")?, Part::Calls)?;
+    let events = GivenList::read(rt, alloc, events, Part::Events)?;
+    let mut file = LazyFile::new(rt, path);
+    let mut object = Text::new(alloc, &mut file);
+    commands::replay(
+        alloc,
+        table,
+        certificate,
+        &mut object,
+        output,
+        start,
+        capacity,
+        events.listed(),
+    )
+}
+
+fn serve<T: Threads + Wait + Sync + Files, I: Read, C: Read, O: Write>(
+    rt: &T,
+    alloc: Global,
+    table: &mut Text<'_, I>,
+    certificate: &mut Text<'_, C>,
+    output: &mut Output<'_, O>,
+    words: &ArgMatches<'_>,
+) -> Result<Outcome, AppFault>
+    requires table { IsUnread table.old }
+    requires certificate { IsUnread certificate.old }
+    requires output { IsUnwritten output.old }
+{
+    let (path, calls) = (text(words, "OBJECT")?, text(words, "CALLS")?);
+    let (start, capacity) = (text(words, "START")?, text(words, "CAPACITY")?);
+    let calls = GivenList::read(rt, alloc, calls, Part::Calls)?;
+    let mut file = LazyFile::new(rt, path);
+    let mut object = Text::new(alloc, &mut file);
     commands::serve(
         rt,
         alloc,
@@ -88,6 +151,32 @@ fn run_on_object<T: Threads + Wait + Sync + Files, I: Read, C: Read, O: Write>(
     )
 }
 
+// Does what the words ask for with a certificate.
+fn run_on_certificate<T: Threads + Wait + Sync + Files, I: Read, O: Write>(
+    rt: &T,
+    alloc: Global,
+    table: &mut Text<'_, I>,
+    output: &mut Output<'_, O>,
+    command: &str,
+    words: &ArgMatches<'_>,
+) -> Result<Outcome, AppFault>
+    requires table { IsUnread table.old }
+    requires output { IsUnwritten output.old }
+{
+    let mut file = LazyFile::new(rt, text(words, "CERT")?);
+    let mut certificate = Text::new(alloc, &mut file);
+    let certificate = &mut certificate;
+    match command {
+        "check" => commands::check(alloc, table, certificate, output),
+        "explain" => commands::explain(alloc, table, certificate, output, words.get_flag("all")),
+        "show" => show(alloc, table, certificate, output, words),
+        "agree" => agree(rt, alloc, table, certificate, output, words),
+        "replay" => replay(rt, alloc, table, certificate, output, words),
+        "serve" => serve(rt, alloc, table, certificate, output, words),
+        _ => Err(AppFault::Words),
+    }
+}
+
 // Does what the words ask for.
 fn run<T: Threads + Wait + Sync + Files, I: Read, O: Write>(
     rt: &T,
@@ -100,35 +189,10 @@ fn run<T: Threads + Wait + Sync + Files, I: Read, O: Write>(
     requires output { IsUnwritten output.old }
 {
     let (command, words) = words.subcommand().ok_or(AppFault::Words)?;
-    if command == "find" {
-        let limit = words.get_one::<u8>("limit").ok_or(AppFault::Words)?;
-        return commands::find(rt, alloc, table, output, limit);
-    }
-    if command == "draw" {
-        return commands::draw(alloc, table, output);
-    }
-    let mut file = LazyFile::new(rt, text(words, "CERT")?);
-    let mut certificate = Text::new(alloc, &mut file);
     match command {
-        "check" => commands::check(alloc, table, &mut certificate, output),
-        "explain" => {
-            let all = words.get_flag("all");
-            commands::explain(alloc, table, &mut certificate, output, all)
-        }
-        "show" => {
-            let form = form_of(text(words, "as")?)?;
-            commands::show_as(alloc, table, &mut certificate, output, form)
-        }
-        "agree" => {
-            let inputs = GivenList::read(rt, alloc, text(words, "INPUTS")?, Part::Inputs)?;
-            let schedule = GivenList::read(rt, alloc, text(words, "SCHEDULE")?, Part::Schedule)?;
-            let (inputs, schedule) = (inputs.listed(), schedule.listed());
-            commands::agree(alloc, table, &mut certificate, output, inputs, schedule)
-        }
-        "replay" | "serve" => {
-            run_on_object(rt, alloc, table, &mut certificate, output, command, words)
-        }
-        _ => Err(AppFault::Words),
+        "find" => find(rt, alloc, table, output, words),
+        "draw" => commands::draw(alloc, table, output),
+        _ => run_on_certificate(rt, alloc, table, output, command, words),
     }
 }
 
@@ -190,8 +254,8 @@ fn with_tip(alloc: Global, error: &Error, given: &[String]) -> Result<Option<Str
     let Some(command) = given.get(1) else {
         return Ok(None);
     };
-    match (words::word_too_many(&text), text.split_once("\n\n")) {
-        (Some(word), Some((refused, usage))) if words::reads_input(command) => {
+    match (cn_words::word_too_many(&text), text.split_once("\n\n")) {
+        (Some(word), Some((refused, usage))) if cn_words::reads_input(command) => {
             let tip = format!(in alloc; "  tip: the table is read from standard input: < {word}")?;
             Ok(Some(format!(in alloc; "{refused}\n\n{tip}\n\n{usage}")?))
         }
@@ -227,31 +291,33 @@ fn given_words(rt: &HostRuntime) -> Result<Vec<String>, AppFault> {
     }
 }
 
-fn main(rt: HostRuntime) -> ExitCode {
+// Does what the words ask for; how the program ends.
+fn obeyed(rt: &HostRuntime, matches: &ArgMatches<'_>) -> ExitCode {
     let alloc = rt.alloc();
+    let (mut input, mut output) = (rt.stdin(), rt.stdout());
+    if let Some(words) = matches.subcommand_matches("classify") {
+        let first = classify(rt, alloc, &input, &mut output, words);
+        return all_ended(rt, first);
+    }
+    let mut table = Text::new(alloc, &mut input);
+    let mut output = Output::new(alloc, &mut output);
+    if matches.subcommand_matches("lint").is_some() {
+        return linted_ended(rt, commands::lint(alloc, &mut table, &mut output));
+    }
+    ended(rt, run(rt, alloc, &mut table, &mut output, matches))
+}
+
+fn main(rt: HostRuntime) -> ExitCode {
     let given = match given_words(&rt) {
         Ok(given) => given,
         Err(fault) => return ended(&rt, Err(fault)),
     };
-    let command = match words::command(alloc) {
+    let command = match cn_words::command(rt.alloc()) {
         Ok(command) => command,
         Err(_) => return ended(&rt, Err(AppFault::OutOfMemory)),
     };
     match command.try_get_matches_from(given.as_slice()) {
-        Ok(matches) => {
-            let (mut input, mut output) = (rt.stdin(), rt.stdout());
-            if let Some(words) = matches.subcommand_matches("classify") {
-                let first = classify(&rt, alloc, &input, &mut output, words);
-                return all_ended(&rt, first);
-            }
-            let mut table = Text::new(alloc, &mut input);
-            let mut output = Output::new(alloc, &mut output);
-            if matches.subcommand_matches("lint").is_some() {
-                return linted_ended(&rt, commands::lint(alloc, &mut table, &mut output));
-            }
-            let outcome = run(&rt, alloc, &mut table, &mut output, &matches);
-            ended(&rt, outcome)
-        }
+        Ok(matches) => obeyed(&rt, &matches),
         Err(error) => told(&rt, &error, &given),
     }
 }

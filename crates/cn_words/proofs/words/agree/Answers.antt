@@ -1,7 +1,7 @@
 use Rattle.std.proofs.Common.{codes}
 use Rattle.std.proofs.lemmas.Result.{IfOk-weaker}
-use Rattle.cnum.proofs.CommandLemmas.{argument_more}
-use Rattle.cnum.proofs.words.agree.Goals as goal
+use Rattle.cn_words.proofs.CommandLemmas.{argument_more}
+use Rattle.cn_words.proofs.words.agree.Goals as goal
 
 pub returns : goal.returns
 returns c =

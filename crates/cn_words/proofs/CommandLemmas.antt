@@ -4,7 +4,7 @@ use Rattle.std.proofs.lemmas.List.{map-append}
 use Rattle.clap.specs.Words.{AddsArg, AddsSubcommand, App, Rule, app_of, rule_of, shape_of, with_rule, with_subcommand}
 use Rattle.clap.specs.declared.builder.arg.Arg.{Arg}
 use Rattle.clap.specs.declared.builder.command.Command.{Command}
-use Rattle.cnum.specs.CommandLine.{CommandWords, HasCommands, IsArgument, IsCommand, words_of}
+use Rattle.cn_words.specs.CommandLine.{CommandWords, HasCommands, IsArgument, IsCommand, words_of}
 
 -- the words with one argument more, the last
 pub argument_more : (old : Command) (a : Arg) (new : Command) (name id : List ℕ) (ids : List (List ℕ)) → IsCommand (name, ids) old → IsArgument id a

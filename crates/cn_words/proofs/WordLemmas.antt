@@ -4,7 +4,7 @@ use Rattle.std.specs.Str.Pattern.{FindsText, LacksTextAt}
 use Rattle.std.proofs.Math.Seq.{drop-append_seam, take-append_seam}
 use Rattle.std.proofs.lemmas.List.{append_cancel_left, length-append, take-append-drop}
 use Rattle.std.proofs.lemmas.Bool.{cases_lt}
-use Rattle.cnum.specs.WordTooMany.{RefusesWord, word_start, word_end}
+use Rattle.cn_words.specs.WordTooMany.{RefusesWord, word_start, word_end}
 
 -- a text with no start refuses no word
 pub no_start : (text word : List ℕ) → LacksTextAt word_start text 0 → RefusesWord text word → ⊥

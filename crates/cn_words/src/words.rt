@@ -2,8 +2,8 @@
 ghost use Rattle.std.specs.Prelude.{◌≡◌, [], ◌∷◌, IfOk, MatchOption, codes};
 ghost use Rattle.std.specs.List.{list_any};
 ghost use Rattle.std.specs.Str.{bytes_eq};
-ghost use Rattle.cnum.specs.CommandLine.{HasCommands, IsArgument, IsCommand, commands, table_readers};
-ghost use Rattle.cnum.specs.WordTooMany.{IsOption, RefusesWord};
+ghost use Rattle.cn_words.specs.CommandLine.{HasCommands, IsArgument, IsCommand, commands, table_readers};
+ghost use Rattle.cn_words.specs.WordTooMany.{IsOption, RefusesWord};
 
 use clap::builder::ValueParser;
 use clap::{Arg, ArgAction, Command, value_parser};

@@ -1,8 +1,8 @@
 use Rattle.std.proofs.Common.{◌≡◌, ◌∙◌, ◌++◌, ap, sym, lit<}
 use Rattle.std.proofs.lemmas.Str.Pattern.{starts_char}
-use Rattle.cnum.specs.WordTooMany.{word_start}
-use Rattle.cnum.proofs.WordLemmas.{found_is_refused, no_end, no_start}
-use Rattle.cnum.proofs.words.word_too_many.Goals as goal
+use Rattle.cn_words.specs.WordTooMany.{word_start}
+use Rattle.cn_words.proofs.WordLemmas.{found_is_refused, no_end, no_start}
+use Rattle.cn_words.proofs.words.word_too_many.Goals as goal
 
 pub returns-in_err-line : goal.returns-in_err-line
 returns-in_err-line c = rw c.from_residual.ensures (λ word r. absurd (no_start c.args.text.now word c.in_err-line.ensures.cases r))
