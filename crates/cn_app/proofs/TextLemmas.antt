@@ -1,5 +1,4 @@
 -- What the texts give a command, and how it fails where they do not.
-pub mod AcceptedEntries
 pub mod AcceptedWitnesses
 pub mod Checked
 pub mod Contents

@@ -1,8 +1,6 @@
 -- How events end calls.
 use Rattle.std.specs.Prelude.{List, [], ◌∷◌, ◌++◌, Bool, true, false, option_to_list}
-use Rattle.std.specs.List.{All}
-use Rattle.cn_table.specs.TypeTable.{TypeTable}
-use Rattle.cn_log.specs.CallEnds.{call_end, EndsWithResponse}
+use Rattle.cn_log.specs.CallEnds.{call_end}
 use Rattle.cn_log.specs.Log.{Setting}
 use Rattle.cn_log.specs.declared.event.CallEnd.{CallEnd}
 use Rattle.cn_log.specs.declared.event.CallEnd.TheVariants.{Answered, Full}
@@ -16,10 +14,6 @@ ends_by L before e = option_to_list (call_end L before e)
 abbrev pub ends_after : {R : Type 0} → Setting R → List Event → List Event → List CallEnd
 ends_after L before [] = []
 ends_after L before (e ∷ es) = ends_by L before e ++ ends_after L (before ++ e ∷ []) es
-
--- each response is one of the object's
-abbrev pub HaveResponses : TypeTable → List CallEnd → Type 0
-HaveResponses object ends = All (EndsWithResponse object) ends
 
 abbrev pub is_full : CallEnd → Bool
 is_full (Answered p slot response) = false

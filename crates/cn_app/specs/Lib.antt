@@ -2,7 +2,6 @@ pub mod Answers
 pub mod Arguments
 pub mod Commands
 pub mod FaultText
-pub mod Forms
 pub mod Headline
 pub mod Lines
 pub mod Streams

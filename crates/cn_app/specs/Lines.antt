@@ -1,6 +1,2 @@
--- The lines that commands write.
-pub mod Decisions
-pub mod Explained
-pub mod Log
-pub mod Pairs
+-- The lines of what threads left.
 pub mod Threads

@@ -6,7 +6,8 @@ ghost use Rattle.cn_log.specs.Log.{IsEventList};
 ghost use Rattle.cn_log.specs.Opening.{setting, setting_of};
 ghost use Rattle.cn_log.specs.declared.event.Event.{Event as EventOf};
 ghost use Rattle.cn_log.specs.declared.fault.ReplayFault.TheVariants.{OutOfMemory};
-ghost use Rattle.cn_app.specs.Answers.{ends_after, ends_by, HaveResponses};
+ghost use Rattle.cn_lines.specs.Log.{HaveResponses};
+ghost use Rattle.cn_app.specs.Answers.{ends_after, ends_by};
 
 use cn_log::{CallEnd, Event, LogCore, Opening, ReplayFault};
 use std::alloc::Global;

@@ -8,7 +8,6 @@ mod answers;
 mod arguments;
 pub mod commands;
 mod fault;
-mod forms;
 pub mod laws;
 mod limits;
 mod lines;
@@ -23,12 +22,12 @@ pub use arguments::events::read_events;
 pub use arguments::files::read_argument;
 pub use arguments::listed::Listed;
 pub use arguments::lists::{read_inputs, read_schedule};
+pub use cn_forms::{Form, MOST_TOLD};
 pub use commands::Linted;
 pub use fault::{AppFault, Part, Source};
-pub use forms::Form;
 pub use limits::{
     MOST_ARGUMENT_BYTES, MOST_CALLS, MOST_CERTIFICATE_BYTES, MOST_DIGITS, MOST_FILE_ITEMS,
-    MOST_ITEMS, MOST_TABLE_BYTES, MOST_TOLD,
+    MOST_ITEMS, MOST_TABLE_BYTES,
 };
 pub use run::{
     run_agree, run_check, run_classify, run_draw, run_explain, run_find, run_lint, run_replay,

@@ -22,8 +22,5 @@ pub const MOST_FILE_ITEMS: usize = MOST_PROCESSES
 /// How many digits a number in an argument may have.
 pub const MOST_DIGITS: usize = 20;
 
-/// How many collisions `explain` tells where not all are asked for.
-pub const MOST_TOLD: usize = 12;
-
 /// How many calls a process may make: a slot takes one of each process at most.
 pub const MOST_CALLS: usize = MOST_SLOTS as usize;

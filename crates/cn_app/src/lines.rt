@@ -1,9 +1,3 @@
-//! The lines that commands write.
+//! The lines of what threads left.
 
-pub mod decisions;
-pub mod explained;
-pub mod log;
-pub mod number;
-pub mod pairs;
 pub mod threads;
-pub mod ways;

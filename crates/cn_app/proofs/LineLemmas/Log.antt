@@ -1,10 +1,10 @@
--- Events and entries, one at a time.
+-- Events, entries and calls that ended, one at a time.
 use Rattle.std.proofs.Common.{◌≡◌, ◌∙◌, ℕ, zero, suc, ◌<◌, List, [], ◌∷◌, ◌++◌, ap, drop, length, take, slice_get, slice_index_or, Some, subst, sym}
 use Rattle.std.proofs.Math.Seq.{drop-cons}
 use Rattle.std.proofs.lemmas.List.{take-append-drop}
 use Rattle.std.proofs.lemmas.List.Elements.{All-append}
 use Rattle.std.proofs.lemmas.Option.{slice_get-get_or}
-use Rattle.cn_table.specs.TypeTable.{TypeTable, transition}
+use Rattle.cn_table.specs.TypeTable.{TypeTable}
 use Rattle.cn_log.specs.CallEnds.{EndsWithResponse}
 use Rattle.cn_log.specs.declared.entry.Entry.{Entry}
 use Rattle.cn_log.specs.declared.event.CallEnd.{CallEnd}
@@ -14,8 +14,7 @@ use Rattle.cn_log.specs.declared.fault.ReplayFault.{ReplayFault}
 use Rattle.cn_log.specs.Faults.{IsFirstFault}
 use Rattle.cn_log.specs.Linearized.{IsLinearized}
 use Rattle.cn_log.specs.Log.{Setting, World, IsEventList, MayAllCome, MayCome, after_event, after_events, entries, first_world, state_of}
-use Rattle.cn_app.specs.Lines.Log.{entry_line, entry_lines}
-use Rattle.cn_app.specs.Answers.{HaveResponses}
+use Rattle.cn_lines.specs.Log.{HaveResponses}
 
 module _ {R : Type 0} (L : Setting R) where
   may_come_from : (events : List Event) (w : World R) (i : ℕ) (e : Event) → MayAllCome L events w → slice_get events i ≡ Some e → MayCome L (after_events L (take i events) w) e
@@ -46,14 +45,3 @@ first_in_list L events k d s fault is less first =
 -- more calls that ended have responses too
 pub responses_more : (object other : TypeTable) (ends more : List CallEnd) → other ≡ object → HaveResponses object ends → HaveResponses other more → HaveResponses object (ends ++ more)
 responses_more object other ends more same have here = All-append (EndsWithResponse object) ends more have (subst (λ (o : TypeTable). HaveResponses o more) same here)
-
--- the line of the entry at a place, and then those of the entries behind it
-pub lines_at : (object : TypeTable) (state : ℕ) (es : List Entry) (slots : List ℕ) (k slot : ℕ) (e : Entry) → slice_get es k ≡ Some e → slice_get slots k ≡ Some slot
-    → entry_lines object state (drop k es) (drop k slots) ≡ entry_line object slot e (transition object e.operation.0 state) ++ entry_lines object (transition object e.operation.0 state).1 (drop (suc k) es) (drop (suc k) slots)
-lines_at object state [] slots k slot e h g = absurd cc
-lines_at object state (x ∷ es) [] k slot e h g = absurd cc
-lines_at object state (x ∷ es) (s ∷ slots) zero slot e h g =
-    let a : x ≡ e = cc in
-    let b : s ≡ slot = cc in
-    λ i. entry_line object (b i) (a i) (transition object (a i).operation.0 state) ++ entry_lines object (transition object (a i).operation.0 state).1 es slots
-lines_at object state (x ∷ es) (s ∷ slots) (suc k) slot e h g = lines_at object state es slots k slot e h g

@@ -3,7 +3,7 @@ use Rattle.std.specs.Prelude.{◌≡◌, ℕ, List, None, IsSomeAnd, MatchOption
 use Rattle.cn_proto.specs.Plan.{Plan, processes_of, protocol_of}
 use Rattle.cn_agree.specs.Consensus.{IsConsensus}
 use Rattle.cn_agree.specs.Schedules.{decisions_after, schedule_fault}
-use Rattle.cn_app.specs.Lines.Decisions.{decision_lines}
+use Rattle.cn_lines.specs.Decisions.{decision_lines}
 use Rattle.cn_app.specs.FaultText.{of_schedule}
 use Rattle.cn_app.specs.declared.fault.AppFault.{AppFault}
 use Rattle.cn_app.specs.declared.fault.AppFault.TheVariants.{Write}

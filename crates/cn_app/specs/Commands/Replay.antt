@@ -9,7 +9,7 @@ use Rattle.cn_log.specs.declared.event.CallEnd.{CallEnd}
 use Rattle.cn_log.specs.declared.event.Event.{Event}
 use Rattle.cn_log.specs.declared.fault.ReplayFault.{ReplayFault}
 use Rattle.cn_app.specs.Answers.{is_full, ends_after}
-use Rattle.cn_app.specs.Lines.Log.{answer_lines, entry_lines}
+use Rattle.cn_lines.specs.Log.{answer_lines, entry_lines}
 use Rattle.cn_app.specs.declared.streams.output.Outcome.{Outcome}
 use Rattle.cn_app.specs.declared.streams.output.Outcome.TheVariants.{Cut, Whole}
 use Rattle.cn_app.specs.declared.fault.AppFault.{AppFault}

@@ -1,32 +1,17 @@
--- The lines of what threads did: of the calls of each process, and of the events.
+-- The lines of what threads left: of the calls of each process, of the entries of the log, and of its events.
 use Rattle.std.specs.Prelude.{ℕ, ◌+◌, List, ◌++◌, codes, [], ◌∷◌, ◌<◌, All, length}
 use Rattle.std.specs.Fmt.{decimal}
-use Rattle.std.specs.List.{join_by}
 use Rattle.cn_table.specs.TypeTable.{TypeTable}
 use Rattle.cn_log.specs.Linearized.{entry_slots}
 use Rattle.cn_log.specs.Log.{entries}
 use Rattle.cn_log.specs.Opening.{Log, setting}
-use Rattle.cn_log.specs.declared.event.Event.{Event}
-use Rattle.cn_log.specs.declared.event.Event.TheVariants.{Invoke, Step}
 use Rattle.cn_log.specs.declared.event.CallEnd.TheVariants as ended
 use Rattle.cn_hall.specs.declared.call.Reply.{Reply}
-use Rattle.cn_app.specs.Lines.Log.{answer_line, entry_lines}
+use Rattle.cn_lines.specs.Events.{events_line}
+use Rattle.cn_lines.specs.Log.{answer_line, entry_lines}
 use Rattle.cn_app.specs.declared.threads.workers.End.{End}
 use Rattle.cn_app.specs.declared.threads.workers.End.TheVariants.{Full, Stopped, Whole}
 use Rattle.cn_app.specs.declared.threads.workers.Worked.{Worked}
-
--- the text of an event, as events are read
-abbrev pub event_text : Event → List ℕ
-event_text (Invoke p operation) = codes "i" ++ decimal p ++ codes ":" ++ decimal operation
-event_text (Step p) = codes "s" ++ decimal p
-
--- the text of events, as a list of them is read
-abbrev pub events_text : List Event → List ℕ
-events_text [] = codes "none"
-events_text (e ∷ es) = join_by event_text (codes ",") (e ∷ es)
-
-abbrev pub events_line : List Event → List ℕ
-events_line events = codes "events " ++ events_text events ++ codes "\n"
 
 -- the lines of the replies to the calls of a process, in order
 abbrev pub reply_lines : TypeTable → ℕ → List Reply → List ℕ

@@ -12,11 +12,11 @@ ghost use Rattle.cn_app.specs.Streams.Writing.{HasWritten, IsUnwritten, OnHanded
 use crate::arguments::listed::Listed;
 use crate::arguments::lists::read_listed;
 use crate::fault::{AppFault, Part, Source};
-use crate::lines::decisions::lines_of;
 use crate::streams::output::{Outcome, Output};
 use crate::streams::text::Text;
 use crate::texts::plan::read_plan;
 use cn_agree::run_schedule;
+use cn_lines::decision_lines;
 use std::alloc::Global;
 use std::io::{Read, Write};
 
@@ -42,7 +42,7 @@ fn agreed_lines<R: Read, C: Read>(
 {
     let plan = read_plan(alloc, table, certificate)?;
     let decided = run_schedule(alloc, &plan, inputs, schedule)?;
-    Ok(lines_of(alloc, &decided.decisions)?)
+    Ok(decision_lines(alloc, &decided.decisions)?)
 }
 
 /// Reads a type table and a certificate, checks the one against the other, runs the plan of the

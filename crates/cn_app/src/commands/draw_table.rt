@@ -1,15 +1,15 @@
 //! The command `draw`.
 ghost use Rattle.std.specs.Prelude.{◌≡◌, ◌≢◌, ◌⊎◌, IfOk, IfErr, string_bytes};
-ghost use Rattle.cn_app.specs.Forms.Diagram.{diagram};
+ghost use Rattle.cn_forms.specs.Diagram.{diagram};
 ghost use Rattle.cn_app.specs.Streams.SourceBytes.{HasRead, IsUnread};
 ghost use Rattle.cn_app.specs.Texts.Contents.{table_in, Fails, Gives};
 ghost use Rattle.cn_app.specs.Streams.Writing.{HasWritten, IsUnwritten, OnHandedOver};
 
 use crate::fault::{AppFault, Source};
-use crate::forms::diagram::diagram;
 use crate::streams::output::{Outcome, Output};
 use crate::streams::text::Text;
 use crate::texts::contents::table_from;
+use cn_forms::diagram_of;
 use std::alloc::Global;
 use std::io::{Read, Write};
 
@@ -22,7 +22,7 @@ fn drawn_text<R: Read>(alloc: Global, table: &mut Text<'_, R>) -> Result<String,
     ensures read { HasRead Source.Table result R.remaining table.old table.new }
 {
     let table = table_from(alloc, table)?;
-    Ok(diagram(alloc, &table)?)
+    Ok(diagram_of(alloc, &table)?)
 }
 
 /// Reads a type table and writes a picture of it for Graphviz: the states, and an arrow from one to

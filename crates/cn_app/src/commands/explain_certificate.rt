@@ -7,10 +7,10 @@ ghost use Rattle.cn_app.specs.Streams.SourceBytes.{HasRead, IsUnread, MayHaveRea
 ghost use Rattle.cn_app.specs.Streams.Writing.{HasWritten, IsUnwritten, OnHandedOver};
 
 use crate::fault::{AppFault, Source};
-use crate::lines::explained::explained;
 use crate::streams::output::{Outcome, Output};
 use crate::streams::text::Text;
 use crate::texts::checked::read_checked;
+use cn_forms::explanation_of;
 use std::alloc::Global;
 use std::io::{Read, Write};
 
@@ -45,6 +45,6 @@ pub fn explain<R: Read, C: Read, W: Write>(
     ensures written { HasWritten result W.contents output.old output.new }
 {
     let checked = read_checked(alloc, table, certificate)?;
-    let text = explained(alloc, &checked.table, &checked.certificate, all)?;
+    let text = explanation_of(alloc, &checked.table, &checked.certificate, all)?;
     output.write(text)
 }

@@ -4,16 +4,16 @@ ghost use Rattle.cn_proto.specs.Plan.{Plan};
 ghost use Rattle.cn_proto.specs.PlanText.{plan_text};
 ghost use Rattle.cn_app.specs.Texts.Checked.{FailsChecked, GivesChecked};
 ghost use Rattle.cn_app.specs.FaultText.{text_of};
-ghost use Rattle.cn_app.specs.Forms.PlanForms.{form_text};
+ghost use Rattle.cn_forms.specs.PlanForms.{form_text};
 ghost use Rattle.cn_app.specs.Texts.Plans.{IsPlanOf, PlanFails};
 ghost use Rattle.cn_app.specs.Streams.SourceBytes.{HasRead, IsUnread, MayHaveRead};
 ghost use Rattle.cn_app.specs.Streams.Writing.{HasWritten, IsUnwritten, OnHandedOver};
 
 use crate::fault::{AppFault, Source};
-use crate::forms::{Form, plan_as};
 use crate::streams::output::{Outcome, Output};
 use crate::streams::text::Text;
 use crate::texts::plan::read_plan;
+use cn_forms::{Form, plan_as};
 use std::alloc::Global;
 use std::io::{Read, Write};
 

@@ -1,57 +1,15 @@
 //! The lines of what threads left: of the calls of each process, of the entries of the log, and of
 //! its events.
 ghost use Rattle.std.specs.Prelude.{◌≡◌, ◌≤◌, ◌<◌, ◌++◌, length, string_bytes, IfOk, OnOk};
-ghost use Rattle.cn_app.specs.Lines.Threads.{call_lines, end_line, event_text, events_line, events_text, reply_lines, worked_lines, EachHasResponses, RepliesHaveResponses, left_lines};
+ghost use Rattle.cn_app.specs.Lines.Threads.{call_lines, end_line, reply_lines, worked_lines, EachHasResponses, RepliesHaveResponses, left_lines};
 
-use crate::lines::log::{entry_lines, put_answer_line};
-use crate::lines::number::put_number;
 use crate::threads::serving::Left;
 use crate::threads::workers::{End, Worked};
 use cn_hall::Reply;
-use cn_log::{CallEnd, Event};
+use cn_lines::{entry_lines, events_line, put_answer_line, put_number};
+use cn_log::CallEnd;
 use cn_table::{State, Table};
 use std::alloc::{AllocError, Global};
-
-/// The text of an event, as events are read, goes behind the text.
-fn put_event(text: &mut String, event: Event) -> Result<(), AllocError>
-    ensures { OnOk result (string_bytes text.new ≡ string_bytes text.old ++ event_text event) }
-{
-    match event {
-        Event::Invoke(process, operation) => {
-            text.push_str("i")?;
-            put_number(text, u16::from(process))?;
-            text.push_str(":")?;
-            put_number(text, u16::from(operation))
-        }
-        Event::Step(process) => {
-            text.push_str("s")?;
-            put_number(text, u16::from(process))
-        }
-    }
-}
-
-/// The text of events, as a list of them is read.
-fn events_text(alloc: Global, events: &[Event]) -> Result<String, AllocError>
-    ensures { IfOk result (λ text. string_bytes text ≡ events_text events.now) }
-{
-    let Some((first, rest)) = events.split_first() else {
-        return String::from_str(alloc, "none");
-    };
-    let mut text = String::new(alloc);
-    put_event(&mut text, *first)?;
-    for event in rest {
-        text.push_str(",")?;
-        put_event(&mut text, *event)?;
-    }
-    Ok(text)
-}
-
-pub(crate) fn events_line(alloc: Global, events: &[Event]) -> Result<String, AllocError>
-    ensures { IfOk result (λ line. string_bytes line ≡ events_line events.now) }
-{
-    let text = events_text(alloc, events)?;
-    format!(in alloc; "events {text}\n")
-}
 
 fn reply_lines(
     alloc: Global,

@@ -26,6 +26,6 @@ returns-in_err-decided-clause-refused g c =
 
 pub returns-clause-lines : goal.returns-clause-lines
 returns-clause-lines g c =
-    let agreed : IsAgreed c.in_ok-plan.plan c.args.inputs.now c.args.schedule.now (string_bytes c.in_ok-lines_of.field-0) = search rules in
+    let agreed : IsAgreed c.in_ok-plan.plan c.args.inputs.now c.args.schedule.now (string_bytes c.in_ok-decision_lines.field-0) = search rules in
     gives_plan c.read_plan.new.table.bytes.items c.read_plan.new.certificate.bytes.items c.in_ok-plan.plan c.in_ok-plan.ensures.plan
-    (λ plan. IsAgreed plan c.args.inputs.now c.args.schedule.now (string_bytes c.in_ok-lines_of.field-0)) agreed
+    (λ plan. IsAgreed plan c.args.inputs.now c.args.schedule.now (string_bytes c.in_ok-decision_lines.field-0)) agreed

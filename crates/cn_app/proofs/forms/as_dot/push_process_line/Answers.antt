@@ -1,7 +1,0 @@
-use Rattle.std.proofs.Common.{append_assoc}
-use Rattle.cn_app.specs.Forms.Dot.{process_line}
-use Rattle.cn_app.proofs.forms.as_dot.push_process_line.Goals as goal
-
-pub returns : goal.returns
-unfolding process_line
-returns c = simp append_assoc c.write.ensures.bytes

@@ -1,0 +1,4 @@
+pub mod AcceptedEntries
+pub mod PairLemmas
+pub mod Pieces
+pub mod Told

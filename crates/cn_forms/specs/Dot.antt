@@ -1,0 +1,55 @@
+-- A plan as a picture for Graphviz: the tournament, with each process below its lowest node. Every name stands in quotes, so that one which is a word of the
+-- language is none here; a name has no letter that quotes escape.
+use Rattle.std.specs.Prelude.{ℕ, zero, suc, List, ◌++◌, codes, decimal, flat_map}
+use Rattle.std.specs.List.{range_with_len}
+use Rattle.cn_proto.specs.Plan.{Plan, processes_of, nodes_of}
+use Rattle.cn_proto.specs.PlanText.{team_text}
+use Rattle.cn_table.specs.Grid.{name_at}
+use Rattle.cn_proto.specs.declared.place.Place.{Place}
+use Rattle.cn_forms.specs.Parts.{operation_of, place_at, places_of}
+
+-- the first lines, with the names of the type and of a state
+unfoldable pub head_lines : List ℕ → List ℕ → List ℕ
+head_lines name start = codes "digraph \"" ++ name ++ codes "\" {\n  rankdir=BT;\n  label=\"" ++ name ++ codes " from " ++ start ++ codes "\";\n"
+
+-- the type, and the state in which each object starts
+abbrev pub head_dot : Plan → List ℕ
+head_dot plan = head_lines plan.table.name (name_at plan.table.states plan.choice.state)
+
+abbrev pub node_dot : ℕ → List ℕ
+node_dot node = codes "  node_" ++ decimal node ++ codes " [label=\"node " ++ decimal node ++ codes "\"];\n"
+
+-- where process p comes from when it goes to place i of its path
+abbrev pub origin_dot : Plan → ℕ → ℕ → List ℕ
+origin_dot plan p zero = codes "process_" ++ decimal p
+origin_dot plan p (suc i) = codes "node_" ++ decimal (place_at plan p i).node
+
+-- an arrow to a node, and whose way it is
+unfoldable pub way_head : ℕ → ℕ → List ℕ
+way_head node p = codes " -> node_" ++ decimal node ++ codes " [label=\"process " ++ decimal p ++ codes ": "
+
+-- the team, the role and the operation that an arrow tells
+unfoldable pub way_end : List ℕ → ℕ → List ℕ → List ℕ
+way_end team role operation = team ++ codes " role " ++ decimal role ++ codes " " ++ operation ++ codes "\"];\n"
+
+-- how process p comes to a place: its team there, its role and the operation of the role
+abbrev pub arrival_dot : Plan → ℕ → Place → List ℕ
+arrival_dot plan p place = way_head place.node p ++ way_end (team_text place.team) place.role (operation_of plan place.role)
+
+-- the way of process p to place i of its path
+abbrev pub way_dot : Plan → ℕ → ℕ → List ℕ
+way_dot plan p i = codes "  " ++ origin_dot plan p i ++ arrival_dot plan p (place_at plan p i)
+
+abbrev pub ways_dot : Plan → ℕ → List ℕ
+ways_dot plan p = flat_map (way_dot plan p) (range_with_len 0 (places_of plan p))
+
+unfoldable pub process_line : ℕ → List ℕ
+process_line p = codes "  process_" ++ decimal p ++ codes " [shape=box,label=\"process " ++ decimal p ++ codes "\"];\n"
+
+-- a process, and its way up to the root
+abbrev pub process_dot : Plan → ℕ → List ℕ
+process_dot plan p = process_line p ++ ways_dot plan p
+
+unfoldable pub plan_dot : Plan → List ℕ
+plan_dot plan =
+    head_dot plan ++ flat_map node_dot (range_with_len 0 (nodes_of plan)) ++ flat_map (process_dot plan) (range_with_len 0 (processes_of plan)) ++ codes "}\n"

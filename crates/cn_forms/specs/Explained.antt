@@ -1,0 +1,173 @@
+-- The text of `explain`: the number, the table, why the number is so much, and why it is no more.
+use Rattle.std.specs.Prelude.{ℕ, ◌+◌, ◌-◌, List, [], ◌∷◌, ◌++◌, length, codes, Bool, ◌==◌, nat_lt, Option, Some, None, if◌then◌else◌, flat_map, slice_index, take}
+use Rattle.std.specs.List.{range_with_len}
+use Rattle.std.specs.Fmt.{decimal}
+use Rattle.cn_table.specs.Grid.{cells_text}
+use Rattle.cn_table.specs.TypeTable.{TypeTable, operation_names, transition}
+use Rattle.cn_choice.specs.Canonical.{Choice, FitsTable, raw_choice_of}
+use Rattle.cn_choice.specs.Collisions.{Collision, IsCollision}
+use Rattle.cn_choice.specs.RawChoices.{RawChoice}
+use Rattle.cn_choice.specs.OutcomeSets.{pair_of}
+use Rattle.cn_cert.specs.Certificate.{Certificate}
+use Rattle.cn_table.specs.Grid.{name_at}
+use Rattle.cn_forms.specs.Pairs.{pair_words, seen_rows}
+use Rattle.cn_forms.specs.declared.limits.TheConstants.{MOST_TOLD}
+
+-- ---- the head line
+
+-- the number in words: 1 where there is none up to the limit, and that it is at least so much where it is the limit
+abbrev pub number_told : ℕ → Option ℕ → List ℕ
+number_told limit None = codes "1"
+number_told limit (Some n) = if nat_lt n limit then decimal n else (codes "at least " ++ decimal n ++ codes " (the limit)")
+
+abbrev pub head_line : TypeTable → ℕ → Option ℕ → List ℕ
+head_line t limit number = t.name ++ codes ": consensus number " ++ number_told limit number ++ codes " (for processes that can read the whole state)\n"
+
+-- ---- processes and runs
+
+-- a process, the word between, and its operation; a comma before all but the first
+abbrev pub member : TypeTable → RawChoice → List ℕ → ℕ → ℕ → List ℕ
+member t c word first p =
+    (if p == first then [] else codes ", ") ++ codes "p" ++ decimal p ++ word ++ name_at (operation_names t) (slice_index c.operations p)
+
+-- so many processes from the first on
+unfoldable pub members : TypeTable → RawChoice → List ℕ → ℕ → ℕ → List ℕ
+members t c word first count = flat_map (member t c word first) (range_with_len first count)
+
+-- who does what in a choice: the processes of team A, and those of team B, each with its team's word
+unfoldable pub both_teams : TypeTable → Choice → List ℕ → List ℕ → List ℕ → List ℕ
+both_teams t c a_word between b_word =
+    members t (raw_choice_of c) a_word 0 (length c.a) ++ between ++ members t (raw_choice_of c) b_word (length c.a) (length c.b)
+
+-- the step of process p in a state: its operation, the response and the next state
+abbrev pub step_text : TypeTable → RawChoice → ℕ → ℕ → List ℕ
+step_text t c state p =
+    let operation = slice_index c.operations p in let given = transition t operation state in
+    codes " --p" ++ decimal p ++ codes " " ++ name_at (operation_names t) operation ++ codes "/" ++ name_at t.responses given.0
+    ++ codes "--> " ++ name_at t.states given.1
+
+-- the steps of the processes of an order, one after the other
+abbrev pub steps_text : TypeTable → RawChoice → ℕ → List ℕ → List ℕ
+steps_text t c state [] = []
+steps_text t c state (p ∷ ps) = step_text t c state p ++ steps_text t c (transition t (slice_index c.operations p) state).1 ps
+
+-- what process j sees, if it takes part
+abbrev pub sight : TypeTable → ℕ → Option (ℕ × ℕ) → List ℕ
+sight t j None = []
+sight t j (Some pair) = codes "     p" ++ decimal j ++ codes " " ++ pair_words t pair
+
+-- a run from the start state in an order that begins in the team of this name, and what process j sees of it
+abbrev pub run_line : TypeTable → RawChoice → List ℕ → List ℕ → ℕ → List ℕ
+run_line t c team order j =
+    codes "       " ++ team ++ codes " first:  " ++ name_at t.states c.state ++ steps_text t c c.state order ++ sight t j (pair_of t c order j) ++ codes "\n"
+
+-- ---- why the number is so much
+
+unfoldable pub movers : TypeTable → Choice → List ℕ
+movers t w = both_teams t w (codes " (team A) does ") (codes ", ") (codes " (team B) does ")
+
+unfoldable pub witness_start : TypeTable → ℕ → Choice → List ℕ
+witness_start t n w = codes "Why " ++ decimal n ++ codes ": from state " ++ name_at t.states w.state ++ codes ", "
+
+unfoldable pub witness_line : TypeTable → ℕ → Choice → List ℕ
+witness_line t n w = witness_start t n w ++ movers t w ++ codes ".\n"
+
+unfoldable pub apart_line : List ℕ
+apart_line = codes "  No process has a pair on both sides, so each can tell which team was first.\n"
+
+-- the witness, and what each of its processes gets and reads
+abbrev pub witness_text : TypeTable → ℕ → Choice → List ℕ
+witness_text t n w =
+    witness_line t n w ++ flat_map (seen_rows t w) (range_with_len 0 (length w.a + length w.b)) ++ apart_line
+
+abbrev pub why : TypeTable → Option ℕ → Option Choice → List ℕ
+why t (Some n) (Some w) = witness_text t n w
+why t (Some n) None = codes "One process alone agrees with itself, so the number is at least 1.\n"
+why t None w = codes "One process alone agrees with itself, so the number is at least 1.\n"
+
+-- ---- why it is no more
+
+-- the entry holds a collision of its choice, which is one of the table for 2 to 8 processes
+pub record IsRefuted (t : TypeTable) (e : Collision) : Type 0 where
+  pub fits : FitsTable t e.choice
+  pub collision : IsCollision t (raw_choice_of e.choice) e.process e.alpha e.beta
+
+unfoldable pub choice_text : TypeTable → Choice → List ℕ
+choice_text t c = codes "start " ++ name_at t.states c.state ++ codes "; A: " ++ both_teams t c (codes " ") (codes "; B: ") (codes " ")
+
+unfoldable pub way_number : ℕ → List ℕ
+way_number number = codes "  " ++ decimal number ++ codes ". "
+
+unfoldable pub cannot_tell : ℕ → List ℕ
+cannot_tell j = codes "        p" ++ decimal j ++ codes " cannot tell:\n"
+
+-- a choice, and a process of it
+unfoldable pub way_line : TypeTable → ℕ → Choice → ℕ → List ℕ
+way_line t number c j = way_number number ++ choice_text t c ++ cannot_tell j
+
+-- the two runs by which the process cannot tell
+unfoldable pub run_lines : TypeTable → Collision → List ℕ
+run_lines t e =
+    run_line t (raw_choice_of e.choice) (codes "A") e.alpha e.process ++ run_line t (raw_choice_of e.choice) (codes "B") e.beta e.process
+
+-- the choice of an entry, and the two runs by which its process cannot tell
+abbrev pub way : TypeTable → ℕ → Collision → List ℕ
+way t number e = way_line t number e.choice e.process ++ run_lines t e
+
+-- the ways of the entries one after another, numbered behind this number
+abbrev pub ways : TypeTable → ℕ → List Collision → List ℕ
+ways t before [] = []
+ways t before (e ∷ es) = way t (before + 1) e ++ ways t (before + 1) es
+
+-- the entries that are told: all of them, or the first MOST_TOLD
+abbrev pub entries_told : Bool → List Collision → List Collision
+entries_told all entries = if all then entries else take MOST_TOLD entries
+
+-- how many more there are
+abbrev pub more_line : ℕ → List ℕ
+more_line more = if more == 0 then [] else (codes "  and " ++ decimal more ++ codes " more (--all tells them)\n")
+
+-- the entries that are told, and how many more there are
+abbrev pub told_ways : TypeTable → List Collision → Bool → List ℕ
+told_ways t entries all = ways t 0 (entries_told all entries) ++ more_line (length entries - length (entries_told all entries))
+
+-- how many ways there are, and that in each of them some process cannot tell
+abbrev pub ways_words : ℕ → List ℕ
+ways_words count =
+    if count == 0 then codes "no way to choose a start state, operations and teams is left.\n"
+    else (if count == 1 then codes "1 way to choose a start state, operations and teams; it has a process that cannot tell.\n"
+    else (decimal count ++ codes " ways to choose a start state, operations and teams; each has a process that cannot tell.\n"))
+
+-- which ways are left out in a certificate of this version
+abbrev pub left_out : ℕ → List ℕ
+left_out version =
+    if version == 1 then []
+    else codes "  Left out are those in which some operation leaves the start state as it is: the other team cannot tell whether it was done.\n"
+
+-- which ways count as one
+unfoldable pub same_ways : List ℕ
+same_ways = codes "  Ways that differ only in the numbers of the processes or the names of the teams count as one.\n"
+
+unfoldable pub theorem_line : ℕ → List ℕ
+theorem_line n = codes "That no other protocol does it for " ++ decimal n ++ codes " is Ruppert's theorem (2000), which is not proved here.\n"
+
+-- what is not told
+abbrev pub notes : ℕ → ℕ → List ℕ
+notes version n = same_ways ++ left_out version ++ theorem_line n
+
+-- that n processes cannot do it by this object
+abbrev pub refutation : TypeTable → ℕ → List Collision → Bool → ℕ → List ℕ
+refutation t version entries all n =
+    codes "Why not " ++ decimal n ++ codes ": " ++ ways_words (length entries) ++ told_ways t entries all ++ notes version n
+
+abbrev pub why_not : TypeTable → ℕ → ℕ → List Collision → Bool → Option ℕ → List ℕ
+why_not t version limit entries all None = refutation t version entries all 2
+why_not t version limit entries all (Some n) =
+    if nat_lt n limit then refutation t version entries all (n + 1) else (codes "More than " ++ decimal n ++ codes " processes were not looked for.\n")
+
+-- ---- all of it
+
+unfoldable pub explain_text : TypeTable → Certificate → Bool → List ℕ
+explain_text t c all =
+    head_line t c.limit c.number ++ codes "\n" ++ cells_text t ++ codes "\n" ++ why t c.number c.witness ++ codes "\n"
+    ++ why_not t c.version c.limit c.collisions all c.number

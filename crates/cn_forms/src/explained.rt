@@ -1,0 +1,304 @@
+//! The explanation of a certificate: the number, the table, why the number is so much, and why it is
+//! no more.
+ghost use Rattle.std.specs.Prelude.{◌≡◌, ◌+◌, ◌-◌, ◌++◌, length, string_bytes, flat_map, All, IfOk, IfSome, OnOk};
+ghost use Rattle.std.specs.List.{range_with_len};
+ghost use Rattle.cn_choice.specs.Canonical.{FitsTable};
+ghost use Rattle.cn_check.specs.Verdict.{IsAccepted};
+ghost use Rattle.cn_forms.specs.Explained.{apart_line, explain_text, head_line, left_out, more_line, movers, notes, number_told, refutation, same_ways, theorem_line, entries_told, told_ways, ways_words, why, why_not, witness_line, witness_start, witness_text, IsRefuted};
+ghost use Rattle.cn_forms.specs.Pairs.{seen_rows};
+
+use crate::limits::MOST_TOLD;
+use crate::pairs::push_seen;
+use crate::ways::{push_both_teams, push_ways};
+use cn_cert::Certificate;
+use cn_choice::laws::{canonical_list, live_list};
+use cn_choice::{Choice, Collision};
+use cn_table::Table;
+use std::alloc::{AllocError, Global};
+
+/// The number in words.
+fn push_number(text: &mut String, limit: u8, number: Option<u8>) -> Result<(), AllocError>
+    ensures { OnOk result (string_bytes text.new ≡ string_bytes text.old ++ number_told limit number) }
+{
+    match number {
+        None => text.push_str("1"),
+        Some(n) if n < limit => write!(text, "{n}"),
+        Some(n) => write!(text, "at least {n} (the limit)"),
+    }
+}
+
+fn push_head(
+    text: &mut String,
+    table: &Table,
+    limit: u8,
+    number: Option<u8>,
+) -> Result<(), AllocError>
+    ensures { OnOk result (string_bytes text.new ≡ string_bytes text.old ++ head_line table.now limit number) }
+{
+    let name = table.name();
+    write!(text, "{name}: consensus number ")?;
+    push_number(text, limit, number)?;
+    text.push_str(" (for processes that can read the whole state)\n")
+}
+
+/// What each process of a witness can get.
+fn push_all_seen(
+    alloc: Global,
+    text: &mut String,
+    table: &Table,
+    witness: &Choice,
+) -> Result<(), AllocError>
+    requires { FitsTable table.now witness.now }
+    ensures { OnOk result (string_bytes text.new ≡ string_bytes text.old
+        ++ flat_map (seen_rows table.now witness.now) (range_with_len 0 (length witness.now.a + length witness.now.b))) }
+{
+    for process in 0..(witness.a.len() + witness.b.len()) as u8 {
+        push_seen(alloc, text, table, witness, process)?;
+    }
+    Ok(())
+}
+
+/// Who does what in the witness.
+#[tactic(auto, unfolding(crate::specs::Explained::movers))]
+fn push_movers(text: &mut String, table: &Table, witness: &Choice) -> Result<(), AllocError>
+    requires { FitsTable table.now witness.now }
+    ensures { OnOk result (string_bytes text.new ≡ string_bytes text.old ++ movers table.now witness.now) }
+{
+    let (a_word, b_word) = (" (team A) does ", " (team B) does ");
+    push_both_teams(text, table, witness, a_word, ", ", b_word)
+}
+
+#[tactic(auto, unfolding(crate::specs::Explained::witness_start))]
+fn push_witness_start(
+    text: &mut String,
+    table: &Table,
+    number: u8,
+    witness: &Choice,
+) -> Result<(), AllocError>
+    requires { FitsTable table.now witness.now }
+    ensures { OnOk result (string_bytes text.new ≡ string_bytes text.old ++ witness_start table.now number witness.now) }
+{
+    let start = table.state_name(witness.state);
+    write!(text, "Why {number}: from state {start}, ")
+}
+
+#[tactic(auto, unfolding(crate::specs::Explained::witness_line))]
+fn push_witness_line(
+    text: &mut String,
+    table: &Table,
+    number: u8,
+    witness: &Choice,
+) -> Result<(), AllocError>
+    requires { FitsTable table.now witness.now }
+    ensures { OnOk result (string_bytes text.new ≡ string_bytes text.old ++ witness_line table.now number witness.now) }
+{
+    push_witness_start(text, table, number, witness)?;
+    push_movers(text, table, witness)?;
+    text.push_str(".\n")
+}
+
+#[tactic(auto, unfolding(crate::specs::Explained::apart_line))]
+fn push_apart(text: &mut String) -> Result<(), AllocError>
+    ensures { OnOk result (string_bytes text.new ≡ string_bytes text.old ++ apart_line) }
+{
+    text.push_str("  No process has a pair on both sides, so each can tell which team was first.\n")
+}
+
+/// The witness, and what each of its processes gets and reads.
+fn push_witness(
+    alloc: Global,
+    text: &mut String,
+    table: &Table,
+    number: u8,
+    witness: &Choice,
+) -> Result<(), AllocError>
+    requires { FitsTable table.now witness.now }
+    ensures { OnOk result (string_bytes text.new ≡ string_bytes text.old ++ witness_text table.now number witness.now) }
+{
+    push_witness_line(text, table, number, witness)?;
+    push_all_seen(alloc, text, table, witness)?;
+    push_apart(text)
+}
+
+/// Why the number is so much.
+fn push_why(
+    alloc: Global,
+    text: &mut String,
+    table: &Table,
+    number: Option<u8>,
+    witness: &Option<Choice>,
+) -> Result<(), AllocError>
+    requires { IfSome witness.now (FitsTable table.now) }
+    ensures { OnOk result (string_bytes text.new ≡ string_bytes text.old ++ why table.now number witness.now) }
+{
+    match (number, witness) {
+        (Some(number), Some(witness)) => push_witness(alloc, text, table, number, witness),
+        _ => text.push_str("One process alone agrees with itself, so the number is at least 1.\n"),
+    }
+}
+
+fn entries_told(entries: &[Collision], all: bool) -> &[Collision]
+    ensures { result.now ≡ entries_told all entries.now }
+{
+    if all || entries.len() <= MOST_TOLD {
+        entries
+    } else {
+        &entries[..MOST_TOLD]
+    }
+}
+
+/// How many ways there are.
+fn push_count(text: &mut String, count: usize) -> Result<(), AllocError>
+    ensures { OnOk result (string_bytes text.new ≡ string_bytes text.old ++ ways_words count) }
+{
+    match count {
+        0 => text.push_str("no way to choose a start state, operations and teams is left.\n"),
+        1 => text.push_str(
+            "1 way to choose a start state, operations and teams; it has a process that cannot tell.\n",
+        ),
+        _ => write!(
+            text,
+            "{count} ways to choose a start state, operations and teams; each has a process that cannot tell.\n"
+        ),
+    }
+}
+
+fn push_more(text: &mut String, more: usize) -> Result<(), AllocError>
+    ensures { OnOk result (string_bytes text.new ≡ string_bytes text.old ++ more_line more) }
+{
+    if more == 0 {
+        return Ok(());
+    }
+    write!(text, "  and {more} more (--all tells them)\n")
+}
+
+/// The entries that are told, and how many more there are.
+fn push_told(
+    text: &mut String,
+    table: &Table,
+    entries: &[Collision],
+    all: bool,
+) -> Result<(), AllocError>
+    requires { All (IsRefuted table.now) entries.now }
+    ensures { OnOk result (string_bytes text.new ≡ string_bytes text.old ++ told_ways table.now entries.now all) }
+{
+    let told = entries_told(entries, all);
+    push_ways(text, table, told)?;
+    push_more(text, entries.len() - told.len())
+}
+
+/// Which ways are left out.
+fn push_left_out(text: &mut String, version: u8) -> Result<(), AllocError>
+    ensures { OnOk result (string_bytes text.new ≡ string_bytes text.old ++ left_out version) }
+{
+    if version == 1 {
+        return Ok(());
+    }
+    text.push_str(
+        "  Left out are those in which some operation leaves the start state as it is: the other team cannot tell whether it was done.\n",
+    )
+}
+
+/// Which ways count as one.
+#[tactic(auto, unfolding(crate::specs::Explained::same_ways))]
+fn push_same_ways(text: &mut String) -> Result<(), AllocError>
+    ensures { OnOk result (string_bytes text.new ≡ string_bytes text.old ++ same_ways) }
+{
+    text.push_str(
+        "  Ways that differ only in the numbers of the processes or the names of the teams count as one.\n",
+    )
+}
+
+#[tactic(auto, unfolding(crate::specs::Explained::theorem_line))]
+fn push_theorem(text: &mut String, n: u8) -> Result<(), AllocError>
+    ensures { OnOk result (string_bytes text.new ≡ string_bytes text.old ++ theorem_line n) }
+{
+    write!(
+        text,
+        "That no other protocol does it for {n} is Ruppert's theorem (2000), which is not proved here.\n"
+    )
+}
+
+/// What is not told.
+fn push_notes(text: &mut String, version: u8, n: u8) -> Result<(), AllocError>
+    ensures { OnOk result (string_bytes text.new ≡ string_bytes text.old ++ notes version n) }
+{
+    push_same_ways(text)?;
+    push_left_out(text, version)?;
+    push_theorem(text, n)
+}
+
+/// That n processes cannot do it by this object.
+fn push_refutation(
+    text: &mut String,
+    table: &Table,
+    version: u8,
+    entries: &[Collision],
+    all: bool,
+    n: u8,
+) -> Result<(), AllocError>
+    requires { All (IsRefuted table.now) entries.now }
+    ensures { OnOk result (string_bytes text.new ≡ string_bytes text.old ++ refutation table.now version entries.now all n) }
+{
+    write!(text, "Why not {n}: ")?;
+    push_count(text, entries.len())?;
+    push_told(text, table, entries, all)?;
+    push_notes(text, version, n)
+}
+
+/// Why the number is no more.
+fn push_why_not(
+    text: &mut String,
+    table: &Table,
+    version: u8,
+    limit: u8,
+    entries: &[Collision],
+    all: bool,
+    number: Option<u8>,
+) -> Result<(), AllocError>
+    requires { All (IsRefuted table.now) entries.now }
+    ensures { OnOk result (string_bytes text.new ≡ string_bytes text.old ++ why_not table.now version limit entries.now all number) }
+{
+    match number {
+        None => push_refutation(text, table, version, entries, all, 2),
+        Some(n) if n < limit => push_refutation(text, table, version, entries, all, n + 1),
+        Some(n) => write!(text, "More than {n} processes were not looked for.\n"),
+    }
+}
+
+/// The text that tells people why the number of a certificate is what it is: the number; the cells
+/// of the table; by what each process of the witness can tell which team was first; and for the
+/// choices that the certificate refutes two runs each by which a process cannot. Of these the first
+/// [`MOST_TOLD`] are told, or, where `all` are asked for, every one. Each line ends with a line feed.
+///
+/// The certificate is one of the table's that [`check`](cn_check::check) accepts, so that its number
+/// is right.
+///
+/// # Errors
+///
+/// Fails only for want of memory.
+#[tactic(auto, unfolding(crate::specs::Explained::explain_text))]
+pub fn explanation_of(
+    alloc: Global,
+    table: &Table,
+    certificate: &Certificate,
+    all: bool,
+) -> Result<String, AllocError>
+    requires { IsAccepted table.now certificate.now }
+    ensures { IfOk result (λ text. string_bytes text ≡ explain_text table.now certificate.now all) }
+{
+    // So each entry is of a choice of the table.
+    canonical_list();
+    live_list();
+    let (version, limit, number) = (certificate.version, certificate.limit, certificate.number);
+    let entries = certificate.collisions.as_slice();
+    let mut text = String::new(alloc);
+    push_head(&mut text, table, limit, number)?;
+    text.push_str("\n")?;
+    table.push_cells(&mut text)?;
+    text.push_str("\n")?;
+    push_why(alloc, &mut text, table, number, &certificate.witness)?;
+    text.push_str("\n")?;
+    push_why_not(&mut text, table, version, limit, entries, all, number)?;
+    Ok(text)
+}

@@ -1,0 +1,53 @@
+//! The forms in which a plan is written.
+ghost use Rattle.std.specs.Prelude.{◌≡◌, IfOk, string_bytes};
+ghost use Rattle.cn_forms.specs.PlanForms.{form_text};
+
+use crate::as_dot::plan_dot;
+use crate::as_json::plan_json;
+use crate::as_promela::plan_promela;
+use cn_proto::Plan;
+use std::alloc::{AllocError, Global};
+
+/// A form in which a plan is written.
+#[derive(Clone, Copy, Debug, PartialEq, Eq)]
+pub enum Form {
+    /// Lines of text, as [`Plan::show`] gives them.
+    Text,
+    /// One JSON object.
+    Json,
+    /// The tournament as a picture for Graphviz.
+    Dot,
+    /// A model in Promela, which the model checker spin takes.
+    Promela,
+}
+
+/// The text of a plan in a form; its last byte is a line feed. Each form writes the same plan.
+///
+/// - [`Form::Text`]: the lines of [`Plan::show`].
+/// - [`Form::Json`]: one compact object, its keys in the order of their bytes: `nodes` and
+///   `processes`, numbers; `paths`, for each process its places from the lowest node to the root;
+///   `roles`, for each role the pairs that it judges to be team A's, its operation and its team;
+///   `start` and `type`, names.
+/// - [`Form::Dot`]: a `digraph` with the nodes, the processes, and for each place of a path an arrow
+///   to its node, which says the process, its team there, its role and the operation of the role.
+/// - [`Form::Promela`]: for each process of the plan a process that takes the four actions at each
+///   place of its path, one `atomic` each, and may stop before each. It begins with its own number
+///   as the value. Assertions say of each decision that it is the value of a process that has moved,
+///   equals every other decision, and comes with action 4k, k being the places of the path, which is
+///   4(n-1) at most for n processes.
+///
+/// Names, which are of lower case letters, digits and underscores, need no escapes in any form.
+///
+/// # Errors
+///
+/// Fails only for want of memory.
+pub fn plan_as(alloc: Global, plan: &Plan, form: Form) -> Result<String, AllocError>
+    ensures { IfOk result (λ text. string_bytes text ≡ form_text form plan.now) }
+{
+    match form {
+        Form::Text => plan.show(alloc),
+        Form::Json => plan_json(alloc, plan),
+        Form::Dot => plan_dot(alloc, plan),
+        Form::Promela => plan_promela(alloc, plan),
+    }
+}

@@ -1,0 +1,44 @@
+use Rattle.std.proofs.Common.{◌≡◌, ◌+◌, ◌++◌, ◌∙◌, ℕ, List, [], Some, suc, ap, append-nil, append_assoc, arith, drop, get_or, string_bytes, sym}
+use Rattle.std.proofs.lemmas.List.{drop_all}
+use Rattle.std.proofs.lemmas.Option.{slice_get-get_or}
+use Rattle.std.specs.List.{slice_get}
+use Rattle.cn_log.specs.Linearized.{entry_slots}
+use Rattle.cn_log.specs.Log.{entries}
+use Rattle.cn_log.specs.Opening.{setting}
+use Rattle.cn_log.specs.declared.entry.Entry.{Entry}
+use Rattle.cn_lines.specs.Log.{entry_line, entry_lines}
+use Rattle.cn_lines.proofs.Entries.{lines_at}
+use Rattle.cn_lines.proofs.log.entry_lines.Goals as goal
+
+pub loop-place-preserved : goal.loop-place-preserved
+loop-place-preserved c =
+    let object = c.args.object.now in
+    let es : List Entry = entries (setting c.args.core.now) c.args.core.now.schedule in
+    let slots : List ℕ = entry_slots (setting c.args.core.now) c.args.core.now.schedule in
+    let k : ℕ = c.loop-place.place in
+    let before = string_bytes c.loop-place.lines in
+    let e : Entry = get_or c.entries-entry-items.result.now k _ in
+    let at : slice_get es k ≡ Some e = ap (λ l. slice_get l k) (sym c.entries-entry-items.ensures) ∙ slice_get-get_or c.entries-entry-items.result.now k _ c.loop-place-test.true in
+    let given = c.apply-given.ensures.value in
+    let lines = lines_at object c.loop-place.state.0 es slots k c.slot_at-slot.result e at (sym c.slot_at-slot.ensures) in
+    let next : k + 1 ≡ suc k = omega arith in
+    let rest : ℕ → List ℕ = λ state. entry_lines object state (drop (suc k) es) (drop (suc k) slots) in
+    record {
+      state = c.apply-given.ensures.next;
+      lines = rw next (
+          ap (λ b. b ++ rest c.apply-given.result.1.0) c.in_ok-put_entry_line.ensures
+          ∙ append_assoc before (entry_line object c.slot_at-slot.result e (c.apply-given.result.0.0, c.apply-given.result.1.0)) (rest c.apply-given.result.1.0)
+          ∙ ap (λ (x : ℕ × ℕ). before ++ (entry_line object c.slot_at-slot.result e x ++ rest x.1)) given
+          ∙ ap (λ b. before ++ b) (sym lines)
+          ∙ c.loop-place.invariant.lines
+          );
+    }
+
+pub returns : goal.returns
+returns c =
+    let es : List Entry = entries (setting c.args.core.now) c.args.core.now.schedule in
+    let slots : List ℕ = entry_slots (setting c.args.core.now) c.args.core.now.schedule in
+    let k : ℕ = c.loop-place.place in
+    let none : drop k es ≡ [] = ap (drop k) (sym c.entries-entry-items.ensures) ∙ drop_all k c.entries-entry-items.result.now c.loop-place-test.false in
+    sym (append-nil (string_bytes c.loop-place.lines))
+    ∙ ap (λ l. string_bytes c.loop-place.lines ++ entry_lines c.args.object.now c.loop-place.state.0 l (drop k slots)) (sym none) ∙ c.loop-place.invariant.lines

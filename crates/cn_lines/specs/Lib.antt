@@ -1,0 +1,3 @@
+pub mod Decisions
+pub mod Events
+pub mod Log

@@ -1,0 +1,36 @@
+-- The lines of a log: of the calls that ended, and of its entries.
+use Rattle.std.specs.Prelude.{ℕ, List, [], ◌++◌, codes, ◌∷◌, All}
+use Rattle.std.specs.Fmt.{decimal}
+use Rattle.cn_table.specs.TypeTable.{TypeTable, operation_names, transition}
+use Rattle.cn_table.specs.Grid.{name_at}
+use Rattle.cn_log.specs.CallEnds.{EndsWithResponse}
+use Rattle.cn_log.specs.declared.event.CallEnd.{CallEnd}
+use Rattle.cn_log.specs.declared.event.CallEnd.TheVariants.{Answered, Full}
+use Rattle.cn_log.specs.declared.entry.Entry.{Entry}
+
+-- the line of a call that ended
+abbrev pub answer_line : TypeTable → CallEnd → List ℕ
+answer_line object (Answered p slot response) = codes "answer " ++ decimal p ++ codes " " ++ decimal slot ++ codes " " ++ name_at object.responses response.0
+    ++ codes "\n"
+answer_line object (Full p) = codes "full " ++ decimal p ++ codes "\n"
+
+abbrev pub answer_lines : TypeTable → List CallEnd → List ℕ
+answer_lines object [] = []
+answer_lines object (end ∷ ends) = answer_line object end ++ answer_lines object ends
+
+-- each response is one of the object's
+abbrev pub HaveResponses : TypeTable → List CallEnd → Type 0
+HaveResponses object ends = All (EndsWithResponse object) ends
+
+-- the line of an entry: its slot, process and operation, and what the object answers there, with the state after it
+abbrev pub entry_line : TypeTable → ℕ → Entry → ℕ × ℕ → List ℕ
+entry_line object slot e given =
+    codes "entry " ++ decimal slot ++ codes " " ++ decimal e.process ++ codes " " ++ name_at (operation_names object) e.operation.0
+    ++ codes " " ++ name_at object.responses given.0 ++ codes " " ++ name_at object.states given.1 ++ codes "\n"
+
+-- the lines of entries, each with its slot, where the object is in this state before them
+abbrev pub entry_lines : TypeTable → ℕ → List Entry → List ℕ → List ℕ
+entry_lines object state [] slots = []
+entry_lines object state (e ∷ es) [] = []
+entry_lines object state (e ∷ es) (slot ∷ slots) =
+    entry_line object slot e (transition object e.operation.0 state) ++ entry_lines object (transition object e.operation.0 state).1 es slots

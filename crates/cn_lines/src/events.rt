@@ -1,0 +1,55 @@
+//! The line of the events of a log.
+ghost use Rattle.std.specs.Prelude.{◌≡◌, ◌++◌, string_bytes, IfOk, OnOk};
+ghost use Rattle.cn_lines.specs.Events.{event_text, events_line, events_text};
+
+use crate::number::put_number;
+use cn_log::Event;
+use std::alloc::{AllocError, Global};
+
+/// The text of an event, as events are read, goes behind the text.
+fn put_event(text: &mut String, event: Event) -> Result<(), AllocError>
+    ensures { OnOk result (string_bytes text.new ≡ string_bytes text.old ++ event_text event) }
+{
+    match event {
+        Event::Invoke(process, operation) => {
+            text.push_str("i")?;
+            put_number(text, u16::from(process))?;
+            text.push_str(":")?;
+            put_number(text, u16::from(operation))
+        }
+        Event::Step(process) => {
+            text.push_str("s")?;
+            put_number(text, u16::from(process))
+        }
+    }
+}
+
+/// The text of events, as a list of them is read.
+fn events_text(alloc: Global, events: &[Event]) -> Result<String, AllocError>
+    ensures { IfOk result (λ text. string_bytes text ≡ events_text events.now) }
+{
+    let Some((first, rest)) = events.split_first() else {
+        return String::from_str(alloc, "none");
+    };
+    let mut text = String::new(alloc);
+    put_event(&mut text, *first)?;
+    for event in rest {
+        text.push_str(",")?;
+        put_event(&mut text, *event)?;
+    }
+    Ok(text)
+}
+
+/// The line of the events of a log, in order: `events LIST`, LIST being what a list of them is read
+/// from: `iP:O` for a call of operation O by process P and `sP` for a step of P, by number, with a
+/// comma between two, and `none` where there are none. It ends with a line feed.
+///
+/// # Errors
+///
+/// Fails only for want of memory.
+pub fn events_line(alloc: Global, events: &[Event]) -> Result<String, AllocError>
+    ensures { IfOk result (λ line. string_bytes line ≡ events_line events.now) }
+{
+    let text = events_text(alloc, events)?;
+    format!(in alloc; "events {text}\n")
+}

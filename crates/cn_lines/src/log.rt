@@ -1,0 +1,122 @@
+//! The lines of a log: of the calls that ended, and of its entries.
+ghost use Rattle.std.specs.Prelude.{◌≡◌, ◌<◌, ◌++◌, codes, length, string_bytes, All, IfOk, OnOk};
+ghost use Rattle.cn_log.specs.CallEnds.{EndsWithResponse};
+ghost use Rattle.cn_log.specs.Linearized.{entry_slots};
+ghost use Rattle.cn_log.specs.Log.{entries};
+ghost use Rattle.cn_log.specs.Opening.{setting};
+ghost use Rattle.cn_lines.specs.Log.{answer_line, answer_lines, entry_line, entry_lines, HaveResponses};
+
+use crate::number::put_number;
+use cn_log::{CallEnd, Entry, LogCore};
+use cn_table::{Response, State, Table};
+use std::alloc::{AllocError, Global};
+
+/// A space and the word go behind the lines.
+fn put_word(lines: &mut String, word: &str) -> Result<(), AllocError>
+    ensures { OnOk result (string_bytes lines.new ≡ string_bytes lines.old ++ codes " " ++ word.now) }
+{
+    lines.push_str(" ")?;
+    lines.push_str(word)
+}
+
+/// The line of a call that ended goes behind the lines: `answer P K R`, with its process, its slot
+/// and the name of its response, which is one of the object's; or `full P`, where it found no slot.
+/// The line ends with a line feed.
+///
+/// # Errors
+///
+/// Fails only for want of memory, and may then have put a part of it there.
+pub fn put_answer_line(lines: &mut String, object: &Table, end: CallEnd) -> Result<(), AllocError>
+    requires { EndsWithResponse object.now end }
+    ensures { OnOk result (string_bytes lines.new ≡ string_bytes lines.old ++ answer_line object.now end) }
+{
+    match end {
+        CallEnd::Answered {
+            process,
+            slot,
+            response,
+        } => {
+            lines.push_str("answer ")?;
+            put_number(lines, u16::from(process))?;
+            lines.push_str(" ")?;
+            put_number(lines, slot)?;
+            put_word(lines, object.response_name(response))?;
+        }
+        CallEnd::Full { process } => {
+            lines.push_str("full ")?;
+            put_number(lines, u16::from(process))?;
+        }
+    }
+    lines.push_str("\n")
+}
+
+/// The lines of calls that ended, in order, as [`put_answer_line`] has each. Every response is one of
+/// the object's.
+///
+/// # Errors
+///
+/// Fails only for want of memory.
+pub fn answer_lines(alloc: Global, object: &Table, ends: &[CallEnd]) -> Result<String, AllocError>
+    requires { HaveResponses object.now ends.now }
+    ensures { IfOk result (λ lines. string_bytes lines ≡ answer_lines object.now ends.now) }
+{
+    let mut lines = String::new(alloc);
+    for end in ends {
+        put_answer_line(&mut lines, object, *end)?;
+    }
+    Ok(lines)
+}
+
+/// The line of an entry in a slot, with what the object answers there and its state afterwards, goes
+/// behind the lines.
+fn put_entry_line(
+    lines: &mut String,
+    object: &Table,
+    slot: u16,
+    entry: Entry,
+    given: (Response, State),
+) -> Result<(), AllocError>
+    requires operation { entry.operation.0 < length object.now.operations }
+    requires response { given.0.0 < length object.now.responses }
+    requires state { given.1.0 < length object.now.states }
+    ensures { OnOk result (string_bytes lines.new ≡ string_bytes lines.old ++ entry_line object.now slot entry (given.0.0, given.1.0)) }
+{
+    lines.push_str("entry ")?;
+    put_number(lines, slot)?;
+    lines.push_str(" ")?;
+    put_number(lines, u16::from(entry.process))?;
+    put_word(lines, object.operation_name(entry.operation))?;
+    put_word(lines, object.response_name(given.0))?;
+    put_word(lines, object.state_name(given.1))?;
+    lines.push_str("\n")
+}
+
+/// The lines of the entries of a log, in order: one sequential run of the object from the start
+/// state, which is one of its states, as each entry's operation is one of its operations. A line is
+/// `entry K P O R S`, with the slot, the process, and the names of the operation, of the response
+/// that the object gives there and of its state afterwards, and ends with a line feed.
+///
+/// # Errors
+///
+/// Fails only for want of memory.
+pub fn entry_lines(
+    alloc: Global,
+    object: &Table,
+    start: State,
+    core: &LogCore,
+) -> Result<String, AllocError>
+    requires start { start.0 < length object.now.states }
+    requires known { All (λ e. e.operation.0 < length object.now.operations) (entries (setting core.now) core.now.schedule) }
+    ensures { IfOk result (λ lines. string_bytes lines ≡ entry_lines object.now start.0 (entries (setting core.now) core.now.schedule)
+        (entry_slots (setting core.now) core.now.schedule)) }
+{
+    let mut lines = String::new(alloc);
+    let mut state = start;
+    for (place, entry) in core.entries().iter().enumerate() {
+        let slot = core.slot_at(place);
+        let given = object.apply(entry.operation, state);
+        put_entry_line(&mut lines, object, slot, *entry, given)?;
+        state = given.1;
+    }
+    Ok(lines)
+}
