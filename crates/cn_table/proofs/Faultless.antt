@@ -10,6 +10,7 @@ use Rattle.cn_table.specs.TypeTable.{Row, IsRow, IsTypeTable}
 use Rattle.cn_table.specs.Numbering.{numbers_of, row_from, rows_from}
 use Rattle.cn_table.specs.declared.limits.TheConstants.{MOST_OPERATIONS, MOST_RESPONSES, MOST_STATES}
 use Rattle.cn_table.specs.Faults.{is_misfit, has_bad_length, is_miscounted, has_bad_count, has_bad_name, has_repeated_name}
+use Rattle.cn_table.proofs.Lists.{none_skipped}
 
 -- the parts of a reading that gave something
 bind_some : {A B : Type 0} (o : Option A) (f : A → Option B) (y : B) → (o >>= f) ≡ Some y → (x : A) × (o ≡ Some x) × (f x ≡ Some y)
@@ -30,10 +31,6 @@ each_read f skips P reads (x ∷ xs) ys none e =
     let (len, all) = each_read f skips P reads xs more later others in
     let whole : y ∷ more ≡ ys = cc in
     rw (← whole) (ap suc len, (reads x y here first, all))
-
-pub none_skipped : {X : Type 0} (xs : List X) → list_any (λ _. false) xs ≡ false
-none_skipped [] = refl
-none_skipped (x ∷ xs) = none_skipped xs
 
 numbers_below : (names texts : List (List ℕ)) (ns : List ℕ) → numbers_of names texts ≡ Some ns → (length ns ≡ length texts) × AllByRecursion (λ x. x < length names) ns
 numbers_below names texts ns e = each_read (number_of names) (λ _. false) (λ x. x < length names) (λ t n _ h. number_below names t n h) texts ns (none_skipped texts) e

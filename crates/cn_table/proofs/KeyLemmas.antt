@@ -12,7 +12,8 @@ use Rattle.toml.specs.View.{view, members_view, items_view}
 use Rattle.toml.proofs.Views.{view-lookup}
 use Rattle.cn_table.specs.Document.{keys_in, list_of}
 use Rattle.cn_table.specs.Faults.{has_other_key, lacks_a_key, some_table}
-use Rattle.cn_table.proofs.ListLemmas.{list_any-map, list_any-same}
+use Rattle.cn_table.proofs.ListLemmas.{list_any-same}
+use Rattle.cn_table.proofs.Lists.{list_any-map}
 
 abbrev pub Entry : Type 0
 Entry = String Global × Value
@@ -49,8 +50,3 @@ list_of-view (v ∷ vs) = ap (λ ds. view v ∷ ds) (list_of-view vs)
 -- a test of some table among the items, at the values
 pub some_table-view : (test : Members → Bool) (vs : List Value) → list_any (λ v. option_map_or test (as_table (view v)) false) vs ≡ some_table test (map view vs)
 some_table-view test vs = sym (list_any-map (λ d. option_map_or test (as_table d) false) view vs)
-
--- the keys of a table are those of the map
-pub keys_of_view : (es : List Entry) → map (λ k. string_bytes k) (keys_of es) ≡ keys_in (members_view es)
-keys_of_view [] = refl
-keys_of_view (e ∷ es) = ap (λ ks. string_bytes e.0 ∷ ks) (keys_of_view es)

@@ -1,8 +1,6 @@
 pub mod ListLemmas
 pub mod Lists
 pub mod KeyLemmas
-pub mod FlawLemmas
-pub mod FlawLaws
 pub mod KindLemmas
 pub mod NameLists
 pub mod Rows

@@ -1,15 +1,11 @@
 -- Lists of what a function makes of a list's elements.
-use Rattle.std.proofs.Common.{◌≡◌, List, [], ◌∷◌, length, map, Bool, ◌||◌, refl, ap}
+use Rattle.std.proofs.Common.{◌≡◌, List, [], ◌∷◌, map, Bool, refl, ap}
 use Rattle.std.specs.List.{list_any, position, prefix_len}
 use Rattle.std.proofs.lemmas.List.{length-map}
 
 pub map_twice : {V D X : Type 0} (f : D → X) (g : V → D) (vs : List V) → map f (map g vs) ≡ map (λ v. f (g v)) vs
 map_twice f g [] = refl
 map_twice f g (v ∷ vs) = ap (λ xs. f (g v) ∷ xs) (map_twice f g vs)
-
-pub list_any-map : {X Y : Type 0} (p : Y → Bool) (f : X → Y) (xs : List X) → list_any p (map f xs) ≡ list_any (λ x. p (f x)) xs
-list_any-map p f [] = refl
-list_any-map p f (x ∷ xs) = ap (λ b. p (f x) || b) (list_any-map p f xs)
 
 pub list_any-same : {X : Type 0} (p q : X → Bool) (xs : List X) → ((x : X) → p x ≡ q x) → list_any p xs ≡ list_any q xs
 list_any-same p q [] same = refl
@@ -21,6 +17,3 @@ prefix_len-map p f (x ∷ xs) = rw (prefix_len-map p f xs)
 
 pub position-map : {X Y : Type 0} (p : Y → Bool) (f : X → Y) (xs : List X) → position p (map f xs) ≡ position (λ x. p (f x)) xs
 position-map p f xs = rw (prefix_len-map _ f xs, length-map xs f)
-
-pub length_of_map : {X Y : Type 0} (f : X → Y) (xs : List X) → length (map f xs) ≡ length xs
-length_of_map f xs = length-map xs f

@@ -1,7 +1,8 @@
 -- Lists: what more than one crate needs of them.
-use Rattle.std.proofs.Common.{◌≡◌, ◌⊎◌, inl, inr, ℕ, zero, suc, ◌<◌, ◌+◌, List, [], ◌∷◌, ◌++◌, length, drop, get_or, map, slice_get, Option, Some, None, option_map, All, Contains, arith, refl, ap, subst, sym, ◌∙◌, append_assoc, ◌-◌, ◌≤◌}
+use Rattle.std.proofs.Common.{◌≡◌, ◌⊎◌, inl, inr, ℕ, zero, suc, ◌<◌, ◌+◌, List, [], ◌∷◌, ◌++◌, length, drop, get_or, map, slice_get, Bool, false, ◌||◌, Option, Some, None, option_map, Result, Ok, Err, All, Contains, arith, refl, ap, subst, sym, ◌∙◌, append_assoc, ◌-◌, ◌≤◌}
 use Rattle.std.proofs.lemmas.List.{drop_more}
-use Rattle.std.specs.List.{range_with_len}
+use Rattle.std.specs.Prelude.{OnOk}
+use Rattle.std.specs.List.{list_any, range_with_len}
 use Rattle.std.proofs.lemmas.List.Elements.{All-contains, All-contains_itself, All-weaker, Contains-append_left, Contains-append_right}
 use Rattle.cn_table.specs.Draft.{all_some, ◌>>=◌}
 use Rattle.cn_table.proofs.ListLemmas.{map_twice}
@@ -56,6 +57,20 @@ All-parts P xs ys all = (
   All-weaker (Contains xs) P (λ x here. All-contains P (xs ++ ys) x all (Contains-append_left xs ys x here)) xs (All-contains_itself xs),
   All-weaker (Contains ys) P (λ y here. All-contains P (xs ++ ys) y all (Contains-append_right xs ys y here)) ys (All-contains_itself ys),
 )
+
+-- a test of some element, of what a function makes of the elements; one that none passes
+pub list_any-map : {X Y : Type 0} (p : Y → Bool) (f : X → Y) (xs : List X) → list_any p (map f xs) ≡ list_any (λ x. p (f x)) xs
+list_any-map p f [] = refl
+list_any-map p f (x ∷ xs) = ap (λ b. p (f x) || b) (list_any-map p f xs)
+
+pub none_skipped : {X : Type 0} (xs : List X) → list_any (λ _. false) xs ≡ false
+none_skipped [] = refl
+none_skipped (x ∷ xs) = none_skipped xs
+
+-- two parts, one put behind the other
+pub two_parts : {T E A : Type 0} (r : Result T E) (old mid new a b : List A) → mid ≡ old ++ a → OnOk r (new ≡ mid ++ b) → OnOk r (new ≡ old ++ (a ++ b))
+two_parts (Ok x) old mid new a b first second = second ∙ rw first (append_assoc old a b)
+two_parts (Err e) old mid new a b first second = tt
 
 -- ---- reading the items of a list one after another, all or none
 

@@ -4,7 +4,7 @@ use Rattle.std.specs.List.{list_any}
 use Rattle.std.specs.Str.{bytes_eq}
 use Rattle.std.proofs.lemmas.List.{drop_more}
 use Rattle.cn_table.specs.Names.{has_repeat}
-use Rattle.cn_table.proofs.ListLemmas.{list_any-map}
+use Rattle.cn_table.proofs.Lists.{list_any-map}
 
 -- a name stands twice from a place on: the thing at this place has a namesake behind it, or a name stands twice behind it
 pub repeat_next : {V : Type 0} (f : V → List ℕ) (vs : List V) (i : ℕ) (d : V) → i < length vs

@@ -10,7 +10,5 @@ pub mod Reads
 pub mod DraftView
 pub mod TableView
 pub mod FaultText
-pub mod FlawText
-pub mod Flaws
 pub mod Reach
 pub mod Grid

@@ -1,4 +1,8 @@
-//! From a document to what it says, where each value is of its kind.
+//! Drafts: what documents say where each value is of its kind.
+//!
+//! A draft has the states, responses and operations of a document as they stand there, with names
+//! where a table has numbers. No more is known of it: a text may be no name, or stand twice, there
+//! may be too few or too many of them, and a row may have any length and any entries.
 ghost use Rattle.std.specs.Prelude.{map, string_bytes};
 ghost use Rattle.toml.specs.View.{table_view, view};
 ghost use Rattle.cn_table.specs.Draft.{text_at, texts_of, texts_at, row_of, row_at, rows_of, rows_at, draft_of};
@@ -11,11 +15,14 @@ use crate::names::Named;
 use std::alloc::Global;
 use toml::{Table, Value};
 
-/// An operation as a document names it.
+/// An operation of a draft.
 #[derive(Drop)]
-pub(crate) struct DraftRow {
+pub struct DraftRow {
+    /// What it is called.
     pub name: String,
+    /// For each state a response, by its name.
     pub response: Vec<String>,
+    /// For each state the next state, by its name.
     pub next: Vec<String>,
 }
 
@@ -29,10 +36,14 @@ impl Named for DraftRow {
 
 /// What a document says where each value is of its kind, before any name or count is looked at.
 #[derive(Drop)]
-pub(crate) struct Draft {
+pub struct Draft {
+    /// What the type is called.
     pub name: String,
+    /// The names of the states.
     pub states: Vec<String>,
+    /// The names of the responses.
     pub responses: Vec<String>,
+    /// The operations.
     pub operations: Vec<DraftRow>,
 }
 
@@ -99,9 +110,13 @@ fn rows_at(alloc: Global, table: &Table, key: &str) -> Result<Vec<DraftRow>, Tab
     rows(alloc, values)
 }
 
-/// What the document says, where each value is of its kind.
+/// The draft of a document. Keys that a table has not are passed over.
+///
+/// # Errors
+///
+/// `WrongKind` where a value is missing or not of its kind, or `OutOfMemory`.
 #[tactic(auto, unfolding(crate::specs::Draft::draft_of))]
-pub(crate) fn draft_from(alloc: Global, document: &Table) -> Result<Draft, TableFault>
+pub fn draft_from(alloc: Global, document: &Table) -> Result<Draft, TableFault>
     ensures { Reads TableFault.WrongKind draft_view result (draft_of (table_view document.now)) }
 {
     let name = owned_text_at(alloc, document, "name")?;

@@ -7,40 +7,51 @@ ghost use Rattle.std.specs.BTreeMap.{is_at};
 ghost use Rattle.std.specs.Cmp.Lexicographic.{slice_cmp};
 ghost use Rattle.std.specs.Option.{option_map_or};
 ghost use Rattle.std.specs.Str.{bytes_eq};
-ghost use Rattle.toml.specs.Data.{as_table, get_member};
+ghost use Rattle.toml.specs.Data.{as_array, as_table, get_member};
 ghost use Rattle.toml.specs.View.{table_view, view};
-ghost use Rattle.cn_table.specs.Document.{array_at};
+ghost use Rattle.cn_table.specs.Document.{array_at, list_of};
 ghost use Rattle.cn_table.specs.Draft.{text_at};
 ghost use Rattle.cn_table.specs.Faults.{has_other_key, lacks_a_key, some_table, operation_keys, has_unknown_key, has_missing_key};
 
 use toml::{Table, Value};
 
-pub(crate) const ROOT_KEYS: [&str; 4] = ["name", "states", "responses", "operation"];
+/// The keys of the root.
+pub const ROOT_KEYS: [&str; 4] = ["name", "states", "responses", "operation"];
 
-pub(crate) const OPERATION_KEYS: [&str; 3] = ["name", "response", "next"];
+/// The keys of an operation.
+pub const OPERATION_KEYS: [&str; 3] = ["name", "response", "next"];
 
-pub(crate) fn value_at<'a>(table: &'a Table, key: &str) -> Option<&'a Value>
+/// The value at a key, where one stands there.
+pub fn value_at<'a>(table: &'a Table, key: &str) -> Option<&'a Value>
     ensures { option_map (λ v. view v.now) result ≡ get_member key.now (table_view table.now) }
 {
     table.get(key)
 }
 
 /// The text at a key, where a text stands there.
-pub(crate) fn text_at<'a>(table: &'a Table, key: &str) -> Option<&'a str>
+pub fn text_at<'a>(table: &'a Table, key: &str) -> Option<&'a str>
     ensures { option_map (λ s. s.now) result ≡ text_at key.now (table_view table.now) }
 {
     value_at(table, key)?.as_str()
 }
 
-/// The items of the array at a key, where an array stands there.
-pub(crate) fn array_at<'a>(table: &'a Table, key: &str) -> Option<&'a [Value]>
-    ensures { option_map (λ s. map view s.now) result ≡ array_at key.now (table_view table.now) }
+/// The items of a value that is an array.
+pub fn items_of(value: &Value) -> Option<&[Value]>
+    ensures { option_map (λ s. map view s.now) result ≡ option_map list_of (as_array (view value.now)) }
 {
-    let items = value_at(table, key)?.as_array()?;
+    let items = value.as_array()?;
     Some(items.as_slice())
 }
 
-pub(crate) fn is_one_of(keys: &[&str], key: &str) -> bool
+/// The items of the array at a key, where an array stands there.
+pub fn array_at<'a>(table: &'a Table, key: &str) -> Option<&'a [Value]>
+    ensures { option_map (λ s. map view s.now) result ≡ array_at key.now (table_view table.now) }
+{
+    items_of(value_at(table, key)?)
+}
+
+/// Whether a key is one of these.
+pub fn is_one_of(keys: &[&str], key: &str) -> bool
     ensures { result ≡ list_any (λ k. bytes_eq k.now key.now) keys.now }
 {
     keys.iter().any(|k| *k == key)

@@ -3,31 +3,28 @@
 //! A type has states, responses and operations, each with a name; in each state each operation
 //! gives one response and leads to one next state. [`read_table`] makes a [`Table`] of the bytes
 //! of a file, or says by a [`TableFault`] what is wrong with them.
+//!
+//! What a document says before it is a table stands in [`draft`], what it has at its keys in
+//! [`keys`], and what goes by a name in [`names`]: by these a caller looks further into a document
+//! that spells no table.
 #![tactic(auto)]
 
-mod all_flaws;
 mod document;
-mod document_flaws;
-mod draft;
+pub mod draft;
 mod draft_faults;
-mod draft_flaws;
 mod elements;
 mod fault;
-mod flaw;
-mod flaw_text;
 mod grid;
-mod keys;
+pub mod keys;
 mod limits;
-mod names;
+pub mod names;
 mod reach;
 mod read;
 mod resolve;
 mod table;
 
-pub use all_flaws::flaws;
 pub use elements::{Operation, Response, State};
 pub use fault::TableFault;
-pub use flaw::Flaw;
 pub use limits::{LONGEST_NAME, MOST_OPERATIONS, MOST_RESPONSES, MOST_STATES};
 pub use names::is_name;
 pub use read::read_table;

@@ -27,9 +27,10 @@ pub fn is_name(text: &str) -> bool
 }
 
 /// What goes by a name.
-pub(crate) trait Named {
+pub trait Named {
     ghost name_of: { Self → List ℕ };
 
+    /// The text that it goes by, which need not be a name.
     fn name(&self) -> &str
         ensures { result.now ≡ name_of self.now };
 }
@@ -49,13 +50,14 @@ fn all_go_by_names<T: Named>(things: &[T]) -> bool
 }
 
 /// Whether each of the things goes by a name.
-pub(crate) fn are_named<T: Named>(things: &[T]) -> bool
+pub fn are_named<T: Named>(things: &[T]) -> bool
     ensures { result ≡ list_all is_name (map T.name_of things.now) }
 {
     all_go_by_names(things)
 }
 
-pub(crate) fn has_namesake<T: Named>(things: &[T], name: &str) -> bool
+/// Whether one of the things goes by this name.
+pub fn has_namesake<T: Named>(things: &[T], name: &str) -> bool
     ensures { result ≡ list_any (λ x. bytes_eq (T.name_of x) name.now) things.now }
 {
     things.iter().any(|thing| thing.name() == name)
@@ -80,7 +82,7 @@ fn place_of<T: Named>(things: &[T], name: &str) -> Option<usize>
 }
 
 /// The number of the thing that goes by a name, if there is one: its place among the things.
-pub(crate) fn number_of<T: Named>(things: &[T], name: &str) -> Option<usize>
+pub fn number_of<T: Named>(things: &[T], name: &str) -> Option<usize>
     ensures number { result ≡ number_of (map T.name_of things.now) name.now }
     ensures range { IfSome result (λ i. i < length things.now) }
 {

@@ -1,6 +1,6 @@
 //! The command `lint`.
 ghost use Rattle.std.specs.Prelude.{◌≡◌, ◌≢◌, ◌≤◌, ◌<◌, ◌^◌, ℕ, IfOk, IfErr, length, map, string_bytes};
-ghost use Rattle.cn_table.specs.Flaws.{flaw_view, flaws_at};
+ghost use Rattle.cn_flaws.specs.Flaws.{flaw_view, flaws_at};
 ghost use Rattle.cn_app.specs.Commands.Lint.{flaw_lines, IsReport, LintFails, Tells};
 ghost use Rattle.cn_app.specs.Streams.SourceBytes.{HasRead, IsUnread};
 ghost use Rattle.cn_app.specs.Streams.Writing.{HasWritten, IsUnwritten, OnHandedOver};
@@ -10,7 +10,8 @@ use crate::fault::{AppFault, Source};
 use crate::limits::MOST_TABLE_BYTES;
 use crate::streams::output::Output;
 use crate::streams::text::Text;
-use cn_table::{Flaw, TableFault, flaws, read_table};
+use cn_flaws::{Flaw, flaws};
+use cn_table::{TableFault, read_table};
 use std::alloc::{AllocError, Global};
 use std::io::{Read, Write};
 
@@ -83,7 +84,7 @@ fn report_from<R: Read>(alloc: Global, table: &mut Text<'_, R>) -> Result<Report
 
 /// Reads a type table and writes what is to be said of it: of a table its grid
 /// ([`Table::grid`](cn_table::Table::grid)), else a line for each of its flaws
-/// ([`flaws`](cn_table::flaws)).
+/// ([`flaws`](cn_flaws::flaws)).
 ///
 /// Of bytes that are not UTF-8 nothing is written.
 ///

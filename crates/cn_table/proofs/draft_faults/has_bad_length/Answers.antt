@@ -4,7 +4,7 @@ use Rattle.std.proofs.lemmas.List.{length-map}
 use Rattle.cn_table.specs.Faults.{is_misfit}
 use Rattle.cn_table.specs.DraftView.{row_view}
 use Rattle.cn_table.specs.declared.draft.DraftRow.{DraftRow}
-use Rattle.cn_table.proofs.ListLemmas.{list_any-map}
+use Rattle.cn_table.proofs.Lists.{list_any-map}
 use Rattle.cn_table.proofs.draft_faults.has_bad_length.Goals as goal
 
 misfits : (states : List (String Global)) (rows : List DraftRow) → list_any (λ r. is_misfit (length states) (row_view r)) rows ≡ list_any (is_misfit (length (map (λ s. string_bytes s) states))) (map row_view rows)

@@ -1,5 +1,5 @@
 use Rattle.std.proofs.Common.{◌≡◌, map, string_bytes, take}
-use Rattle.cn_table.specs.Flaws.{flaw_view}
+use Rattle.cn_flaws.specs.Flaws.{flaw_view}
 use Rattle.cn_app.specs.Commands.Lint.{flaw_lines}
 use Rattle.cn_app.proofs.commands.lint_table.lines_of.Given as goal
 

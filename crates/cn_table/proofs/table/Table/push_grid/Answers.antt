@@ -1,7 +1,7 @@
 use Rattle.std.proofs.Common.{◌++◌, false, flat_map, get_or, length, string_bytes}
 use Rattle.std.specs.List.{range_with_len}
 use Rattle.cn_table.specs.Grid.{cells_text, grid_text, operation_mark, state_mark, title}
-use Rattle.cn_table.proofs.FlawLemmas.{two_parts}
+use Rattle.cn_table.proofs.Lists.{two_parts}
 use Rattle.cn_table.proofs.table.Table.push_grid.Goals as goal
 
 pub returns : goal.returns

@@ -1,0 +1,190 @@
+-- What is wrong with the bytes of a table, and where: flaws, in the order of the faults.
+use Rattle.std.specs.Prelude.{codes, ℕ, ◌+◌, List, [], ◌∷◌, ◌++◌, length, map, flat_map, take, if◌then◌else◌, Bool, true, ◌==◌, Option, Some, None, is_some, nat_le, unwrap_or, Vec, string_bytes}
+use Rattle.std.specs.List.{list_any}
+use Rattle.std.specs.Option.{option_map_or}
+use Rattle.std.specs.Str.{bytes_eq, is_utf8}
+use Rattle.std.specs.declared.alloc.Global.{Global}
+use Rattle.toml.specs.Data.{Data, Members, get_member, as_array, as_table}
+use Rattle.toml.specs.Parse.{parse_document}
+use Rattle.cn_table.specs.Document.{keys_in, array_at}
+use Rattle.cn_table.specs.Draft.{Draft, DraftRow, row_names, draft_of, text_at}
+use Rattle.cn_table.specs.Faults.{root_keys, operation_keys, is_text, is_array_of}
+use Rattle.cn_table.specs.Names.{is_name, number_of}
+use Rattle.cn_flaws.specs.FlawText.{place_after, not_toml_text, operation_text, other_key_text, missing_key_text, kind_text, no_operation_text, bad_name_text, too_many_text, too_few_text, repeated_text, length_text, entry_text, names_in_brackets}
+use Rattle.cn_table.specs.declared.fault.TableFault.{TableFault}
+use Rattle.cn_table.specs.declared.fault.TableFault.TheVariants.{NotToml, UnknownKey, MissingKey, WrongKind, BadName, Count, Repeated, RowLength, UnknownName}
+use Rattle.cn_flaws.specs.declared.document_flaws.Kind.{Kind}
+use Rattle.cn_flaws.specs.declared.document_flaws.Kind.TheVariants.{Text, Texts, Tables}
+use Rattle.cn_flaws.specs.declared.document_flaws.Look.{Look}
+use Rattle.cn_flaws.specs.declared.document_flaws.Look.TheVariants.{OtherKeys, MissingKeys, Kinds}
+use Rattle.cn_flaws.specs.declared.flaw.Flaw as code_flaw
+use Rattle.cn_table.specs.declared.limits.TheConstants.{MOST_OPERATIONS, MOST_RESPONSES, MOST_STATES}
+
+-- a fault, and what is wrong where
+pub record Flaw : Type 0 where
+  pub fault : TableFault
+  pub text : List ℕ
+
+-- one flaw
+abbrev pub flaw : TableFault → List ℕ → List Flaw
+flaw fault text = record { fault = fault; text = text } ∷ []
+
+-- flaws in memory
+abbrev pub flaw_view : code_flaw.Flaw → Flaw
+flaw_view f = record { fault = f.fault; text = string_bytes f.text }
+
+abbrev pub flaws_view : Vec code_flaw.Flaw Global → List Flaw
+flaws_view v = map flaw_view v.items
+
+-- what is found in each thing, the places counted from i on
+abbrev pub each : {X : Type 0} → (ℕ → X → List Flaw) → ℕ → List X → List Flaw
+each find i [] = []
+each find i (x ∷ xs) = find i x ++ each find (i + 1) xs
+
+-- ---- of a document
+
+-- the keys that are none of these
+abbrev pub other_keys : List ℕ → List ℕ → List (List ℕ) → List (List ℕ) → List Flaw
+other_keys before after known keys =
+    flat_map (λ key. if list_any (λ k. bytes_eq k key) known then [] else flaw UnknownKey (other_key_text before after key)) keys
+
+-- those of these keys that are not there
+abbrev pub missing_keys : List ℕ → List (List ℕ) → Members → List Flaw
+missing_keys place known table = flat_map (λ key. if is_some (get_member key table) then [] else flaw MissingKey (missing_key_text place key)) known
+
+abbrev pub is_array : Data → Bool
+is_array d = is_some (as_array d)
+
+-- whether a value is of the kind, and what the kind is called; that the items of an array are tables is looked at one by one
+abbrev pub is_of : Kind → Data → Bool
+is_of Text = is_text
+is_of Texts = is_array_of is_text
+is_of Tables = is_array
+
+abbrev pub kind_name : Kind → List ℕ
+kind_name Text = codes "a text"
+kind_name Texts = codes "an array of texts"
+kind_name Tables = codes "an array of tables"
+
+-- a value that is not of this kind
+abbrev pub wrong_kind : Kind → List ℕ → List ℕ → Members → List Flaw
+wrong_kind kind before key table = if option_map_or (is_of kind) (get_member key table) true then [] else flaw WrongKind (kind_text before key (kind_name kind))
+
+-- how the table of an operation is called
+abbrev pub table_text : ℕ → Members → List ℕ
+table_text i table = operation_text i (unwrap_or (text_at (codes "name") table) [])
+
+-- what is looked for in the table of an operation: keys that are not its three, those of the three that are not there, values that are not of their kind
+abbrev pub table_flaws : Look → ℕ → Members → List Flaw
+table_flaws OtherKeys i table = other_keys (table_text i table ++ codes ", ") (codes ": an operation has name, response, next") operation_keys (keys_in table)
+table_flaws MissingKeys i table = missing_keys (table_text i table) operation_keys table
+table_flaws Kinds i table =
+    wrong_kind Text (table_text i table ++ codes ", ") (codes "name") table
+    ++ (wrong_kind Texts (table_text i table ++ codes ", ") (codes "response") table
+    ++ wrong_kind Texts (table_text i table ++ codes ", ") (codes "next") table)
+
+-- and in what is no table
+abbrev pub no_table_flaws : Look → ℕ → List Flaw
+no_table_flaws OtherKeys i = []
+no_table_flaws MissingKeys i = []
+no_table_flaws Kinds i = flaw WrongKind (no_operation_text i)
+
+-- in an item of the array `operation`
+abbrev pub item_flaws : Look → ℕ → Data → List Flaw
+item_flaws look i d = option_map_or (table_flaws look i) (as_table d) (no_table_flaws look i)
+
+-- in each item, where it is an array
+abbrev pub operation_flaws : Look → Members → List Flaw
+operation_flaws look document = option_map_or (each (item_flaws look) 0) (array_at (codes "operation") document) []
+
+-- in the root
+abbrev pub root_flaws : Look → Members → List Flaw
+root_flaws OtherKeys document = other_keys [] (codes ": the root has name, states, responses, operation") root_keys (keys_in document)
+root_flaws MissingKeys document = missing_keys (codes "the root") root_keys document
+root_flaws Kinds document =
+    wrong_kind Text [] (codes "name") document
+    ++ (wrong_kind Texts [] (codes "states") document
+    ++ (wrong_kind Texts [] (codes "responses") document ++ wrong_kind Tables [] (codes "operation") document))
+
+-- in the whole document
+abbrev pub flaws_by : Look → Members → List Flaw
+flaws_by look document = root_flaws look document ++ operation_flaws look document
+
+-- ---- of a draft
+
+abbrev pub bad_name : List ℕ → List ℕ → List Flaw
+bad_name what name = if is_name name then [] else flaw BadName (bad_name_text what name)
+
+unfoldable pub name_flaws : Draft → List Flaw
+name_flaws draft =
+    bad_name (codes "name") draft.name
+    ++ (flat_map (bad_name (codes "state")) draft.states
+    ++ (flat_map (bad_name (codes "response")) draft.responses ++ flat_map (bad_name (codes "operation")) (row_names draft.operations)))
+
+-- not from 1 to this many
+abbrev pub bad_count : List ℕ → ℕ → ℕ → List Flaw
+bad_count what most count =
+    if nat_le 1 count then (if nat_le count most then [] else flaw Count (too_many_text what most count)) else flaw Count (too_few_text what)
+
+unfoldable pub count_flaws : Draft → List Flaw
+count_flaws draft =
+    bad_count (codes "states") MOST_STATES (length draft.states)
+    ++ (bad_count (codes "responses") MOST_RESPONSES (length draft.responses) ++ bad_count (codes "operations") MOST_OPERATIONS (length draft.operations))
+
+-- each name that stands again behind it
+abbrev pub repeats : List ℕ → List (List ℕ) → List Flaw
+repeats what [] = []
+repeats what (t ∷ ts) = (if list_any (λ u. bytes_eq u t) ts then flaw Repeated (repeated_text what t) else []) ++ repeats what ts
+
+unfoldable pub repeat_flaws : Draft → List Flaw
+repeat_flaws draft =
+    repeats (codes "states") draft.states ++ (repeats (codes "responses") draft.responses ++ repeats (codes "operations") (row_names draft.operations))
+
+-- a row that has not an entry for each state
+abbrev pub bad_length : List ℕ → List ℕ → ℕ → ℕ → List Flaw
+bad_length operation row count states = if count == states then [] else flaw RowLength (length_text operation row count states)
+
+abbrev pub row_lengths : ℕ → ℕ → DraftRow → List Flaw
+row_lengths states i row =
+    let operation = operation_text i row.name in
+    bad_length operation (codes "response") (length row.response) states ++ bad_length operation (codes "next") (length row.next) states
+
+unfoldable pub length_flaws : Draft → List Flaw
+length_flaws draft = each (row_lengths (length draft.states)) 0 draft.operations
+
+-- an entry that is none of the names
+abbrev pub unknown_entry : List ℕ → List ℕ → List ℕ → List (List ℕ) → ℕ → List ℕ → List Flaw
+unknown_entry operation row what names k text =
+    if is_some (number_of names text) then [] else flaw UnknownName (entry_text operation row k text what (names_in_brackets names))
+
+abbrev pub row_entries : List (List ℕ) → List (List ℕ) → ℕ → DraftRow → List Flaw
+row_entries states responses i row =
+    let operation = operation_text i row.name in
+    each (unknown_entry operation (codes "response") (codes "response") responses) 0 row.response
+    ++ each (unknown_entry operation (codes "next") (codes "state") states) 0 row.next
+
+unfoldable pub entry_flaws : Draft → List Flaw
+entry_flaws draft = each (row_entries draft.states draft.responses) 0 draft.operations
+
+unfoldable pub draft_flaws : Draft → List Flaw
+draft_flaws draft = name_flaws draft ++ (count_flaws draft ++ (repeat_flaws draft ++ (length_flaws draft ++ entry_flaws draft)))
+
+-- ---- of bytes
+
+-- all flaws of a document; those of names and counts are looked for where each value is of its kind
+unfoldable pub document_flaws : Members → List Flaw
+document_flaws document =
+    flaws_by OtherKeys document ++ (flaws_by MissingKeys document ++ (flaws_by Kinds document ++ option_map_or draft_flaws (draft_of document) []))
+
+-- the flaws of bytes; those that are no TOML have one, at this place
+unfoldable pub text_flaws : ℕ → List ℕ → List Flaw
+text_flaws place text = option_map_or document_flaws (parse_document text) (flaw NotToml (not_toml_text (place_after 1 1 (take place text))))
+
+-- bytes that are not UTF-8 have no flaw to tell
+abbrev pub flaws_at : ℕ → List ℕ → List Flaw
+flaws_at place bytes = if is_utf8 bytes then text_flaws place bytes else []
+
+-- the fault of the first flaw
+abbrev pub first_fault : List Flaw → Option TableFault
+first_fault [] = None
+first_fault (f ∷ fs) = Some f.fault

@@ -1,0 +1,2 @@
+pub mod FlawText
+pub mod Flaws

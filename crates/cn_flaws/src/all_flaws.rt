@@ -1,0 +1,110 @@
+//! From bytes to what is wrong with them.
+ghost use Rattle.std.specs.Prelude.{◌≡◌, ◌≤◌, ◌<◌, ◌^◌, ◌++◌, ℕ, [], IfOk, IsUtf8, OnOk, length, take};
+ghost use Rattle.std.specs.Option.{option_map_or};
+ghost use Rattle.toml.specs.View.{table_view};
+ghost use Rattle.cn_table.specs.Draft.{draft_of};
+ghost use Rattle.cn_table.specs.Faults.{fault_of};
+ghost use Rattle.cn_flaws.specs.Flaws.{flaw, flaws_view, draft_flaws, document_flaws, text_flaws, flaws_at, first_fault};
+ghost use Rattle.cn_flaws.specs.FlawText.{not_toml_text, place_after};
+
+use crate::document_flaws::{Look, push_flaws_by};
+use crate::draft_flaws::push_draft_flaws;
+use crate::flaw::{Flaw, push_flaw};
+use crate::flaw_text::place_after;
+use cn_table::TableFault;
+use cn_table::draft::draft_from;
+use std::alloc::{AllocError, Global};
+use toml::Table;
+
+fn push_not_toml(alloc: Global, flaws: &mut Vec<Flaw>, before: &[u8]) -> Result<(), AllocError>
+    requires { length before.now < 2 ^ 63 }
+    ensures { OnOk result (flaws_view flaws.new ≡ flaws_view flaws.old ++ flaw TableFault.NotToml (not_toml_text (place_after 1 1 before.now))) }
+{
+    let (line, column) = place_after(before);
+    let text = format!(in alloc; "line {line}, column {column}: not TOML")?;
+    push_flaw(flaws, TableFault::NotToml, text)
+}
+
+/// The flaws of the draft, where each value is of its kind.
+fn push_flaws_of_draft(
+    alloc: Global,
+    flaws: &mut Vec<Flaw>,
+    document: &Table,
+) -> Result<(), AllocError>
+    ensures { OnOk result (flaws_view flaws.new ≡ flaws_view flaws.old ++ option_map_or draft_flaws (draft_of (table_view document.now)) []) }
+{
+    match draft_from(alloc, document) {
+        Ok(draft) => push_draft_flaws(alloc, flaws, &draft),
+        Err(TableFault::OutOfMemory) => Err(AllocError),
+        Err(_) => Ok(()),
+    }
+}
+
+#[tactic(auto, unfolding(crate::specs::Flaws::document_flaws))]
+fn push_document_flaws(
+    alloc: Global,
+    flaws: &mut Vec<Flaw>,
+    document: &Table,
+) -> Result<(), AllocError>
+    ensures { OnOk result (flaws_view flaws.new ≡ flaws_view flaws.old ++ document_flaws (table_view document.now)) }
+{
+    push_flaws_by(alloc, flaws, Look::OtherKeys, document)?;
+    push_flaws_by(alloc, flaws, Look::MissingKeys, document)?;
+    push_flaws_by(alloc, flaws, Look::Kinds, document)?;
+    push_flaws_of_draft(alloc, flaws, document)
+}
+
+fn document_flaws(alloc: Global, document: &Table) -> Result<Vec<Flaw>, AllocError>
+    ensures { IfOk result (λ v. flaws_view v ≡ document_flaws (table_view document.now)) }
+{
+    let mut flaws = Vec::new(alloc);
+    push_document_flaws(alloc, &mut flaws, document)?;
+    Ok(flaws)
+}
+
+/// The one flaw of a text that is no TOML, where the reading of it stops at this byte.
+fn refusal(alloc: Global, text: &str, place: usize) -> Result<Vec<Flaw>, AllocError>
+    requires small { length text.now < 2 ^ 63 }
+    requires within { place ≤ length text.now }
+    ensures { IfOk result (λ v. flaws_view v ≡ flaw TableFault.NotToml (not_toml_text (place_after 1 1 (take place text.now)))) }
+{
+    let mut flaws = Vec::new(alloc);
+    let bytes = text.as_bytes();
+    push_not_toml(alloc, &mut flaws, &bytes[..place])?;
+    Ok(flaws)
+}
+
+fn text_flaws(alloc: Global, text: &str) -> Result<Vec<Flaw>, AllocError>
+    requires { length text.now < 2 ^ 63 }
+    ensures { IfOk result (λ v. (place : ℕ) × (place ≤ length text.now) × (flaws_view v ≡ text_flaws place text.now)) }
+{
+    match toml::table_from_str(alloc, text) {
+        Ok(document) => document_flaws(alloc, &document),
+        Err(e) => match e.span() {
+            Some(span) => refusal(alloc, text, span.start),
+            None => Err(AllocError),
+        },
+    }
+}
+
+/// What is wrong with the bytes of a table, and where: all there is, in the order of the faults.
+///
+/// Bytes that are no TOML have one flaw, with the place where the reading of them stops. Of a
+/// document the flaws of names, counts and rows are told where each value is there and of its kind,
+/// those of keys and kinds always. Bytes that are not UTF-8 have no flaw to tell; else there is
+/// none exactly where [`read_table`](cn_table::read_table) answers a table, and the first is of the
+/// fault that it answers.
+///
+/// # Errors
+///
+/// Fails only for want of memory.
+pub fn flaws(alloc: Global, bytes: &[u8]) -> Result<Vec<Flaw>, AllocError>
+    requires { length bytes.now < 2 ^ 63 }
+    ensures flaws { IfOk result (λ v. (place : ℕ) × (place ≤ length bytes.now) × (flaws_view v ≡ flaws_at place bytes.now)) }
+    ensures first { IfOk result (λ v. IsUtf8 bytes.now → first_fault (flaws_view v) ≡ fault_of bytes.now) }
+{
+    match str::from_utf8(bytes) {
+        Ok(text) => text_flaws(alloc, text),
+        Err(_) => Ok(Vec::new(alloc)),
+    }
+}

@@ -1,0 +1,287 @@
+//! The flaws of a document: keys that should not be there, keys that should, and values that are
+//! not of their kind.
+ghost use Rattle.std.specs.Prelude.{◌≡◌, ◌++◌, OnOk, IfOk, codes, map, string_bytes};
+ghost use Rattle.std.specs.List.{list_all};
+ghost use Rattle.toml.specs.View.{table_view, view};
+ghost use Rattle.cn_table.specs.Document.{keys_in};
+ghost use Rattle.cn_table.specs.Faults.{is_text, is_array_of};
+ghost use Rattle.cn_flaws.specs.Flaws.{flaws_view, each, other_keys, missing_keys, wrong_kind, table_text};
+ghost use Rattle.cn_flaws.specs.Flaws.{table_flaws, no_table_flaws, item_flaws, root_flaws, flaws_by};
+ghost use Rattle.cn_flaws.specs.FlawText.{other_key_text, missing_key_text, kind_text, no_operation_text};
+
+use crate::flaw::{Flaw, push_flaw};
+use crate::flaw_text::{in_quotes, operation_text};
+use cn_table::TableFault;
+use cn_table::keys::{OPERATION_KEYS, ROOT_KEYS, array_at, is_one_of, items_of, text_at, value_at};
+use std::alloc::{AllocError, Global};
+use toml::{Table, Value};
+
+/// What is looked for in a document.
+#[derive(Clone, Copy)]
+pub(crate) enum Look {
+    OtherKeys,
+    MissingKeys,
+    Kinds,
+}
+
+/// What a value should be.
+#[derive(Clone, Copy)]
+enum Kind {
+    Text,
+    Texts,
+    Tables,
+}
+
+impl Kind {
+    ghost use Rattle.cn_flaws.specs.Flaws.{is_of, kind_name};
+
+    fn is_of(self, value: &Value) -> bool
+        ensures { result ≡ is_of self (view value.now) }
+    {
+        match self {
+            Kind::Text => is_text(value),
+            Kind::Texts => is_texts(value),
+            Kind::Tables => value.as_array().is_some(),
+        }
+    }
+
+    fn name(self) -> &'static str
+        ensures { result.now ≡ kind_name self }
+    {
+        match self {
+            Kind::Text => "a text",
+            Kind::Texts => "an array of texts",
+            Kind::Tables => "an array of tables",
+        }
+    }
+}
+
+fn other_key_text(alloc: Global, before: &str, after: &str, key: &str) -> Result<String, AllocError>
+    ensures { IfOk result (λ s. string_bytes s ≡ other_key_text before.now after.now key.now) }
+{
+    let key = in_quotes(alloc, key)?;
+    format!(in alloc; "{before}{key}{after}")
+}
+
+/// The keys of the table that are none of these.
+fn push_other_keys(
+    alloc: Global,
+    flaws: &mut Vec<Flaw>,
+    before: &str,
+    after: &str,
+    known: &[&str],
+    table: &Table,
+) -> Result<(), AllocError>
+    ensures { OnOk result (flaws_view flaws.new ≡ flaws_view flaws.old
+        ++ other_keys before.now after.now (map (λ k. k.now) known.now) (keys_in (table_view table.now))) }
+{
+    for key in table.keys() {
+        if !is_one_of(known, key.as_str()) {
+            let text = other_key_text(alloc, before, after, key.as_str())?;
+            push_flaw(flaws, TableFault::UnknownKey, text)?;
+        }
+    }
+    Ok(())
+}
+
+fn missing_key_text(alloc: Global, place: &str, key: &str) -> Result<String, AllocError>
+    ensures { IfOk result (λ s. string_bytes s ≡ missing_key_text place.now key.now) }
+{
+    format!(in alloc; "{place} has no \"{key}\"")
+}
+
+/// Those of these keys that the table has not.
+fn push_missing_keys(
+    alloc: Global,
+    flaws: &mut Vec<Flaw>,
+    place: &str,
+    known: &[&str],
+    table: &Table,
+) -> Result<(), AllocError>
+    ensures { OnOk result (flaws_view flaws.new ≡ flaws_view flaws.old ++ missing_keys place.now (map (λ k. k.now) known.now) (table_view table.now)) }
+{
+    for key in known {
+        if value_at(table, *key).is_none() {
+            let text = missing_key_text(alloc, place, *key)?;
+            push_flaw(flaws, TableFault::MissingKey, text)?;
+        }
+    }
+    Ok(())
+}
+
+fn kind_text(alloc: Global, before: &str, key: &str, kind: &str) -> Result<String, AllocError>
+    ensures { IfOk result (λ s. string_bytes s ≡ kind_text before.now key.now kind.now) }
+{
+    format!(in alloc; "{before}\"{key}\": not {kind}")
+}
+
+fn is_text(value: &Value) -> bool
+    ensures { result ≡ is_text (view value.now) }
+{
+    value.as_str().is_some()
+}
+
+fn all_are_texts(values: &[Value]) -> bool
+    ensures { result ≡ list_all (λ v. is_text (view v)) values.now }
+{
+    values.iter().all(|value| is_text(value))
+}
+
+fn is_texts(value: &Value) -> bool
+    ensures { result ≡ is_array_of is_text (view value.now) }
+{
+    match items_of(value) {
+        Some(items) => all_are_texts(items),
+        None => false,
+    }
+}
+
+/// What stands at a key where it is not of this kind.
+fn push_wrong_kind(
+    alloc: Global,
+    flaws: &mut Vec<Flaw>,
+    kind: Kind,
+    before: &str,
+    key: &str,
+    table: &Table,
+) -> Result<(), AllocError>
+    ensures { OnOk result (flaws_view flaws.new ≡ flaws_view flaws.old ++ wrong_kind kind before.now key.now (table_view table.now)) }
+{
+    if let Some(value) = value_at(table, key) {
+        if !kind.is_of(value) {
+            let text = kind_text(alloc, before, key, kind.name())?;
+            push_flaw(flaws, TableFault::WrongKind, text)?;
+        }
+    }
+    Ok(())
+}
+
+fn table_text(alloc: Global, i: usize, table: &Table) -> Result<String, AllocError>
+    ensures { IfOk result (λ s. string_bytes s ≡ table_text i (table_view table.now)) }
+{
+    operation_text(alloc, i, text_at(table, "name").unwrap_or(""))
+}
+
+fn push_table_kinds(
+    alloc: Global,
+    flaws: &mut Vec<Flaw>,
+    before: &str,
+    table: &Table,
+) -> Result<(), AllocError>
+    ensures { OnOk result (flaws_view flaws.new ≡ flaws_view flaws.old ++ (wrong_kind Kind.Text before.now (codes "name") (table_view table.now)
+        ++ (wrong_kind Kind.Texts before.now (codes "response") (table_view table.now)
+        ++ wrong_kind Kind.Texts before.now (codes "next") (table_view table.now)))) }
+{
+    push_wrong_kind(alloc, flaws, Kind::Text, before, "name", table)?;
+    push_wrong_kind(alloc, flaws, Kind::Texts, before, "response", table)?;
+    push_wrong_kind(alloc, flaws, Kind::Texts, before, "next", table)
+}
+
+fn push_table_flaws(
+    alloc: Global,
+    flaws: &mut Vec<Flaw>,
+    look: Look,
+    i: usize,
+    table: &Table,
+) -> Result<(), AllocError>
+    ensures { OnOk result (flaws_view flaws.new ≡ flaws_view flaws.old ++ table_flaws look i (table_view table.now)) }
+{
+    let place = table_text(alloc, i, table)?;
+    let before = format!(in alloc; "{place}, ")?;
+    match look {
+        Look::OtherKeys => {
+            let after = ": an operation has name, response, next";
+            push_other_keys(alloc, flaws, before.as_str(), after, &OPERATION_KEYS, table)
+        }
+        Look::MissingKeys => {
+            push_missing_keys(alloc, flaws, place.as_str(), &OPERATION_KEYS, table)
+        }
+        Look::Kinds => push_table_kinds(alloc, flaws, before.as_str(), table),
+    }
+}
+
+fn no_operation_text(alloc: Global, i: usize) -> Result<String, AllocError>
+    ensures { IfOk result (λ s. string_bytes s ≡ no_operation_text i) }
+{
+    format!(in alloc; "operation[{i}]: not a table")
+}
+
+fn push_no_table(alloc: Global, flaws: &mut Vec<Flaw>, i: usize) -> Result<(), AllocError>
+    ensures { OnOk result (flaws_view flaws.new ≡ flaws_view flaws.old ++ no_table_flaws Look.Kinds i) }
+{
+    let text = no_operation_text(alloc, i)?;
+    push_flaw(flaws, TableFault::WrongKind, text)
+}
+
+fn push_item_flaws(
+    alloc: Global,
+    flaws: &mut Vec<Flaw>,
+    look: Look,
+    i: usize,
+    value: &Value,
+) -> Result<(), AllocError>
+    ensures { OnOk result (flaws_view flaws.new ≡ flaws_view flaws.old ++ item_flaws look i (view value.now)) }
+{
+    match (value.as_table(), look) {
+        (Some(table), _) => push_table_flaws(alloc, flaws, look, i, table),
+        (None, Look::Kinds) => push_no_table(alloc, flaws, i),
+        (None, _) => Ok(()),
+    }
+}
+
+fn push_items_flaws(
+    alloc: Global,
+    flaws: &mut Vec<Flaw>,
+    look: Look,
+    values: &[Value],
+) -> Result<(), AllocError>
+    ensures { OnOk result (flaws_view flaws.new ≡ flaws_view flaws.old ++ each (item_flaws look) 0 (map view values.now)) }
+{
+    for (i, value) in values.iter().enumerate() {
+        push_item_flaws(alloc, flaws, look, i, value)?;
+    }
+    Ok(())
+}
+
+fn push_root_kinds(alloc: Global, flaws: &mut Vec<Flaw>, document: &Table) -> Result<(), AllocError>
+    ensures { OnOk result (flaws_view flaws.new ≡ flaws_view flaws.old ++ root_flaws Look.Kinds (table_view document.now)) }
+{
+    push_wrong_kind(alloc, flaws, Kind::Text, "", "name", document)?;
+    push_wrong_kind(alloc, flaws, Kind::Texts, "", "states", document)?;
+    push_wrong_kind(alloc, flaws, Kind::Texts, "", "responses", document)?;
+    push_wrong_kind(alloc, flaws, Kind::Tables, "", "operation", document)
+}
+
+fn push_root_flaws(
+    alloc: Global,
+    flaws: &mut Vec<Flaw>,
+    look: Look,
+    document: &Table,
+) -> Result<(), AllocError>
+    ensures { OnOk result (flaws_view flaws.new ≡ flaws_view flaws.old ++ root_flaws look (table_view document.now)) }
+{
+    match look {
+        Look::OtherKeys => {
+            let after = ": the root has name, states, responses, operation";
+            push_other_keys(alloc, flaws, "", after, &ROOT_KEYS, document)
+        }
+        Look::MissingKeys => push_missing_keys(alloc, flaws, "the root", &ROOT_KEYS, document),
+        Look::Kinds => push_root_kinds(alloc, flaws, document),
+    }
+}
+
+/// Puts what is looked for in a document behind the others: in the root, then in each operation.
+pub(crate) fn push_flaws_by(
+    alloc: Global,
+    flaws: &mut Vec<Flaw>,
+    look: Look,
+    document: &Table,
+) -> Result<(), AllocError>
+    ensures { OnOk result (flaws_view flaws.new ≡ flaws_view flaws.old ++ flaws_by look (table_view document.now)) }
+{
+    push_root_flaws(alloc, flaws, look, document)?;
+    if let Some(values) = array_at(document, "operation") {
+        push_items_flaws(alloc, flaws, look, values)?;
+    }
+    Ok(())
+}

@@ -1,0 +1,360 @@
+//! The flaws of a draft: names, counts, lengths of rows and their entries.
+ghost use Rattle.std.specs.Prelude.{◌≡◌, ◌++◌, [], OnOk, IfOk, flat_map, if◌then◌else◌, map, string_bytes};
+ghost use Rattle.std.specs.List.{list_any};
+ghost use Rattle.std.specs.Str.{bytes_eq};
+ghost use Rattle.cn_table.specs.Draft.{row_names};
+ghost use Rattle.cn_table.specs.DraftView.{draft_view, row_view, texts_view};
+ghost use Rattle.cn_flaws.specs.Flaws.{flaw, flaws_view, each, bad_name, name_flaws, bad_count, count_flaws, repeats, repeat_flaws};
+ghost use Rattle.cn_flaws.specs.Flaws.{bad_length, row_lengths, length_flaws, unknown_entry, row_entries, entry_flaws, draft_flaws};
+ghost use Rattle.cn_flaws.specs.FlawText.{bad_name_text, too_many_text, too_few_text, repeated_text, length_text, entry_text, names_in_brackets};
+
+use crate::flaw::{Flaw, push_flaw};
+use crate::flaw_text::{entries_text, in_quotes, names_in_brackets, operation_text, states_text};
+use cn_table::draft::{Draft, DraftRow};
+use cn_table::names::{has_namesake, number_of};
+use cn_table::{LONGEST_NAME, MOST_OPERATIONS, MOST_RESPONSES, MOST_STATES, TableFault, is_name};
+use std::alloc::{AllocError, Global};
+
+fn bad_name_text(alloc: Global, what: &str, name: &str) -> Result<String, AllocError>
+    ensures { IfOk result (λ s. string_bytes s ≡ bad_name_text what.now name.now) }
+{
+    let name = in_quotes(alloc, name)?;
+    let most = LONGEST_NAME;
+    format!(in alloc; "{what} {name}: 1 to {most} of a-z, 0-9, _")
+}
+
+fn push_bad_name(
+    alloc: Global,
+    flaws: &mut Vec<Flaw>,
+    what: &str,
+    name: &str,
+) -> Result<(), AllocError>
+    ensures { OnOk result (flaws_view flaws.new ≡ flaws_view flaws.old ++ bad_name what.now name.now) }
+{
+    if !is_name(name) {
+        let text = bad_name_text(alloc, what, name)?;
+        push_flaw(flaws, TableFault::BadName, text)?;
+    }
+    Ok(())
+}
+
+fn push_bad_names(
+    alloc: Global,
+    flaws: &mut Vec<Flaw>,
+    what: &str,
+    names: &[String],
+) -> Result<(), AllocError>
+    ensures { OnOk result (flaws_view flaws.new ≡ flaws_view flaws.old ++ flat_map (bad_name what.now) (map (λ s. string_bytes s) names.now)) }
+{
+    for name in names {
+        push_bad_name(alloc, flaws, what, name.as_str())?;
+    }
+    Ok(())
+}
+
+fn operation_names(alloc: Global, rows: &[DraftRow]) -> Result<Vec<String>, AllocError>
+    ensures { IfOk result (λ names. texts_view names ≡ row_names (map row_view rows.now)) }
+{
+    let mut names = Vec::new(alloc);
+    for row in rows {
+        names.push(String::from_str(alloc, row.name.as_str())?)?;
+    }
+    Ok(names)
+}
+
+/// The type, the states, the responses and the operations that have no name.
+#[tactic(auto, unfolding(crate::specs::Flaws::name_flaws))]
+fn push_name_flaws(alloc: Global, flaws: &mut Vec<Flaw>, draft: &Draft) -> Result<(), AllocError>
+    ensures { OnOk result (flaws_view flaws.new ≡ flaws_view flaws.old ++ name_flaws (draft_view draft.now)) }
+{
+    push_bad_name(alloc, flaws, "name", draft.name.as_str())?;
+    push_bad_names(alloc, flaws, "state", &draft.states)?;
+    push_bad_names(alloc, flaws, "response", &draft.responses)?;
+    let operations = operation_names(alloc, &draft.operations)?;
+    push_bad_names(alloc, flaws, "operation", &operations)
+}
+
+fn too_many_text(alloc: Global, what: &str, most: usize, count: usize) -> Result<String, AllocError>
+    ensures { IfOk result (λ s. string_bytes s ≡ too_many_text what.now most count) }
+{
+    format!(in alloc; "{count} {what}; at most {most}")
+}
+
+fn too_few_text(alloc: Global, what: &str) -> Result<String, AllocError>
+    ensures { IfOk result (λ s. string_bytes s ≡ too_few_text what.now) }
+{
+    format!(in alloc; "0 {what}; at least 1")
+}
+
+fn push_bad_count(
+    alloc: Global,
+    flaws: &mut Vec<Flaw>,
+    what: &str,
+    most: usize,
+    count: usize,
+) -> Result<(), AllocError>
+    ensures { OnOk result (flaws_view flaws.new ≡ flaws_view flaws.old ++ bad_count what.now most count) }
+{
+    if count < 1 {
+        let text = too_few_text(alloc, what)?;
+        push_flaw(flaws, TableFault::Count, text)?;
+    } else if count > most {
+        let text = too_many_text(alloc, what, most, count)?;
+        push_flaw(flaws, TableFault::Count, text)?;
+    }
+    Ok(())
+}
+
+/// Too few or too many states, responses or operations.
+#[tactic(auto, unfolding(crate::specs::Flaws::count_flaws))]
+fn push_count_flaws(alloc: Global, flaws: &mut Vec<Flaw>, draft: &Draft) -> Result<(), AllocError>
+    ensures { OnOk result (flaws_view flaws.new ≡ flaws_view flaws.old ++ count_flaws (draft_view draft.now)) }
+{
+    let states = draft.states.as_slice();
+    let responses = draft.responses.as_slice();
+    let operations = draft.operations.as_slice();
+    push_bad_count(alloc, flaws, "states", MOST_STATES, states.len())?;
+    push_bad_count(alloc, flaws, "responses", MOST_RESPONSES, responses.len())?;
+    push_bad_count(
+        alloc,
+        flaws,
+        "operations",
+        MOST_OPERATIONS,
+        operations.len(),
+    )
+}
+
+fn repeated_text(alloc: Global, what: &str, name: &str) -> Result<String, AllocError>
+    ensures { IfOk result (λ s. string_bytes s ≡ repeated_text what.now name.now) }
+{
+    let name = in_quotes(alloc, name)?;
+    format!(in alloc; "two {what} are called {name}")
+}
+
+/// A flaw, where a name stands again behind it.
+fn push_repeated(
+    alloc: Global,
+    flaws: &mut Vec<Flaw>,
+    what: &str,
+    name: &String,
+    behind: &[String],
+) -> Result<(), AllocError>
+    ensures { OnOk result (flaws_view flaws.new ≡ flaws_view flaws.old
+        ++ (if list_any (λ x. bytes_eq (string_bytes x) (string_bytes name.now)) behind.now
+        then flaw TableFault.Repeated (repeated_text what.now (string_bytes name.now)) else [])) }
+{
+    if has_namesake(behind, name.as_str()) {
+        let text = repeated_text(alloc, what, name.as_str())?;
+        push_flaw(flaws, TableFault::Repeated, text)?;
+    }
+    Ok(())
+}
+
+fn push_repeats(
+    alloc: Global,
+    flaws: &mut Vec<Flaw>,
+    what: &str,
+    names: &[String],
+) -> Result<(), AllocError>
+    ensures { OnOk result (flaws_view flaws.new ≡ flaws_view flaws.old ++ repeats what.now (map (λ s. string_bytes s) names.now)) }
+{
+    for (i, name) in names.iter().enumerate() {
+        push_repeated(alloc, flaws, what, name, &names[i + 1..])?;
+    }
+    Ok(())
+}
+
+/// The names that stand twice.
+#[tactic(auto, unfolding(crate::specs::Flaws::repeat_flaws))]
+fn push_repeat_flaws(alloc: Global, flaws: &mut Vec<Flaw>, draft: &Draft) -> Result<(), AllocError>
+    ensures { OnOk result (flaws_view flaws.new ≡ flaws_view flaws.old ++ repeat_flaws (draft_view draft.now)) }
+{
+    push_repeats(alloc, flaws, "states", &draft.states)?;
+    push_repeats(alloc, flaws, "responses", &draft.responses)?;
+    let operations = operation_names(alloc, &draft.operations)?;
+    push_repeats(alloc, flaws, "operations", &operations)
+}
+
+fn length_text(
+    alloc: Global,
+    operation: &str,
+    row: &str,
+    count: usize,
+    states: usize,
+) -> Result<String, AllocError>
+    ensures { IfOk result (λ s. string_bytes s ≡ length_text operation.now row.now count states) }
+{
+    let entries = entries_text(alloc, count)?;
+    let there = states_text(alloc, states)?;
+    format!(in alloc; "{operation}: {row} has {entries}, {there}")
+}
+
+fn push_bad_length(
+    alloc: Global,
+    flaws: &mut Vec<Flaw>,
+    operation: &str,
+    row: &str,
+    count: usize,
+    states: usize,
+) -> Result<(), AllocError>
+    ensures { OnOk result (flaws_view flaws.new ≡ flaws_view flaws.old ++ bad_length operation.now row.now count states) }
+{
+    if count != states {
+        let text = length_text(alloc, operation, row, count, states)?;
+        push_flaw(flaws, TableFault::RowLength, text)?;
+    }
+    Ok(())
+}
+
+fn push_row_lengths(
+    alloc: Global,
+    flaws: &mut Vec<Flaw>,
+    states: usize,
+    i: usize,
+    row: &DraftRow,
+) -> Result<(), AllocError>
+    ensures { OnOk result (flaws_view flaws.new ≡ flaws_view flaws.old ++ row_lengths states i (row_view row.now)) }
+{
+    let operation = operation_text(alloc, i, row.name.as_str())?;
+    let place = operation.as_str();
+    push_bad_length(alloc, flaws, place, "response", row.response.len(), states)?;
+    push_bad_length(alloc, flaws, place, "next", row.next.len(), states)
+}
+
+fn push_all_lengths(
+    alloc: Global,
+    flaws: &mut Vec<Flaw>,
+    states: usize,
+    rows: &[DraftRow],
+) -> Result<(), AllocError>
+    ensures { OnOk result (flaws_view flaws.new ≡ flaws_view flaws.old ++ each (row_lengths states) 0 (map row_view rows.now)) }
+{
+    for (i, row) in rows.iter().enumerate() {
+        push_row_lengths(alloc, flaws, states, i, row)?;
+    }
+    Ok(())
+}
+
+/// The rows that have not an entry for each state.
+#[tactic(auto, unfolding(crate::specs::Flaws::length_flaws))]
+fn push_length_flaws(alloc: Global, flaws: &mut Vec<Flaw>, draft: &Draft) -> Result<(), AllocError>
+    ensures { OnOk result (flaws_view flaws.new ≡ flaws_view flaws.old ++ length_flaws (draft_view draft.now)) }
+{
+    push_all_lengths(alloc, flaws, draft.states.len(), &draft.operations)
+}
+
+fn entry_text(
+    alloc: Global,
+    operation: &str,
+    row: &str,
+    k: usize,
+    text: &str,
+    what: &str,
+    names: &str,
+) -> Result<String, AllocError>
+    ensures { IfOk result (λ s. string_bytes s ≡ entry_text operation.now row.now k text.now what.now names.now) }
+{
+    let text = in_quotes(alloc, text)?;
+    format!(in alloc; "{operation}, {row}[{k}]: {text} is no {what}{names}")
+}
+
+fn push_unknown_entries(
+    alloc: Global,
+    flaws: &mut Vec<Flaw>,
+    operation: &str,
+    row: &str,
+    what: &str,
+    names: &[String],
+    texts: &[String],
+) -> Result<(), AllocError>
+    ensures { OnOk result (flaws_view flaws.new ≡ flaws_view flaws.old
+        ++ each (unknown_entry operation.now row.now what.now (map (λ s. string_bytes s) names.now)) 0 (map (λ s. string_bytes s) texts.now)) }
+{
+    let shown = names_in_brackets(alloc, names)?;
+    for (k, text) in texts.iter().enumerate() {
+        if number_of(names, text.as_str()).is_none() {
+            let said = entry_text(
+                alloc,
+                operation,
+                row,
+                k,
+                text.as_str(),
+                what,
+                shown.as_str(),
+            )?;
+            push_flaw(flaws, TableFault::UnknownName, said)?;
+        }
+    }
+    Ok(())
+}
+
+fn push_row_entries(
+    alloc: Global,
+    flaws: &mut Vec<Flaw>,
+    states: &[String],
+    responses: &[String],
+    i: usize,
+    row: &DraftRow,
+) -> Result<(), AllocError>
+    ensures { OnOk result (flaws_view flaws.new ≡ flaws_view flaws.old
+        ++ row_entries (map (λ s. string_bytes s) states.now) (map (λ s. string_bytes s) responses.now) i (row_view row.now)) }
+{
+    let operation = operation_text(alloc, i, row.name.as_str())?;
+    let place = operation.as_str();
+    push_unknown_entries(
+        alloc,
+        flaws,
+        place,
+        "response",
+        "response",
+        responses,
+        &row.response,
+    )?;
+    push_unknown_entries(alloc, flaws, place, "next", "state", states, &row.next)
+}
+
+fn push_all_entries(
+    alloc: Global,
+    flaws: &mut Vec<Flaw>,
+    states: &[String],
+    responses: &[String],
+    rows: &[DraftRow],
+) -> Result<(), AllocError>
+    ensures { OnOk result (flaws_view flaws.new ≡ flaws_view flaws.old
+        ++ each (row_entries (map (λ s. string_bytes s) states.now) (map (λ s. string_bytes s) responses.now)) 0 (map row_view rows.now)) }
+{
+    for (i, row) in rows.iter().enumerate() {
+        push_row_entries(alloc, flaws, states, responses, i, row)?;
+    }
+    Ok(())
+}
+
+/// The entries that name no response or no state.
+#[tactic(auto, unfolding(crate::specs::Flaws::entry_flaws))]
+fn push_entry_flaws(alloc: Global, flaws: &mut Vec<Flaw>, draft: &Draft) -> Result<(), AllocError>
+    ensures { OnOk result (flaws_view flaws.new ≡ flaws_view flaws.old ++ entry_flaws (draft_view draft.now)) }
+{
+    push_all_entries(
+        alloc,
+        flaws,
+        &draft.states,
+        &draft.responses,
+        &draft.operations,
+    )
+}
+
+/// Puts the flaws of a draft behind the others.
+#[tactic(auto, unfolding(crate::specs::Flaws::draft_flaws))]
+pub(crate) fn push_draft_flaws(
+    alloc: Global,
+    flaws: &mut Vec<Flaw>,
+    draft: &Draft,
+) -> Result<(), AllocError>
+    ensures { OnOk result (flaws_view flaws.new ≡ flaws_view flaws.old ++ draft_flaws (draft_view draft.now)) }
+{
+    push_name_flaws(alloc, flaws, draft)?;
+    push_count_flaws(alloc, flaws, draft)?;
+    push_repeat_flaws(alloc, flaws, draft)?;
+    push_length_flaws(alloc, flaws, draft)?;
+    push_entry_flaws(alloc, flaws, draft)
+}

@@ -1,0 +1,118 @@
+//! The parts of which the texts of flaws are made.
+ghost use Rattle.std.specs.Prelude.{codes, ◌≡◌, ◌<◌, ◌^◌, ◌++◌, IfOk, OnOk, length, map, string_bytes};
+ghost use Rattle.cn_flaws.specs.FlawText.{shown_byte, in_quotes, operation_text, goes_on, place_after, entries_text, states_text, names_in_brackets};
+ghost use Rattle.cn_table.specs.Texts.{joined_texts};
+
+use cn_table::names::are_named;
+use cn_table::{MOST_STATES, is_name};
+use std::alloc::{AllocError, Global};
+
+fn shown_byte(b: u8) -> u8
+    ensures byte { result ≡ shown_byte b }
+    ensures ascii { result < 128 }
+{
+    match b {
+        b' '..=b'~' => b,
+        _ => b'?',
+    }
+}
+
+fn shown(alloc: Global, text: &str) -> Result<String, AllocError>
+    ensures { IfOk result (λ s. string_bytes s ≡ map shown_byte text.now) }
+{
+    let mut shown = String::new(alloc);
+    let bytes = text.as_bytes();
+    for b in bytes {
+        shown.push(char::from(shown_byte(*b)))?;
+    }
+    Ok(shown)
+}
+
+/// A text between quotation marks, with a question mark for each byte that ASCII does not print.
+pub(crate) fn in_quotes(alloc: Global, text: &str) -> Result<String, AllocError>
+    ensures { IfOk result (λ s. string_bytes s ≡ in_quotes text.now) }
+{
+    let shown = shown(alloc, text)?;
+    format!(in alloc; "\"{shown}\"")
+}
+
+/// How an operation is called: by its name, where it is one, else by its place in the array.
+pub(crate) fn operation_text(alloc: Global, i: usize, name: &str) -> Result<String, AllocError>
+    ensures { IfOk result (λ s. string_bytes s ≡ operation_text i name.now) }
+{
+    if is_name(name) {
+        return format!(in alloc; "operation \"{name}\"");
+    }
+    format!(in alloc; "operation[{i}]")
+}
+
+fn goes_on(b: u8) -> bool
+    ensures { result ≡ goes_on b }
+{
+    matches!(b, 0x80..=0xBF)
+}
+
+/// The line and the column behind these bytes, both from 1. A column counts characters.
+pub(crate) fn place_after(before: &[u8]) -> (usize, usize)
+    requires { length before.now < 2 ^ 63 }
+    ensures { result ≡ place_after 1 1 before.now }
+{
+    let mut line = 1;
+    let mut column = 1;
+    for b in before {
+        if *b == b'\n' {
+            line += 1;
+            column = 1;
+        } else if !goes_on(*b) {
+            column += 1;
+        }
+    }
+    (line, column)
+}
+
+/// So many entries.
+pub(crate) fn entries_text(alloc: Global, count: usize) -> Result<String, AllocError>
+    ensures { IfOk result (λ s. string_bytes s ≡ entries_text count) }
+{
+    if count == 1 {
+        return String::from_str(alloc, "1 entry");
+    }
+    format!(in alloc; "{count} entries")
+}
+
+/// That there are so many states.
+pub(crate) fn states_text(alloc: Global, count: usize) -> Result<String, AllocError>
+    ensures { IfOk result (λ s. string_bytes s ≡ states_text count) }
+{
+    if count == 1 {
+        return String::from_str(alloc, "there is 1 state");
+    }
+    format!(in alloc; "there are {count} states")
+}
+
+fn push_names(text: &mut String, names: &[String]) -> Result<(), AllocError>
+    ensures { OnOk result (string_bytes text.new ≡ string_bytes text.old ++ joined_texts (codes ", ") (map (λ s. string_bytes s) names.now)) }
+{
+    let [first, rest @ ..] = names else {
+        return Ok(());
+    };
+    text.push_str(first.as_str())?;
+    for name in rest {
+        text.push_str(", ")?;
+        text.push_str(name.as_str())?;
+    }
+    Ok(())
+}
+
+/// The names in brackets, where they are few names; else nothing.
+pub(crate) fn names_in_brackets(alloc: Global, names: &[String]) -> Result<String, AllocError>
+    ensures { IfOk result (λ s. string_bytes s ≡ names_in_brackets (map (λ s. string_bytes s) names.now)) }
+{
+    let mut text = String::new(alloc);
+    if names.len() <= MOST_STATES && are_named(names) {
+        text.push_str(" (")?;
+        push_names(&mut text, names)?;
+        text.push_str(")")?;
+    }
+    Ok(text)
+}

@@ -1,9 +1,0 @@
-use Rattle.std.proofs.Common.{◌≡◌, ◌++◌, drop, map, string_bytes}
-use Rattle.cn_table.specs.Flaws.{flaws_view, each, unknown_entry}
-use Rattle.cn_table.proofs.draft_flaws.push_unknown_entries.Given as goal
-
--- what is found so far, and what is left
-abbrev pub invariant-loop-k : goal.invariant-loop-k
-invariant-loop-k l =
-    flaws_view l.flaws ++ each (unknown_entry l.operation l.row l.what (map (λ s. string_bytes s) l.names)) l.k (map (λ s. string_bytes s) (drop l.k l.texts))
-    ≡ flaws_view l.initial.flaws ++ each (unknown_entry l.operation l.row l.what (map (λ s. string_bytes s) l.names)) 0 (map (λ s. string_bytes s) l.texts)
