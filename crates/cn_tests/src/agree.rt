@@ -1,78 +1,17 @@
-//! Worked schedules, rounds by hand, and every world of two plans.
+//! Rounds by hand, and every world of two plans.
 ghost use Rattle.std.specs.Prelude.{◌≡◌, ◌<◌, length, IfOk};
 ghost use Rattle.cn_proto.specs.Plan.{processes_of};
 ghost use Rattle.cn_agree.specs.Beginning.{AllHaveBegun};
 ghost use Rattle.cn_agree.specs.Rounds.{RunsBy, decision_at};
 
-use crate::fixtures::{assert_same, assert_texts, plan_for};
+use crate::fixtures::{plan_for_two, plan_of};
 use crate::types::*;
-use cn_agree::{Round, ScheduleFault, laws, run_schedule};
+use cn_agree::{Round, laws};
 use cn_proto::Plan;
 use std::alloc::{AllocError, Global};
 use std::collections::BTreeSet;
 use std::process::Abort;
 use std::test::Fail;
-
-/// Each fault, and how it reads.
-fn fault_texts() -> [(ScheduleFault, &'static str); 3] {
-    [
-        (ScheduleFault::InputCount, "1 InputCount"),
-        (ScheduleFault::NoSuchProcess(1), "2 NoSuchProcess 1"),
-        (ScheduleFault::from(AllocError), "3 OutOfMemory"),
-    ]
-}
-
-#[test]
-fn prints_each_fault(rt: HostRuntime) -> Result<(), Fail> {
-    assert_texts(&rt, rt.alloc(), &fault_texts())
-}
-
-/// Process 7 of eight, with seven places on its path, runs alone, so many steps; and then the
-/// others take more steps than they need.
-fn seven_first(alloc: Global, alone: u8, more: u8) -> Result<Vec<u8>, AllocError> {
-    let mut schedule = Vec::new(alloc);
-    for _step in 0..alone {
-        schedule.push(7)?;
-    }
-    for _step in 0..more {
-        for p in 0..7 {
-            schedule.push(p)?;
-        }
-    }
-    Ok(schedule)
-}
-
-/// Asserts what eight processes have decided after a schedule, and that the input of process 7 is fixed.
-fn assert_decided(
-    rt: &impl Abort,
-    alloc: Global,
-    plan: &Plan,
-    schedule: &[u8],
-    expected: &[Option<u64>],
-) -> Result<(), Fail> {
-    let inputs = [10, 20, 30, 40, 50, 60, 70, 80];
-    let decided = run_schedule(alloc, plan, &inputs, schedule)?;
-    assert!(rt; decided.decisions.as_slice() == expected, "{schedule:?}");
-    let round = replay(rt, alloc, plan, &inputs, schedule)?;
-    assert!(rt; round.fixed() == Some(80), "{schedule:?}");
-    Ok(())
-}
-
-#[test]
-fn decides_for_eight(rt: HostRuntime) -> Result<(), Fail> {
-    let alloc = rt.alloc();
-    let plan = plan_for(&rt, alloc, sticky_bit(), 8)?;
-    let rows = [
-        (27, 0, [None; 8]),
-        (28, 0, [None, None, None, None, None, None, None, Some(80)]),
-        (28, 28, [Some(80); 8]),
-    ];
-    for (alone, more, expected) in rows {
-        let schedule = seven_first(alloc, alone, more)?;
-        assert_decided(&rt, alloc, &plan, &schedule, &expected)?;
-    }
-    Ok(())
-}
 
 /// A round in which each process has begun with its input.
 fn begin_all<V: Copy>(alloc: Global, plan: &Plan, inputs: &[V]) -> Result<Round<V>, AllocError>
@@ -133,9 +72,9 @@ pub(super) fn replay<V: Copy>(
     Ok(round)
 }
 
-/// Asserts what is fixed after a schedule of two processes, and what process 0 has decided; process 1
-/// has not.
-fn assert_round<V: Copy + PartialEq>(
+/// Whether this is fixed after a schedule of two processes, and this is what process 0 has decided;
+/// process 1 has not.
+fn comes_to<V: Copy + PartialEq>(
     rt: &impl Abort,
     alloc: Global,
     plan: &Plan,
@@ -143,41 +82,37 @@ fn assert_round<V: Copy + PartialEq>(
     schedule: &[u8],
     fixed: Option<V>,
     decided: Option<V>,
-) -> Result<(), AllocError> {
-    assert!(rt; plan.processes() == 2 && inputs.len() == 2);
+) -> Result<bool, AllocError> {
+    assert!(rt; plan.processes() == 2);
     let round = replay(rt, alloc, plan, inputs, schedule)?;
-    assert!(rt; round.fixed() == fixed, "{schedule:?}");
-    assert!(rt; decision_of(plan, &round, 0) == decided, "{schedule:?}");
-    assert!(rt; decision_of(plan, &round, 1).is_none(), "{schedule:?}");
-    Ok(())
+    let is_decided = decision_of(plan, &round, 0) == decided;
+    Ok(round.fixed() == fixed && is_decided && decision_of(plan, &round, 1).is_none())
 }
 
 /// Process 1 comes first at the object of test_and_set, and then process 0 runs alone.
 fn second_comes_first<V: Copy + PartialEq>(
     rt: &impl Abort,
     alloc: Global,
-    inputs: &[V],
-) -> Result<(), Fail> {
-    let plan = plan_for(rt, alloc, test_and_set(), 2)?;
-    assert!(rt; inputs.len() == 2);
+    plan: &Plan,
+    inputs: [V; 2],
+) -> Result<(), AllocError> {
     let second = Some(inputs[1]);
-    for (schedule, is_fixed, is_decided) in [
-        ([1].as_slice(), false, false),
-        (&[1, 1], true, false),
-        (&[1, 1, 0, 0, 0], true, false),
-        (&[1, 1, 0, 0, 0, 0], true, true),
+    for (schedule, fixed, decided) in [
+        ([1].as_slice(), None, None),
+        (&[1, 1], second, None),
+        (&[1, 1, 0, 0, 0], second, None),
+        (&[1, 1, 0, 0, 0, 0], second, second),
     ] {
-        let fixed = if is_fixed { second } else { None };
-        let decided = if is_decided { second } else { None };
-        assert_round(rt, alloc, &plan, inputs, schedule, fixed, decided)?;
+        assert!(rt; comes_to(rt, alloc, plan, &inputs, schedule, fixed, decided)?);
     }
     Ok(())
 }
 
 #[test]
 fn rounds_run_by_hand(rt: HostRuntime) -> Result<(), Fail> {
-    second_comes_first(&rt, rt.alloc(), [10u64, 20].as_slice())?;
-    second_comes_first(&rt, rt.alloc(), [('a', true), ('b', false)].as_slice())?;
+    let plan = plan_for_two(&rt, rt.alloc())?;
+    second_comes_first(&rt, rt.alloc(), &plan, [10u64, 20])?;
+    second_comes_first(&rt, rt.alloc(), &plan, [('a', true), ('b', false)])?;
     Ok(())
 }
 
@@ -199,32 +134,27 @@ fn steps_of(schedule: &[u8], p: usize) -> usize {
     steps
 }
 
-/// Asserts what is asked of a world.
-fn assert_after(rt: &impl Abort, holds: bool, asked: &str, schedule: &[u8]) {
-    assert!(rt; holds, "{asked} after {schedule:?}");
-}
-
-/// Asks of the decisions in a world, of which it knows nothing else, that they are equal, are
-/// inputs of processes that have taken a step, and came with the last of four steps for each of so
-/// many places.
-fn judge(
-    rt: &impl Abort,
+/// Whether the decisions in a world, of which nothing else is known, are equal, are inputs of
+/// processes that have taken a step, and came with the last of four steps for each of so many places.
+fn keep_consensus(
     decisions: &[Option<u64>],
     inputs: &[u64],
     schedule: &[u8],
     places: &[usize],
-) {
+) -> bool {
     let mut agreed = None;
     for (p, (decision, places)) in decisions.iter().zip(places).enumerate() {
-        let is_over = steps_of(schedule, p) / 4 >= *places;
-        assert_after(rt, decision.is_some() == is_over, "in time", schedule);
+        if decision.is_some() != (steps_of(schedule, p) / 4 >= *places) {
+            return false;
+        }
         if let Some(value) = *decision {
-            assert_after(rt, is_valid(inputs, schedule, value), "valid", schedule);
-            let is_agreed = agreed.is_none() || agreed == Some(value);
-            assert_after(rt, is_agreed, "agreed", schedule);
-            agreed = Some(value);
+            if !is_valid(inputs, schedule, value) || agreed.is_some() && agreed != *decision {
+                return false;
+            }
+            agreed = *decision;
         }
     }
+    true
 }
 
 /// What each process has decided.
@@ -255,7 +185,7 @@ fn judge_worlds(
             let round = replay(rt, alloc, plan, inputs, schedule)?;
             if worlds.insert(format!(in alloc; "{round:?}")?)? {
                 let decisions = decisions(alloc, plan, &round)?;
-                judge(rt, &decisions, inputs, schedule, places);
+                assert!(rt; keep_consensus(&decisions, inputs, schedule, places));
                 push_next(alloc, &decisions, schedule, &mut next)?;
             }
         }
@@ -282,34 +212,13 @@ fn push_next(
     Ok(())
 }
 
-/// How many worlds the plan for so many inputs has, each judged.
-fn worlds_of(
-    rt: &impl Abort,
-    alloc: Global,
-    text: &str,
-    inputs: &[u64],
-    places: &[usize],
-) -> Result<usize, Fail> {
-    assert!(rt; inputs.len() >= 2 && inputs.len() <= 8);
-    let plan = plan_for(rt, alloc, text, inputs.len() as u8)?;
-    judge_worlds(rt, alloc, &plan, inputs, places)
-}
-
 #[test]
 fn every_world_keeps_consensus(rt: HostRuntime) -> Result<(), Fail> {
     // The counts are those that a separate program found.
-    let rows = [
-        (test_and_set(), [10, 20].as_slice(), [1, 1].as_slice(), 34),
-        (
-            sticky_bit(),
-            [5, 6, 7].as_slice(),
-            [1, 2, 2].as_slice(),
-            884,
-        ),
-    ];
-    for (text, inputs, places, expected) in rows {
-        let worlds = worlds_of(&rt, rt.alloc(), text, inputs, places)?;
-        assert_same(&rt, &worlds, &expected, text);
-    }
+    let alloc = rt.alloc();
+    let two = plan_for_two(&rt, alloc)?;
+    assert!(rt; judge_worlds(&rt, alloc, &two, &[10, 20], &[1, 1])? == 34);
+    let three = plan_of(&rt, alloc, sticky_bit(), &[0], &[1, 1])?;
+    assert!(rt; judge_worlds(&rt, alloc, &three, &[5, 6, 7], &[1, 2, 2])? == 884);
     Ok(())
 }

@@ -1,13 +1,14 @@
 //! Lists and plans that tests of several crates start from.
-ghost use Rattle.std.specs.Prelude.{◌≡◌, ◌<◌, ◌≤◌, ◌↔◌, length, All, IsTrue};
+ghost use Rattle.std.specs.Prelude.{◌≡◌, ◌<◌, ◌≤◌, ◌+◌, ◌↔◌, length, All, IsTrue};
+ghost use Rattle.cn_choice.specs.Canonical.{FitsTable};
 
+use crate::types::test_and_set;
 use arrayvec::ArrayVec;
-use cn_choice::Choices;
+use cn_choice::Choice;
 use cn_log::Event;
 use cn_proto::Plan;
-use cn_table::{Table, TableFault, read_table};
+use cn_table::{State, Table, TableFault, read_table};
 use std::alloc::{AllocError, Global};
-use std::fmt::{Debug, Display};
 use std::process::Abort;
 use std::test::Fail;
 
@@ -44,46 +45,40 @@ pub(super) fn events_of(alloc: Global, parts: &[(Event, u8)]) -> Result<Vec<Even
     Ok(events)
 }
 
-/// Asserts that these are equal, in the row of a test that is named.
-pub(super) fn assert_same<T: Debug + PartialEq>(
-    rt: &impl Abort,
-    found: &T,
-    expected: &T,
-    row: &str,
-) {
-    assert!(rt;
-        *found == *expected,
-        "{found:?}, and not {expected:?}: {row}"
-    );
+/// A choice of the table with these lists.
+pub(super) fn choice_of(rt: &impl Abort, table: &Table, state: u8, a: &[u8], b: &[u8]) -> Choice
+    requires some { 2 ≤ length a.now + length b.now }
+    requires few { length a.now + length b.now ≤ 8 }
+    ensures fits { FitsTable table.now result }
+    ensures a { result.a ≡ a.now }
+    ensures b { result.b ≡ b.now }
+{
+    let choice = Choice {
+        state: State(state),
+        a: list_of(a),
+        b: list_of(b),
+    };
+    assert!(rt; choice.is_for(table, (a.len() + b.len()) as u8));
+    choice
 }
 
-/// Asserts that each fault reads as the text beside it.
-pub(super) fn assert_texts<F: Display>(
+/// The plan of the witness of a type with these lists, from its first state.
+pub(super) fn plan_of(
     rt: &impl Abort,
     alloc: Global,
-    faults: &[(F, &str)],
-) -> Result<(), Fail> {
-    for (fault, expected) in faults {
-        let text = format!(in alloc; "{fault}")?;
-        assert_eq!(rt; text.as_str(), *expected);
-    }
-    Ok(())
-}
-
-/// The plan of the first canonical witness for n processes: `[0,[0],[0]]` of test_and_set for two,
-/// `[0,[0],[1,1]]` of sticky_bit for three.
-pub(super) fn plan_for(rt: &impl Abort, alloc: Global, text: &str, n: u8) -> Result<Plan, Fail>
-    requires some { 2 ≤ n }
-    requires few { n ≤ 8 }
+    text: &str,
+    a: &[u8],
+    b: &[u8],
+) -> Result<Plan, Fail>
+    requires some { 2 ≤ length a.now + length b.now }
+    requires few { length a.now + length b.now ≤ 8 }
 {
     let table = table_of(alloc, text)?;
-    for choice in Choices::new(&table, n) {
-        let processes = choice.a.len() + choice.b.len();
-        assert!(rt; processes >= 2 && processes <= 8);
-        assert!(rt; choice.is_for(&table, processes as u8));
-        if let Ok(plan) = Plan::from_witness(alloc, &table, &choice) {
-            return Ok(plan);
-        }
-    }
-    Err("no witness")?
+    let choice = choice_of(rt, &table, 0, a, b);
+    Ok(Plan::from_witness(alloc, &table, &choice)?)
+}
+
+/// The plan of test-and-set for two processes.
+pub(super) fn plan_for_two(rt: &impl Abort, alloc: Global) -> Result<Plan, Fail> {
+    plan_of(rt, alloc, test_and_set(), &[0], &[0])
 }

@@ -5,10 +5,10 @@ ghost use Rattle.std.specs.Vec.{vec_capacity};
 ghost use Rattle.cn_hall.specs.Seats.{IsSeatOf};
 ghost use Rattle.cn_hall.specs.declared.call.Go.TheVariants.{On};
 
-use crate::fixtures::{assert_texts, events_of, plan_for, table_of};
+use crate::fixtures::{events_of, plan_for_two, plan_of, table_of};
 use crate::gates::{Holds, StopsAt, WritesDown, comes_to};
 use crate::types::*;
-use cn_hall::{AlwaysOn, CallFault, Gate, Go, Hall, OpenFault, Reply, Seat, open};
+use cn_hall::{AlwaysOn, CallFault, Gate, Go, Hall, Reply, Seat, open};
 use cn_log::{Event, LogCore, replay};
 use cn_table::{Operation, Response, State};
 use std::alloc::{AllocError, Global};
@@ -31,7 +31,7 @@ pub(super) fn core_after(
     ensures two { IfOk result (λ core. processes_of core.opening.plan ≡ 2) }
     ensures operation { IfOk result (λ core. 0 < length core.opening.object.operations) }
 {
-    let plan = plan_for(rt, alloc, test_and_set(), 2)?;
+    let plan = plan_for_two(rt, alloc)?;
     let object = table_of(alloc, counter_3())?;
     assert!(rt; object.states() >= 1);
     let core = replay(alloc, &plan, &object, State(0), capacity, events)?;
@@ -96,7 +96,7 @@ fn assert_call<R: Wait + Abort>(
     ensures operation { 0 < length seat.new.core.opening.object.operations }
 {
     let found = call(rt, hall, seat, &mut AlwaysOn);
-    assert!(rt; found == expected, "{found:?}, and not {expected:?}");
+    assert!(rt; found == expected);
 }
 
 /// The rest of the call that the seat's process is in.
@@ -337,24 +337,6 @@ fn asks_before_each_step_of_two_slots(rt: HostRuntime) -> Result<(), Fail> {
     Ok(())
 }
 
-/// Each fault, and how it reads.
-fn fault_texts() -> [(CallFault, &'static str); 2] {
-    [
-        (CallFault::LogFull, "1 LogFull"),
-        (CallFault::Stopped, "2 Stopped"),
-    ]
-}
-
-#[test]
-fn prints_each_fault(rt: HostRuntime) -> Result<(), Fail> {
-    let alloc = rt.alloc();
-    assert_texts(&rt, alloc, &fault_texts())?;
-    let fault = OpenFault::OutOfMemory(core_after(&rt, alloc, 4, &[])?);
-    let text = format!(in alloc; "{fault}")?;
-    assert!(rt; text.as_str() == "1 OutOfMemory");
-    Ok(())
-}
-
 /// A new core of 1,024 slots for eight processes, by the witness `[0,[0],[1,1,1,1,1,1,1]]` of
 /// sticky_bit, in which the counter starts at 0.
 fn core_for_eight(rt: &impl Abort, alloc: Global) -> Result<LogCore, Fail>
@@ -363,7 +345,7 @@ fn core_for_eight(rt: &impl Abort, alloc: Global) -> Result<LogCore, Fail>
 {
     let object = table_of(alloc, counter_3())?;
     assert!(rt; object.states() >= 1);
-    let plan = plan_for(rt, alloc, sticky_bit(), 8)?;
+    let plan = plan_of(rt, alloc, sticky_bit(), &[0], &[1, 1, 1, 1, 1, 1, 1])?;
     let core = LogCore::new(alloc, &plan, &object, State(0), 1024)?;
     assert!(rt; core.processes() == 8 && core.operations() == 1);
     Ok(core)

@@ -1,9 +1,10 @@
 //! The tests of all library crates: what no contract says.
 //!
-//! Each module is named after the crate that it tests. A test calls the public functions on worked
-//! values, whose answers come from outside the program: numbers and texts of worked types, fakes
-//! that fail, and threads that overlap. What the program shows stands in `tests/rows`. `refused` has
-//! those in which allocations are refused, once `tests/memory` runs them.
+//! Each module is named after the crate that it tests; `faults` has the texts of all faults. A test
+//! calls the public functions on worked values, whose answers come from outside the program: numbers
+//! and texts of worked types, fakes that fail, and threads that overlap. What the program shows stands
+//! in `tests/rows`. `refused` has those in which allocations are refused, once `tests/memory` runs
+//! them.
 #![tactic(auto)]
 
 #[cfg(test)]
@@ -11,13 +12,13 @@ mod agree;
 #[cfg(test)]
 mod app;
 #[cfg(test)]
-mod cert;
-#[cfg(test)]
 mod certificates;
 #[cfg(test)]
 mod check;
 #[cfg(test)]
 mod choice;
+#[cfg(test)]
+mod faults;
 #[cfg(test)]
 mod fixtures;
 #[cfg(test)]

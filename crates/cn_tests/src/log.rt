@@ -1,18 +1,17 @@
-//! Cores by hand, and the greatest logs.
+//! Cores by hand.
 ghost use Rattle.std.specs.Prelude.{◌≤◌};
 
-use crate::fixtures::{assert_texts, plan_for, table_of};
+use crate::fixtures::{plan_for_two, table_of};
 use crate::types::*;
-use cn_log::{CallEnd, Entry, Event, LogCore, Opening, ReplayFault, StepAnswer, replay};
+use cn_log::{CallEnd, Entry, Event, LogCore, Opening, ReplayFault, StepAnswer};
 use cn_table::{Operation, Response, State};
-use std::alloc::{AllocError, Global};
+use std::alloc::Global;
 use std::process::Abort;
 use std::test::Fail;
 
-/// Asserts that two processes call a counter from its first state.
-fn assert_opening(rt: &impl Abort, opening: &Opening) {
-    assert!(rt; opening.plan().processes() == 2 && opening.object().states() == 3);
-    assert!(rt; opening.start() == State(0));
+/// Whether two processes call a counter from its first state.
+fn is_opening(opening: &Opening) -> bool {
+    opening.plan().processes() == 2 && opening.object().states() == 3 && opening.start() == State(0)
 }
 
 /// A new core for two processes, whose object is the counter from its first state.
@@ -20,11 +19,11 @@ fn opened(rt: &impl Abort, alloc: Global, capacity: u16) -> Result<LogCore, Fail
     requires some { 1 ≤ capacity }
     requires few { capacity ≤ 1024 }
 {
-    let plan = plan_for(rt, alloc, test_and_set(), 2)?;
+    let plan = plan_for_two(rt, alloc)?;
     let object = table_of(alloc, counter_3())?;
     assert!(rt; object.states() >= 1);
     let core = LogCore::open(alloc, Opening::new(plan, object, State(0), capacity))?;
-    assert_opening(rt, core.opening());
+    assert!(rt; is_opening(core.opening()));
     Ok(core)
 }
 
@@ -63,65 +62,32 @@ fn entry(process: u8, call: u16) -> Entry {
     }
 }
 
-/// How many slots process p has replayed, and how many entries it has seen there.
-fn stands(rt: &impl Abort, core: &LogCore, p: u8) -> (u16, u16) {
+/// Whether process p has replayed so many slots and seen so many entries there, and is in no call.
+fn rests(rt: &impl Abort, core: &LogCore, p: u8, replayed: u16, seen: u16) -> bool {
     assert!(rt; p < core.processes());
-    (core.replayed(p), core.seen(p))
+    core.is_idle(p) && !core.at_end(p) && (core.replayed(p), core.seen(p)) == (replayed, seen)
 }
 
-/// Whether process p is in no call, and whether it has replayed every slot.
-fn rests(rt: &impl Abort, core: &LogCore, p: u8) -> (bool, bool) {
-    assert!(rt; p < core.processes());
-    (core.is_idle(p), core.at_end(p))
-}
-
-/// The slot of each of the first four entries, and 0 where there are fewer.
-fn slots(core: &LogCore) -> [u16; 4] {
-    let mut slots = [0; 4];
-    for (place, slot) in slots.iter_mut().enumerate() {
-        if place < core.entries().len() {
-            *slot = core.slot_at(place);
-        }
+/// Whether the log of two processes and four slots has three entries, in the slots 0, 0 and 1.
+fn has_three(core: &LogCore) -> bool {
+    if core.entries() != [entry(0, 0), entry(1, 0), entry(0, 1)].as_slice() {
+        return false;
     }
-    slots
+    let is_shaped = core.capacity() == 4 && core.fixed_slots() == 2 && core.schedule().len() == 21;
+    is_shaped && (core.slot_at(0), core.slot_at(1), core.slot_at(2)) == (0, 0, 1)
 }
 
-/// Asserts the entries, how many slots are fixed, and the slots of the entries.
-fn assert_log(rt: &impl Abort, core: &LogCore, entries: &[Entry], fixed: u16, slots_of: [u16; 4]) {
-    assert!(rt; core.entries() == entries && core.fixed_slots() == fixed);
-    assert!(rt; slots(core).as_slice() == slots_of.as_slice());
-}
-
-/// Nothing here takes memory once the core is new.
+/// A slot takes the calls of both, and the next one another call.
 #[test]
-fn a_slot_takes_the_calls_of_both(rt: HostRuntime) -> Result<(), Fail> {
+fn answers_for_a_log(rt: HostRuntime) -> Result<(), Fail> {
     let mut core = opened(&rt, rt.alloc(), 4)?;
     invoke(&rt, &mut core, 0);
     invoke(&rt, &mut core, 1);
     assert!(rt; step(&rt, &mut core, 1, 6) == answered(0, 1));
-    assert_log(&rt, &core, &[entry(0, 0), entry(1, 0)], 1, [0; 4]);
-    assert!(rt; stands(&rt, &core, 0) == (0, 0) && stands(&rt, &core, 1) == (1, 2));
     assert!(rt; step(&rt, &mut core, 0, 6) == answered(0, 0));
-    assert!(rt; stands(&rt, &core, 0) == (1, 2));
     invoke(&rt, &mut core, 0);
-    assert!(rt; step(&rt, &mut core, 0, 6) == answered(1, 2));
-    let entries = [entry(0, 0), entry(1, 0), entry(0, 1)];
-    assert_log(&rt, &core, &entries, 2, [0, 0, 1, 0]);
-    assert!(rt; core.schedule().len() == 21);
-    Ok(())
-}
-
-#[test]
-fn a_call_ends_where_all_slots_are_fixed(rt: HostRuntime) -> Result<(), Fail> {
-    let mut core = opened(&rt, rt.alloc(), 1)?;
-    assert!(rt; core.processes() == 2 && core.capacity() == 1 && core.operations() == 1);
-    invoke(&rt, &mut core, 0);
-    assert!(rt; step(&rt, &mut core, 0, 4) == StepAnswer::Working);
-    invoke(&rt, &mut core, 1);
-    assert!(rt; step(&rt, &mut core, 1, 6) == StepAnswer::Full);
-    assert!(rt; rests(&rt, &core, 0) == (false, false) && rests(&rt, &core, 1) == (true, true));
-    assert!(rt; core.entries() == [entry(0, 0)].as_slice() && core.fixed_slots() == 1);
-    assert!(rt; step(&rt, &mut core, 0, 2) == answered(0, 0));
+    assert!(rt; step(&rt, &mut core, 0, 6) == answered(1, 2) && has_three(&core));
+    assert!(rt; rests(&rt, &core, 0, 2, 3) && rests(&rt, &core, 1, 1, 2));
     Ok(())
 }
 
@@ -161,98 +127,8 @@ fn events_of_one_slot() -> [(Event, u8, Result<Option<CallEnd>, ReplayFault>); 1
 fn events_are_taken_or_refused(rt: HostRuntime) -> Result<(), Fail> {
     let mut core = opened(&rt, rt.alloc(), 1)?;
     for (event, before, expected) in events_of_one_slot() {
-        assert!(rt; take(&mut core, event, before) == expected, "{event:?}");
+        assert!(rt; take(&mut core, event, before) == expected);
     }
     assert!(rt; core.schedule().len() == 14 && core.entries() == [entry(1, 0)].as_slice());
-    Ok(())
-}
-
-/// Each fault, and how it reads.
-fn fault_texts() -> [(ReplayFault, &'static str); 6] {
-    [
-        (ReplayFault::NoSuchProcess(0), "1 NoSuchProcess 0"),
-        (ReplayFault::NoSuchOperation(10), "2 NoSuchOperation 10"),
-        (ReplayFault::NotIdle(1), "3 NotIdle 1"),
-        (ReplayFault::Idle(2), "4 Idle 2"),
-        (ReplayFault::AtEnd(7), "5 AtEnd 7"),
-        (ReplayFault::from(AllocError), "6 OutOfMemory"),
-    ]
-}
-
-#[test]
-fn prints_each_fault(rt: HostRuntime) -> Result<(), Fail> {
-    assert_texts(&rt, rt.alloc(), &fault_texts())
-}
-
-/// These processes of eight make a call each, and then each takes the steps that a slot costs it: 8
-/// looks, and 4 for each place on its path, of which process p has p + 1, and process 7 has 7.
-fn put_slot(events: &mut Vec<Event>, processes: u8) -> Result<(), AllocError> {
-    for p in 0..processes.min(8) {
-        events.push(Event::Invoke(p, 0))?;
-    }
-    for p in 0..processes.min(8) {
-        let places = if p < 7 { p + 1 } else { 7 };
-        for _step in 0..8 + 4 * places {
-            events.push(Event::Step(p))?;
-        }
-    }
-    Ok(())
-}
-
-/// The longest call: of process 7, behind 1,023 slots of process 0.
-fn longest_call(alloc: Global) -> Result<Vec<Event>, AllocError> {
-    let mut events = Vec::new(alloc);
-    for _slot in 0..1023 {
-        put_slot(&mut events, 1)?;
-    }
-    events.push(Event::Invoke(7, 0))?;
-    for _step in 0..1024 * 36 {
-        events.push(Event::Step(7))?;
-    }
-    Ok(events)
-}
-
-/// As many calls as there can be: all eight processes in each slot.
-fn most_calls(alloc: Global) -> Result<Vec<Event>, AllocError> {
-    let mut events = Vec::new(alloc);
-    for _slot in 0..1024 {
-        put_slot(&mut events, 8)?;
-    }
-    Ok(events)
-}
-
-/// Asserts that all of 1,024 slots are fixed, and that the last of eight processes has seen them all.
-fn assert_greatest(rt: &impl Abort, core: &LogCore) {
-    assert!(rt; core.processes() == 8 && core.fixed_slots() == 1024);
-    assert!(rt; core.replayed(7) == 1024 && core.is_idle(7) && core.at_end(7));
-    let count = core.entries().len();
-    assert!(rt; count > 0 && core.slot_at(count - 1) == 1023);
-}
-
-/// The log of eight processes and 1,024 slots after these events: how many entries it has, and its
-/// last.
-fn greatest_log(
-    rt: &impl Abort,
-    alloc: Global,
-    events: &[Event],
-) -> Result<(usize, Option<Entry>), Fail> {
-    let plan = plan_for(rt, alloc, sticky_bit(), 8)?;
-    let object = table_of(alloc, counter_3())?;
-    assert!(rt; object.states() >= 1);
-    let core = replay(alloc, &plan, &object, State(0), 1024, events)?;
-    assert_greatest(rt, &core);
-    Ok((core.entries().len(), core.entries().last().copied()))
-}
-
-#[test]
-fn fills_the_greatest_log(rt: HostRuntime) -> Result<(), Fail> {
-    let alloc = rt.alloc();
-    let events = longest_call(alloc)?;
-    let found = greatest_log(&rt, alloc, &events)?;
-    assert!(rt; found == (1024, Some(entry(7, 0))));
-    let events = most_calls(alloc)?;
-    assert!(rt; events.len() == 217_088);
-    let found = greatest_log(&rt, alloc, &events)?;
-    assert!(rt; found == (8192, Some(entry(7, 1023))));
     Ok(())
 }

@@ -49,12 +49,13 @@ impl Ended {
     }
 
     /// Asserts that the whole answer came, or want of memory where something was refused.
-    fn judge(self, rt: &impl Abort, turn: usize, is_met: bool) {
-        match self {
-            Ended::Whole => {}
-            Ended::OutOfMemory => assert!(rt; is_met, "out of memory for no reason, {turn}"),
-            Ended::Other => panic!(rt; "another answer, {turn}"),
-        }
+    fn judge(self, rt: &impl Abort, is_met: bool) {
+        let is_right = match self {
+            Ended::Whole => true,
+            Ended::OutOfMemory => is_met,
+            Ended::Other => false,
+        };
+        assert!(rt; is_right);
     }
 }
 
@@ -105,7 +106,7 @@ macro_rules! sweep {
             let refusing = Refusing::new($alloc, word_of(turn));
             let $answer = $call;
             let is_met = refusing.is_met();
-            $ended.judge($rt, turn, is_met);
+            $ended.judge($rt, is_met);
             if !is_met && !was_met {
                 return Ok(());
             }

@@ -1,5 +1,5 @@
 -- What threads leave, as what is written of it.
-use Rattle.std.proofs.Common.{◌≡◌, ◌<◌, ℕ, zero, suc, List, [], ◌∷◌, Option, Some, None, Vec, Global, length, map, option_map, slice_get, slice_index_or, arith, refl, sym, subst, ◌∙◌}
+use Rattle.std.proofs.Common.{◌≡◌, ◌<◌, ℕ, List, Option, Some, None, Vec, Global, length, map, option_map, slice_get, slice_index_or, refl, sym, subst, ◌∙◌}
 use Rattle.std.proofs.lemmas.Option.{slice_get-get_or, slice_get-map}
 use Rattle.cn_table.proofs.Lists.{there_is}
 use Rattle.cn_table.specs.TypeTable.{TypeTable}

@@ -1,9 +1,10 @@
-//! The command `classify`, over one table and over several.
-use super::streams::{Drip, Narrow};
-use super::*;
+//! Several tables, the second of which cannot be read to its end, and a writer with so much room.
+use super::streams::{Drip, Page};
 use crate::types::*;
-use cn_app::{Named, Tell, classify_each};
-use std::io::Write;
+use cn_app::{AppFault, Named, Source, Tell, classify_each};
+use std::alloc::{AllocError, Global};
+use std::process::Abort;
+use std::test::Fail;
 use std::thread::Threads;
 
 /// Keeps what it is told: whether it was of one table, and the fault.
@@ -20,53 +21,47 @@ impl Tell for Kept {
     }
 }
 
-/// What becomes of three tables, the second of which cannot be read to its end.
-fn three<T: Threads + Sync, W: Write>(
-    rt: &T,
-    alloc: Global,
-    writer: &mut W,
-    kept: &mut Kept,
-) -> Result<Option<AppFault>, Fail> {
+/// The tables.
+fn tables(alloc: Global) -> Result<Vec<Named<'static, Drip<'static>>>, AllocError> {
     let mut tables = Vec::new(alloc);
     for (text, left) in [(test_and_set(), 1000), (idle(), 7), (sticky_bit(), 1000)] {
         let bytes = text.as_bytes();
         let reader = Drip { bytes, left };
         tables.push(Named { name: "t", reader })?;
     }
-    Ok(classify_each(rt, alloc, tables, writer, kept, 8))
+    Ok(tables)
 }
 
-#[test]
-fn a_fault_of_one_table_leaves_the_others(rt: HostRuntime) -> Result<(), Fail> {
-    let alloc = rt.alloc();
-    let mut written = Vec::new(alloc);
+/// Whether these faults are told where the writer has so much room, and this is the answer.
+fn is_told<T: Threads + Sync>(
+    rt: &T,
+    alloc: Global,
+    room: usize,
+    told: &[(bool, AppFault)],
+    first: AppFault,
+) -> Result<bool, AllocError> {
+    let tables = tables(alloc)?;
+    let mut page = Page::new(room);
     let mut kept = Kept {
         told: Vec::new(alloc),
     };
-    let first = three(&rt, alloc, &mut written, &mut kept)?;
-    let fault = AppFault::Read(Source::Table);
-    assert!(rt; first == Some(fault));
-    assert!(rt; kept.told.as_slice() == [(true, fault)].as_slice());
-    assert!(rt; written.as_slice() == "test_and_set: 2\nsticky_bit: at least 8\n".as_bytes());
-    Ok(())
+    let fault = classify_each(rt, alloc, tables, &mut page, &mut kept, 8);
+    let whole = "test_and_set: 2\nsticky_bit: at least 8\n".as_bytes();
+    let is_written = page.written.len() == room.min(whole.len());
+    let is_right = is_written && whole.starts_with(page.written.as_slice());
+    Ok(is_right && fault == Some(first) && kept.told.as_slice() == told)
 }
 
 #[test]
-fn a_fault_of_the_writer_ends_it(rt: HostRuntime) -> Result<(), Fail> {
-    let alloc = rt.alloc();
-    let line = "test_and_set: 2\n".len();
+fn faults_of_tables_and_of_the_writer_are_told(rt: HostRuntime) -> Result<(), Fail> {
     let read = (true, AppFault::Read(Source::Table));
     let write = (false, AppFault::Write);
-    for (room, first, told) in [
-        (line - 1, write, &[write] as &[(bool, AppFault)]),
-        (line, read, &[read, write]),
+    for (room, told, first) in [
+        (15, [write].as_slice(), write),
+        (16, &[read, write], read),
+        (512, &[read], read),
     ] {
-        let mut kept = Kept {
-            told: Vec::new(alloc),
-        };
-        let fault = three(&rt, alloc, &mut Narrow { room }, &mut kept)?;
-        let is_told = kept.told.as_slice() == told;
-        assert!(rt; fault == Some(first.1) && is_told, "room for {room}");
+        assert!(rt; is_told(&rt, rt.alloc(), room, told, first.1)?);
     }
     Ok(())
 }

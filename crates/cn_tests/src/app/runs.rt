@@ -1,14 +1,19 @@
-//! Each command over a caller's readers and writer, that fail, or give and take little at a time.
-use super::replay::HELPED;
-use super::streams::{Drip, NoRoom, Page};
-use super::*;
+//! Each command over a caller's readers, which give a byte at a time, and writer.
+use super::streams::{Drip, Page};
 use crate::certificates::*;
 use crate::types::*;
-use arrayvec::ArrayVec;
-use cn_app::{run_agree, run_show};
+use cn_app::{
+    AppFault, Outcome, Source, run_agree, run_check, run_classify, run_find, run_replay, run_serve,
+    run_show,
+};
 use cn_hall::AlwaysOn;
+use std::alloc::Global;
+use std::process::Abort;
 use std::sync::Wait;
 use std::thread::Threads;
+
+/// Process 1 puts the calls of both in the first slot.
+pub(crate) const HELPED: &str = "i0:0,i1:0,s1,s1,s1,s1,s1,s1,s0,s0,s0,s0,s0,s0";
 
 /// What `show` says of the plan of test-and-set.
 pub(crate) fn test_and_set_shown() -> &'static str {
@@ -29,7 +34,7 @@ events i0:0,s0,s0,s0,s0,s0,s0,i0:0,s0,s0,s0,s0,s0,s0"#
 }
 
 /// The commands, each for the arguments of one worked run.
-#[derive(Clone, Copy, Debug)]
+#[derive(Clone, Copy)]
 pub(crate) enum Command {
     Find,
     Classify,
@@ -69,38 +74,28 @@ fn whole(text: &'static str) -> Drip<'static> {
     }
 }
 
-/// A page that takes so many bytes a call, and so many in all.
-fn page(most: usize, room: usize, no_room: NoRoom) -> Page {
-    Page {
-        written: ArrayVec::new(),
-        most,
-        room,
-        no_room,
-    }
-}
-
-/// Test-and-set, its certificate and the counter, and this page.
-fn streams_to(page: Page) -> Streams {
+/// Test-and-set, its certificate and the counter, and a page with so much room.
+fn streams_to(room: usize) -> Streams {
     Streams {
         table: whole(test_and_set()),
         certificate: whole(test_and_set_at_3()),
         object: whole(counter_3()),
-        page,
+        page: Page::new(room),
     }
 }
 
-/// The same with a page that has room.
+/// The same with room for all.
 pub(crate) fn whole_streams() -> Streams {
-    streams_to(page(usize::MAX, 512, NoRoom::Fails))
+    streams_to(512)
 }
 
 impl Streams {
-    /// The reader fails once it gave so many bytes.
-    fn cut(&mut self, source: Source, bytes: usize) {
+    /// The reader fails once it gave 40 bytes.
+    fn cut(&mut self, source: Source) {
         match source {
-            Source::Table => self.table.left = bytes,
-            Source::Certificate => self.certificate.left = bytes,
-            Source::Object => self.object.left = bytes,
+            Source::Table => self.table.left = 40,
+            Source::Certificate => self.certificate.left = 40,
+            Source::Object => self.object.left = 40,
             Source::Argument(_) => {}
         }
     }
@@ -182,11 +177,6 @@ impl Command {
         }
     }
 
-    /// Whether it ended where nothing fails, and wrote its lines.
-    fn has_ended(self, ended: Result<Outcome, AppFault>, streams: &Streams) -> bool {
-        ended == Ok(Outcome::Whole) && streams.has(self.lines())
-    }
-
     /// The lines that it writes where nothing fails.
     pub(crate) fn lines(self) -> &'static str {
         match self {
@@ -201,78 +191,36 @@ impl Command {
     }
 }
 
-/// Each source, and after how many bytes its reader fails: at once, soon, and at its end.
-fn cuts() -> [(Source, usize); 12] {
-    let (table, certificate, object) = (Source::Table, Source::Certificate, Source::Object);
-    [
-        (table, 0),
-        (table, 1),
-        (table, 40),
-        (table, test_and_set().len()),
-        (certificate, 0),
-        (certificate, 1),
-        (certificate, 40),
-        (certificate, test_and_set_at_3().len()),
-        (object, 0),
-        (object, 1),
-        (object, 40),
-        (object, counter_3().len()),
-    ]
-}
-
-/// What the command answers where each reader fails; of one that it does not read nothing is told.
-fn assert_readers<R>(rt: &R, alloc: Global, command: Command)
-where
-    R: Threads + Wait + Sync + Abort,
-{
-    for (source, bytes) in cuts() {
+/// Whether the command tells of each reader that fails once it gave 40 bytes, but for those that it
+/// does not read.
+fn tells_readers<R: Threads + Wait + Sync>(rt: &R, alloc: Global, command: Command) -> bool {
+    for source in [Source::Table, Source::Certificate, Source::Object] {
         let mut streams = whole_streams();
-        streams.cut(source, bytes);
+        streams.cut(source);
         let ended = command.run(rt, alloc, &mut streams);
         let is_told = if command.reads(source) {
             ended == Err(AppFault::Read(source)) && streams.is_unwritten()
         } else {
-            command.has_ended(ended, &streams)
+            ended == Ok(Outcome::Whole) && streams.has(command.lines())
         };
-        assert!(rt; is_told, "{command:?}, {source:?} at {bytes}");
-    }
-}
-
-#[test]
-fn a_failing_reader_is_told(rt: HostRuntime) {
-    for command in all_commands() {
-        assert_readers(&rt, rt.alloc(), command);
-    }
-}
-
-/// What the command answers where the writer takes so many bytes and no more: it fails then, or takes
-/// none.
-fn assert_writer<R>(rt: &R, alloc: Global, command: Command, room: usize)
-where
-    R: Threads + Wait + Sync + Abort,
-{
-    for no_room in [NoRoom::Fails, NoRoom::TakesNone] {
-        let mut streams = streams_to(page(usize::MAX, room, no_room));
-        let ended = command.run(rt, alloc, &mut streams);
-        let is_told = ended == Err(AppFault::Write) && streams.page.written.len() == room;
-        assert!(rt; is_told, "{command:?}, room for {room}");
-    }
-}
-
-#[test]
-fn a_failing_writer_is_told(rt: HostRuntime) {
-    for command in all_commands() {
-        for room in [0, 1, command.lines().len()] {
-            assert_writer(&rt, rt.alloc(), command, room);
+        if !is_told {
+            return false;
         }
     }
+    true
+}
+
+/// Whether it tells of a writer that takes one byte and then fails.
+fn tells_a_writer<R: Threads + Wait + Sync>(rt: &R, alloc: Global, command: Command) -> bool {
+    let mut streams = streams_to(1);
+    let ended = command.run(rt, alloc, &mut streams);
+    ended == Err(AppFault::Write) && streams.page.written.len() == 1
 }
 
 #[test]
-fn a_byte_a_call_suffices(rt: HostRuntime) {
+fn streams_that_fail_are_told(rt: HostRuntime) {
     for command in all_commands() {
-        let mut streams = streams_to(page(1, 512, NoRoom::Fails));
-        let ended = command.run(&rt, rt.alloc(), &mut streams);
-        assert!(rt; command.has_ended(ended, &streams), "{command:?}");
+        assert!(rt; tells_readers(&rt, rt.alloc(), command));
+        assert!(rt; tells_a_writer(&rt, rt.alloc(), command));
     }
 }

@@ -1,25 +1,23 @@
-//! The command `serve`: threads that make calls.
+//! Threads that make calls, with gates that stop them or hold them until others have come.
 ghost use Rattle.std.specs.Prelude.{◌≡◌, ℕ};
 ghost use Rattle.cn_hall.specs.declared.call.Go.TheVariants.{On};
 
-use super::*;
 use crate::certificates::*;
 use crate::gates::{Holds, StopsAt};
 use crate::types::*;
-use cn_hall::{AlwaysOn, Gate, Go};
+use cn_app::{AppFault, Outcome, run_serve};
+use cn_hall::{Gate, Go};
+use std::alloc::Global;
+use std::process::Abort;
 use std::sync::Wait;
 use std::sync::atomic::AtomicU32;
 use std::thread::Threads;
 
-/// How `serve` ends, with a certificate and the counter from its first state, and what it writes.
-fn served<T, G, F>(
-    rt: &T,
-    alloc: Global,
-    texts: (&str, &str),
-    capacity: &str,
-    calls: &str,
-    make_gate: F,
-) -> Result<(Result<Outcome, AppFault>, String), Fail>
+/// How `serve` ends, and what it writes.
+type Served = (Result<Outcome, AppFault>, Vec<u8>);
+
+/// These calls of a type and its certificate to the counter, from its first state, in four slots.
+fn served<T, G, F>(rt: &T, alloc: Global, texts: (&str, &str), calls: &str, make_gate: F) -> Served
 where
     T: Threads + Wait + Sync,
     G: Gate + Send + Drop,
@@ -28,7 +26,7 @@ where
     requires on { (p : ℕ) (g : _) → F.post make_gate p g → G.says g ≡ On }
 {
     let mut written = Vec::new(alloc);
-    let outcome = run_serve(
+    let ended = run_serve(
         rt,
         alloc,
         &mut texts.0.as_bytes(),
@@ -36,209 +34,102 @@ where
         &mut counter_3().as_bytes(),
         &mut written,
         "0",
-        capacity,
+        "4",
         calls,
         make_gate,
     );
-    let text = told(alloc, outcome, written)?;
-    Ok((outcome, text))
+    (ended, written)
 }
 
-/// The table and the certificate of test-and-set.
-fn two() -> (&'static str, &'static str) {
-    (test_and_set(), test_and_set_at_3())
-}
-
-#[test]
-fn tells_calls_that_are_stopped(rt: HostRuntime) -> Result<(), Fail> {
-    let (ended, text) = served(
-        &rt,
-        rt.alloc(),
-        two(),
-        "4",
-        "none/0",
-        |_| StopsAt {
-            stop: 3,
-            last: Go::On,
-        },
-    )?;
-    assert!(rt; text.as_str() == "stopped 1\nevents i1:0,s1,s1\n", "{text}");
-    assert!(rt; ended == Ok(Outcome::Cut));
-    Ok(())
-}
-
-#[test]
-fn each_process_has_the_gate_made_for_it(rt: HostRuntime) -> Result<(), Fail> {
-    let (ended, text) = served(
-        &rt,
-        rt.alloc(),
-        two(),
-        "4",
-        "0/0",
-        |process| StopsAt {
-            stop: if process == 1 { 3 } else { 0 },
-            last: Go::On,
-        },
-    )?;
-    assert!(rt;
-        text.starts_with("answer 0 0 0\nstopped 1\nentry 0 0 inc 0 1\n"),
-        "{text}"
-    );
-    assert!(rt; ended == Ok(Outcome::Cut));
-    Ok(())
-}
-
-/// The lines of entries, in order, and those of calls, sorted.
-fn sorted_lines(alloc: Global, text: &str) -> Result<(Vec<&str>, Vec<&str>), Fail> {
-    let mut entries = Vec::new(alloc);
-    let mut calls = Vec::new(alloc);
-    for line in text.lines() {
-        if line.starts_with("entry ") {
-            entries.push(line)?;
-        }
-        if line.starts_with("answer ") || line.starts_with("full ") {
-            calls.push(line)?;
-        }
-    }
-    calls.sort()?;
-    Ok((entries, calls))
-}
-
-/// What `replay` writes of these events.
-fn replayed<T>(rt: &T, alloc: Global, capacity: &str, events: &str) -> Result<String, Fail> {
-    let mut written = Vec::new(alloc);
-    let outcome = run_replay(
-        rt,
-        alloc,
-        &mut test_and_set().as_bytes(),
-        &mut test_and_set_at_3().as_bytes(),
-        &mut counter_3().as_bytes(),
-        &mut written,
-        "0",
-        capacity,
-        events,
-    );
-    told(alloc, outcome, written)
-}
-
-/// Busy threads make these calls, and the events replay to the same log. How many calls end, and
-/// whether each has an answer.
-fn served_and_replayed<T: Threads + Wait + Sync + Abort>(
-    rt: &T,
-    alloc: Global,
-    capacity: &str,
-    calls: &str,
-) -> Result<(usize, bool), Fail> {
-    let (ended, text) = served(rt, alloc, two(), capacity, calls, |_| AlwaysOn)?;
-    let (before, events) = text.as_str().split_once("events ").ok_or("no events")?;
-    let again = replayed(rt, alloc, capacity, events.trim_end())?;
-    let (entries, calls) = sorted_lines(alloc, before)?;
-    let (entries_again, calls_again) = sorted_lines(alloc, again.as_str())?;
-    let is_same = entries.as_slice() == entries_again.as_slice()
-        && calls.as_slice() == calls_again.as_slice();
-    assert!(rt; is_same, "{text}");
-    Ok((calls.len(), ended == Ok(Outcome::Whole)))
-}
-
-/// Of two calls and one slot, the one that finds the log full was made.
-#[test]
-fn tells_events_that_replay_to_the_same_log(rt: HostRuntime) -> Result<(), Fail> {
-    for _time in 0..200u8 {
-        let many = served_and_replayed(&rt, rt.alloc(), "8", "0,0/0,0")?;
-        assert!(rt; many == (4, true));
-        let few = served_and_replayed(&rt, rt.alloc(), "1", "0/0")?;
-        assert!(rt; few.0 == 2);
-    }
-    Ok(())
-}
-
-/// How processes end each of which makes a call and takes no step until all are in one.
-fn gathered<T: Threads + Wait + Sync>(
-    rt: &T,
-    alloc: Global,
-    texts: (&str, &str),
-    calls: &str,
-    processes: u32,
-) -> Result<(Result<Outcome, AppFault>, String), Fail> {
-    let begun = AtomicU32::new(0);
+/// Two processes, the second of which is stopped before its third step.
+fn stopped<T: Threads + Wait + Sync>(rt: &T, alloc: Global, calls: &str) -> Served {
     served(
         rt,
         alloc,
-        texts,
-        "4",
+        (test_and_set(), test_and_set_at_3()),
         calls,
-        |_| Holds {
-            counted: &begun,
-            counts_at: 1,
-            awaited: &begun,
-            holds_at: 1,
-            number: processes,
+        |process| StopsAt {
+            stop: if process == 1 { 3 } else { 0 },
             last: Go::On,
         },
     )
 }
 
-/// The texts of 2, 3 and 8 processes, a call of each, and how many they are.
-fn crowds() -> [((&'static str, &'static str), &'static str, u8); 3] {
-    [
-        (two(), "0/0", 2),
-        ((sticky_bit(), sticky_bit_at_3()), "0/0/0", 3),
-        (
-            (sticky_bit(), found_sticky_bit_at_8()),
-            "0/0/0/0/0/0/0/0",
-            8,
-        ),
-    ]
+#[test]
+fn each_process_has_the_gate_made_for_it(rt: HostRuntime) {
+    for (calls, lines) in [
+        ("none/0", "stopped 1\nevents i1:0,s1,s1\n"),
+        ("0/0", "answer 0 0 0\nstopped 1\nentry 0 0 inc 0 1\n"),
+    ] {
+        let (ended, written) = stopped(&rt, rt.alloc(), calls);
+        let is_told = written.as_slice().starts_with(lines.as_bytes());
+        assert!(rt; is_told && ended == Ok(Outcome::Cut));
+    }
 }
 
-/// Each finds the calls of all, which go into one slot.
-#[test]
-fn all_processes_are_in_a_call_at_once(rt: HostRuntime) -> Result<(), Fail> {
-    let alloc = rt.alloc();
-    for (texts, calls, processes) in crowds() {
-        let (ended, text) = gathered(&rt, alloc, texts, calls, u32::from(processes))?;
-        let (entries, _) = sorted_lines(alloc, text.as_str())?;
-        let is_one_slot = entries.iter().all(|line| line.starts_with("entry 0 "));
-        let is_whole = ended == Ok(Outcome::Whole) && entries.len() == usize::from(processes);
-        assert!(rt; is_one_slot && is_whole, "{text}");
+/// How processes end that hold. Each is counted before one of its steps and holds before one, until
+/// so many are counted: these steps of process 0, and of the others.
+fn held<T: Threads + Wait + Sync>(
+    rt: &T,
+    alloc: Global,
+    texts: (&str, &str),
+    calls: &str,
+    steps: [(u32, u32); 2],
+    number: u32,
+) -> Served {
+    let begun = AtomicU32::new(0);
+    let [first, others] = steps;
+    served(
+        rt,
+        alloc,
+        texts,
+        calls,
+        |process| Holds {
+            counted: &begun,
+            counts_at: if process == 0 { first.0 } else { others.0 },
+            awaited: &begun,
+            holds_at: if process == 0 { first.1 } else { others.1 },
+            number,
+            last: Go::On,
+        },
+    )
+}
+
+/// Whether the first slot has so many entries, and no other slot has one.
+fn are_in_one_slot(written: &[u8], entries: usize) -> bool {
+    let Ok(text) = str::from_utf8(written) else {
+        return false;
+    };
+    let mut found = 0usize;
+    for line in text.lines() {
+        if line.starts_with("entry 0 ") {
+            found = found.saturating_add(1);
+        } else if line.starts_with("entry ") {
+            return false;
+        }
     }
-    Ok(())
+    found == entries
+}
+
+/// Each finds the calls of all, which go into one slot: none takes a step until all are in a call.
+#[test]
+fn all_processes_are_in_a_call_at_once(rt: HostRuntime) {
+    let sticky = (sticky_bit(), found_sticky_bit_at_8());
+    for (texts, calls, processes) in [
+        ((test_and_set(), test_and_set_at_3()), "0/0", 2),
+        (sticky, "0/0/0/0/0/0/0/0", 8u8),
+    ] {
+        let steps = [(1, 1), (1, 1)];
+        let (ended, written) = held(&rt, rt.alloc(), texts, calls, steps, u32::from(processes));
+        let is_one_slot = are_in_one_slot(written.as_slice(), usize::from(processes));
+        assert!(rt; is_one_slot && ended == Ok(Outcome::Whole));
+    }
 }
 
 /// Process 1 holds before the third step of its call until process 0 has begun its second call.
 #[test]
-fn no_call_waits_for_the_end_of_another(rt: HostRuntime) -> Result<(), Fail> {
-    let begun = AtomicU32::new(0);
-    let (ended, text) = served(
-        &rt,
-        rt.alloc(),
-        two(),
-        "4",
-        "0,0/0",
-        |process| Holds {
-            counted: &begun,
-            counts_at: if process == 0 { 1 } else { 0 },
-            awaited: &begun,
-            holds_at: if process == 0 { 0 } else { 3 },
-            number: 2,
-            last: Go::On,
-        },
-    )?;
-    assert!(rt; ended == Ok(Outcome::Whole), "{text}");
-    Ok(())
-}
-
-#[test]
-fn serves_eight_processes_in_the_greatest_log(rt: HostRuntime) -> Result<(), Fail> {
-    let alloc = rt.alloc();
-    let mut calls = String::from_str(alloc, "0")?;
-    for call in 1..1024u16 {
-        calls.push_str(if call % 128 == 0 { "/0" } else { ",0" })?;
-    }
-    let texts = (sticky_bit(), found_sticky_bit_at_8());
-    let (ended, text) = served(&rt, alloc, texts, "1024", &calls, |_| AlwaysOn)?;
-    let (entries, answers) = sorted_lines(alloc, text.as_str())?;
+fn no_call_waits_for_the_end_of_another(rt: HostRuntime) {
+    let texts = (test_and_set(), test_and_set_at_3());
+    let (ended, _) = held(&rt, rt.alloc(), texts, "0,0/0", [(1, 0), (0, 3)], 2);
     assert!(rt; ended == Ok(Outcome::Whole));
-    assert!(rt; entries.len() == 1024 && answers.len() == 1024);
-    Ok(())
 }

@@ -2,7 +2,7 @@
 //! is asked for.
 use super::protocol::{helped, is_helped};
 use super::*;
-use crate::fixtures::{events_of, plan_for, table_of};
+use crate::fixtures::{events_of, plan_for_two, table_of};
 use crate::gates::StopsAt;
 use crate::hall::{call, one_within_another, opened, reply, resume};
 use crate::types::*;
@@ -23,7 +23,7 @@ fn takes_all(core: &mut LogCore, events: &[Event]) -> bool {
 
 /// A new log of two processes.
 fn new_core(rt: &impl Abort, alloc: Global) -> Result<LogCore, Fail> {
-    let plan = plan_for(rt, alloc, test_and_set(), 2)?;
+    let plan = plan_for_two(rt, alloc)?;
     let object = table_of(alloc, counter_3())?;
     assert!(rt; object.states() >= 1);
     Ok(LogCore::new(alloc, &plan, &object, State(0), 4)?)

@@ -1,8 +1,7 @@
 //! Arguments that are lists, and the commands over a caller's readers and writer.
 use super::protocol::helped;
 use super::*;
-use crate::app::replay::HELPED;
-use crate::app::runs::{Command, Streams, all_commands, whole_streams};
+use crate::app::runs::{Command, HELPED, Streams, all_commands, whole_streams};
 use cn_app::{AppFault, Outcome, read_calls, read_events, read_inputs, read_schedule};
 use cn_log::Event;
 use std::sync::Wait;

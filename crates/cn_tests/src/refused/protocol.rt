@@ -2,11 +2,10 @@
 use super::*;
 use crate::agree;
 use crate::app::runs::test_and_set_shown;
-use crate::fixtures::{events_of, list_of, plan_for, table_of};
+use crate::fixtures::{choice_of, events_of, plan_for_two, table_of};
 use crate::hall::core_after;
 use crate::types::*;
 use cn_agree::{Decided, ScheduleFault, run_schedule};
-use cn_choice::Choice;
 use cn_hall::{OpenFault, open};
 use cn_log::{Event, LogCore, ReplayFault, replay};
 use cn_proto::{Plan, PlanFault};
@@ -31,12 +30,7 @@ fn plan_ended(alloc: Global, made: Result<Plan, PlanFault>) -> Result<Ended, Fai
 fn plans(rt: HostRuntime) -> Result<(), Fail> {
     let alloc = rt.alloc();
     let table = table_of(alloc, test_and_set())?;
-    let choice = Choice {
-        state: State(0),
-        a: list_of(&[0]),
-        b: list_of(&[0]),
-    };
-    assert!(rt; choice.is_for(&table, 2));
+    let choice = choice_of(&rt, &table, 0, &[0], &[0]);
     sweep!(
         &rt,
         alloc,
@@ -55,7 +49,7 @@ fn copy_ended(alloc: Global, copied: Result<Plan, AllocError>) -> Result<Ended, 
 #[test]
 fn copies_of_plans(rt: HostRuntime) -> Result<(), Fail> {
     let alloc = rt.alloc();
-    let plan = plan_for(&rt, alloc, test_and_set(), 2)?;
+    let plan = plan_for_two(&rt, alloc)?;
     sweep!(
         &rt,
         alloc,
@@ -74,7 +68,7 @@ fn shown_ended(shown: Result<bool, AllocError>) -> Ended {
 #[test]
 fn texts_of_plans(rt: HostRuntime) -> Result<(), Fail> {
     let alloc = rt.alloc();
-    let plan = plan_for(&rt, alloc, test_and_set(), 2)?;
+    let plan = plan_for_two(&rt, alloc)?;
     sweep!(
         &rt,
         alloc,
@@ -104,7 +98,7 @@ fn round_ended(fixed: Result<Option<u64>, AllocError>) -> Ended {
 #[test]
 fn rounds(rt: HostRuntime) -> Result<(), Fail> {
     let alloc = rt.alloc();
-    let plan = plan_for(&rt, alloc, test_and_set(), 2)?;
+    let plan = plan_for_two(&rt, alloc)?;
     sweep!(&rt, alloc, ran = fixed(&rt, alloc, &plan), round_ended(ran))
 }
 
@@ -118,7 +112,7 @@ fn schedule_ended(ran: Result<Decided, ScheduleFault>) -> Ended {
 #[test]
 fn schedules(rt: HostRuntime) -> Result<(), Fail> {
     let alloc = rt.alloc();
-    let plan = plan_for(&rt, alloc, test_and_set(), 2)?;
+    let plan = plan_for_two(&rt, alloc)?;
     sweep!(
         &rt,
         alloc,
@@ -154,7 +148,7 @@ fn new_log_ended(made: Result<LogCore, AllocError>) -> Ended {
 #[test]
 fn new_logs(rt: HostRuntime) -> Result<(), Fail> {
     let alloc = rt.alloc();
-    let plan = plan_for(&rt, alloc, test_and_set(), 2)?;
+    let plan = plan_for_two(&rt, alloc)?;
     let object = table_of(alloc, counter_3())?;
     assert!(rt; object.states() >= 1);
     sweep!(
@@ -175,7 +169,7 @@ fn log_ended(replayed: Result<LogCore, ReplayFault>, events: &[Event]) -> Ended 
 #[test]
 fn replayed_logs(rt: HostRuntime) -> Result<(), Fail> {
     let alloc = rt.alloc();
-    let plan = plan_for(&rt, alloc, test_and_set(), 2)?;
+    let plan = plan_for_two(&rt, alloc)?;
     let object = table_of(alloc, counter_3())?;
     let events = helped(alloc)?;
     assert!(rt; object.states() >= 1);

@@ -1,25 +1,21 @@
 //! The search choice by choice, in one thread and with nothing left out, to compare with.
 ghost use Rattle.std.specs.Prelude.{◌≤◌};
 
-use cn_choice::{Choice, Choices, Collision, Examined, Team, examine, outcomes};
+use cn_choice::{Choice, Choices, Collision, Examined, examine};
 use cn_search::Finding;
 use cn_table::Table;
 use std::alloc::Global;
 use std::process::Abort;
 use std::test::Fail;
 
-/// Whether no process has a pair in the outcome sets of both teams.
-fn keeps_apart(rt: &impl Abort, table: &Table, choice: &Choice) -> bool {
+/// The recorded collision of a choice, and none of a witness.
+fn recorded_collision(rt: &impl Abort, table: &Table, choice: &Choice) -> Option<Collision> {
     let n = choice.a.len() + choice.b.len();
     assert!(rt; 2 <= n && n <= 8 && choice.is_for(table, n as u8));
-    for process in 0..n as u8 {
-        let after_a = outcomes(table, choice, Team::A, process);
-        let after_b = outcomes(table, choice, Team::B, process);
-        if after_a.meets(&after_b) {
-            return false;
-        }
+    match examine(table, choice) {
+        Examined::Meets(collision) => Some(collision),
+        Examined::Splits => None,
     }
-    true
 }
 
 /// The first live canonical witness for n processes, if there is one.
@@ -28,21 +24,11 @@ fn first_witness(rt: &impl Abort, table: &Table, n: u8) -> Option<Choice>
     requires few { n ≤ 8 }
 {
     for choice in Choices::new(table, n) {
-        if keeps_apart(rt, table, &choice) {
+        if recorded_collision(rt, table, &choice).is_none() {
             return Some(choice);
         }
     }
     None
-}
-
-/// The recorded collision of a choice that is no witness.
-fn recorded_collision(rt: &impl Abort, table: &Table, choice: &Choice) -> Option<Collision> {
-    let n = choice.a.len() + choice.b.len();
-    assert!(rt; 2 <= n && n <= 8 && choice.is_for(table, n as u8));
-    match examine(table, choice) {
-        Examined::Meets(collision) => Some(collision),
-        Examined::Splits => None,
-    }
 }
 
 /// The recorded collision of each live canonical choice for n processes.

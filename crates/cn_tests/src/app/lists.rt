@@ -1,0 +1,20 @@
+//! A list of as many items as one may have, which is more than the words of a program may be long.
+use cn_app::{AppFault, Part, read_schedule};
+use std::alloc::Global;
+use std::process::Abort;
+
+/// How many steps a schedule of so many items has.
+fn steps_of(alloc: Global, items: usize) -> Result<usize, AppFault> {
+    let text = "0,".repeat(alloc, items)?;
+    match text.as_str().strip_suffix(",") {
+        Some(list) => Ok(read_schedule(alloc, list)?.len()),
+        None => Ok(0),
+    }
+}
+
+#[test]
+fn a_list_has_its_limit(rt: HostRuntime) {
+    let alloc = rt.alloc();
+    assert!(rt; steps_of(alloc, 65_536) == Ok(65_536));
+    assert!(rt; steps_of(alloc, 65_537) == Err(AppFault::Argument(Part::Schedule)));
+}
