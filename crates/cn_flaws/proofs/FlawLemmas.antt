@@ -24,9 +24,11 @@ keys_of_view [] = refl
 keys_of_view (e ∷ es) = ap (λ ks. string_bytes e.0 ∷ ks) (keys_of_view es)
 
 -- an array whose items in memory are of a kind
-pub items_are : (kind : Data → Bool) (d : Data) (vs : List Value) → option_map list_of (as_array d) ≡ Some (map view vs) → list_all (λ v. kind (view v)) vs ≡ is_array_of kind d
+pub items_are : (kind : Data → Bool) (d : Data) (vs : List Value) → option_map list_of (as_array d) ≡ Some (map view vs)
+    → list_all (λ v. kind (view v)) vs ≡ is_array_of kind d
 items_are kind d vs are = of_array (as_array d) are where
-  of_array : (o : Option Items) → option_map list_of o ≡ Some (map view vs) → list_all (λ v. kind (view v)) vs ≡ option_map_or (λ items. list_all kind (list_of items)) o false
+  of_array : (o : Option Items) → option_map list_of o ≡ Some (map view vs)
+      → list_all (λ v. kind (view v)) vs ≡ option_map_or (λ items. list_all kind (list_of items)) o false
   of_array None e = cc
   of_array (Some items) e = let same : list_of items ≡ map view vs = cc in rw same (sym (list_all-map kind view vs))
 
