@@ -7,7 +7,6 @@ mod given;
 mod given_list;
 mod lazy_file;
 
-
 ghost use Rattle.cn_app.specs.Streams.SourceBytes.{IsUnread};
 ghost use Rattle.cn_app.specs.Streams.Writing.{IsUnwritten};
 
@@ -292,15 +291,19 @@ fn given_words(rt: &HostRuntime) -> Result<Vec<String>, AppFault> {
 }
 
 // Does what the words ask for; how the program ends.
-fn obeyed(rt: &HostRuntime, matches: &ArgMatches<'_>) -> ExitCode {
-    let alloc = rt.alloc();
-    let (mut input, mut output) = (rt.stdin(), rt.stdout());
+fn obeyed<T: Threads + Wait + Sync + Files + Eprint, O: Write>(
+    rt: &T,
+    alloc: Global,
+    input: &mut Stdin,
+    output: &mut O,
+    matches: &ArgMatches<'_>,
+) -> ExitCode {
     if let Some(words) = matches.subcommand_matches("classify") {
-        let first = classify(rt, alloc, &input, &mut output, words);
+        let first = classify(rt, alloc, input, output, words);
         return all_ended(rt, first);
     }
-    let mut table = Text::new(alloc, &mut input);
-    let mut output = Output::new(alloc, &mut output);
+    let mut table = Text::new(alloc, input);
+    let mut output = Output::new(alloc, output);
     if matches.subcommand_matches("lint").is_some() {
         return linted_ended(rt, commands::lint(alloc, &mut table, &mut output));
     }
@@ -317,7 +320,10 @@ fn main(rt: HostRuntime) -> ExitCode {
         Err(_) => return ended(&rt, Err(AppFault::OutOfMemory)),
     };
     match command.try_get_matches_from(given.as_slice()) {
-        Ok(matches) => obeyed(&rt, &matches),
+        Ok(matches) => {
+            let (mut input, mut output) = (rt.stdin(), rt.stdout());
+            obeyed(&rt, rt.alloc(), &mut input, &mut output, &matches)
+        }
         Err(error) => told(&rt, &error, &given),
     }
 }
