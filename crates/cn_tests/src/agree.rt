@@ -72,55 +72,56 @@ pub(super) fn replay<V: Copy>(
     Ok(round)
 }
 
-/// Whether this is fixed after a schedule of two processes, and this is what process 0 has decided;
-/// process 1 has not.
-fn comes_to<V: Copy + PartialEq>(
+/// Whether there is a value, which then is the input of process 1.
+fn is_second(found: Option<(char, bool)>, is_there: bool) -> bool {
+    match found {
+        Some((letter, mark)) => is_there && letter == 'b' && !mark,
+        None => !is_there,
+    }
+}
+
+/// Whether a value is fixed after a schedule of two processes, and process 0 has decided; process 1
+/// has not.
+fn comes_to(
     rt: &impl Abort,
     alloc: Global,
     plan: &Plan,
-    inputs: &[V],
     schedule: &[u8],
-    fixed: Option<V>,
-    decided: Option<V>,
+    is_fixed: bool,
+    is_decided: bool,
 ) -> Result<bool, AllocError> {
     assert!(rt; plan.processes() == 2);
-    let round = replay(rt, alloc, plan, inputs, schedule)?;
-    let is_decided = decision_of(plan, &round, 0) == decided;
-    Ok(round.fixed() == fixed && is_decided && decision_of(plan, &round, 1).is_none())
+    let round = replay(rt, alloc, plan, &[('a', true), ('b', false)], schedule)?;
+    let is_right = is_second(round.fixed(), is_fixed);
+    let decided = decision_of(plan, &round, 0);
+    Ok(is_right && is_second(decided, is_decided) && decision_of(plan, &round, 1).is_none())
 }
 
-/// Process 1 comes first at the object of test_and_set, and then process 0 runs alone.
-fn second_comes_first<V: Copy + PartialEq>(
-    rt: &impl Abort,
-    alloc: Global,
-    plan: &Plan,
-    inputs: [V; 2],
-) -> Result<(), AllocError> {
-    let second = Some(inputs[1]);
-    for (schedule, fixed, decided) in [
-        ([1].as_slice(), None, None),
-        (&[1, 1], second, None),
-        (&[1, 1, 0, 0, 0], second, None),
-        (&[1, 1, 0, 0, 0, 0], second, second),
-    ] {
-        assert!(rt; comes_to(rt, alloc, plan, &inputs, schedule, fixed, decided)?);
-    }
-    Ok(())
-}
-
+/// Process 1 comes first at the object of test-and-set, and then process 0 runs alone.
 #[test]
 fn rounds_run_by_hand(rt: HostRuntime) -> Result<(), Fail> {
     let plan = plan_for_two(&rt, rt.alloc())?;
-    second_comes_first(&rt, rt.alloc(), &plan, [10u64, 20])?;
-    second_comes_first(&rt, rt.alloc(), &plan, [('a', true), ('b', false)])?;
+    for (schedule, is_fixed, is_decided) in [
+        ([1].as_slice(), false, false),
+        (&[1, 1], true, false),
+        (&[1, 1, 0, 0, 0], true, false),
+        (&[1, 1, 0, 0, 0, 0], true, true),
+    ] {
+        assert!(rt; comes_to(&rt, rt.alloc(), &plan, schedule, is_fixed, is_decided)?);
+    }
     Ok(())
 }
 
 /// Whether the value is an input of a process that has taken a step.
 fn is_valid(inputs: &[u64], schedule: &[u8], value: u64) -> bool {
-    schedule
-        .iter()
-        .any(|q| inputs.get(usize::from(*q)) == Some(&value))
+    for q in schedule {
+        if let Some(input) = inputs.get(usize::from(*q)) {
+            if *input == value {
+                return true;
+            }
+        }
+    }
+    false
 }
 
 /// How many steps the process has taken.
@@ -144,14 +145,17 @@ fn keep_consensus(
 ) -> bool {
     let mut agreed = None;
     for (p, (decision, places)) in decisions.iter().zip(places).enumerate() {
-        if decision.is_some() != (steps_of(schedule, p) / 4 >= *places) {
-            return false;
-        }
-        if let Some(value) = *decision {
-            if !is_valid(inputs, schedule, value) || agreed.is_some() && agreed != *decision {
-                return false;
+        let is_over = steps_of(schedule, p) / 4 >= *places;
+        let is_right = match (*decision, agreed) {
+            (None, _) => !is_over,
+            (Some(value), None) => {
+                agreed = Some(value);
+                is_over && is_valid(inputs, schedule, value)
             }
-            agreed = *decision;
+            (Some(value), Some(other)) => is_over && value == other,
+        };
+        if !is_right {
+            return false;
         }
     }
     true

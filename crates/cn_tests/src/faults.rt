@@ -197,7 +197,7 @@ fn each_is_printed(rt: HostRuntime) -> Result<(), Fail> {
     let alloc = rt.alloc();
     assert!(rt; are_of_evidence(alloc)? && are_of_protocols(alloc)?);
     let fault = OpenFault::OutOfMemory(core_after(&rt, alloc, 4, &[])?);
-    assert!(rt; are_read(alloc, &[(fault, "1 OutOfMemory")])?);
+    assert!(rt; format!(in alloc; "{fault}")?.as_str() == "1 OutOfMemory");
     Ok(())
 }
 

@@ -5,7 +5,7 @@ ghost use Rattle.std.specs.Vec.{vec_capacity};
 ghost use Rattle.cn_hall.specs.Seats.{IsSeatOf};
 ghost use Rattle.cn_hall.specs.declared.call.Go.TheVariants.{On};
 
-use crate::fixtures::{events_of, plan_for_two, plan_of, table_of};
+use crate::fixtures::{events_of, plan_for_two, table_of};
 use crate::gates::{Holds, StopsAt, WritesDown, comes_to};
 use crate::types::*;
 use cn_hall::{AlwaysOn, CallFault, Gate, Go, Hall, Reply, Seat, open};
@@ -324,9 +324,10 @@ fn questions() -> [(u32, u16); 16] {
     ]
 }
 
+/// The hall closes without the other seat.
 #[test]
 fn asks_before_each_step_of_two_slots(rt: HostRuntime) -> Result<(), Fail> {
-    let (hall, mut zero, mut one, _) = opened(&rt, rt.alloc(), 4, &[])?;
+    let (hall, mut zero, mut one, mut seats) = opened(&rt, rt.alloc(), 4, &[])?;
     assert_call(&rt, &hall, &mut zero, reply(0, 0));
     let mut gate = WritesDown {
         asked: [(0, 0); 16],
@@ -334,57 +335,7 @@ fn asks_before_each_step_of_two_slots(rt: HostRuntime) -> Result<(), Fail> {
     };
     assert!(rt; call(&rt, &hall, &mut one, &mut gate) == reply(1, 1));
     assert!(rt; gate.times == 12 && gate.asked.as_slice() == questions().as_slice());
-    Ok(())
-}
-
-/// A new core of 1,024 slots for eight processes, by the witness `[0,[0],[1,1,1,1,1,1,1]]` of
-/// sticky_bit, in which the counter starts at 0.
-fn core_for_eight(rt: &impl Abort, alloc: Global) -> Result<LogCore, Fail>
-    ensures eight { IfOk result (λ core. processes_of core.opening.plan ≡ 8) }
-    ensures operation { IfOk result (λ core. 0 < length core.opening.object.operations) }
-{
-    let object = table_of(alloc, counter_3())?;
-    assert!(rt; object.states() >= 1);
-    let plan = plan_of(rt, alloc, sticky_bit(), &[0], &[1, 1, 1, 1, 1, 1, 1])?;
-    let core = LogCore::new(alloc, &plan, &object, State(0), 1024)?;
-    assert!(rt; core.processes() == 8 && core.operations() == 1);
-    Ok(core)
-}
-
-/// A hall over a new core for eight processes, and its seats 6 and 7.
-fn opened_for_eight<R: Wait + Abort>(rt: &R, alloc: Global) -> Result<(Hall, Seat, Seat), Fail>
-    ensures of { IfOk result (λ r. IsSeatOf r.0 r.1 × IsSeatOf r.0 r.2) }
-    ensures operation { IfOk result (λ r. (0 < length r.1.core.opening.object.operations) × (0 < length r.2.core.opening.object.operations)) }
-{
-    let core = core_for_eight(rt, alloc)?;
-    let Ok((hall, mut seats)) = open(rt, alloc, core) else {
-        panic!(rt; "no memory")
-    };
-    let Some(seven) = seats.pop() else {
-        unreachable!()
-    };
-    let Some(six) = seats.pop() else {
-        unreachable!()
-    };
-    Ok((hall, six, seven))
-}
-
-#[test]
-fn serves_eight_seats(rt: HostRuntime) -> Result<(), Fail> {
-    let alloc = rt.alloc();
-    let (hall, mut six, mut seven) = opened_for_eight(&rt, alloc)?;
-    assert!(rt; six.process() == 6 && seven.process() == 7);
-    assert_call(&rt, &hall, &mut seven, reply(0, 0));
-    assert_call(&rt, &hall, &mut six, reply(1, 1));
-    assert!(rt; hall.meet(&rt, &mut six, &mut seven) == Order::Greater);
-    // Each has seven places on its path, so 8 looks and 28 steps for each slot.
-    let parts = [
-        (Event::Invoke(7, 0), 1),
-        (Event::Step(7), 36),
-        (Event::Invoke(6, 0), 1),
-        (Event::Step(6), 72),
-    ];
-    let seats = Vec::with_capacity(alloc, 2)?;
-    close(&rt, alloc, hall, six, seven, seats, &parts)?;
+    seats.push_reserved(one);
+    assert!(rt; hall.close(&rt, seats).schedule().len() == 7 + 13);
     Ok(())
 }

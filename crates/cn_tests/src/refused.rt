@@ -108,11 +108,11 @@ macro_rules! sweep {
             let is_met = refusing.is_met();
             $ended.judge($rt, is_met);
             if !is_met && !was_met {
-                return Ok(());
+                break;
             }
             was_met = is_met;
         }
-        Err("there is always something to refuse")?
+        assert!($rt; !was_met);
     }};
 }
 

@@ -33,15 +33,15 @@ fn are_calls(alloc: Global) -> Result<bool, AppFault> {
 }
 
 #[test]
-fn inputs(rt: HostRuntime) -> Result<(), Fail> {
+fn inputs(rt: HostRuntime) {
     let alloc = rt.alloc();
-    sweep!(&rt, alloc, list = are_inputs(alloc), list_ended(list))
+    sweep!(&rt, alloc, list = are_inputs(alloc), list_ended(list));
 }
 
 #[test]
-fn schedules(rt: HostRuntime) -> Result<(), Fail> {
+fn schedules(rt: HostRuntime) {
     let alloc = rt.alloc();
-    sweep!(&rt, alloc, list = is_schedule(alloc), list_ended(list))
+    sweep!(&rt, alloc, list = is_schedule(alloc), list_ended(list));
 }
 
 #[test]
@@ -53,13 +53,14 @@ fn events(rt: HostRuntime) -> Result<(), Fail> {
         alloc,
         list = are_events(alloc, &wanted),
         list_ended(list)
-    )
+    );
+    Ok(())
 }
 
 #[test]
-fn calls(rt: HostRuntime) -> Result<(), Fail> {
+fn calls(rt: HostRuntime) {
     let alloc = rt.alloc();
-    sweep!(&rt, alloc, list = are_calls(alloc), list_ended(list))
+    sweep!(&rt, alloc, list = are_calls(alloc), list_ended(list));
 }
 
 /// What a command comes to, and its streams.
@@ -86,7 +87,7 @@ fn run_ended(command: Command, run: (Result<Outcome, AppFault>, Streams)) -> End
     }
 }
 
-fn runs_of<R>(rt: &R, alloc: Global, command: Command) -> Result<(), Fail>
+fn runs_of<R>(rt: &R, alloc: Global, command: Command)
 where
     R: Threads + Wait + Sync + Abort,
 {
@@ -95,13 +96,12 @@ where
         alloc,
         run = run_of(rt, alloc, command),
         run_ended(command, run)
-    )
+    );
 }
 
 #[test]
-fn runs(rt: HostRuntime) -> Result<(), Fail> {
+fn runs(rt: HostRuntime) {
     for command in all_commands() {
-        runs_of(&rt, rt.alloc(), command)?;
+        runs_of(&rt, rt.alloc(), command);
     }
-    Ok(())
 }

@@ -21,14 +21,14 @@ fn read_ended(read: Result<Table, TableFault>) -> Ended {
 }
 
 #[test]
-fn tables(rt: HostRuntime) -> Result<(), Fail> {
+fn tables(rt: HostRuntime) {
     let (alloc, text) = (rt.alloc(), test_and_set());
     sweep!(
         &rt,
         alloc,
         read = read_table(alloc, text.as_bytes()),
         read_ended(read)
-    )
+    );
 }
 
 #[test]
@@ -40,7 +40,8 @@ fn copies_of_tables(rt: HostRuntime) -> Result<(), Fail> {
         alloc,
         copied = copy_of(alloc, &table),
         read_ended(copied)
-    )
+    );
+    Ok(())
 }
 
 /// A copy of the table, or the fault of a reading that wants memory.
@@ -69,14 +70,14 @@ fn orders_ended(listed: Result<Vec<ArrayVec<u8, 8>>, AllocError>) -> Ended {
 }
 
 #[test]
-fn orders(rt: HostRuntime) -> Result<(), Fail> {
+fn orders(rt: HostRuntime) {
     let alloc = rt.alloc();
     sweep!(
         &rt,
         alloc,
         listed = plain_orders(alloc, 2),
         orders_ended(listed)
-    )
+    );
 }
 
 /// The witness of test-and-set: both processes have its operation.
@@ -112,24 +113,25 @@ fn splits(rt: HostRuntime) -> Result<(), Fail> {
         alloc,
         split = raw_splits(alloc, &table, &choice),
         splits_ended(split)
-    )
+    );
+    Ok(())
 }
 
 /// Whether the certificate of the finding is the one that is spelled.
-fn is_certified(alloc: Global, table: &Table, finding: Finding) -> Result<bool, Fail> {
-    let certificate = Certificate::of_finding(alloc, table, finding);
-    let text = write_certificate(alloc, &certificate.ok().ok_or("no memory")?)?;
-    Ok(text.as_str() == found_test_and_set_at_3())
+fn is_certified(alloc: Global, table: &Table, finding: Finding) -> bool {
+    let Ok(certificate) = Certificate::of_finding(alloc, table, finding) else {
+        return false;
+    };
+    match write_certificate(alloc, &certificate) {
+        Ok(text) => text.as_str() == found_test_and_set_at_3(),
+        Err(_) => false,
+    }
 }
 
-fn find_ended(
-    alloc: Global,
-    table: &Table,
-    found: Result<Finding, FindFault>,
-) -> Result<Ended, Fail> {
+fn find_ended(alloc: Global, table: &Table, found: Result<Finding, FindFault>) -> Ended {
     match found {
-        Ok(finding) => Ok(Ended::whole_if(is_certified(alloc, table, finding)?)),
-        Err(fault) => Ok(Ended::out_of_memory_if(fault == FindFault::OutOfMemory)),
+        Ok(finding) => Ended::whole_if(is_certified(alloc, table, finding)),
+        Err(fault) => Ended::out_of_memory_if(fault == FindFault::OutOfMemory),
     }
 }
 
@@ -141,8 +143,9 @@ fn findings(rt: HostRuntime) -> Result<(), Fail> {
         &rt,
         alloc,
         found = find(&rt, alloc, &table, 3),
-        find_ended(alloc, &table, found)?
-    )
+        find_ended(alloc, &table, found)
+    );
+    Ok(())
 }
 
 fn number_ended(found: Result<Option<u8>, FindFault>) -> Ended {
@@ -161,7 +164,8 @@ fn numbers(rt: HostRuntime) -> Result<(), Fail> {
         alloc,
         found = number(&rt, alloc, &table, 8),
         number_ended(found)
-    )
+    );
+    Ok(())
 }
 
 /// The finding that comes back is the one whose certificate is made in the end.
@@ -210,14 +214,14 @@ fn certificate_ended(alloc: Global, read: Result<Certificate, CertFault>) -> End
 }
 
 #[test]
-fn certificates(rt: HostRuntime) -> Result<(), Fail> {
+fn certificates(rt: HostRuntime) {
     let (alloc, text) = (rt.alloc(), test_and_set_at_3());
     sweep!(
         &rt,
         alloc,
         read = read_certificate(alloc, text.as_bytes()),
         certificate_ended(alloc, read)
-    )
+    );
 }
 
 #[test]
@@ -229,5 +233,6 @@ fn texts_of_certificates(rt: HostRuntime) -> Result<(), Fail> {
         alloc,
         written = is_written(alloc, &certificate),
         written_ended(written)
-    )
+    );
+    Ok(())
 }

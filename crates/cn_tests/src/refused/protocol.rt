@@ -19,10 +19,10 @@ fn is_shown(alloc: Global, plan: &Plan) -> Result<bool, AllocError> {
 }
 
 /// How a call ended that gives the plan of test-and-set.
-fn plan_ended(alloc: Global, made: Result<Plan, PlanFault>) -> Result<Ended, Fail> {
+fn plan_ended(alloc: Global, made: Result<Plan, PlanFault>) -> Ended {
     match made {
-        Ok(plan) => Ok(Ended::whole_if(is_shown(alloc, &plan)?)),
-        Err(fault) => Ok(Ended::out_of_memory_if(fault == PlanFault::OutOfMemory)),
+        Ok(plan) => Ended::whole_if(is_shown(alloc, &plan) == Ok(true)),
+        Err(fault) => Ended::out_of_memory_if(fault == PlanFault::OutOfMemory),
     }
 }
 
@@ -35,14 +35,15 @@ fn plans(rt: HostRuntime) -> Result<(), Fail> {
         &rt,
         alloc,
         made = Plan::from_witness(alloc, &table, &choice),
-        plan_ended(alloc, made)?
-    )
+        plan_ended(alloc, made)
+    );
+    Ok(())
 }
 
-fn copy_ended(alloc: Global, copied: Result<Plan, AllocError>) -> Result<Ended, Fail> {
+fn copy_ended(alloc: Global, copied: Result<Plan, AllocError>) -> Ended {
     match copied {
-        Ok(copy) => Ok(Ended::whole_if(is_shown(alloc, &copy)?)),
-        Err(_) => Ok(Ended::OutOfMemory),
+        Ok(copy) => Ended::whole_if(is_shown(alloc, &copy) == Ok(true)),
+        Err(_) => Ended::OutOfMemory,
     }
 }
 
@@ -54,8 +55,9 @@ fn copies_of_plans(rt: HostRuntime) -> Result<(), Fail> {
         &rt,
         alloc,
         copied = plan.copy(alloc),
-        copy_ended(alloc, copied)?
-    )
+        copy_ended(alloc, copied)
+    );
+    Ok(())
 }
 
 fn shown_ended(shown: Result<bool, AllocError>) -> Ended {
@@ -74,7 +76,8 @@ fn texts_of_plans(rt: HostRuntime) -> Result<(), Fail> {
         alloc,
         shown = is_shown(alloc, &plan),
         shown_ended(shown)
-    )
+    );
+    Ok(())
 }
 
 /// Process 1 comes first and stops, and process 0 takes its value.
@@ -99,7 +102,8 @@ fn round_ended(fixed: Result<Option<u64>, AllocError>) -> Ended {
 fn rounds(rt: HostRuntime) -> Result<(), Fail> {
     let alloc = rt.alloc();
     let plan = plan_for_two(&rt, alloc)?;
-    sweep!(&rt, alloc, ran = fixed(&rt, alloc, &plan), round_ended(ran))
+    sweep!(&rt, alloc, ran = fixed(&rt, alloc, &plan), round_ended(ran));
+    Ok(())
 }
 
 fn schedule_ended(ran: Result<Decided, ScheduleFault>) -> Ended {
@@ -118,7 +122,8 @@ fn schedules(rt: HostRuntime) -> Result<(), Fail> {
         alloc,
         ran = run_schedule(alloc, &plan, &INPUTS, &STEPS),
         schedule_ended(ran)
-    )
+    );
+    Ok(())
 }
 
 /// Both make a call, and process 1 puts both into the first slot.
@@ -156,7 +161,8 @@ fn new_logs(rt: HostRuntime) -> Result<(), Fail> {
         alloc,
         made = LogCore::new(alloc, &plan, &object, State(0), 4),
         new_log_ended(made)
-    )
+    );
+    Ok(())
 }
 
 fn log_ended(replayed: Result<LogCore, ReplayFault>, events: &[Event]) -> Ended {
@@ -178,7 +184,8 @@ fn replayed_logs(rt: HostRuntime) -> Result<(), Fail> {
         alloc,
         replayed = replay(alloc, &plan, &object, State(0), 4, &events),
         log_ended(replayed, &events)
-    )
+    );
+    Ok(())
 }
 
 /// The core comes back with its entries and its schedule, until a hall is opened over it.
