@@ -23,11 +23,6 @@ decides_at [] p x h = absurd cc
 decides_at (l ∷ locals) zero x h = cc
 decides_at (l ∷ locals) (suc p) x h = decides_at locals p x h
 
-decides_within : {V : Type 0} (locals : List (Local V)) (p : ℕ) (x : V) → slice_get (map decision_of locals) p ≡ Some (Some x) → p < length locals
-decides_within [] p x h = absurd cc
-decides_within (l ∷ locals) zero x h = omega arith
-decides_within (l ∷ locals) (suc p) x h = let k = decides_within locals p x h in omega arith
-
 entry_at : {V : Type 0} (locals : List (Local V)) (p : ℕ) → p < length locals → slice_get (map decision_of locals) p ≡ Some (decision_of (slice_index_or locals p NotBegun))
 entry_at [] p lt = absurd (omega arith)
 entry_at (l ∷ locals) zero lt = refl

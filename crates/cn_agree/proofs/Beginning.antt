@@ -29,14 +29,6 @@ front_all f d (suc n) [] e = absurd (omega arith)
 front_all f d zero (x ∷ xs) e = absurd (omega arith)
 front_all f d (suc n) (x ∷ xs) e = ap (λ r. f x ∷ r) (front_all f d n xs (omega arith))
 
-front_length : {A B : Type 0} (f : A → B) (d : B) (n : ℕ) (xs : List A) (i : ℕ) → length xs ≡ n → i ≤ n → length (front f d n xs i) ≡ n
-front_length f d zero [] zero e le = refl
-front_length f d zero [] (suc i) e le = absurd (omega arith)
-front_length f d (suc n) [] i e le = absurd (omega arith)
-front_length f d zero (x ∷ xs) i e le = absurd (omega arith)
-front_length f d (suc n) (x ∷ xs) zero e le = ap suc (front_length f d n xs 0 (omega arith) (omega arith))
-front_length f d (suc n) (x ∷ xs) (suc i) e le = ap suc (front_length f d n xs i (omega arith) (omega arith))
-
 module _ {V : Type 0} (P : Protocol) (n nodes : ℕ) (inputs : List V) (many : length inputs ≡ n) where
   -- the next process has not begun
   pub next_waits : (i : ℕ) → i < n → local_at (some_begun P n nodes inputs i) i ≡ NotBegun

@@ -4,7 +4,7 @@ use Rattle.std.specs.List.{AllPairs}
 use Rattle.std.proofs.lemmas.List.Quantifiers.{all_pairs_push}
 use Rattle.std.proofs.lemmas.Option.{slice_get-get_or}
 use Rattle.cn_proto.specs.Order.{after, answers, IsAnswered}
-use Rattle.cn_table.proofs.Lists.{get_front, get_push_new, get_push_old}
+use Rattle.cn_table.proofs.Lists.{get_front, get_push_new}
 
 pub after_push : (act : ℕ → ℕ → ℕ × ℕ) (start : ℕ) (order : List ℕ) (role : ℕ) → after act start (order ++ role ∷ []) ≡ (act role (after act start order)).1
 after_push act start [] role = refl
@@ -24,14 +24,6 @@ answered_last act start order role = (
   length order,
   get_push_new order role,
   rw (answers_push act start order role, ← length-answers act start order) (get_push_new (answers act start order) (act role (after act start order)).0),
-)
-
--- and what the others were answered stays
-pub answered_push : (act : ℕ → ℕ → ℕ × ℕ) (start : ℕ) (order : List ℕ) (role : ℕ) (j r : ℕ) → IsAnswered act start order j r → IsAnswered act start (order ++ role ∷ []) j r
-answered_push act start order role j r h = (
-  h.0,
-  get_push_old order role h.0 j h.1,
-  rw (answers_push act start order role) (get_push_old (answers act start order) (act role (after act start order)).0 h.0 r h.2),
 )
 
 pub distinct_push : (order : List ℕ) (role : ℕ) → AllPairs (λ (x : ℕ) y. x ≢ y) order → ((k : ℕ) → slice_get order k ≢ Some role) → AllPairs (λ (x : ℕ) y. x ≢ y) (order ++ role ∷ [])

@@ -4,13 +4,11 @@ use Rattle.std.proofs.lemmas.List.{length-replicate}
 use Rattle.std.proofs.lemmas.Bool.{cases_eq}
 use Rattle.cn_choice.specs.declared.team.Team.{Team}
 use Rattle.cn_choice.specs.declared.team.Team.TheVariants.{A, B}
-use Rattle.cn_agree.specs.declared.local.Stage.{Stage}
 use Rattle.cn_agree.specs.declared.local.Stage.TheVariants.{Write}
 use Rattle.cn_agree.specs.declared.local.Local.{Local}
 use Rattle.cn_agree.specs.declared.local.Local.TheVariants.{NotBegun, Active}
 use Rattle.cn_agree.specs.declared.node.Node.{Node}
-use Rattle.cn_proto.specs.declared.place.Place.{Place}
-use Rattle.cn_proto.specs.Protocol.{Protocol, place_of, nowhere}
+use Rattle.cn_proto.specs.Protocol.{Protocol}
 use Rattle.cn_agree.specs.World.{World, node_at, local_at, input_at, register, fresh_node}
 use Rattle.cn_agree.specs.Steps.{after_step, after_begin}
 use Rattle.cn_proto.specs.Order.{after}
@@ -31,10 +29,6 @@ same_anywhere (suc n) a (suc v) = same_anywhere n a v
 pub empty_register : {V : Type 0} (start : ℕ) (side : Team) (y : V) → register (fresh_node start) side ≢ Some y
 empty_register start A y h = cc
 empty_register start B y h = cc
-
--- the role of a place is a process of the witness
-pub role_at : (P : Protocol) (n nodes : ℕ) (team : ℕ → Team) → IsSound P n nodes team → (p : ℕ) → p < n → {path : List Place} → path ≡ P.path p → (i : ℕ) → i < length (P.path p) → (slice_index_or path i nowhere).role < n
-role_at P n nodes team sound p lt {path = path} pe i l = rw pe (sound.roles_below p i (lt, l))
 
 module _ {V : Type 0} (P : Protocol) (n nodes : ℕ) (team : ℕ → Team) (sound : IsSound P n nodes team) where
   keeps_begun : (w : World V) (order : ℕ → List ℕ) → Holds P n nodes team w order → (p : ℕ) → p < n → local_at w p ≡ NotBegun → (x : V) → Holds P n nodes team (after_begin p x w) order
@@ -102,14 +96,6 @@ module _ {V : Type 0} (P : Protocol) (n nodes : ℕ) (team : ℕ → Team) (soun
   reached_kept Opens = (λ v. [], first_holds)
   reached_kept (Begins {w = w} p x lt e r) = let k = reached_kept r in (k.0, keeps_begun w k.0 k.1 p lt e x)
   reached_kept (Steps {w = w} p lt b r) = keeps_step P n nodes team sound w (reached_kept r) p lt
-
-  -- where a process under way is
-  pub under_way_at : {schedule : List ℕ} {w : World V} → IsReached P n nodes schedule w → (p : ℕ) → p < n → (i : ℕ) (x : V) (stage : Stage) → local_at w p ≡ Active i x stage
-      → (p < length w.locals) × (i < length (P.path p)) × ((place_of P p i).node < length w.nodes)
-  under_way_at r p lt i x stage e =
-      let k = reached_kept r in
-      let h = rw e at (k.1.local_holds p lt) in
-      (rw k.1.locals_are lt, h.0.1, rw k.1.nodes_are (sound.nodes_below p i h.0))
 
   pub nodes_are : {schedule : List ℕ} {w : World V} → IsReached P n nodes schedule w → length w.nodes ≡ nodes
   nodes_are r = (reached_kept r).1.nodes_are

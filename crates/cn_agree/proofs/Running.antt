@@ -20,17 +20,8 @@ use Rattle.cn_agree.specs.Reached.{first_world, Opens}
 use Rattle.cn_agree.specs.Rounds.{decision_of, decision_at, IsRoundOf, RunsBy}
 use Rattle.cn_agree.specs.Beginning.{AllHaveBegun, HaveBegun}
 use Rattle.cn_agree.proofs.Reaching.{begun_stays}
-use Rattle.cn_agree.proofs.Beginning.{next_waits, next_begins, all_is, begun_all}
+use Rattle.cn_agree.proofs.Beginning.{next_begins, all_is, begun_all}
 use Rattle.cn_agree.proofs.PlanRounds.{processes_are, round_steps}
-
-pub none_begun : {V : Type 0} (plan : Plan) (inputs : List V) (w : World V) → w ≡ first_world (protocol_of plan) (processes_of plan) (nodes_of plan) → IsRoundOf plan [] w → HaveBegun plan inputs 0 w
-none_begun plan inputs w is r = record { is = is; round = r }
-
-pub next_process : {V : Type 0} (plan : Plan) (inputs : List V) (i : ℕ) (w : World V) → length inputs ≡ processes_of plan → i < processes_of plan → HaveBegun plan inputs i w → (i < length w.locals) × (local_at w i ≡ NotBegun)
-next_process plan inputs i w many lt h = (
-  let n = processes_are plan [] w h.round in omega arith,
-  rw h.is (next_waits (protocol_of plan) (processes_of plan) (nodes_of plan) inputs many i lt),
-)
 
 pub one_more_begun : {V : Type 0} (plan : Plan) (inputs : List V) (i p : ℕ) (x : V) (w w' : World V) → length inputs ≡ processes_of plan → i < processes_of plan → HaveBegun plan inputs i w → p ≡ i → x ≡ get_or inputs i x → w' ≡ after_begin p x w
     → IsRoundOf plan [] w'
@@ -107,15 +98,6 @@ no_stranger_from n i (p ∷ schedule) h = by_test (nat_le n p) refl h (no_strang
 
 pub none_stranger : (n : ℕ) (schedule : List ℕ) → position (λ p. nat_le n p) schedule ≡ None → IsSchedule n schedule
 none_stranger n schedule h = no_stranger_from n 0 schedule (sym (position_from-zero (λ p. nat_le n p) schedule) ∙ h)
-
-pub is_none_stranger : (n m : ℕ) (schedule : List ℕ) (found : Option ℕ) → n ≡ m → found ≡ position (λ p. nat_le n p) schedule → is_some found ≡ false → IsSchedule m schedule
-is_none_stranger n m schedule found e read none =
-    let T : ℕ → Type 0 = λ k. IsSchedule k schedule in
-    subst T e (none_stranger n schedule (sym read ∙ is_none_of found none))
-  where
-    is_none_of : (found : Option ℕ) → is_some found ≡ false → found ≡ None
-    is_none_of None h = refl
-    is_none_of (Some place) h = absurd cc
 
 pub no_stranger : {V : Type 0} (n : ℕ) (inputs : List V) (schedule : List ℕ) → schedule_fault n inputs schedule ≡ None → IsSchedule n schedule
 no_stranger n inputs schedule h = by_count (nat_eq (length inputs) n) refl h

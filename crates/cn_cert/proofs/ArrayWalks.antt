@@ -13,7 +13,7 @@ use Rattle.cn_cert.specs.Document.{list_of}
 use Rattle.cn_cert.specs.Draft.{choice_from, choice_of, collision_from, collision_of}
 use Rattle.cn_cert.specs.Reads.{Reads, Refuses}
 use Rattle.cn_cert.specs.Values.{items_of_len, natural_of, naturals_of}
-use Rattle.cn_cert.specs.Tokens.{Opens, data_at, items_at, rest_at, with_value, nothing, next_item, next_choice, first_item, later_items, choice_parts, next_collision, whole, in_array, collision_parts, is_over, all_items}
+use Rattle.cn_cert.specs.Tokens.{data_at, items_at, rest_at, with_value, nothing, next_item, next_choice, first_item, later_items, choice_parts, next_collision, whole, in_array, collision_parts, is_over, all_items}
 use Rattle.cn_cert.specs.declared.fault.CertFault.{CertFault}
 use Rattle.cn_cert.specs.declared.fault.CertFault.TheVariants.{NotJson}
 use Rattle.std.proofs.lemmas.Bool.{eqb-true}
@@ -21,7 +21,7 @@ use Rattle.json.specs.Reads.{token_of}
 use Rattle.json.specs.declared.token.Token.{Token as ReadToken}
 use Rattle.json.specs.declared.token.Token.TheVariants as read
 use Rattle.cn_cert.proofs.Conversions.{items_over}
-use Rattle.cn_cert.proofs.Walks.{told_of, told_none, told_twice, told_same, item_step, item_none, items_done, array_told, object_told, array_too_deep, object_too_deep, string_told, boolean_told, null_told, number_told, none_told, refuse_more}
+use Rattle.cn_cert.proofs.Walks.{told_of, told_none, told_twice, item_step, item_none, items_done, array_told, object_told, array_too_deep, object_too_deep, string_told, boolean_told, null_told, number_told, none_told, refuse_more}
 
 -- ---- the sort of a value, by its first token
 
@@ -280,9 +280,6 @@ not_over depth ts r going e = from (data_at depth ts) refl
 
 -- ---- arrays that were opened, and other values
 
-pub opened_told : {A : Type 0} (K : Data → A) (depth : ℕ) (old new : List Token) → Opens true depth old new → with_value K (data_at depth old) ≡ with_value (λ ds. K (array ds)) (items_at (depth - 1) new)
-opened_told K depth old new opened = ap (with_value K) opened.1 ∙ told_twice array K (λ ds. K (array ds)) (λ _. refl) (items_at (depth - 1) new)
-
 -- a state, and two lists, one after another
 pub choice_steps : (there one two three : Option (Items × List Token)) (s : Option ℕ) (a b : Option (List ℕ)) → with_value (next_item natural_of) there ≡ with_value (λ ds. (s, ds)) one
     → with_value (next_item naturals_of) one ≡ with_value (λ ds. (a, ds)) two → with_value (next_item naturals_of) two ≡ with_value (λ ds. (b, ds)) three → with_value next_choice there ≡ with_value (λ ds. (choice_parts s a b, ds)) three
@@ -290,8 +287,3 @@ choice_steps there one two three s a b e f g =
     then_more (next_item natural_of) (λ x ds. (choice_parts x (first_item naturals_of ds) (first_item naturals_of (later_items ds)), later_items (later_items ds))) s there one e
     ∙ then_more (next_item naturals_of) (λ x ds. (choice_parts s x (first_item naturals_of ds), later_items ds)) a one two f
     ∙ then_more (next_item naturals_of) (λ x ds. (choice_parts s a x, ds)) b two three g
-
--- an opened array that is told by its items
-pub told_opened : {A : Type 0} (K : Data → A) (F : Items → A) (depth : ℕ) (old new : List Token) → ((ds : Items) → K (array ds) ≡ F ds) → Opens true depth old new
-    → with_value K (data_at depth old) ≡ with_value F (items_at (depth - 1) new)
-told_opened K F depth old new each opened = opened_told K depth old new opened ∙ told_same (λ ds. K (array ds)) F each (items_at (depth - 1) new)

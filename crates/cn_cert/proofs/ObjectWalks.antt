@@ -4,8 +4,8 @@ use Rattle.std.proofs.lemmas.Slice.Eq.{bytes_eq-Decides}
 use Rattle.std.specs.Cmp.Lexicographic.{slice_cmp}
 use Rattle.std.specs.Ordering.{match_ordering}
 use Rattle.json.specs.Token.{Token}
-use Rattle.serde_json.specs.Data.{Num, Data, null, boolean, number, string, array, object, Members, no_members, member, put}
-use Rattle.serde_json.specs.Find.{as_str, as_u64, get_member}
+use Rattle.serde_json.specs.Data.{Data, null, boolean, number, string, array, object, Members, no_members, member, put}
+use Rattle.serde_json.specs.Find.{as_str, get_member}
 use Rattle.serde_json.proofs.Views.{get_member-put, get_member-put_other}
 use Rattle.cn_cert.specs.Document.{members_len}
 use Rattle.cn_cert.specs.Draft.{choice_of, collisions_of, draft_from, draft_of}
@@ -39,12 +39,6 @@ not_null kind (number n) h = refl
 not_null kind (string s) h = refl
 not_null kind (array ds) h = refl
 not_null kind (object ms) h = refl
-
--- a number, read as a number or null
-pub number_or_null_read : (n : Option Num) (ts : List Token) (o : Option ℕ) → option_map as_u64 n ≡ Some o
-    → option_map {U = Option (Option ℕ) × List Token} (λ x. (nullable natural_of (number x), ts)) n ≡ Some (option_map Some o, ts)
-number_or_null_read None ts o e = absurd cc
-number_or_null_read (Some x) ts o e = ap (option_map (λ k. (option_map Some k, ts))) e
 
 -- a value that is not null, read as one of a kind or null
 pub some_or_null : {X : Type 0} (kind : Data → Option X) (depth : ℕ) (t : Token) (ts r : List Token) (o : Option X) → (token_sort t ≡ 0 → ⊥) → with_value kind (data_at depth (t ∷ ts)) ≡ Some (o, r)

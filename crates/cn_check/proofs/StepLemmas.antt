@@ -1,8 +1,7 @@
 -- Lists that never fall: the first of its length, and the one that comes next.
-use Rattle.std.proofs.Common.{◌≡◌, ℕ, zero, suc, ◌+◌, ◌-◌, ◌<◌, ◌≤◌, List, [], ◌∷◌, ◌++◌, length, length-append, length-drop, length-take-le, append-nil, get_or, set, take, drop, drop-cons, refl, sym, ap, ◌∙◌, arith, false, ltb, replicate, All}
+use Rattle.std.proofs.Common.{◌≡◌, ℕ, zero, suc, ◌+◌, ◌-◌, ◌<◌, ◌≤◌, List, [], ◌∷◌, ◌++◌, length, length-append, length-drop, length-take-le, append-nil, get_or, set, take, drop, drop-cons, refl, sym, ap, ◌∙◌, arith, ltb, replicate, All}
 use Rattle.std.specs.List.{AllByRecursion, refill}
 use Rattle.std.proofs.lemmas.Bool.{lt-ltb}
-use Rattle.std.proofs.lemmas.Bool.Decides.{nat_tests}
 use Rattle.std.proofs.lemmas.List.{drop_all, length-replicate, set-append_right, take-append-drop, take_all}
 use Rattle.std.proofs.lemmas.List.Edits.{fill_more}
 use Rattle.std.proofs.lemmas.List.Elements.{All-from_recursion, recursion_from_All}
@@ -52,12 +51,6 @@ step_end m xs h = none_after m xs (recursion_from_All _ _ h)
 pub first_longer : (m n : ℕ) (a : List ℕ) → 1 ≤ m → length a + length a < n → second_lists m n a ≡ replicate (n - length a) 0 ∷ rising_after m (replicate (n - length a) 0)
 first_longer m n a some l = rw (lt-ltb (length a + length a) n l) (first_list (n - length a) 0 m some)
 
-pub first_equal : (m n : ℕ) (a : List ℕ) → n ≤ length a + length a → second_lists m n a ≡ a ∷ rising_after m a
-first_equal m n a l = rw (none_less (length a + length a) n l) refl
-  where
-    none_less : (i k : ℕ) → k ≤ i → ltb i k ≡ false
-    none_less i k h = grind (arith, nat_tests)
-
 -- ---- numbers that are raised one after the other
 
 pub raise_more : (xs ys : List ℕ) (place later value : ℕ) → place ≤ later → later < length xs → ys ≡ take place xs ++ (replicate (later - place) value ++ drop (later - place) (drop place xs))
@@ -69,13 +62,6 @@ raise_more xs ys place later value l inside e =
     ap (λ (zs : List ℕ). set zs later value) e
     ∙ (set-append_right (take place xs) (replicate (later - place) value ++ drop (later - place) (drop place xs)) place later value front l
     ∙ ap (λ (zs : List ℕ). take place xs ++ zs) (more ∙ ap (λ (k : ℕ). replicate k value ++ drop k (drop place xs)) next))
-
-pub all_raised : (xs : List ℕ) (place value later : ℕ) → place ≤ length xs → length xs ≤ later → later ≤ length xs
-    → take place xs ++ (replicate (later - place) value ++ drop (later - place) (drop place xs)) ≡ take place xs ++ replicate (length xs - place) value
-all_raised xs place value later l m n =
-    let none : drop (later - place) (drop place xs) ≡ [] = drop_all (later - place) (drop place xs) (omega (arith, length-drop place xs)) in
-    let end : later ≡ length xs = omega arith in
-    ap (λ (zs : List ℕ). take place xs ++ (replicate (later - place) value ++ zs)) none ∙ rw (end, append-nil (replicate (length xs - place) value)) refl
 
 -- a list that is written over with one of its length is that one
 pub written_over : (xs ys : List ℕ) → length ys ≡ length xs → refill (length xs) xs ys ≡ ys

@@ -1,5 +1,5 @@
 -- What a gate is asked in a call.
-use Rattle.std.specs.Prelude.{◌≡◌, ℕ, zero, suc, List, [], ◌∷◌, ◌++◌, Some, drop, length, Result, Ok, Err}
+use Rattle.std.specs.Prelude.{◌≡◌, ℕ, zero, suc, Some, drop, length, Result, Ok, Err}
 use Rattle.cn_log.specs.Callers.{BeginsWith}
 use Rattle.cn_log.specs.Opening.{Log}
 use Rattle.cn_log.specs.OwnSteps.{steps_of}

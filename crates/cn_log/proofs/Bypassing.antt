@@ -1,11 +1,11 @@
 -- What follows from what every event keeps: no call is passed by for long, and answers are those of one run.
-use Rattle.std.proofs.Common.{ℕ, zero, suc, ◌≡◌, ◌⊎◌, inl, inr, ◌+◌, ◌<◌, ◌≤◌, List, [], ◌∷◌, length, slice_get, Option, Some, None, refl, arith, subst}
+use Rattle.std.proofs.Common.{ℕ, ◌≡◌, ◌⊎◌, inl, inr, ◌+◌, ◌<◌, ◌≤◌, [], length, Option, Some, None, refl, arith, subst}
 use Rattle.cn_log.specs.declared.batch.Batch.{Batch}
 use Rattle.cn_log.specs.declared.entry.Entry.{Entry}
 use Rattle.cn_log.specs.Log.{Setting, World, Note, Called, Replied, FoundFull, first_world}
 use Rattle.cn_log.specs.Agreement.{RoundsAgree}
 use Rattle.cn_log.specs.Batches.{Has}
-use Rattle.cn_log.proofs.Invariant.{IsNoted, IsPending, Holds, Facts, Stands, StandsBy, IsOrdered, in_order, stands_once, fixed_begun}
+use Rattle.cn_log.proofs.Invariant.{IsNoted, IsPending, Holds, Facts, Stands, StandsBy, in_order, stands_once, fixed_begun}
 use Rattle.cn_log.proofs.ListLemmas.{there_is}
 
 module _ {R : Type 0} (L : Setting R) (Good : R → Type 0) (agrees : RoundsAgree L Good) (w : World R) (holds : Holds L Good w) (facts : Facts L w) where
@@ -40,17 +40,6 @@ module _ {R : Type 0} (L : Setting R) (Good : R → Type 0) (agrees : RoundsAgre
       go : (o : Option Batch) → L.consensus.fixed (w.round (since + 1)) ≡ o → o ≡ None
       go None h = refl
       go (Some y) h = let s = helped_by e since noted lt y room h in let l = s.low in absurd (none s.slot (omega arith) s.stands)
-
-  -- a call answered before another was made stands before it
-  pub before_later : (notes : List Note) → IsOrdered notes → (i j : ℕ) (e f : Entry) (k r since : ℕ) → slice_get notes i ≡ Some (Replied e k r) → slice_get notes j ≡ Some (Called f since) → j < i → k < since
-  before_later [] ordered i j e f k r since a b less = absurd (cc a)
-  before_later (Called g s ∷ notes) ordered (suc i) zero e f k r since a b less = let same : s ≡ since = cc in rw (← same) (ordered.0 e k r (record { place = i; there = a }))
-  before_later (Called g s ∷ notes) ordered (suc i) (suc j) e f k r since a b less = before_later notes ordered.1 i j e f k r since a b (omega arith)
-  before_later (Replied g s t ∷ notes) ordered (suc i) (suc j) e f k r since a b less = before_later notes ordered i j e f k r since a b (omega arith)
-  before_later (FoundFull g ∷ notes) ordered (suc i) (suc j) e f k r since a b less = before_later notes ordered i j e f k r since a b (omega arith)
-  before_later (Replied g s t ∷ notes) ordered (suc i) zero e f k r since a b less = absurd (cc b)
-  before_later (FoundFull g ∷ notes) ordered (suc i) zero e f k r since a b less = absurd (cc b)
-  before_later (note ∷ notes) ordered zero j e f k r since a b less = absurd (omega arith)
 
   -- the calls of a process before one that stands stand before it, none left out
   pub none_left_out : (e : Entry) (k c : ℕ) → Stands L w e k → c < e.call → (f : Entry) × (j : ℕ) × (f.process ≡ e.process) × (f.call ≡ c) × (j < k) × Stands L w f j

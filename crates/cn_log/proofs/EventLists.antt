@@ -36,9 +36,6 @@ split_at [] i x h = absurd cc
 split_at (y ∷ xs) zero x h = let e : y ≡ x = cc in ap (λ z. z ∷ xs) e
 split_at (y ∷ xs) (suc i) x h = ap (λ ys. y ∷ ys) (split_at xs i x h)
 
-one : ℕ → Event → ℕ
-one p e = cond (is_call_of p e) 1 0
-
 pub calls_cons : (p : ℕ) (e : Event) (events : List Event) → calls_of p (e ∷ events) ≡ cond (is_call_of p e) 1 0 + calls_of p events
 calls_cons p e events = sum_by-cons (λ x. cond (is_call_of p x) 1 0) e events
 

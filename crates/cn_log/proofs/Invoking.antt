@@ -12,7 +12,7 @@ use Rattle.cn_log.specs.declared.event.Event.{Event}
 use Rattle.cn_log.specs.declared.event.Event.TheVariants.{Invoke, Step}
 use Rattle.cn_log.specs.Agreement.{RoundsAgree}
 use Rattle.cn_log.proofs.ListLemmas.{put_same, put_other, there_is}
-use Rattle.cn_log.proofs.Invariant.{IsNoted, IsCalled, IsRuns, IsPending, IsLooking, PhaseHolds, IsOther, Holds, HasGathered, fixed_begun, in_order, Facts, IsMine, IsSeen, Stands, StandsBy, IsReply}
+use Rattle.cn_log.proofs.Invariant.{IsNoted, IsCalled, IsRuns, IsPending, IsLooking, PhaseHolds, Holds, HasGathered, fixed_begun, in_order, Facts, IsMine, IsSeen, Stands, StandsBy, IsReply}
 use Rattle.cn_log.proofs.Looking.{keeps_look, look_facts}
 use Rattle.cn_log.proofs.Running.{keeps_run, run_facts, called_more, none_at}
 
@@ -193,9 +193,6 @@ module _ {R : Type 0} (L : Setting R) (Good : R → Type 0) (agrees : RoundsAgre
 
     reply_same : (f : Entry) (k r : ℕ) → IsReply L w f k r → IsReply L w' f k r
     reply_same f k r a = record { stands = stands_now f k a.stands; within = a.within; before = a.before; many = a.many; are = a.are; reply = a.reply }
-
-    other_same : (r : R) (f : Entry) → IsOther L r f → IsOther L r f
-    other_same r f o = o
 
     done_at : (f : Entry) (q : ℕ) → IsMine (w.caller q).phase f ⊎ (IsSeen (w.caller q).seen f ⊎ (L.capacity ≤ length (w.caller q).seen))
         → IsMine (w'.caller q).phase f ⊎ (IsSeen (w'.caller q).seen f ⊎ (L.capacity ≤ length (w'.caller q).seen))

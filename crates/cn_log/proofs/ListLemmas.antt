@@ -1,5 +1,5 @@
 -- Reads of a function changed at one place, and of entries.
-use Rattle.std.proofs.Common.{ℕ, zero, suc, ◌≡◌, ◌≢◌, ◌⊎◌, inl, inr, Bool, true, false, ◌<◌, ◌==◌, List, [], ◌∷◌, ◌++◌, length, take, slice_get, Some, refl, sym, ap, arith, true≢false}
+use Rattle.std.proofs.Common.{ℕ, zero, suc, ◌≡◌, ◌≢◌, Bool, true, false, ◌<◌, ◌==◌, List, [], ◌∷◌, ◌++◌, length, take, slice_get, Some, refl, sym, ap, arith, true≢false}
 use Rattle.std.proofs.lemmas.Bool.Decides.{nat_tests}
 pub use Rattle.cn_table.proofs.Lists.{get_low, get_push_cases, get_push_new, get_push_old, there_is}
 use Rattle.cn_log.specs.declared.entry.Entry.{Entry}

@@ -1,5 +1,5 @@
 -- The entries of one process more.
-use Rattle.std.proofs.Common.{ℕ, zero, suc, ◌≡◌, ◌≢◌, false, ◌+◌, ◌==◌, List, [], ◌∷◌, ◌++◌, length, map, Option, Some, None, refl, sym, ap, ◌∙◌, arith, append-nil}
+use Rattle.std.proofs.Common.{ℕ, zero, suc, ◌≡◌, ◌≢◌, false, ◌+◌, ◌==◌, List, [], ◌∷◌, ◌++◌, length, Option, Some, None, refl, sym, ap, ◌∙◌, arith, append-nil}
 use Rattle.std.proofs.lemmas.Bool.Decides.{nat_tests}
 use Rattle.cn_log.specs.declared.batch.Batch.{Batch}
 use Rattle.cn_log.specs.declared.entry.Entry.{Entry}
@@ -21,23 +21,12 @@ push_from (suc many) q b = go (entry_at b q) (push_from many (suc q) b ∙ ap (�
 pub members_push : (q : ℕ) (b : Batch) → members (q + 1) 0 b ≡ members q 0 b ++ and_entry (entry_at b q) []
 members_push q b = let z : q + 1 ≡ suc q = omega arith in let y : 0 + q ≡ q = omega arith in ap (λ i. members i 0 b) z ∙ push_from q 0 b ∙ ap (λ i. members q 0 b ++ and_entry (entry_at b i) []) y
 
-pub map_push : (q : ℕ) (b : Batch) (f : Entry → ℕ) → map f (members (q + 1) 0 b) ≡ map f (members q 0 b) ++ map f (and_entry (entry_at b q) [])
-map_push q b f = ap (map f) (members_push q b) ∙ map_join (members q 0 b) (and_entry (entry_at b q) [])
-  where
-    map_join : (xs ys : List Entry) → map f (xs ++ ys) ≡ map f xs ++ map f ys
-    map_join [] ys = refl
-    map_join (x ∷ xs) ys = ap (λ l. f x ∷ l) (map_join xs ys)
-
 -- with an entry of process q, and with none
 pub next_some : (q : ℕ) (b : Batch) (e : Entry) → entry_at b q ≡ Some e → members (q + 1) 0 b ≡ members q 0 b ++ e ∷ []
 next_some q b e h = members_push q b ∙ ap (λ o. members q 0 b ++ and_entry o []) h
 
 pub next_none : (q : ℕ) (b : Batch) → entry_at b q ≡ None → members (q + 1) 0 b ≡ members q 0 b
 next_none q b h = members_push q b ∙ ap (λ o. members q 0 b ++ and_entry o []) h ∙ append-nil (members q 0 b)
-
-pub not_some : (o : Option Entry) → ((e : Entry) → o ≡ Some e → ⊥) → o ≡ None
-not_some None h = refl
-not_some (Some e) h = absurd (h e refl)
 
 pub slots_push : (k : ℕ) (es : List Entry) (e : Entry) → each_slot k (es ++ e ∷ []) ≡ each_slot k es ++ k ∷ []
 slots_push k [] e = refl

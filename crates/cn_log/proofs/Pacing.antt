@@ -119,9 +119,6 @@ module _ {R : Type 0} (L : Setting R) (Good : R → Type 0) (agrees : RoundsAgre
     abbrev k0 : ℕ
     k0 = length here.seen
 
-    way_is : (c : Caller) → here ≡ c → way_of L a w p ≡ length c.seen * (cost + a) + steps_into L a w p (length c.seen) c.phase
-    way_is c e = ap (λ (z : Caller). length z.seen * (cost + a) + steps_into L a w p (length z.seen) z.phase) e
-
     way_then : (w' : World R) (c : Caller) → w'.caller p ≡ c → way_of L a w' p ≡ length c.seen * (cost + a) + steps_into L a w' p (length c.seen) c.phase
     way_then w' c e = ap (λ (z : Caller). length z.seen * (cost + a) + steps_into L a w' p (length z.seen) z.phase) e
 

@@ -29,13 +29,6 @@ module _ (t : TypeTable) (limit : ℕ)
   number_refuted n None two within fails = no_number (subst (λ (k : ℕ). ¬ IsDiscerning t k) two fails)
   number_refuted n (Some m) (next, two, is) within fails = number_found m two (omega (arith, next, within)) is (λ _. subst (λ (k : ℕ). ¬ IsDiscerning t k) next fails)
 
-  -- it is for as many processes as the limit
-  pub number_at_limit : (n : ℕ) (number : Option ℕ) → HasTried t n number → 2 ≤ limit → n ≡ limit + 1 → IsNumberUpTo t limit number
-  number_at_limit n None two some past = absurd (omega (arith, two, past, some))
-  number_at_limit n (Some m) (next, two, is) some past =
-      let all : limit ≤ m = omega (arith, next, past) in
-      number_found m two (omega (arith, next, past)) is (λ less. absurd (omega (arith, all, less)))
-
   -- the number up to a lower limit, below that
   pub number_of_lower : (lower : ℕ) (number : Option ℕ) → 2 ≤ lower → lower ≤ limit → IsNumberUpTo t lower number → number ≢ Some lower → IsNumberUpTo t limit number
   number_of_lower lower None some within none below = no_number (none 2 (omega arith) some)
