@@ -12,11 +12,11 @@ use Rattle.cn_agree.specs.declared.local.Local.{Local}
 use Rattle.cn_agree.specs.declared.local.Local.TheVariants.{NotBegun, Active}
 use Rattle.cn_agree.specs.World.{World, node_at, local_at, register, with_register, fresh_node}
 use Rattle.cn_agree.specs.Steps.{node_after, local_after, first_after, first_recorded, onward_if_found, after_action, after_step, after_step_from}
-use Rattle.cn_agree.specs.AtomicStep.{Part, Object, Register, State, Value, content, part_touched, ActsOnce, HasPlace, LooksAlike, IsAtomic}
+use Rattle.cn_agree.specs.AtomicStep.{SharedPart, Object, Register, State, Value, content, part_touched, ActsOnce, HasPlace, LooksAlike, IsAtomic}
 use Rattle.cn_agree.proofs.Actions.{register_mine}
 
 -- a write changes its register alone
-write_leaves : {V : Type 0} (node : Node V) (mine : Team) (x : V) (part : Part) → part ≢ Register mine → content (with_register node mine x) part ≡ content node part
+write_leaves : {V : Type 0} (node : Node V) (mine : Team) (x : V) (part : SharedPart) → part ≢ Register mine → content (with_register node mine x) part ≡ content node part
 write_leaves node A x Object ne = refl
 write_leaves node B x Object ne = refl
 write_leaves node A x (Register A) ne = absurd (ne refl)
@@ -25,12 +25,12 @@ write_leaves node B x (Register A) ne = refl
 write_leaves node B x (Register B) ne = absurd (ne refl)
 
 -- an application changes the object alone
-apply_leaves : {V : Type 0} (node : Node V) (state : StateOf) (part : Part) → part ≢ Object → content (record node { state = state }) part ≡ content node part
+apply_leaves : {V : Type 0} (node : Node V) (state : StateOf) (part : SharedPart) → part ≢ Object → content (record node { state = state }) part ≡ content node part
 apply_leaves node state Object ne = absurd (ne refl)
 apply_leaves node state (Register A) ne = refl
 apply_leaves node state (Register B) ne = refl
 
-leaves : {V : Type 0} (P : Protocol) (here : Place) (x : V) (stage : Stage) (node : Node V) (part : Part) → part ≢ part_touched P here stage → content (node_after P here x stage node) part ≡ content node part
+leaves : {V : Type 0} (P : Protocol) (here : Place) (x : V) (stage : Stage) (node : Node V) (part : SharedPart) → part ≢ part_touched P here stage → content (node_after P here x stage node) part ≡ content node part
 leaves P here x Write node part ne = write_leaves node here.team x part ne
 leaves P here x Apply node part ne = apply_leaves node (record { 0 = (P.act here.role node.state.0).1 }) part ne
 leaves P here x (Read response) node part ne = refl
@@ -61,7 +61,7 @@ leaves_alike P here x (Read response) node other e = e
 leaves_alike P here x (Take response state) node other e = e
 
 -- a part of the node that is written, or of one that isn't there
-written_part : {V : Type 0} (nodes : List (Node V)) (v : ℕ) (d node : Node V) (part : Part) → content node part ≡ content (slice_index_or nodes v d) part
+written_part : {V : Type 0} (nodes : List (Node V)) (v : ℕ) (d node : Node V) (part : SharedPart) → content node part ≡ content (slice_index_or nodes v d) part
     → content (slice_index_or (slice_set nodes v node) v d) part ≡ content (slice_index_or nodes v d) part
 written_part [] v d node part e = refl
 written_part (n ∷ nodes) zero d node part e = e

@@ -77,8 +77,8 @@ pub first_is : {V : Type 0} (plan : Plan) (nodes : List (Node V)) (locals : List
     → nodes ≡ replicate k (record { state = start; register_a = None; register_b = None }) → locals ≡ replicate n NotBegun → inputs ≡ replicate n None
     → record { nodes = nodes; locals = locals; inputs = inputs; first = None } ≡ first_world (protocol_of plan) (processes_of plan) (nodes_of plan)
 first_is plan nodes locals inputs start k n s e f a b c =
-    let untouched_is : record { state = start; register_a = None; register_b = None } ≡ fresh_node (protocol_of plan).start = (λ d. record { state = record { 0 = s d }; register_a = None; register_b = None }) in
-    let nodes_are : nodes ≡ replicate (nodes_of plan) (fresh_node (protocol_of plan).start) = a ∙ ap (λ m. replicate m (record { state = start; register_a = None; register_b = None })) e ∙ ap (replicate (nodes_of plan)) untouched_is in
+    let fresh_is : record { state = start; register_a = None; register_b = None } ≡ fresh_node (protocol_of plan).start = (λ d. record { state = record { 0 = s d }; register_a = None; register_b = None }) in
+    let nodes_are : nodes ≡ replicate (nodes_of plan) (fresh_node (protocol_of plan).start) = a ∙ ap (λ m. replicate m (record { state = start; register_a = None; register_b = None })) e ∙ ap (replicate (nodes_of plan)) fresh_is in
     let locals_are : locals ≡ replicate (processes_of plan) NotBegun = b ∙ ap (λ m. replicate m NotBegun) f in
     let inputs_are : inputs ≡ replicate (processes_of plan) None = c ∙ ap (λ m. replicate m None) f in
     λ d. record { nodes = nodes_are d; locals = locals_are d; inputs = inputs_are d; first = None }

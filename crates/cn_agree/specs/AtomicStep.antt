@@ -11,21 +11,21 @@ use Rattle.cn_agree.specs.World.{World, node_at, local_at, register}
 use Rattle.cn_agree.specs.Steps.{after_step}
 
 -- what is shared at a node: its object, and the register of each team
-pub data Part : Type 0 where
-  Object : Part
-  Register : Team → Part
+pub data SharedPart : Type 0 where
+  Object : SharedPart
+  Register : Team → SharedPart
 
 -- what stands there: the object's state, or what the register holds
 pub data Content (V : Type 0) : Type 0 where
   State : ℕ → Content V
   Value : Option V → Content V
 
-abbrev pub content : {V : Type 0} → Node V → Part → Content V
+abbrev pub content : {V : Type 0} → Node V → SharedPart → Content V
 content node Object = State node.state.0
 content node (Register team) = Value (register node team)
 
 -- what the next action touches: the register of the process's own team, twice the object, and the register of the team that it judges to have come first
-abbrev pub part_touched : Protocol → Place → Stage → Part
+abbrev pub part_touched : Protocol → Place → Stage → SharedPart
 part_touched P here Write = Register here.team
 part_touched P here Apply = Object
 part_touched P here (Read response) = Object
@@ -35,7 +35,7 @@ part_touched P here (Take response state) = Register (P.judge here.role response
 -- its node, its own local state, and the record of the first application at the root
 pub record ActsOnce {V : Type 0} (P : Protocol) (p i : ℕ) (x : V) (stage : Stage) (w w' : World V) : Type 0 where
   -- every other object and register, here and at the other nodes
-  pub other_parts : (part : Part) → part ≢ part_touched P (place_of P p i) stage
+  pub other_parts : (part : SharedPart) → part ≢ part_touched P (place_of P p i) stage
       → content (node_at P w' (place_of P p i).node) part ≡ content (node_at P w (place_of P p i).node) part
   pub other_nodes : (v : ℕ) → v ≢ (place_of P p i).node → node_at P w' v ≡ node_at P w v
   pub other_processes : (q : ℕ) → q ≢ p → local_at w' q ≡ local_at w q

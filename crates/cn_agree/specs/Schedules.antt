@@ -11,7 +11,7 @@ use Rattle.cn_agree.specs.Steps.{after_schedule}
 use Rattle.cn_agree.specs.Rounds.{decision_of}
 
 -- what a schedule decides: for each process its decision, if it has one
-pub record Decided : Type 0 where
+pub record Decisions : Type 0 where
   pub decisions : List (Option ℕ)
 
 -- each process has begun with its input, and none has taken a step

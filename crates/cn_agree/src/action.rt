@@ -2,7 +2,7 @@
 ghost use Rattle.std.specs.Prelude.{◌≡◌, ◌<◌, length};
 ghost use Rattle.cn_proto.specs.Plan.{protocol_of, processes_of};
 ghost use Rattle.cn_agree.specs.declared.local.Local.TheVariants.{Active};
-ghost use Rattle.cn_agree.specs.Steps.{node_after, local_after, first_after as record_after, onward as way_on};
+ghost use Rattle.cn_agree.specs.Steps.{node_after, local_after, first_after as record_after, onward as local_onward};
 
 use crate::local::{Local, Stage};
 use crate::node::Node;
@@ -51,8 +51,8 @@ pub(crate) fn act<V: Copy>(plan: &Plan, turn: Turn, node: &mut Node<V>, local: &
         Stage::Read(response) => local.go_on(Stage::Take(response, node.state)),
         Stage::Take(response, state) => {
             // Who has applied finds the register of the first team written.
-            if let Some(found) = node.register(plan.judge(here.role, response, state)) {
-                *local = onward(places, place, found);
+            if let Some(value) = node.register(plan.judge(here.role, response, state)) {
+                *local = onward(places, place, value);
             }
         }
     }
@@ -62,7 +62,7 @@ pub(crate) fn act<V: Copy>(plan: &Plan, turn: Turn, node: &mut Node<V>, local: &
 /// path, and from the last one to its decision.
 fn onward<V: Copy>(places: usize, place: usize, value: V) -> Local<V>
     requires { place < places }
-    ensures { result ≡ way_on places place value }
+    ensures { result ≡ local_onward places place value }
 {
     if place + 1 < places {
         Local::Active {

@@ -1,6 +1,6 @@
 //! Why nothing was run.
 ghost use Rattle.std.specs.Prelude.{◌≡◌};
-ghost use Rattle.cn_agree.specs.FaultText.{name_of, number_of, place_of};
+ghost use Rattle.cn_agree.specs.FaultText.{schedule_fault_name, schedule_fault_number, schedule_fault_place};
 ghost use Rattle.cn_agree.specs.declared.fault.ScheduleFault.TheVariants.{OutOfMemory};
 
 use std::alloc::AllocError;
@@ -30,7 +30,7 @@ impl From<AllocError> for ScheduleFault {
 impl ScheduleFault {
     /// Its number in their order, from 1.
     pub fn number(&self) -> u8
-        ensures { result ≡ number_of self.now }
+        ensures { result ≡ schedule_fault_number self.now }
     {
         match self {
             ScheduleFault::InputCount => 1,
@@ -41,7 +41,7 @@ impl ScheduleFault {
 
     /// Its name.
     pub fn name(&self) -> &'static str
-        ensures { result.now ≡ name_of self.now }
+        ensures { result.now ≡ schedule_fault_name self.now }
     {
         match self {
             ScheduleFault::InputCount => "InputCount",
@@ -52,7 +52,7 @@ impl ScheduleFault {
 
     /// The place in the schedule that it carries.
     pub fn place(&self) -> Option<u64>
-        ensures { result ≡ place_of self.now }
+        ensures { result ≡ schedule_fault_place self.now }
     {
         match self {
             ScheduleFault::NoSuchProcess(place) => Some(*place),

@@ -7,12 +7,13 @@ ghost use Rattle.cn_proto.specs.Sound.{IsSound};
 ghost use Rattle.cn_agree.specs.AtomicStep.{IsAtomic};
 ghost use Rattle.cn_agree.specs.Consensus.{IsConsensus, IsSchedule};
 ghost use Rattle.cn_agree.specs.Reached.{HasBegun, IsReached};
-ghost use Rattle.cn_agree.specs.Rounds.{KeepsConsensus, fixed_value};
+ghost use Rattle.cn_agree.specs.Rounds.{IsRound, KeepsConsensus, fixed_value};
 ghost use Rattle.cn_agree.specs.Schedules.{decisions_after};
 ghost use Rattle.cn_agree.specs.Steps.{after_step};
 ghost use Rattle.cn_agree.specs.World.{World, input_at, local_at};
 ghost use Rattle.cn_agree.specs.declared.local.Local.TheVariants.{NotBegun};
 
+use crate::round::Round;
 use cn_proto::Plan;
 use cn_proto::laws::every_plan;
 
@@ -60,3 +61,11 @@ pub fn every_round<V>()
     ensures sizes { (P : Protocol) (n nodes : ℕ) (team : ℕ → TeamOf) (schedule : List ℕ) (w : World V) → IsSound P n nodes team → IsReached P n nodes schedule w
         → (length w.nodes ≡ nodes) × (length w.locals ≡ n) × (length w.inputs ≡ n) }
 {}
+
+/// Every round in memory, however it came to be, is one of a plan, after beginnings and the steps of
+/// a schedule: what [`every_round`] says holds of it.
+pub fn rounds_are_of_plans<V: Copy>(round: &Round<V>)
+    ensures { IsRound round.now }
+{
+    let _ = &round.first;
+}

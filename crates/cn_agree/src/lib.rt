@@ -21,4 +21,4 @@ pub use fault::ScheduleFault;
 pub use local::{Local, Stage};
 pub use node::Node;
 pub use round::Round;
-pub use schedule::{Decided, run_schedule};
+pub use schedule::{Decisions, run_schedule};

@@ -55,7 +55,7 @@ impl<V: Copy> Local<V> {
     }
 
     /// What it tells of a decision.
-    pub(crate) fn decided(&self) -> Option<V>
+    pub(crate) fn decision(&self) -> Option<V>
         ensures { result ≡ decision_of self.now }
     {
         match self {

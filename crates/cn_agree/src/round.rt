@@ -3,7 +3,7 @@ ghost use Rattle.std.specs.Prelude.{◌≡◌, ◌<◌, ◌≤◌, ◌*◌, ◌�
 ghost use Rattle.cn_proto.specs.Plan.{Plan as PlanOf, protocol_of, processes_of, nodes_of};
 ghost use Rattle.cn_agree.specs.Consensus.{IsParticipant, occurrences};
 ghost use Rattle.cn_agree.specs.Reached.{first_world, HasBegun};
-ghost use Rattle.cn_agree.specs.Rounds.{decision_at, fixed_value, IsAppliedAtRoot, IsRoundOf, IsRound, RunsBy};
+ghost use Rattle.cn_agree.specs.Rounds.{decision_at, fixed_value, IsAppliedAtRoot, IsRoundOf, RunsBy};
 ghost use Rattle.cn_agree.specs.Steps.{after_begin, after_step};
 ghost use Rattle.cn_agree.specs.declared.local.Local.TheVariants.{NotBegun};
 ghost use Rattle.cn_agree.specs.World.{local_at, input_at};
@@ -31,7 +31,7 @@ pub struct Round<V: Copy> {
     nodes: Vec<Node<V>>,
     locals: Vec<Local<V>>,
     inputs: Vec<Option<V>>,
-    first: Option<Team>,
+    pub(crate) first: Option<Team>,
 }
 
 impl<V: Copy> Model for Round<V> {
@@ -66,26 +66,18 @@ impl<V: Copy> Round<V> {
         ensures of_plan { IfOk result (IsRoundOf plan.now []) }
     {
         plan.is_sound();
-        let untouched = Node {
+        let fresh_node = Node {
             state: plan.start(),
             register_a: None,
             register_b: None,
         };
         let processes = usize::from(plan.processes());
         Ok(Round {
-            nodes: filled(alloc, untouched, usize::from(plan.nodes()))?,
-            locals: filled(alloc, Local::NotBegun, processes)?,
-            inputs: filled(alloc, None, processes)?,
+            nodes: copies(alloc, fresh_node, usize::from(plan.nodes()))?,
+            locals: copies(alloc, Local::NotBegun, processes)?,
+            inputs: copies(alloc, None, processes)?,
             first: None,
         })
-    }
-
-    /// Every round, however it came to be, is one of a plan, after beginnings and the steps of a
-    /// schedule.
-    pub fn is_reached(&self)
-        ensures { IsRound self.now }
-    {
-        let _ = &self.first;
     }
 
     /// Process `p`, which has not begun, begins with its value. That is no step.
@@ -131,7 +123,7 @@ impl<V: Copy> Round<V> {
                 let local = &mut self.locals[usize::from(p)];
                 act(plan, turn, node, local);
                 self.first = first_after(self.first, here, stage);
-                local.decided()
+                local.decision()
             }
             // It has begun and not decided.
             None => unreachable!(),
@@ -146,12 +138,12 @@ impl<V: Copy> Round<V> {
         ensures in_time { (plan : PlanOf) (schedule : List ℕ) → IsRoundOf plan schedule self.now
             → IsSome result ↔ (4 * length ((protocol_of plan).path p) ≤ occurrences schedule p) }
     {
-        self.locals[usize::from(p)].decided()
+        self.locals[usize::from(p)].decision()
     }
 
     /// The value that the round has fixed: that of the team which came first at the root, from the
     /// first application there on.
-    pub fn fixed(&self) -> Option<V>
+    pub fn fixed_value(&self) -> Option<V>
         ensures value { result ≡ fixed_value self.now }
         ensures valid { (plan : PlanOf) (schedule : List ℕ) → IsRoundOf plan schedule self.now
             → IfSome result (λ x. (q : ℕ) × IsParticipant schedule q × (input_at self.now q ≡ Some x)) }
@@ -163,7 +155,7 @@ impl<V: Copy> Round<V> {
     }
 }
 
-fn filled<T: Copy>(alloc: Global, value: T, count: usize) -> Result<Vec<T>, AllocError>
+fn copies<T: Copy>(alloc: Global, value: T, count: usize) -> Result<Vec<T>, AllocError>
     ensures { IfOk result (λ values. values.items ≡ replicate count value) }
 {
     let mut values = Vec::new(alloc);

@@ -16,15 +16,15 @@ use std::marker::Model;
 
 /// What a schedule decides: for each process its decision, if it has one.
 #[derive(Drop)]
-pub struct Decided {
+pub struct Decisions {
     /// By process the value that it has decided, or none.
     pub decisions: Vec<Option<u64>>,
 }
 
-impl Model for Decided {
-    ghost use Rattle.cn_agree.specs.Schedules.{Decided};
+impl Model for Decisions {
+    ghost use Rattle.cn_agree.specs.Schedules.{Decisions};
 
-    ghost Value = { Decided };
+    ghost Value = { Decisions };
 
     ghost view = { λ d. record { decisions = d.decisions.items } };
 }
@@ -78,7 +78,7 @@ fn step_all<V: Copy>(plan: &Plan, round: &mut Round<V>, schedule: &[u8])
 }
 
 /// What each of so many processes has decided.
-fn decisions<V: Copy>(
+fn decisions_of<V: Copy>(
     alloc: Global,
     round: &Round<V>,
     processes: u8,
@@ -134,7 +134,7 @@ pub fn run_schedule(
     plan: &Plan,
     inputs: &[u64],
     schedule: &[u8],
-) -> Result<Decided, ScheduleFault>
+) -> Result<Decisions, ScheduleFault>
     ensures decisions { IfOk result (λ d. d.decisions ≡ decisions_after plan.now inputs.now schedule.now) }
     ensures consensus { IfOk result (λ d. IsConsensus (protocol_of plan.now) (processes_of plan.now) inputs.now schedule.now d.decisions) }
     ensures run { OnOk result (schedule_fault (processes_of plan.now) inputs.now schedule.now ≡ None) }
@@ -146,7 +146,7 @@ pub fn run_schedule(
     }
     laws::every_schedule::<u64>(plan);
     let round = round_after(alloc, plan, inputs, schedule)?;
-    Ok(Decided {
-        decisions: decisions(alloc, &round, plan.processes())?,
+    Ok(Decisions {
+        decisions: decisions_of(alloc, &round, plan.processes())?,
     })
 }

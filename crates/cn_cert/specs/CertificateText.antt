@@ -49,9 +49,9 @@ certificate_data c =
 abbrev pub certificate_text : Certificate → List ℕ
 certificate_text c = compact_text (certificate_data c)
 
--- the text of a state or a process, and two lists, in an array
-abbrev pub part_text : ℕ → List ℕ → List ℕ → List ℕ
-part_text n a b = compact_text (number_data n) ++ codes "," ++ compact_text (numbers_data a) ++ codes "," ++ compact_text (numbers_data b)
+-- the text of a number and two lists in an array: of a state with its teams, or of a process with its orders
+abbrev pub triple_text : ℕ → List ℕ → List ℕ → List ℕ
+triple_text n a b = compact_text (number_data n) ++ codes "," ++ compact_text (numbers_data a) ++ codes "," ++ compact_text (numbers_data b)
 
 -- the members behind the collisions
 abbrev pub other_members : Certificate → Members

@@ -39,17 +39,17 @@ fn items<T: Kind>(
     ensures ok { IfOk result (λ o. with_value (all_items T.kind) (items_at depth reader.old) ≡ Some (option_map (λ v. v.items) o, reader.new)) }
     ensures err { IfErr result (λ e. Refuses e (with_value (all_items T.kind) (items_at depth reader.old))) }
 {
-    let mut found = Vec::new(alloc);
+    let mut values = Vec::new(alloc);
     'items: while !reader.take_end_array() {
         match next::<T>(alloc, reader, depth)? {
-            Some(item) => found.push(item)?,
+            Some(item) => values.push(item)?,
             None => {
                 rest_of_items(reader, depth)?;
                 return Ok(None);
             }
         }
     }
-    Ok(Some(found))
+    Ok(Some(values))
 }
 
 /// The array of values of a kind that a value is.
@@ -157,9 +157,9 @@ fn rest_as<T: Parts>(
     ensures err { IfErr result (λ e. Refuses e (with_value (whole T.parts) (items_at depth reader.old))) }
 {
     let mut more = true;
-    let found = T::next(alloc, reader, depth, &mut more)?;
+    let value = T::next(alloc, reader, depth, &mut more)?;
     if is_over(reader, depth, &mut more)? {
-        Ok(found)
+        Ok(value)
     } else {
         Ok(None)
     }

@@ -1,4 +1,4 @@
-//! Texts in the form in which certificates are written, by a way that is short and only guesses.
+//! Texts in the form in which certificates are written, by short code that only guesses.
 //!
 //! What a text says is guessed from its digits, and the guess stands where its own text is that text.
 ghost use Rattle.std.specs.Prelude.{◌≡◌, ◌<◌, ◌≤◌, ◌⊎◌, ◌++◌, IfSome, IsTrue, IsUtf8, None, Ok, true, string_bytes};
@@ -132,12 +132,12 @@ impl<'a> Bytes<'a> {
     fn collisions(&mut self, alloc: Global) -> Option<Vec<Collision>>
         ensures { IfSome result (λ v. list_all is_collision_in_range v.items ≡ true) }
     {
-        let mut found = Vec::new(alloc);
+        let mut collisions = Vec::new(alloc);
         let mut byte = self.next();
         for _ in 0..self.text.len() {
             match byte {
-                b'[' => found.push(self.collision()?).ok()?,
-                b']' => return Some(found),
+                b'[' => collisions.push(self.collision()?).ok()?,
+                b']' => return Some(collisions),
                 _ => return None,
             }
             byte = self.next();
@@ -239,8 +239,8 @@ fn is_text_of(alloc: Global, certificate: &Certificate, bytes: &[u8]) -> bool
     }
 }
 
-/// The certificate whose text this is, perhaps with a line feed behind it, where it was found so.
-pub(crate) fn guessed(alloc: Global, bytes: &[u8]) -> Option<Certificate>
+/// The certificate whose text this is, perhaps with a line feed behind it, where the guess is right.
+pub(crate) fn guessed_certificate(alloc: Global, bytes: &[u8]) -> Option<Certificate>
     ensures certificate { IfSome result (λ c. reading bytes.now ≡ Ok c) }
     ensures told { ¬ IsUtf8 bytes.now → result ≡ None }
 {

@@ -8,7 +8,7 @@ use crate::certificate::Certificate;
 use crate::document::read_draft;
 use crate::draft::Draft;
 use crate::fault::CertFault;
-use crate::guess::guessed;
+use crate::guess::guessed_certificate;
 use crate::ranges;
 use std::alloc::Global;
 
@@ -48,7 +48,7 @@ pub fn read_certificate(alloc: Global, bytes: &[u8]) -> Result<Certificate, Cert
     ensures fault { IfErr result (λ e. (e ≡ OutOfMemory) ⊎ (reading bytes.now ≡ Err e)) }
     ensures told { ¬ IsUtf8 bytes.now → result ≡ Err NotJson }
 {
-    if let Some(certificate) = guessed(alloc, bytes) {
+    if let Some(certificate) = guessed_certificate(alloc, bytes) {
         return Ok(certificate);
     }
     match read_draft(alloc, bytes)? {

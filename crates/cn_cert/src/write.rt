@@ -4,7 +4,7 @@ ghost use Rattle.serde_json.specs.Written.{compact_text, members_text};
 ghost use Rattle.serde_json.specs.Data.{string};
 ghost use Rattle.cn_cert.specs.Certificate.{is_version};
 ghost use Rattle.cn_cert.specs.CertificateText.{numbers_data, number_or_null, witness_data, collision_data};
-ghost use Rattle.cn_cert.specs.CertificateText.{collisions_data, other_members, part_text, certificate_text};
+ghost use Rattle.cn_cert.specs.CertificateText.{collisions_data, other_members, triple_text, certificate_text};
 ghost use Rattle.cn_cert.specs.Ranges.{is_in_range};
 ghost use Rattle.cn_cert.specs.Reading.{reading};
 
@@ -50,9 +50,9 @@ fn push_number_or_null(out: &mut String, number: Option<u8>) -> Result<(), Alloc
     }
 }
 
-/// A state or a process, and two lists.
-fn push_part(out: &mut String, n: u8, a: &[u8], b: &[u8]) -> Result<(), AllocError>
-    ensures { OnOk result (string_bytes out.new ≡ string_bytes out.old ++ part_text n a.now b.now) }
+/// A number and two lists: a state with its teams, or a process with its orders.
+fn push_triple(out: &mut String, n: u8, a: &[u8], b: &[u8]) -> Result<(), AllocError>
+    ensures { OnOk result (string_bytes out.new ≡ string_bytes out.old ++ triple_text n a.now b.now) }
 {
     push_number(out, n)?;
     out.push(',')?;
@@ -67,7 +67,7 @@ fn push_witness(out: &mut String, witness: &Option<Choice>) -> Result<(), AllocE
     match witness {
         Some(choice) => {
             out.push('[')?;
-            push_part(
+            push_triple(
                 out,
                 choice.state.0,
                 choice.a.as_slice(),
@@ -84,14 +84,14 @@ fn push_collision(out: &mut String, collision: &Collision) -> Result<(), AllocEr
 {
     let choice = &collision.choice;
     out.push('[')?;
-    push_part(
+    push_triple(
         out,
         choice.state.0,
         choice.a.as_slice(),
         choice.b.as_slice(),
     )?;
     out.push(',')?;
-    push_part(
+    push_triple(
         out,
         collision.process,
         collision.alpha.as_slice(),

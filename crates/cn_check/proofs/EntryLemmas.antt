@@ -6,7 +6,7 @@ use Rattle.cn_table.specs.TypeTable.{TypeTable}
 use Rattle.cn_choice.specs.Canonical.{Choice}
 use Rattle.cn_choice.specs.Collisions.{Collision}
 use Rattle.cn_check.specs.Conditions.{HoldsCollision}
-use Rattle.cn_check.specs.Progress.{AreRefuted, IsOfChoice}
+use Rattle.cn_check.specs.Refutations.{AreRefuted, IsOfChoice}
 
 pub some_at : {X : Type 0} (P : X → Type 0) (o : Option X) (x : X) → o ≡ Some x → P x → IsSomeAnd o P
 some_at P o x e p = subst (λ u. IsSomeAnd u P) (sym e) p

@@ -12,7 +12,7 @@ use Rattle.cn_cert.specs.Certificate.{Certificate}
 use Rattle.cn_check.specs.Conditions.{HasWitnessFor, HoldsCollision, IsInRange}
 use Rattle.cn_check.specs.Faults.{ComesSooner, HasFault, IsFirstFault}
 use Rattle.cn_check.specs.PartFaults.{IsEvidenceFault, IsWitnessFault}
-use Rattle.cn_check.specs.Progress.{AreRefuted, IsOfChoice}
+use Rattle.cn_check.specs.Refutations.{AreRefuted, IsOfChoice}
 use Rattle.cn_check.specs.Versions.{choices_to_refute_in}
 use Rattle.cn_check.specs.declared.fault.CheckFault.{CheckFault}
 use Rattle.cn_check.specs.declared.fault.CheckFault.TheVariants.{OtherType, BadNumber, WitnessShape, WitnessMeets, Unexpected, NotNext, NotACollision, TooFew}

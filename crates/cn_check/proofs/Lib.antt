@@ -1,7 +1,7 @@
 pub mod CollisionLemmas
 pub mod EntryLemmas
 pub mod FaultLemmas
-pub mod ProgressLemmas
+pub mod RefutationLemmas
 pub mod OutcomeSetLemmas
 pub mod RunLemmas
 pub mod SetLemmas

@@ -6,7 +6,7 @@ use Rattle.cn_choice.specs.RawChoices.{RawChoice}
 use Rattle.cn_choice.specs.declared.team.Team.TheVariants.{A, B}
 use Rattle.cn_choice.specs.Discerning.{IsWitness, OutcomeSetsMeet}
 use Rattle.cn_choice.specs.OutcomeSets.{InOutcomeSet}
-use Rattle.cn_check.specs.Seen.{HasPair, HaveCommonPair}
+use Rattle.cn_check.specs.WalkedRuns.{HasPair, HasPairInBoth}
 
 -- what the law of outcome sets says
 abbrev pub AreOfProcesses : Type 0
@@ -15,7 +15,7 @@ AreOfProcesses = (t : TypeTable) (c : RawChoice) (team : Team) (j : ℕ) (pair :
 pub sets_meet : (t : TypeTable) (c : RawChoice) (j : ℕ) (after_a after_b : List ℕ)
     → ((j r q : ℕ) → HasPair after_a j r q ↔ InOutcomeSet t c A j (r, q))
     → ((j r q : ℕ) → HasPair after_b j r q ↔ InOutcomeSet t c B j (r, q))
-    → HaveCommonPair after_a after_b j ↔ OutcomeSetsMeet t c j
+    → HasPairInBoth after_a after_b j ↔ OutcomeSetsMeet t c j
 sets_meet t c j after_a after_b a b = (
   λ h. ((h.0, h.1), (a j h.0 h.1).0 h.2, (b j h.0 h.1).0 h.3),
   λ h. (h.0.0, h.0.1, (a j h.0.0 h.0.1).1 h.1, (b j h.0.0 h.0.1).1 h.2),

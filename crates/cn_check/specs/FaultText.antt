@@ -24,15 +24,15 @@ check_fault_name (NotNext place) = codes "NotNext"
 check_fault_name (NotACollision place) = codes "NotACollision"
 check_fault_name TooFew = codes "TooFew"
 
-abbrev pub check_fault_carried : CheckFault → Option ℕ
-check_fault_carried OtherType = None
-check_fault_carried BadNumber = None
-check_fault_carried WitnessShape = None
-check_fault_carried (WitnessMeets process) = Some process
-check_fault_carried Unexpected = None
-check_fault_carried (NotNext place) = Some place
-check_fault_carried (NotACollision place) = Some place
-check_fault_carried TooFew = None
+abbrev pub check_fault_index : CheckFault → Option ℕ
+check_fault_index OtherType = None
+check_fault_index BadNumber = None
+check_fault_index WitnessShape = None
+check_fault_index (WitnessMeets process) = Some process
+check_fault_index Unexpected = None
+check_fault_index (NotNext place) = Some place
+check_fault_index (NotACollision place) = Some place
+check_fault_index TooFew = None
 
 abbrev pub check_fault_text : CheckFault → List ℕ
-check_fault_text fault = numbered_text (check_fault_number fault) (check_fault_name fault) (check_fault_carried fault)
+check_fault_text fault = numbered_text (check_fault_number fault) (check_fault_name fault) (check_fault_index fault)

@@ -2,9 +2,9 @@ pub mod Conditions
 pub mod Faults
 pub mod FaultText
 pub mod PartFaults
-pub mod Progress
+pub mod Refutations
 pub mod Runs
-pub mod Seeing
-pub mod Seen
+pub mod ShownPairs
+pub mod WalkedRuns
 pub mod Verdict
 pub mod Versions

@@ -5,7 +5,7 @@ use Rattle.cn_choice.specs.FirstMeeting.{IsFirstMeeting}
 use Rattle.cn_choice.specs.Canonical.{Choice, raw_choice_of}
 use Rattle.cn_choice.specs.Collisions.{Collision}
 use Rattle.cn_check.specs.Conditions.{HasWitnessFor}
-use Rattle.cn_check.specs.Progress.{IsFirstEntryFault}
+use Rattle.cn_check.specs.Refutations.{IsFirstEntryFault}
 use Rattle.cn_check.specs.Versions.{choices_to_refute_in}
 use Rattle.cn_check.specs.declared.fault.CheckFault.{CheckFault}
 use Rattle.cn_check.specs.declared.fault.CheckFault.TheVariants.{OtherType, BadNumber, WitnessShape, WitnessMeets, Unexpected, NotNext, NotACollision, TooFew}

@@ -33,7 +33,7 @@ pub enum CheckFault {
 }
 
 impl CheckFault {
-    ghost use Rattle.cn_check.specs.FaultText.{check_fault_carried, check_fault_name, check_fault_number};
+    ghost use Rattle.cn_check.specs.FaultText.{check_fault_index, check_fault_name, check_fault_number};
 
     /// The number of the fault.
     pub fn number(&self) -> u8
@@ -67,10 +67,9 @@ impl CheckFault {
         }
     }
 
-    /// The number that the fault carries: the process whose outcome sets meet, or the place of the
-    /// entry.
-    pub fn carried(&self) -> Option<u64>
-        ensures { result ≡ check_fault_carried self.now }
+    /// The index that the fault carries: of the process whose outcome sets meet, or of the entry.
+    pub fn index(&self) -> Option<u64>
+        ensures { result ≡ check_fault_index self.now }
     {
         match self {
             CheckFault::WitnessMeets(process) => Some(u64::from(*process)),
@@ -88,8 +87,8 @@ impl fmt::Display for CheckFault {
     ghost output = { λ fault. Some (check_fault_text fault) };
 
     fn fmt<W: fmt::Write>(&self, f: &mut fmt::Formatter<W>) -> fmt::Result {
-        match self.carried() {
-            Some(carried) => write!(f, "{} {} {carried}", self.number(), self.name()),
+        match self.index() {
+            Some(index) => write!(f, "{} {} {index}", self.number(), self.name()),
             None => write!(f, "{} {}", self.number(), self.name()),
         }
     }

@@ -7,13 +7,13 @@
 #![tactic(auto)]
 
 mod choice;
+mod end_sets;
 mod fault;
-mod kept;
 pub mod laws;
 mod pairs;
 mod refutation;
-mod seeing;
 mod sets;
+mod shown_pairs;
 mod steps;
 mod verdict;
 mod witness;

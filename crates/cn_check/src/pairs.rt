@@ -2,7 +2,7 @@
 ghost use Rattle.std.specs.Prelude.{◌≡◌, ◌<◌, ◌⊎◌, ◌↔◌, ℕ, IsTrue};
 ghost use Rattle.cn_choice.specs.declared.limits.TheConstants.{MOST_PROCESSES};
 ghost use Rattle.cn_check.specs.Runs.{IsIn};
-ghost use Rattle.cn_check.specs.Seen.{HasPair, HaveCommonPair};
+ghost use Rattle.cn_check.specs.WalkedRuns.{HasPair, HasPairInBoth};
 ghost use Rattle.cn_table.specs.declared.limits.TheConstants.{MOST_RESPONSES};
 
 use crate::sets::{share, union};
@@ -52,7 +52,7 @@ impl Pairs {
     /// Whether the process has some pair in both.
     pub fn meets(&self, other: &Pairs, process: u8) -> bool
         requires { process < MOST_PROCESSES }
-        ensures { IsTrue result ↔ HaveCommonPair self.now other.now process }
+        ensures { IsTrue result ↔ HasPairInBoth self.now other.now process }
     {
         let first = MOST_RESPONSES * process as usize;
         for response in 0..MOST_RESPONSES {

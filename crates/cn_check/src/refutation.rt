@@ -7,11 +7,11 @@ ghost use Rattle.cn_choice.specs.Canonical.{with_first, with_size, with_state};
 ghost use Rattle.cn_choice.specs.Canonical.{FitsTable};
 ghost use Rattle.cn_choice.specs.Live.{all_move};
 ghost use Rattle.cn_check.specs.Conditions.{HoldsCollision, Refutes};
-ghost use Rattle.cn_check.specs.Progress.{AreRefuted, ComeNext, HasComeTo, IsFirstEntryFault, all_count, counting};
+ghost use Rattle.cn_check.specs.Refutations.{AreRefuted, ComeNext, HasComeTo, IsFirstEntryFault, all_count, counting};
 ghost use Rattle.cn_check.specs.Versions.{choices_in_version};
 
 use crate::CheckFault;
-use crate::seeing::pair_shown;
+use crate::shown_pairs::shown_pair;
 use crate::steps::{first_beside, step, zeros};
 use cn_choice::laws::{canonical_list, live_list};
 use cn_choice::{Choice, Collision, Team};
@@ -33,8 +33,8 @@ fn holds_collision(table: &Table, entry: &Collision) -> bool
     ensures { IsTrue result ↔ HoldsCollision table.now entry.now }
 {
     let (choice, process) = (&entry.choice, entry.process);
-    let alpha = pair_shown(table, choice, Team::A, entry.alpha.as_slice(), process);
-    let beta = pair_shown(table, choice, Team::B, entry.beta.as_slice(), process);
+    let alpha = shown_pair(table, choice, Team::A, entry.alpha.as_slice(), process);
+    let beta = shown_pair(table, choice, Team::B, entry.beta.as_slice(), process);
     are_one_pair(alpha, beta)
 }
 

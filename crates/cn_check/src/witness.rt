@@ -5,10 +5,10 @@ ghost use Rattle.cn_choice.specs.Discerning.{IsWitness, OutcomeSetsMeet};
 ghost use Rattle.cn_choice.specs.OutcomeSets.{InOutcomeSet};
 ghost use Rattle.cn_check.specs.Runs.{EndsIn, IsIn, ShowsFrom};
 ghost use Rattle.cn_choice.specs.Subsets.{move_of};
-ghost use Rattle.cn_check.specs.Seen.{AreWalked, HasPair};
+ghost use Rattle.cn_check.specs.WalkedRuns.{AreWalked, HasPair};
 
 use crate::choice::{operation_of, processes, team_of};
-use crate::kept::Kept;
+use crate::end_sets::EndSets;
 use crate::pairs::Pairs;
 use crate::sets::{has_moved, only, union, with_moved};
 use cn_choice::laws::{pair_along_order, process_of_pair};
@@ -34,7 +34,7 @@ fn move_of(table: &Table, choice: &Choice, process: u8, state: State) -> (u8, St
 /// in this state. What the runs show is added to the pairs, and the set is kept for the point. A point
 /// with a set that is not empty was visited: what the runs from it show is among the pairs.
 fn walk(
-    kept: &mut Kept,
+    end_sets: &mut EndSets,
     pairs: &mut Pairs,
     table: &Table,
     choice: &Choice,
@@ -43,15 +43,15 @@ fn walk(
 ) -> u16
     requires fits { FitsTable table.now choice.now }
     requires state { state.0 < length table.now.states }
-    requires walked { AreWalked table.now (raw_choice_of choice.now) kept.old pairs.old }
+    requires walked { AreWalked table.now (raw_choice_of choice.now) end_sets.old pairs.old }
     ensures ends { (q : ℕ) → IsIn result q ↔ EndsIn table.now (raw_choice_of choice.now) used state.0 q }
     ensures shown { (j r q : ℕ) → HasPair pairs.new j r q
         ↔ (HasPair pairs.old j r q ⊎ ShowsFrom table.now (raw_choice_of choice.now) used state.0 j r q) }
-    ensures walked { AreWalked table.now (raw_choice_of choice.now) kept.new pairs.new }
+    ensures walked { AreWalked table.now (raw_choice_of choice.now) end_sets.new pairs.new }
 {
     // A table has at most 16 states.
     let _states = table.states();
-    let before = kept.at(used, state.0);
+    let before = end_sets.at(used, state.0);
     if before != 0 {
         return before;
     }
@@ -59,12 +59,12 @@ fn walk(
     for next in 0..processes(table, choice) {
         if !has_moved(used, next) {
             let (response, after) = move_of(table, choice, next, state);
-            let later = walk(kept, pairs, table, choice, with_moved(used, next), after);
+            let later = walk(end_sets, pairs, table, choice, with_moved(used, next), after);
             pairs.add(next, response, later);
             ends = union(ends, later);
         }
     }
-    kept.put(used, state.0, ends);
+    end_sets.put(used, state.0, ends);
     ends
 }
 
@@ -74,13 +74,13 @@ fn outcome_sets(table: &Table, choice: &Choice, team: Team) -> Pairs
 {
     // What a process sees is found by going along the order once.
     pair_along_order();
-    let mut kept = Kept::new();
+    let mut end_sets = EndSets::new();
     let mut pairs = Pairs::new();
     for first in 0..processes(table, choice) {
         if team_of(choice, first) == team {
             let (response, after) = move_of(table, choice, first, choice.state);
             let used = with_moved(0, first);
-            let later = walk(&mut kept, &mut pairs, table, choice, used, after);
+            let later = walk(&mut end_sets, &mut pairs, table, choice, used, after);
             pairs.add(first, response, later);
         }
     }

@@ -270,19 +270,19 @@ fn push_unknown_entries(
     ensures { OnOk result (flaws_view flaws.new ≡ flaws_view flaws.old
         ++ each (unknown_entry operation.now row.now what.now (map (λ s. string_bytes s) names.now)) 0 (map (λ s. string_bytes s) texts.now)) }
 {
-    let shown = names_in_brackets(alloc, names)?;
+    let brackets = names_in_brackets(alloc, names)?;
     for (k, text) in texts.iter().enumerate() {
         if number_of(names, text.as_str()).is_none() {
-            let said = entry_text(
+            let flaw_text = entry_text(
                 alloc,
                 operation,
                 row,
                 k,
                 text.as_str(),
                 what,
-                shown.as_str(),
+                brackets.as_str(),
             )?;
-            push_flaw(flaws, TableFault::UnknownName, said)?;
+            push_flaw(flaws, TableFault::UnknownName, flaw_text)?;
         }
     }
     Ok(())

@@ -17,23 +17,23 @@ fn shown_byte(b: u8) -> u8
     }
 }
 
-fn shown(alloc: Global, text: &str) -> Result<String, AllocError>
+fn printable_text(alloc: Global, text: &str) -> Result<String, AllocError>
     ensures { IfOk result (λ s. string_bytes s ≡ map shown_byte text.now) }
 {
-    let mut shown = String::new(alloc);
+    let mut printable = String::new(alloc);
     let bytes = text.as_bytes();
     for b in bytes {
-        shown.push(char::from(shown_byte(*b)))?;
+        printable.push(char::from(shown_byte(*b)))?;
     }
-    Ok(shown)
+    Ok(printable)
 }
 
 /// A text between quotation marks, with a question mark for each byte that ASCII does not print.
 pub(crate) fn in_quotes(alloc: Global, text: &str) -> Result<String, AllocError>
     ensures { IfOk result (λ s. string_bytes s ≡ in_quotes text.now) }
 {
-    let shown = shown(alloc, text)?;
-    format!(in alloc; "\"{shown}\"")
+    let printable = printable_text(alloc, text)?;
+    format!(in alloc; "\"{printable}\"")
 }
 
 /// How an operation is called: by its name, where it is one, else by its place in the array.

@@ -6,7 +6,7 @@ use Rattle.cn_log.specs.declared.event.Event.TheVariants.{Invoke}
 use Rattle.cn_table.proofs.Lists.{get_front, get_low, get_push_new}
 use Rattle.cn_proto.specs.Plan.{processes_of}
 use Rattle.cn_log.specs.Batches.{entries_in, members}
-use Rattle.cn_log.proofs.Places.{in_entries}
+use Rattle.cn_log.proofs.EntryPositions.{in_entries}
 use Rattle.cn_hall.specs.Calls.{IsUnseen, next_call}
 use Rattle.cn_hall.specs.Seats.{SeatState, IsLog, caller, own_entries_seen, entries_seen, slots_seen}
 use Rattle.cn_hall.proofs.LogLaws.{Called, Owned}

@@ -8,7 +8,7 @@ use Rattle.cn_log.specs.declared.entry.Entry.{Entry}
 use Rattle.cn_log.specs.declared.event.Event.{Event}
 use Rattle.cn_log.specs.declared.event.Event.TheVariants.{Invoke, Step}
 use Rattle.cn_log.specs.Callers.{BeginsWith, Without, entries_by, call_of}
-use Rattle.cn_log.specs.Callers.{IsUnseen as IsIn}
+use Rattle.cn_log.specs.Callers.{IsUnseen as IsInNone}
 use Rattle.cn_hall.specs.Seats.{SeatState, IsInvoke, caller, calls_made, pending, own_entries_seen, entries_seen, slots_seen}
 use Rattle.cn_hall.specs.declared.call.CallFault.{CallFault}
 use Rattle.cn_hall.specs.declared.call.CallFault.TheVariants.{LogFull, Stopped}
@@ -51,7 +51,7 @@ AllButLast mine s = calls_made s ≡ own_entries_seen s ++ mine ∷ []
 
 -- the seat has not seen the call in any slot
 abbrev pub IsUnseen : Entry → SeatState → Type 0
-IsUnseen mine s = IsIn (slots_seen s) mine
+IsUnseen mine s = IsInNone (slots_seen s) mine
 
 -- no call is pending, and every slot has been seen
 abbrev pub IsFull : SeatState → Type 0

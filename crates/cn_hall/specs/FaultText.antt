@@ -1,27 +1,27 @@
 -- The text of a fault: its number and its name.
-use Rattle.std.specs.Prelude.{ℕ, List, ◌++◌, codes}
-use Rattle.std.specs.Fmt.{decimal}
+use Rattle.std.specs.Prelude.{ℕ, List, None, codes}
+use Rattle.cn_table.specs.FaultText.{numbered_text}
 use Rattle.cn_hall.specs.declared.call.CallFault.{CallFault}
 use Rattle.cn_hall.specs.declared.opening.OpenFault.{OpenFault}
 use Rattle.cn_hall.specs.declared.opening.OpenFault.TheVariants.{OutOfMemory as OutOfCore}
 use Rattle.cn_hall.specs.declared.call.CallFault.TheVariants.{LogFull, Stopped}
 
-abbrev pub number_of : CallFault → ℕ
-number_of LogFull = 1
-number_of Stopped = 2
+abbrev pub call_fault_number : CallFault → ℕ
+call_fault_number LogFull = 1
+call_fault_number Stopped = 2
 
-abbrev pub name_of : CallFault → List ℕ
-name_of LogFull = codes "LogFull"
-name_of Stopped = codes "Stopped"
+abbrev pub call_fault_name : CallFault → List ℕ
+call_fault_name LogFull = codes "LogFull"
+call_fault_name Stopped = codes "Stopped"
 
 abbrev pub call_fault_text : CallFault → List ℕ
-call_fault_text fault = decimal (number_of fault) ++ codes " " ++ name_of fault
+call_fault_text fault = numbered_text (call_fault_number fault) (call_fault_name fault) None
 
-abbrev pub open_number_of : OpenFault → ℕ
-open_number_of (OutOfCore core) = 1
+abbrev pub open_fault_number : OpenFault → ℕ
+open_fault_number (OutOfCore core) = 1
 
-abbrev pub open_name_of : OpenFault → List ℕ
-open_name_of (OutOfCore core) = codes "OutOfMemory"
+abbrev pub open_fault_name : OpenFault → List ℕ
+open_fault_name (OutOfCore core) = codes "OutOfMemory"
 
 abbrev pub open_fault_text : OpenFault → List ℕ
-open_fault_text fault = decimal (open_number_of fault) ++ codes " " ++ open_name_of fault
+open_fault_text fault = numbered_text (open_fault_number fault) (open_fault_name fault) None

@@ -1,6 +1,6 @@
 //! What is asked before each step of a call, and what a call answers.
 ghost use Rattle.std.specs.Prelude.{◌≡◌};
-ghost use Rattle.cn_hall.specs.FaultText.{name_of, number_of};
+ghost use Rattle.cn_hall.specs.FaultText.{call_fault_name, call_fault_number};
 
 use crate::seat::Seat;
 use cn_table::Response;
@@ -34,8 +34,8 @@ pub trait Gate {
         ensures said { result ≡ says self.new }
         ensures asked { asks self.old seat.now step self.new };
 
-    /// What was answered last, or `On`.
-    fn said(&self) -> Go
+    /// What was answered last, or `On`: by it a caller tells whether a call may begin with the gate.
+    fn last_answer(&self) -> Go
         ensures { result ≡ says self.now };
 }
 
@@ -54,7 +54,7 @@ impl Gate for AlwaysOn {
         Go::On
     }
 
-    fn said(&self) -> Go {
+    fn last_answer(&self) -> Go {
         Go::On
     }
 }
@@ -80,7 +80,7 @@ pub enum CallFault {
 impl CallFault {
     /// Its number in their order, from 1.
     pub fn number(&self) -> u8
-        ensures { result ≡ number_of self.now }
+        ensures { result ≡ call_fault_number self.now }
     {
         match self {
             CallFault::LogFull => 1,
@@ -90,7 +90,7 @@ impl CallFault {
 
     /// Its name.
     pub fn name(&self) -> &'static str
-        ensures { result.now ≡ name_of self.now }
+        ensures { result.now ≡ call_fault_name self.now }
     {
         match self {
             CallFault::LogFull => "LogFull",

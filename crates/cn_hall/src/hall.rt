@@ -17,10 +17,11 @@ ghost use Rattle.cn_hall.specs.declared.call.CallFault.TheVariants.{LogFull};
 ghost use Rattle.cn_hall.specs.declared.call.Go.TheVariants.{On};
 
 use crate::call::{CallFault, Gate, Go, Reply};
+use crate::laws::seats_have_their_calls;
 use crate::rule::{Item, Joins, Queue};
 use crate::seat::Seat;
-use crate::{events, hands};
-use cn_log::laws::{every_call, every_caller, every_log};
+use crate::{events, transfers};
+use cn_log::laws::{every_call, every_caller, every_log, logs_are_linearized};
 use cn_log::{LogCore, StepAnswer};
 use cn_table::Operation;
 use std::cmp::Ordering;
@@ -100,7 +101,7 @@ impl Hall {
         ensures asked { (mine : Entry) → pending seat.old ≡ Some mine
             → IsAsked G.asks G.says mine seat.old (asked_times result (steps_since seat.old.process seat.old.core seat.new.core)) gate.old gate.new }
     {
-        seat.has_its_calls();
+        seats_have_their_calls(seat);
         every_log();
         every_caller();
         every_call();
@@ -151,7 +152,7 @@ impl Hall {
         ensures asked { IsAsked G.asks G.says (next_call seat.old operation.0) seat.old
             (asked_times result (steps_since seat.old.process seat.old.core seat.new.core)) gate.old gate.new }
     {
-        seat.has_its_calls();
+        seats_have_their_calls(seat);
         every_caller();
         every_call();
         if seat.standing.slots == seat.capacity {
@@ -205,8 +206,8 @@ impl Hall {
             let Seat { pass: other, .. } = seat;
             queue.absorb::<Joins>(&mut pass, other);
         }
-        let Item { core, .. } = hands::take(rt, &queue, &mut pass);
-        core.is_linearized();
+        let Item { core, .. } = transfers::take(rt, &queue, &mut pass);
+        logs_are_linearized(&core);
         every_caller();
         core
     }

@@ -4,16 +4,16 @@ ghost use Rattle.std.specs.List.{slice_get};
 ghost use Rattle.std.specs.Vec.{vec_capacity};
 ghost use Rattle.cn_proto.specs.Plan.{processes_of};
 ghost use Rattle.cn_hall.specs.Answers.{own};
-ghost use Rattle.cn_hall.specs.FaultText.{open_name_of, open_number_of};
+ghost use Rattle.cn_hall.specs.FaultText.{open_fault_name, open_fault_number};
 ghost use Rattle.cn_hall.specs.Rule.{first_view};
 ghost use Rattle.cn_hall.specs.Seats.{IsSeatOf, KnowsOnly, note_in, pending, seat_state};
 ghost use Rattle.cn_hall.specs.declared.opening.OpenFault.TheVariants.{OutOfMemory};
 ghost use Rattle.crossbeam_queue.specs.Passes.{view, IsPassOf, ruled_capacity};
 
 use crate::hall::Hall;
-use crate::hands::{self, Standing};
 use crate::rule::{Item, Knows, Pass, Queue};
 use crate::seat::Seat;
+use crate::transfers::{self, Standing};
 use cn_log::LogCore;
 use std::alloc::Global;
 use std::error::Error;
@@ -30,7 +30,7 @@ pub enum OpenFault {
 impl OpenFault {
     /// Its number.
     pub fn number(&self) -> u8
-        ensures { result ≡ open_number_of self.now }
+        ensures { result ≡ open_fault_number self.now }
     {
         match self {
             OpenFault::OutOfMemory(_) => 1,
@@ -39,7 +39,7 @@ impl OpenFault {
 
     /// Its name.
     pub fn name(&self) -> &'static str
-        ensures { result.now ≡ open_name_of self.now }
+        ensures { result.now ≡ open_fault_name self.now }
     {
         match self {
             OpenFault::OutOfMemory(_) => "OutOfMemory",
@@ -113,7 +113,7 @@ fn seat_each<R: Wait>(
     let events = core.schedule().len();
     let capacity = core.capacity();
     let standing = Standing::of(&core, 0);
-    hands::put_first(rt, queue, &mut pass, Item { core, seated: 1 });
+    transfers::put_first(rt, queue, &mut pass, Item { core, seated: 1 });
     let mut root = queue.another::<Knows>(&mut pass);
     seats.push_reserved(Seat {
         process: 0,
@@ -140,7 +140,7 @@ fn sit<R: Wait>(rt: &R, queue: &Queue, pass: Pass, process: u8, events: usize) -
 {
     let mut pass = pass;
     for _ in rt.forever() {
-        let item = hands::take(rt, queue, &mut pass);
+        let item = transfers::take(rt, queue, &mut pass);
         if item.seated == process && item.core.schedule().len() == events {
             let capacity = item.core.capacity();
             let standing = Standing::of(&item.core, process);
@@ -149,7 +149,7 @@ fn sit<R: Wait>(rt: &R, queue: &Queue, pass: Pass, process: u8, events: usize) -
                 core,
                 seated: seated + 1,
             };
-            hands::put_seat(rt, queue, &mut pass, item);
+            transfers::put_seat(rt, queue, &mut pass, item);
             return Seat {
                 process,
                 capacity,
@@ -157,7 +157,7 @@ fn sit<R: Wait>(rt: &R, queue: &Queue, pass: Pass, process: u8, events: usize) -
                 pass,
             };
         }
-        hands::put_back(rt, queue, &mut pass, item);
+        transfers::put_back(rt, queue, &mut pass, item);
         thread::yield_now();
     }
     unreachable!()

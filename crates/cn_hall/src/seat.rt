@@ -1,11 +1,9 @@
 //! A seat of a hall.
 ghost use Rattle.std.specs.Prelude.{◌≡◌, ◌≢◌, ◌≤◌, ◌↔◌, IsFalse, IsTrue, None, length};
-ghost use Rattle.cn_log.specs.Callers.{HasAppliedItsOwn};
-ghost use Rattle.cn_log.specs.Opening.{setting};
-ghost use Rattle.cn_hall.specs.Seats.{IsLog, pending, entries_seen, slots_seen};
+ghost use Rattle.cn_hall.specs.Seats.{pending, entries_seen, slots_seen};
 
-use crate::hands::Standing;
 use crate::rule::Pass;
+use crate::transfers::Standing;
 use std::marker::Model;
 
 /// What a thread has of a hall: a process, how far it has come, and the core as it was when the seat
@@ -33,17 +31,6 @@ impl Model for Seat {
 }
 
 impl Seat {
-    /// The law of seats, however they came to be: `log`, what has happened in the seat's core could
-    /// happen; `calls`, the calls of its process are the entries of its own that it has seen, in
-    /// order, and then the one that has no answer, if there is one.
-    pub fn has_its_calls(&self)
-        ensures log { IsLog self.now.core }
-        ensures calls { HasAppliedItsOwn (setting self.now.core) self.now.core.schedule self.now.process }
-    {
-        cn_log::laws::every_call();
-        let _process = self.process;
-    }
-
     /// The process of the seat.
     pub fn process(&self) -> u8
         ensures { result ≡ self.now.process }
@@ -51,7 +38,8 @@ impl Seat {
         self.process
     }
 
-    /// Whether the process is in a call.
+    /// Whether the process is in a call: `Hall::resume` goes on with it, and else `Hall::call` makes
+    /// one.
     pub fn in_call(&self) -> bool
         ensures call { IsTrue result ↔ (pending self.now ≢ None) }
         ensures idle { IsFalse result ↔ (pending self.now ≡ None) }
@@ -59,14 +47,16 @@ impl Seat {
         self.standing.in_call
     }
 
-    /// How many entries the seat has seen, in the slots that its process has applied.
-    pub fn seen_len(&self) -> u16
+    /// How many entries the seat has seen, in the slots that its process has applied: what
+    /// `Hall::meet` compares.
+    pub fn seen_entries(&self) -> u16
         ensures number { result ≡ length (entries_seen self.now) }
     {
         self.standing.seen
     }
 
-    /// How many slots the seat has seen: its process has applied them.
+    /// How many slots the seat has seen: its process has applied them. At the capacity of the log
+    /// `Hall::call` answers `LogFull` at once.
     pub fn seen_slots(&self) -> u16
         ensures number { result ≡ length (slots_seen self.now) }
         ensures range { result ≤ self.now.core.opening.capacity }

@@ -17,8 +17,8 @@ use Rattle.cn_log.specs.declared.entry.Entry.{Entry}
 use Rattle.cn_log.specs.declared.event.Event.{Event}
 use Rattle.cn_log.specs.declared.event.Event.TheVariants.{Invoke, Step}
 use Rattle.cn_log.specs.declared.event.StepAnswer.{StepAnswer}
-use Rattle.cn_log.specs.declared.progress.Phase.{Phase}
-use Rattle.cn_log.specs.declared.progress.Phase.TheVariants.{Idle, Looks, Runs}
+use Rattle.cn_log.specs.declared.caller_state.Phase.{Phase}
+use Rattle.cn_log.specs.declared.caller_state.Phase.TheVariants.{Idle, Looks, Runs}
 use Rattle.cn_log.specs.Agreement.{RoundsAgree}
 use Rattle.cn_log.specs.AtomicEvent.{LogWorld, LogPart, Announcement, InRound, LogContent, Announced, AtNode, IsSameLocally, log_content, touched_in, touched_by_step, touched_by, LooksOn, LooksOnce, ActsInRound, Steps, Happens, answer_to, LogsLookAlike, IsAtomicEvent}
 use Rattle.cn_log.specs.Callers.{call_of, process_of}
@@ -284,7 +284,7 @@ module _ (law : RoundLaw) (atomic : (P : Protocol) (p : ℕ) → IsAtomic Batch 
         → ((part : LogPart) → Some (Announcement q) ≡ Some part → log_content o w part ≡ log_content o u part)
         → IsSameLocally p (after_look L w p here mine q batch) (after_look L u p here mine q batch)
     looks_alike p lt here mine q batch local shared =
-        let found : Announced (w.announced q) ≡ Announced (u.announced q) = shared (Announcement q) refl in
+        let same_call : Announced (w.announced q) ≡ Announced (u.announced q) = shared (Announcement q) refl in
         let same : w.announced q ≡ u.announced q = cc in
         subst (λ a. IsSameLocally p (after_look L w p here mine q batch) (after_gathering L u p here mine q (batch_with a (entries_of_batches L here.seen) q batch) (q + 1 == n))) same
         (gathers_alike p lt here mine q (batch_with (w.announced q) (entries_of_batches L here.seen) q batch) (q + 1 == n) local)

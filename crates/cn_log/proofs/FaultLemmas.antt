@@ -7,16 +7,16 @@ use Rattle.cn_log.specs.declared.event.Event.{Event}
 use Rattle.cn_log.specs.declared.event.Event.TheVariants.{Invoke, Step}
 use Rattle.cn_log.specs.declared.fault.ReplayFault.{ReplayFault}
 use Rattle.cn_log.specs.declared.fault.ReplayFault.TheVariants.{NoSuchProcess, NoSuchOperation, AtEnd}
-use Rattle.cn_log.specs.declared.progress.Phase.{Phase}
-use Rattle.cn_log.specs.declared.progress.Phase.TheVariants.{Idle, Looks, Runs}
-use Rattle.cn_log.specs.Faults.{invoke_fault, step_fault, event_fault, IsFirstFault}
+use Rattle.cn_log.specs.declared.caller_state.Phase.{Phase}
+use Rattle.cn_log.specs.declared.caller_state.Phase.TheVariants.{Idle, Looks, Runs}
+use Rattle.cn_log.specs.Faults.{invoke_fault, step_fault, event_fault, IsFirstEventFault}
 use Rattle.cn_log.specs.Log.{Setting, World, Caller, MayInvoke, MayStep, MayCome, state_of, IsEventList}
 use Rattle.cn_log.proofs.EventLists.{split_at}
 use Rattle.cn_log.proofs.ListLemmas.{get_seam}
 
 -- the fault of an event that comes after these is that of the first event that cannot come, in each list that goes on with it
 pub first_fault : {R : Type 0} (L : Setting R) (s rest : List Event) (event : Event) (fault : ReplayFault) → IsEventList L s → event_fault L (state_of L s) (length s) event ≡ Some fault
-    → IsFirstFault L (s ++ event ∷ rest) fault
+    → IsFirstEventFault L (s ++ event ∷ rest) fault
 first_fault L s rest event fault may why = record {
   place = length s;
   event = event;
@@ -27,10 +27,10 @@ first_fault L s rest event fault may why = record {
 
 -- and so, where those are the events of a list up to a place, it is that of the list
 pub first_in : {R : Type 0} (L : Setting R) (events : List Event) (k : ℕ) (d : Event) (s : List Event) (fault : ReplayFault) → s ≡ take k events → k < length events
-    → ((rest : List Event) → IsFirstFault L (s ++ get_or events k d ∷ rest) fault) → IsFirstFault L events fault
+    → ((rest : List Event) → IsFirstEventFault L (s ++ get_or events k d ∷ rest) fault) → IsFirstEventFault L events fault
 first_in L events k d s fault is less first =
     let parted = ap (λ front. front ++ get_or events k d ∷ drop (suc k) events) is ∙ sym (split_at events k (get_or events k d) (slice_get-get_or events k d less)) in
-    subst (λ (es : List Event). IsFirstFault L es fault) parted (first (drop (suc k) events))
+    subst (λ (es : List Event). IsFirstEventFault L es fault) parted (first (drop (suc k) events))
 
 -- without a fault
 invoke_none : (capacity i : ℕ) (here : Caller) (ph : Phase) → invoke_fault capacity i here ph ≡ None → (ph ≡ Idle) × (length here.seen < capacity)

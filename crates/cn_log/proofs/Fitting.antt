@@ -8,11 +8,11 @@ use Rattle.cn_log.specs.declared.entry.Entry.{Entry}
 use Rattle.cn_log.specs.Batches.{entries_in, slots_from}
 use Rattle.cn_log.specs.declared.event.Event.{Event}
 use Rattle.cn_log.specs.declared.event.Event.TheVariants.{Invoke, Step}
-use Rattle.cn_log.specs.declared.progress.Phase.{Phase}
-use Rattle.cn_log.specs.declared.progress.Phase.TheVariants.{Idle, Looks, Runs}
-use Rattle.cn_log.specs.declared.progress.Progress.{Progress}
+use Rattle.cn_log.specs.declared.caller_state.Phase.{Phase}
+use Rattle.cn_log.specs.declared.caller_state.Phase.TheVariants.{Idle, Looks, Runs}
+use Rattle.cn_log.specs.declared.caller_state.CallerState.{CallerState}
 use Rattle.cn_log.specs.Agreement.{RoundsAgree}
-use Rattle.cn_log.specs.Fields.{no_calls, no_progress, IsProgressOf, Kept, Fits, Keeps, IsAt}
+use Rattle.cn_log.specs.Fields.{no_calls, no_caller_state, IsCallerState, Fields, AreFieldsOf, Keeps, IsAt}
 use Rattle.cn_log.specs.Log.{Setting, World, Caller, put, batch_with, first_look, batches_of, after_events, after_event, after_gathering, after_step, after_decision, phase_after, first_world, state_of, MayCome, MayAllCome, IsEventList, MayInvoke}
 use Rattle.cn_log.proofs.ListLemmas.{put_same, put_other}
 use Rattle.cn_log.proofs.Invariant.{PhaseHolds, Holds}
@@ -26,22 +26,22 @@ pub read_at : {A : Type 0} (xs : List A) {x : A} {k p : ℕ} → x ≡ get_or xs
 read_at xs {x = x} there same = there ∙ ap (λ k. get_or xs k x) same
 
 -- the fields keep what they show
-pub keeps_shown : {R : Type 0} {L : Setting R} {s : List Event} {shown kept : Kept R} → Keeps L s kept → shown ≡ kept → Keeps L s shown
+pub keeps_shown : {R : Type 0} {L : Setting R} {s : List Event} {shown kept : Fields R} → Keeps L s kept → shown ≡ kept → Keeps L s shown
 keeps_shown {L = L} {s = s} keeps shows = subst (Keeps L s) (sym shows) keeps
 
 -- a process in this phase, and how far it has come, as it was read from what is kept
-pub record Found {R : Type 0} (L : Setting R) (Good : R → Type 0) (s : List Event) (kept : Kept R) (p : ℕ) (phase : Phase) (here : Progress) : Type 0 where
+pub record IsReadCaller {R : Type 0} (L : Setting R) (Good : R → Type 0) (s : List Event) (kept : Fields R) (p : ℕ) (phase : Phase) (here : CallerState) : Type 0 where
   pub agrees : RoundsAgree L Good
   pub at : IsAt L s kept p phase
-  pub read : here ≡ get_or kept.progress p here
+  pub read : here ≡ get_or kept.callers p here
 
 -- so a method finds it that reads it from fields that show what is kept
-pub found : {R : Type 0} {L : Setting R} {Good : R → Type 0} {s : List Event} {shown kept : Kept R} {p k : ℕ} {phase : Phase} {here : Progress}
-    → RoundsAgree L Good → IsAt L s kept p phase → shown ≡ kept → here ≡ get_or shown.progress k here → k ≡ p → Found L Good s shown p phase here
-found {L = L} {s = s} {shown = shown} {p = p} {phase = phase} agrees at shows read same = record {
+pub read_caller : {R : Type 0} {L : Setting R} {Good : R → Type 0} {s : List Event} {shown kept : Fields R} {p k : ℕ} {phase : Phase} {here : CallerState}
+    → RoundsAgree L Good → IsAt L s kept p phase → shown ≡ kept → here ≡ get_or shown.callers k here → k ≡ p → IsReadCaller L Good s shown p phase here
+read_caller {L = L} {s = s} {shown = shown} {p = p} {phase = phase} agrees at shows read same = record {
   agrees = agrees;
   at = subst (λ k. IsAt L s k p phase) (sym shows) at;
-  read = read_at shown.progress read same;
+  read = read_at shown.callers read same;
 }
 
 abbrev busy : Phase → ℕ
@@ -110,17 +110,17 @@ module _ {R : Type 0} (L : Setting R) where
       let m = may.not_at_end in
       (omega arith, (omega arith, was.1))
 
-  pub progress_put : {w : World R} {kept : Kept R} → Fits L w kept → {p : ℕ} → p < L.processes → (x : Progress) (s : Caller) → IsProgressOf L x s
-      → (q : ℕ) → q < L.processes → IsProgressOf L (slice_index_or (slice_set kept.progress p x) q no_progress) (put w.caller p s q)
-  progress_put {w = w} {kept = kept} fits {p = p} lt x s is q less = elim (cases_eq q p) [
-    | inl f ↦ (let many = fits.progress_many in rw (f, put_same w.caller p s, get_or-set_same kept.progress p x no_progress (omega arith)) is)
-    | inr ne ↦ rw (put_other w.caller p s q ne, get_or-set_other kept.progress p q x no_progress ne) (fits.caller q less)
+  pub caller_put : {w : World R} {kept : Fields R} → AreFieldsOf L w kept → {p : ℕ} → p < L.processes → (x : CallerState) (s : Caller) → IsCallerState L x s
+      → (q : ℕ) → q < L.processes → IsCallerState L (slice_index_or (slice_set kept.callers p x) q no_caller_state) (put w.caller p s q)
+  caller_put {w = w} {kept = kept} fits {p = p} lt x s is q less = elim (cases_eq q p) [
+    | inl f ↦ (let many = fits.callers_many in rw (f, put_same w.caller p s, get_or-set_same kept.callers p x no_caller_state (omega arith)) is)
+    | inr ne ↦ rw (put_other w.caller p s q ne, get_or-set_other kept.callers p q x no_caller_state ne) (fits.caller q less)
   ]
 
-  pub progress_here : {s : List Event} {kept : Kept R} → Keeps L s kept → {p : ℕ} → p < L.processes → {here : Progress} → here ≡ get_or kept.progress p here → IsProgressOf L here ((state_of L s).caller p)
-  progress_here {s = s} {kept = kept} keeps {p = p} lt {here = here} read =
-      let many = keeps.fits.progress_many in
-      let is : here ≡ get_or kept.progress p no_progress = read ∙ get_or_default kept.progress p here no_progress (omega arith) in
+  pub caller_here : {s : List Event} {kept : Fields R} → Keeps L s kept → {p : ℕ} → p < L.processes → {here : CallerState} → here ≡ get_or kept.callers p here → IsCallerState L here ((state_of L s).caller p)
+  caller_here {s = s} {kept = kept} keeps {p = p} lt {here = here} read =
+      let many = keeps.fits.callers_many in
+      let is : here ≡ get_or kept.callers p no_caller_state = read ∙ get_or_default kept.callers p here no_caller_state (omega arith) in
       rw is (keeps.fits.caller p lt)
 
 module _ {R : Type 0} (L : Setting R) (Good : R → Type 0) (agrees : RoundsAgree L Good) where
@@ -136,21 +136,21 @@ module _ {R : Type 0} (L : Setting R) (Good : R → Type 0) (agrees : RoundsAgre
   low_after s may q = low_run s (first_world L) (first_holds L Good agrees) (λ q. (omega arith, omega arith)) may q
 
   -- a process makes no more calls than there are slots
-  pub calls_few : {s : List Event} {kept : Kept R} → Keeps L s kept → {p operation : ℕ} → MayInvoke L (state_of L s) p operation → {here : Progress} → here ≡ get_or kept.progress p here → here.calls < L.capacity
+  pub calls_few : {s : List Event} {kept : Fields R} → Keeps L s kept → {p operation : ℕ} → MayInvoke L (state_of L s) p operation → {here : CallerState} → here ≡ get_or kept.callers p here → here.calls < L.capacity
   calls_few {s = s} {kept = kept} keeps {p = p} {operation = operation} may {here = here} read =
       let low = (low_invoke L (state_of L s) (low_after s keeps.events) p operation may).0 in
-      let d = (progress_here L keeps may.process read).calls in
+      let d = (caller_here L keeps may.process read).calls in
       omega arith
 
-  pub invoke_keeps : {s : List Event} {kept : Kept R} → Keeps L s kept → {p operation : ℕ} → MayInvoke L (state_of L s) p operation → {here : Progress} → here ≡ get_or kept.progress p here
+  pub invoke_keeps : {s : List Event} {kept : Fields R} → Keeps L s kept → {p operation : ℕ} → MayInvoke L (state_of L s) p operation → {here : CallerState} → here ≡ get_or kept.callers p here
       → let entry : Entry = record { process = p; operation = record { 0 = operation }; call = here.calls } in
       Keeps L (s ++ Invoke p operation ∷ []) (record kept {
         announced = slice_set kept.announced p (Some entry);
-        progress = slice_set kept.progress p (record here { calls = here.calls + 1; phase = first_look entry });
+        callers = slice_set kept.callers p (record here { calls = here.calls + 1; phase = first_look entry });
       })
   invoke_keeps {s = s} {kept = kept} keeps {p = p} {operation = operation} may {here = here} read =
       let w = state_of L s in
-      let d = progress_here L keeps may.process read in
+      let d = caller_here L keeps may.process read in
       let fits = keeps.fits in
       let many = fits.announced_many in
       let lt = may.process in
@@ -165,8 +165,8 @@ module _ {R : Type 0} (L : Setting R) (Good : R → Type 0) (agrees : RoundsAgre
             | inl f ↦ rw (f, put_same w.announced p (Some (entry (w.caller p).calls)), get_or-set_same kept.announced p (Some (entry (w.caller p).calls)) None (omega arith)) refl
             | inr ne ↦ rw (put_other w.announced p (Some (entry (w.caller p).calls)) q ne, get_or-set_other kept.announced p q (Some (entry (w.caller p).calls)) None ne) (fits.announcement q less)
           ];
-          progress_many = length-set kept.progress p _ ∙ fits.progress_many;
-          caller = progress_put L fits may.process _ _ (record { replayed = d.replayed; seen = d.seen; calls_places = d.calls_places; calls_seen = d.calls_seen; calls = refl; phase = refl; state = d.state; known = d.known });
+          callers_many = length-set kept.callers p _ ∙ fits.callers_many;
+          caller = caller_put L fits may.process _ _ (record { applied_slots = d.applied_slots; applied_entries = d.applied_entries; calls_places = d.calls_places; calls_seen = d.calls_seen; calls = refl; phase = refl; state = d.state; known = d.known });
           entries_are = fits.entries_are;
           slots_are = fits.slots_are;
           fixed_is = fits.fixed_is;
@@ -182,7 +182,7 @@ module _ {R : Type 0} (L : Setting R) (Good : R → Type 0) (agrees : RoundsAgre
       → Keeps L [] (record {
         rounds = replicate L.capacity L.untouched;
         announced = replicate L.processes None;
-        progress = replicate L.processes (record { replayed = 0; seen = 0; calls_seen = no_calls; calls = 0; phase = Idle; state = start });
+        callers = replicate L.processes (record { applied_slots = 0; applied_entries = 0; calls_seen = no_calls; calls = 0; phase = Idle; state = start });
         entries = [];
         slots = [];
         fixed = 0;
@@ -196,10 +196,10 @@ module _ {R : Type 0} (L : Setting R) (Good : R → Type 0) (agrees : RoundsAgre
       round = λ k less. get_replicate L.capacity k _ _ less;
       announced_many = length-replicate L.processes _;
       announcement = λ p less. get_replicate L.processes p _ _ less;
-      progress_many = length-replicate L.processes _;
-      caller = λ p less. rw (get_replicate L.processes p none no_progress less) (record {
-        replayed = refl;
-        seen = refl;
+      callers_many = length-replicate L.processes _;
+      caller = λ p less. rw (get_replicate L.processes p none no_caller_state less) (record {
+        applied_slots = refl;
+        applied_entries = refl;
         calls_places = refl;
         calls_seen = λ q low. get_replicate 8 q 0 0 (let few = agrees.few in omega (arith, low, few));
         calls = refl;
@@ -216,5 +216,5 @@ module _ {R : Type 0} (L : Setting R) (Good : R → Type 0) (agrees : RoundsAgre
       nothing : batches_of L (first_world L) ≡ []
       nothing = fixed_from_is L (first_world L).round L.capacity 0 [] (omega arith) (λ j x h. absurd cc) (inr agrees.unfixed)
 
-      none : Progress
-      none = record { replayed = 0; seen = 0; calls_seen = no_calls; calls = 0; phase = Idle; state = start }
+      none : CallerState
+      none = record { applied_slots = 0; applied_entries = 0; calls_seen = no_calls; calls = 0; phase = Idle; state = start }

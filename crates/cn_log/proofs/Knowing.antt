@@ -9,8 +9,8 @@ use Rattle.cn_log.specs.declared.event.Event.{Event}
 use Rattle.cn_log.specs.declared.event.Event.TheVariants.{Invoke, Step}
 use Rattle.cn_log.specs.declared.event.StepAnswer.{StepAnswer}
 use Rattle.cn_log.specs.declared.event.StepAnswer.TheVariants.{Working}
-use Rattle.cn_log.specs.declared.progress.Phase.{Phase}
-use Rattle.cn_log.specs.declared.progress.Phase.TheVariants.{Idle, Looks, Runs}
+use Rattle.cn_log.specs.declared.caller_state.Phase.{Phase}
+use Rattle.cn_log.specs.declared.caller_state.Phase.TheVariants.{Idle, Looks, Runs}
 use Rattle.cn_log.specs.Agreement.{RoundsAgree}
 use Rattle.cn_log.specs.Callers.{BeginsWith, IsUnseen, process_of, Without, pending_in, call_of, caller_of, entries_by, seen_of, IsPendingCall, IsStepped, SeesOther}
 use Rattle.cn_log.specs.Linearized.{calls_of}
@@ -18,7 +18,7 @@ use Rattle.cn_log.specs.Log.{Setting, World, Caller, Called, put, IsEventList, b
 use Rattle.cn_log.proofs.EventLists.{run_append, may_right}
 use Rattle.cn_log.proofs.Pacing.{seen_few}
 use Rattle.cn_log.proofs.Having.{has_is, has_isnt}
-use Rattle.cn_log.proofs.Places.{entries_put}
+use Rattle.cn_log.proofs.EntryPositions.{entries_put}
 use Rattle.cn_log.proofs.Owning.{own_none, own_one}
 use Rattle.cn_log.proofs.Invariant.{IsNoted, IsCalled, IsMine, IsSeen, IsShaped, PhaseHolds, Holds, fixed_begun, stands_once}
 use Rattle.cn_log.proofs.Linearizing.{facts_after, holds_after, prefix_may, batch_of}

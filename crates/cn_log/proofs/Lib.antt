@@ -1,7 +1,7 @@
 pub mod ListLemmas
 pub mod EventLists
 pub mod EntryLists
-pub mod Places
+pub mod EntryPositions
 pub mod OwnLemmas
 pub mod Invariant
 pub mod Bypassing

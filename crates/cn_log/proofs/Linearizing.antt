@@ -8,13 +8,13 @@ use Rattle.cn_log.specs.Batches.{Has, has, entry_at, members, entries_in}
 use Rattle.cn_log.specs.declared.event.Event.{Event}
 use Rattle.cn_log.specs.declared.event.Event.TheVariants.{Invoke, Step}
 use Rattle.cn_log.specs.declared.event.StepAnswer.TheVariants.{Working, Answered, Full}
-use Rattle.cn_log.specs.declared.progress.Phase.{Phase}
-use Rattle.cn_log.specs.declared.progress.Phase.TheVariants.{Idle, Looks, Runs}
+use Rattle.cn_log.specs.declared.caller_state.Phase.{Phase}
+use Rattle.cn_log.specs.declared.caller_state.Phase.TheVariants.{Idle, Looks, Runs}
 use Rattle.cn_log.specs.Agreement.{RoundsAgree}
 use Rattle.cn_log.specs.Log.{Setting, World, Caller, Note, Called, Replied, FoundFull, put, batch_with, batches_of, response_in, after_events, after_event, after_gathering, after_step, after_decision, first_world, state_of, MayInvoke, MayCome, MayAllCome, IsEventList, batches, entries, answer_from, answer_with}
 use Rattle.cn_log.specs.Linearized.{calls_of, IsCall, IsStepOf, IsAnswered, FindsFull, IsInSlot, StandsIn, entry_slots, IsLinearized, BeginsInTurn, Grows}
 use Rattle.cn_log.specs.Linearized.{Stands as StandsAt}
-use Rattle.cn_log.proofs.Places.{slot_of, before, in_entries, front, members_in_order, slots_in_order, entries_put}
+use Rattle.cn_log.proofs.EntryPositions.{slot_of, before, in_entries, front, members_in_order, slots_in_order, entries_put}
 use Rattle.cn_log.specs.Bypass.{fixed_before, IsBypassBounded}
 use Rattle.cn_log.proofs.ListLemmas.{put_same, put_other, there_is, get_low, take_front}
 use Rattle.cn_log.proofs.Invariant.{IsNoted, IsCalled, IsPending, PhaseHolds, Holds, Facts, Stands, IsReply, fixed_begun, stands_once, in_order}

@@ -4,15 +4,15 @@ use Rattle.std.proofs.lemmas.Bool.{cases_eq}
 use Rattle.std.proofs.lemmas.Bool.Decides.{nat_tests}
 use Rattle.cn_log.specs.declared.batch.Batch.{Batch}
 use Rattle.cn_log.specs.declared.entry.Entry.{Entry}
-use Rattle.cn_log.specs.declared.progress.Phase.{Phase}
-use Rattle.cn_log.specs.declared.progress.Phase.TheVariants.{Idle, Looks, Runs}
+use Rattle.cn_log.specs.declared.caller_state.Phase.{Phase}
+use Rattle.cn_log.specs.declared.caller_state.Phase.TheVariants.{Idle, Looks, Runs}
 use Rattle.cn_log.specs.Agreement.{RoundsAgree}
 use Rattle.cn_log.specs.Batches.{Has, entry_at, with_entry, entries_in}
 use Rattle.cn_log.specs.Callers.{IsUnseen}
 use Rattle.cn_log.specs.Log.{Setting, World, Caller, Called, put, has_entry, batch_with, after_gathering, after_step}
 use Rattle.cn_log.proofs.ListLemmas.{put_same, put_other, has_not, has_yes, there_is, get_low}
 use Rattle.cn_log.proofs.Invariant.{IsNoted, IsCalled, IsRuns, IsPending, IsGathered, IsLooking, PhaseHolds, IsOther, IsBegun, Holds, HasGathered, Facts, IsMine, IsSeen, Stands, StandsBy, IsReply, in_order, fixed_begun}
-use Rattle.cn_log.proofs.Places.{of_entries, in_entries}
+use Rattle.cn_log.proofs.EntryPositions.{of_entries, in_entries}
 
 module _ (batch : Batch) (q : ℕ) (other : Entry) where
   with_new : q < length batch.entries → entry_at (with_entry batch q other) q ≡ Some other
@@ -48,8 +48,8 @@ module _ {R : Type 0} (L : Setting R) (Good : R → Type 0) (agrees : RoundsAgre
   low_place = let a = looking.next in let b = agrees.few in let c = looking.gathered.places in omega (arith, a, b, c)
 
   -- what is found is in a batch that was replayed, and what is not found in none
-  found : (e : Entry) → has_entry known e ≡ true → IsSeen here.seen e
-  found e h =
+  entry_seen : (e : Entry) → has_entry known e ≡ true → IsSeen here.seen e
+  entry_seen e h =
       let y = has_yes known e h in
       let r = of_entries L.processes here.seen y.0 e y.2 in
       let s = (fixed_begun L Good agrees w holds r.slot r.batch (holds.seen p r.slot r.batch r.there)).shaped r.process e r.at in
@@ -116,7 +116,7 @@ module _ {R : Type 0} (L : Setting R) (Good : R → Type 0) (agrees : RoundsAgre
         seen_by s (inr gt) = let o = in_order L Good agrees w holds k0 s.slot s.batch gt (holds.seen e.process s.slot s.batch s.there) in helped e since noted low o.0 less o.1
 
         look : (b : Bool) → has_entry known e ≡ b → w.announced q ≡ Some e → Has v e ⊎ StandsBy L w e k0
-        look true h a = let f = found e h in let l = get_low here.seen f.slot f.batch f.there in
+        look true h a = let f = entry_seen e h in let l = get_low here.seen f.slot f.batch f.there in
             inr (record { slot = f.slot; low = omega (arith, l); stands = record { batch = f.batch; fixed = holds.seen p f.slot f.batch f.there; has = f.has } })
         look false h a = inl (rw (a, h) (subst (λ z. entry_at (with_entry batch q e) z ≡ Some e) (sym whose) (with_new batch q e low_place)))
 

@@ -10,8 +10,8 @@ use Rattle.cn_log.specs.declared.event.Event.{Event}
 use Rattle.cn_log.specs.declared.event.Event.TheVariants.{Invoke, Step}
 use Rattle.cn_log.specs.declared.event.StepAnswer.{StepAnswer}
 use Rattle.cn_log.specs.declared.event.StepAnswer.TheVariants.{Working, Answered, Full}
-use Rattle.cn_log.specs.declared.progress.Phase.{Phase}
-use Rattle.cn_log.specs.declared.progress.Phase.TheVariants.{Idle, Looks, Runs}
+use Rattle.cn_log.specs.declared.caller_state.Phase.{Phase}
+use Rattle.cn_log.specs.declared.caller_state.Phase.TheVariants.{Idle, Looks, Runs}
 use Rattle.cn_log.specs.Agreement.{RoundsAgree}
 use Rattle.cn_log.specs.Callers.{BeginsWith, seen_of, Without, pending_in, call_of, calls_from, calls_by, entries_by, caller_of, SeesOther, IsStepped, IsUnanswered, HasAppliedItsOwn, HasAppliedBy}
 use Rattle.cn_log.specs.Linearized.{calls_of}
@@ -22,7 +22,7 @@ use Rattle.cn_log.proofs.Invariant.{IsMine, IsBegun, fixed_begun}
 use Rattle.cn_log.proofs.Knowing.{stays, invoked, number, replayed, replayed_batches, stepped}
 use Rattle.cn_log.proofs.Linearizing.{facts_after, holds_after, prefix_may, there_of, stands_there, one_place}
 use Rattle.cn_table.proofs.Lists.{get_front}
-use Rattle.cn_log.proofs.Places.{entries_put, in_entries, get_right}
+use Rattle.cn_log.proofs.EntryPositions.{entries_put, in_entries, get_right}
 use Rattle.cn_log.proofs.ListLemmas.{get_low}
 
 -- the calls in a longer list are those in its front, and then those in the rest

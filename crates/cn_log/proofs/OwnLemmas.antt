@@ -7,8 +7,8 @@ use Rattle.cn_log.specs.OwnSteps.{is_step_of, steps_of}
 use Rattle.cn_log.specs.declared.entry.Entry.{Entry}
 use Rattle.cn_log.specs.declared.event.Event.{Event}
 use Rattle.cn_log.specs.declared.event.Event.TheVariants.{Invoke, Step}
-use Rattle.cn_log.specs.declared.progress.Phase.{Phase}
-use Rattle.cn_log.specs.declared.progress.Phase.TheVariants.{Idle, Looks, Runs}
+use Rattle.cn_log.specs.declared.caller_state.Phase.{Phase}
+use Rattle.cn_log.specs.declared.caller_state.Phase.TheVariants.{Idle, Looks, Runs}
 
 -- calls have the numbers of their places
 pub number_at : (p k : ℕ) (events : List Event) (i : ℕ) (x : Entry) → slice_get (calls_from p k events) i ≡ Some x → x.call ≡ k + i

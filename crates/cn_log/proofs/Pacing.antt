@@ -8,8 +8,8 @@ use Rattle.cn_log.specs.declared.batch.Batch.{Batch}
 use Rattle.cn_log.specs.declared.entry.Entry.{Entry}
 use Rattle.cn_log.specs.declared.event.Event.{Event}
 use Rattle.cn_log.specs.declared.event.Event.TheVariants.{Invoke, Step}
-use Rattle.cn_log.specs.declared.progress.Phase.{Phase}
-use Rattle.cn_log.specs.declared.progress.Phase.TheVariants.{Idle, Looks, Runs}
+use Rattle.cn_log.specs.declared.caller_state.Phase.{Phase}
+use Rattle.cn_log.specs.declared.caller_state.Phase.TheVariants.{Idle, Looks, Runs}
 use Rattle.cn_log.specs.Agreement.{RoundsAgree}
 use Rattle.cn_log.specs.Batches.{entries_in}
 use Rattle.cn_log.specs.Bypass.{fixed_before}
@@ -47,12 +47,12 @@ module _ {R : Type 0} (L : Setting R) where
   steps_into a w p k (Runs mine) = a + (L.processes + L.consensus.taken (w.round k) p)
 
   -- how far a process has come, where each slot that it has applied counts as much as a call and its steps there can
-  abbrev pub way_of : ℕ → World R → ℕ → ℕ
-  way_of a w p = length (w.caller p).seen * (slot_cost L.processes + a) + steps_into a w p (length (w.caller p).seen) (w.caller p).phase
+  abbrev pub distance_of : ℕ → World R → ℕ → ℕ
+  distance_of a w p = length (w.caller p).seen * (slot_cost L.processes + a) + steps_into a w p (length (w.caller p).seen) (w.caller p).phase
 
   -- what a process spends, it has come on
   abbrev pub IsPaced : ℕ → List Event → List Event → ℕ → Type 0
-  IsPaced a before rest p = way_of a (state_of L before) p + spent a p rest ≤ way_of a (state_of L (before ++ rest)) p
+  IsPaced a before rest p = distance_of a (state_of L before) p + spent a p rest ≤ distance_of a (state_of L (before ++ rest)) p
 
   -- there are at most so many events
   abbrev pub HasRoom : List Event → Type 0
@@ -63,7 +63,7 @@ module _ {R : Type 0} (L : Setting R) (Good : R → Type 0) (agrees : RoundsAgre
   cost = slot_cost L.processes
 
   -- where a process is left as it is, and so are its steps in the round of its slot
-  stays_put : (w w' : World R) (p : ℕ) → w'.caller p ≡ w.caller p → ((k : ℕ) → L.consensus.taken (w'.round k) p ≡ L.consensus.taken (w.round k) p) → way_of L a w' p ≡ way_of L a w p
+  stays_put : (w w' : World R) (p : ℕ) → w'.caller p ≡ w.caller p → ((k : ℕ) → L.consensus.taken (w'.round k) p ≡ L.consensus.taken (w.round k) p) → distance_of L a w' p ≡ distance_of L a w p
   stays_put w w' p same taken =
       ap (λ (c : Caller). length c.seen * (cost + a) + steps_into L a w' p (length c.seen) c.phase) same ∙ ap (λ z. length (w.caller p).seen * (cost + a) + z) (go (w.caller p).phase)
     where
@@ -79,12 +79,12 @@ module _ {R : Type 0} (L : Setting R) (Good : R → Type 0) (agrees : RoundsAgre
   ]
 
   -- a step of another process
-  other_gathering : (w : World R) (q p : ℕ) → q ≢ p → (mine : Entry) (i : ℕ) (batch : Batch) (b : Bool) → way_of L a (after_gathering L w q (w.caller q) mine i batch b) p ≡ way_of L a w p
+  other_gathering : (w : World R) (q p : ℕ) → q ≢ p → (mine : Entry) (i : ℕ) (batch : Batch) (b : Bool) → distance_of L a (after_gathering L w q (w.caller q) mine i batch b) p ≡ distance_of L a w p
   other_gathering w q p ne mine i batch false = stays_put w (after_gathering L w q (w.caller q) mine i batch false) p (put_other w.caller q _ p (λ e. ne (sym e))) (λ k. refl)
   other_gathering w q p ne mine i batch true = stays_put w (after_gathering L w q (w.caller q) mine i batch true) p (put_other w.caller q _ p (λ e. ne (sym e)))
       (taken_put w (length (w.caller q).seen) (L.consensus.begin q batch (w.round (length (w.caller q).seen))) p (agrees.taken_begin_other (w.round (length (w.caller q).seen)) q p batch (λ e. ne (sym e))))
 
-  other_run : (w : World R) (q p : ℕ) → q ≢ p → (mine : Entry) → way_of L a (after_run L w q (w.caller q) mine) p ≡ way_of L a w p
+  other_run : (w : World R) (q p : ℕ) → q ≢ p → (mine : Entry) → distance_of L a (after_run L w q (w.caller q) mine) p ≡ distance_of L a w p
   other_run w q p ne mine = go (L.consensus.decided r q)
     where
       k : ℕ
@@ -102,11 +102,11 @@ module _ {R : Type 0} (L : Setting R) (Good : R → Type 0) (agrees : RoundsAgre
       rounds : (j : ℕ) → L.consensus.taken (w1.round j) p ≡ L.consensus.taken (w.round j) p
       rounds = taken_put w (length (w.caller q).seen) (L.consensus.step q (w.round (length (w.caller q).seen))) p (agrees.taken_step_other (w.round (length (w.caller q).seen)) q p away)
 
-      go : (o : Option Batch) → way_of L a (after_decision L w1 q (w.caller q) mine o) p ≡ way_of L a w p
+      go : (o : Option Batch) → distance_of L a (after_decision L w1 q (w.caller q) mine o) p ≡ distance_of L a w p
       go None = stays_put w w1 p refl rounds
       go (Some x) = stays_put w (after_decision L w1 q (w.caller q) mine (Some x)) p (put_other w.caller q _ p away) rounds
 
-  other_step : (w : World R) (q p : ℕ) → q ≢ p → (ph : Phase) → way_of L a (after_step L w q (w.caller q) ph) p ≡ way_of L a w p
+  other_step : (w : World R) (q p : ℕ) → q ≢ p → (ph : Phase) → distance_of L a (after_step L w q (w.caller q) ph) p ≡ distance_of L a w p
   other_step w q p ne Idle = refl
   other_step w q p ne (Looks mine i batch) = other_gathering w q p ne mine i (batch_with (w.announced i) (entries_in L.processes (w.caller q).seen) i batch) (i + 1 == L.processes)
   other_step w q p ne (Runs mine) = other_run w q p ne mine
@@ -119,28 +119,28 @@ module _ {R : Type 0} (L : Setting R) (Good : R → Type 0) (agrees : RoundsAgre
     abbrev k0 : ℕ
     k0 = length here.seen
 
-    way_then : (w' : World R) (c : Caller) → w'.caller p ≡ c → way_of L a w' p ≡ length c.seen * (cost + a) + steps_into L a w' p (length c.seen) c.phase
-    way_then w' c e = ap (λ (z : Caller). length z.seen * (cost + a) + steps_into L a w' p (length z.seen) z.phase) e
+    distance_then : (w' : World R) (c : Caller) → w'.caller p ≡ c → distance_of L a w' p ≡ length c.seen * (cost + a) + steps_into L a w' p (length c.seen) c.phase
+    distance_then w' c e = ap (λ (z : Caller). length z.seen * (cost + a) + steps_into L a w' p (length z.seen) z.phase) e
 
-    way_in : (ph : Phase) → here.phase ≡ ph → way_of L a w p ≡ k0 * (cost + a) + steps_into L a w p k0 ph
-    way_in ph e = ap (λ z. k0 * (cost + a) + steps_into L a w p k0 z) e
+    distance_in : (ph : Phase) → here.phase ≡ ph → distance_of L a w p ≡ k0 * (cost + a) + steps_into L a w p k0 ph
+    distance_in ph e = ap (λ z. k0 * (cost + a) + steps_into L a w p k0 z) e
 
-    own_gathering : (mine : Entry) (i : ℕ) (batch v : Batch) (b : Bool) → (i + 1 == L.processes) ≡ b → here.phase ≡ Looks mine i batch → way_of L a w p + 1 ≤ way_of L a (after_gathering L w p here mine i v b) p
+    own_gathering : (mine : Entry) (i : ℕ) (batch v : Batch) (b : Bool) → (i + 1 == L.processes) ≡ b → here.phase ≡ Looks mine i batch → distance_of L a w p + 1 ≤ distance_of L a (after_gathering L w p here mine i v b) p
     own_gathering mine i batch v false last is =
         let c : Caller = record here { phase = Looks mine (i + 1) v } in
-        let x = way_in (Looks mine i batch) is in
-        let y = way_then (after_gathering L w p here mine i v false) c (put_same w.caller p c) in
+        let x = distance_in (Looks mine i batch) is in
+        let y = distance_then (after_gathering L w p here mine i v false) c (put_same w.caller p c) in
         omega (arith, x, y)
     own_gathering mine i batch v true last is =
         let c : Caller = record here { phase = Runs mine } in
         let w' : World R = after_gathering L w p here mine i v true in
-        let x = way_in (Looks mine i batch) is in
-        let y = way_then w' c (put_same w.caller p c) in
+        let x = distance_in (Looks mine i batch) is in
+        let y = distance_then w' c (put_same w.caller p c) in
         let t : L.consensus.taken (w'.round k0) p ≡ 0 = ap (λ z. L.consensus.taken z p) (put_same w.round k0 (L.consensus.begin p v (w.round k0))) ∙ agrees.taken_begin (w.round k0) p v lt (holds.good k0) in
         let l : i + 1 ≡ L.processes = grind (arith, nat_tests) in
         omega (arith, x, y, t, l)
 
-    own_run : (mine : Entry) → here.phase ≡ Runs mine → way_of L a w p + 1 ≤ way_of L a (after_run L w p here mine) p
+    own_run : (mine : Entry) → here.phase ≡ Runs mine → distance_of L a w p + 1 ≤ distance_of L a (after_run L w p here mine) p
     own_run mine is = go (L.consensus.decided r p)
       where
         r : R
@@ -158,51 +158,51 @@ module _ {R : Type 0} (L : Setting R) (Good : R → Type 0) (agrees : RoundsAgre
         few : L.consensus.taken (w.round k0) p < 4 * (L.processes - 1)
         few = agrees.taken_low (w.round k0) p begun.0 lt (holds.good k0) begun.1 begun.2
 
-        before : way_of L a w p ≡ k0 * (cost + a) + (a + (L.processes + L.consensus.taken (w.round k0) p))
-        before = way_in (Runs mine) is
+        before : distance_of L a w p ≡ k0 * (cost + a) + (a + (L.processes + L.consensus.taken (w.round k0) p))
+        before = distance_in (Runs mine) is
 
-        go : (o : Option Batch) → way_of L a w p + 1 ≤ way_of L a (after_decision L w1 p here mine o) p
+        go : (o : Option Batch) → distance_of L a w p + 1 ≤ distance_of L a (after_decision L w1 p here mine o) p
         go None =
             let x = before in
-            let y : way_of L a w1 p ≡ k0 * (cost + a) + (a + (L.processes + L.consensus.taken (w1.round k0) p)) = ap (λ z. k0 * (cost + a) + steps_into L a w1 p k0 z) is in
+            let y : distance_of L a w1 p ≡ k0 * (cost + a) + (a + (L.processes + L.consensus.taken (w1.round k0) p)) = ap (λ z. k0 * (cost + a) + steps_into L a w1 p k0 z) is in
             let t : L.consensus.taken (w1.round k0) p ≡ L.consensus.taken (w.round k0) p + 1 = ap (λ z. L.consensus.taken z p) (put_same w.round k0 (L.consensus.step p (w.round k0))) ∙ more in
             omega (arith, x, y, t)
         go (Some d) =
             let c : Caller = record { seen = here.seen ++ d ∷ []; calls = here.calls; phase = phase_after L k0 mine d } in
             let w' : World R = after_decision L w1 p here mine (Some d) in
             let x = before in
-            let y = way_then w' c (put_same w.caller p c) in
+            let y = distance_then w' c (put_same w.caller p c) in
             let n : length (here.seen ++ d ∷ []) ≡ k0 + 1 = length-append here.seen (d ∷ []) in
             let m : length (here.seen ++ d ∷ []) * (cost + a) ≡ k0 * (cost + a) + 1 * (cost + a) = ap (λ z. z * (cost + a)) n ∙ add-mul k0 1 (cost + a) in
             let f = few in
             omega (arith, x, y, m, f)
 
-    own_step : (ph : Phase) → here.phase ≡ ph → ph ≢ Idle → way_of L a w p + 1 ≤ way_of L a (after_step L w p here ph) p
+    own_step : (ph : Phase) → here.phase ≡ ph → ph ≢ Idle → distance_of L a w p + 1 ≤ distance_of L a (after_step L w p here ph) p
     own_step Idle is in_call = absurd (in_call refl)
     own_step (Looks mine i batch) is in_call = own_gathering mine i batch (batch_with (w.announced i) (entries_in L.processes here.seen) i batch) (i + 1 == L.processes) refl is
     own_step (Runs mine) is in_call = own_run mine is
 
-    own_invoke : (operation : ℕ) → here.phase ≡ Idle → way_of L a w p + a ≤ way_of L a (after_event L w (Invoke p operation)) p
+    own_invoke : (operation : ℕ) → here.phase ≡ Idle → distance_of L a w p + a ≤ distance_of L a (after_event L w (Invoke p operation)) p
     own_invoke operation is =
         let e : Entry = record { process = p; operation = record { 0 = operation }; call = here.calls } in
         let c : Caller = record { seen = here.seen; calls = here.calls + 1; phase = first_look e } in
-        let x = way_in Idle is in
-        let y = way_then (after_event L w (Invoke p operation)) c (put_same w.caller p c) in
+        let x = distance_in Idle is in
+        let y = distance_then (after_event L w (Invoke p operation)) c (put_same w.caller p c) in
         omega (arith, x, y)
 
-  paced_event : (w : World R) → Holds L Good w → (e : Event) → MayCome L w e → (p : ℕ) → way_of L a w p + weight a p e ≤ way_of L a (after_event L w e) p
+  paced_event : (w : World R) → Holds L Good w → (e : Event) → MayCome L w e → (p : ℕ) → distance_of L a w p + weight a p e ≤ distance_of L a (after_event L w e) p
   paced_event w holds (Invoke q operation) may p = go (q == p) refl
     where
-      go : (b : Bool) → (q == p) ≡ b → way_of L a w p + (if b then a else 0) ≤ way_of L a (after_event L w (Invoke q operation)) p
-      go true e = let same : q ≡ p = grind (arith, nat_tests) in subst (λ z. way_of L a w z + a ≤ way_of L a (after_event L w (Invoke q operation)) z) same (own_invoke w holds q may.process operation may.idle)
+      go : (b : Bool) → (q == p) ≡ b → distance_of L a w p + (if b then a else 0) ≤ distance_of L a (after_event L w (Invoke q operation)) p
+      go true e = let same : q ≡ p = grind (arith, nat_tests) in subst (λ z. distance_of L a w z + a ≤ distance_of L a (after_event L w (Invoke q operation)) z) same (own_invoke w holds q may.process operation may.idle)
       go false e = let ne : p ≢ q = grind (arith, nat_tests) in let s = stays_put w (after_event L w (Invoke q operation)) p (put_other w.caller q _ p ne) (λ k. refl) in omega (arith, s)
   paced_event w holds (Step q) may p = go (q == p) refl
     where
-      go : (b : Bool) → (q == p) ≡ b → way_of L a w p + (if b then 1 else 0) ≤ way_of L a (after_event L w (Step q)) p
-      go true e = let same : q ≡ p = grind (arith, nat_tests) in subst (λ z. way_of L a w z + 1 ≤ way_of L a (after_event L w (Step q)) z) same (own_step w holds q may.process (w.caller q).phase refl may.in_call)
+      go : (b : Bool) → (q == p) ≡ b → distance_of L a w p + (if b then 1 else 0) ≤ distance_of L a (after_event L w (Step q)) p
+      go true e = let same : q ≡ p = grind (arith, nat_tests) in subst (λ z. distance_of L a w z + 1 ≤ distance_of L a (after_event L w (Step q)) z) same (own_step w holds q may.process (w.caller q).phase refl may.in_call)
       go false e = let ne : q ≢ p = grind (arith, nat_tests) in let s = other_step w q p ne (w.caller q).phase in omega (arith, s)
 
-  paced_from : (events : List Event) (w : World R) → Holds L Good w → MayAllCome L events w → (p : ℕ) → way_of L a w p + spent a p events ≤ way_of L a (after_events L events w) p
+  paced_from : (events : List Event) (w : World R) → Holds L Good w → MayAllCome L events w → (p : ℕ) → distance_of L a w p + spent a p events ≤ distance_of L a (after_events L events w) p
   paced_from [] w holds may p = omega arith
   paced_from (e ∷ events) w holds may p =
       let x = paced_event w holds e may.0 p in
@@ -214,7 +214,7 @@ module _ {R : Type 0} (L : Setting R) (Good : R → Type 0) (agrees : RoundsAgre
   paced before rest may p =
       let r = run_append L before rest (first_world L) in
       let x = paced_from rest (state_of L before) (holds_after L Good agrees before (prefix_may L Good agrees before rest may)) (may_right L before rest (first_world L) may) p in
-      subst (λ (z : World R). way_of L a (state_of L before) p + spent a p rest ≤ way_of L a z p) (sym r) x
+      subst (λ (z : World R). distance_of L a (state_of L before) p + spent a p rest ≤ distance_of L a z p) (sym r) x
 
 -- what events count where a call counts nothing is the steps
 spent_steps : (p : ℕ) (events : List Event) → spent 0 p events ≡ steps_of p events
@@ -285,19 +285,19 @@ module _ {R : Type 0} (L : Setting R) (Good : R → Type 0) (agrees : RoundsAgre
   cost1 a = slot_cost L.processes + a
 
   -- how far a process can come: not through a slot in which it has not decided
-  way_pending : (a : ℕ) (w : World R) → Holds L Good w → (p : ℕ) → p < L.processes → (ph : Phase) → (w.caller p).phase ≡ ph → ph ≢ Idle → (way_of L a w p < (length (w.caller p).seen + 1) * cost1 a) × (length (w.caller p).seen < L.capacity)
-  way_pending a w holds p lt Idle is ne = absurd (ne refl)
-  way_pending a w holds p lt (Looks mine q batch) is ne =
+  distance_pending : (a : ℕ) (w : World R) → Holds L Good w → (p : ℕ) → p < L.processes → (ph : Phase) → (w.caller p).phase ≡ ph → ph ≢ Idle → (distance_of L a w p < (length (w.caller p).seen + 1) * cost1 a) × (length (w.caller p).seen < L.capacity)
+  distance_pending a w holds p lt Idle is ne = absurd (ne refl)
+  distance_pending a w holds p lt (Looks mine q batch) is ne =
       let h : IsLooking L w p mine q batch = subst (PhaseHolds L w p) is (holds.phases p) in
-      let y : way_of L a w p ≡ length (w.caller p).seen * cost1 a + (a + q) = ap (λ z. length (w.caller p).seen * cost1 a + steps_into L a w p (length (w.caller p).seen) z) is in
+      let y : distance_of L a w p ≡ length (w.caller p).seen * cost1 a + (a + q) = ap (λ z. length (w.caller p).seen * cost1 a + steps_into L a w p (length (w.caller p).seen) z) is in
       let m : (length (w.caller p).seen + 1) * cost1 a ≡ length (w.caller p).seen * cost1 a + 1 * cost1 a = add-mul (length (w.caller p).seen) 1 (cost1 a) in
       let n = h.next in
       (omega (arith, y, m, n), h.pending.room)
-  way_pending a w holds p lt (Runs mine) is ne =
+  distance_pending a w holds p lt (Runs mine) is ne =
       let h : IsPending L w p mine = subst (PhaseHolds L w p) is (holds.phases p) in
       let b = holds.running p (subst IsRuns (sym is) tt) in
       let f = agrees.taken_low (w.round (length (w.caller p).seen)) p b.0 lt (holds.good (length (w.caller p).seen)) b.1 b.2 in
-      let y : way_of L a w p ≡ length (w.caller p).seen * cost1 a + (a + (L.processes + L.consensus.taken (w.round (length (w.caller p).seen)) p)) =
+      let y : distance_of L a w p ≡ length (w.caller p).seen * cost1 a + (a + (L.processes + L.consensus.taken (w.round (length (w.caller p).seen)) p)) =
       ap (λ z. length (w.caller p).seen * cost1 a + steps_into L a w p (length (w.caller p).seen) z) is in
       let m : (length (w.caller p).seen + 1) * cost1 a ≡ length (w.caller p).seen * cost1 a + 1 * cost1 a = add-mul (length (w.caller p).seen) 1 (cost1 a) in
       (omega (arith, y, m, f), h.room)
@@ -342,20 +342,20 @@ module _ {R : Type 0} (L : Setting R) (Good : R → Type 0) (agrees : RoundsAgre
   pub seen_few : (events : List Event) → IsEventList L events → (q : ℕ) → length ((state_of L events).caller q).seen ≤ L.capacity
   seen_few events may q = seen_from events (first_world L) (first_holds L Good agrees) (λ q. omega arith) may q
 
-  way_few : (a : ℕ) (events : List Event) → IsEventList L events → (p : ℕ) → p < L.processes → way_of L a (state_of L events) p ≤ L.capacity * cost1 a
-  way_few a events may p lt = go ((state_of L events).caller p).phase refl
+  distance_few : (a : ℕ) (events : List Event) → IsEventList L events → (p : ℕ) → p < L.processes → distance_of L a (state_of L events) p ≤ L.capacity * cost1 a
+  distance_few a events may p lt = go ((state_of L events).caller p).phase refl
     where
       idle_or : (ph : Phase) → (ph ≡ Idle) ⊎ (ph ≢ Idle)
       idle_or Idle = inl refl
       idle_or (Looks mine q batch) = inr (λ e. cc e)
       idle_or (Runs mine) = inr (λ e. cc e)
 
-      go : (ph : Phase) → ((state_of L events).caller p).phase ≡ ph → way_of L a (state_of L events) p ≤ L.capacity * cost1 a
+      go : (ph : Phase) → ((state_of L events).caller p).phase ≡ ph → distance_of L a (state_of L events) p ≤ L.capacity * cost1 a
       go ph is = elim (idle_or ph) [
-        | inl idle ↦ (let y : way_of L a (state_of L events) p ≡ length ((state_of L events).caller p).seen * cost1 a + 0 =
+        | inl idle ↦ (let y : distance_of L a (state_of L events) p ≡ length ((state_of L events).caller p).seen * cost1 a + 0 =
             ap (λ z. length ((state_of L events).caller p).seen * cost1 a + steps_into L a (state_of L events) p (length ((state_of L events).caller p).seen) z) (is ∙ idle) in
             let m = mul-le-mul_right (cost1 a) (seen_few events may p) in omega (arith, y, m))
-        | inr busy ↦ (let h = way_pending a (state_of L events) (holds_after L Good agrees events may) p lt ph is busy in let r = h.1 in
+        | inr busy ↦ (let h = distance_pending a (state_of L events) (holds_after L Good agrees events may) p lt ph is busy in let r = h.1 in
             let m = mul-le-mul_right (cost1 a) (let l : length ((state_of L events).caller p).seen + 1 ≤ L.capacity = omega (arith, r) in l) in let l = h.0 in omega (arith, l, m))
       ]
 
@@ -363,7 +363,7 @@ module _ {R : Type 0} (L : Setting R) (Good : R → Type 0) (agrees : RoundsAgre
   pub has_room : (events : List Event) → IsEventList L events → HasRoom L events
   has_room events may =
       let counted = all_counted events (first_world L) may in
-      let few = total_few L.processes (L.capacity * cost1 1) events (λ p lt. (let x = paced L Good agrees 1 [] events may p in let y = way_few 1 events may p lt in omega (arith, x, y))) in
+      let few = total_few L.processes (L.capacity * cost1 1) events (λ p lt. (let x = paced L Good agrees 1 [] events may p in let y = distance_few 1 events may p lt in omega (arith, x, y))) in
       rooms (all_some L.processes few counted)
     where
       -- with a process there are 5n - 3 for each slot, and with none no event
@@ -434,10 +434,10 @@ module _ {R : Type 0} (L : Setting R) (Good : R → Type 0) (agrees : RoundsAgre
 
     pub ends_in_time : steps_of p (drop i events) < (since - k + 2) * (5 * L.processes - 4)
     ends_in_time =
-        let x : way_of L 0 (state_of L (take i events)) p + spent 0 p (made ∷ drop (suc i) events) ≤ way_of L 0 (state_of L (take i events ++ made ∷ drop (suc i) events)) p =
+        let x : distance_of L 0 (state_of L (take i events)) p + spent 0 p (made ∷ drop (suc i) events) ≤ distance_of L 0 (state_of L (take i events ++ made ∷ drop (suc i) events)) p =
         paced L Good agrees 0 (take i events) (made ∷ drop (suc i) events) (subst (IsEventList L) whole may) p in
-        let y : way_of L 0 (state_of L (take i events ++ made ∷ drop (suc i) events)) p ≡ way_of L 0 (state_of L events) p = ap (λ z. way_of L 0 (state_of L z) p) (sym whole) in
-        let h = (way_pending 0 (state_of L events) (holds_after L Good agrees events may) p lt (caller_of L events p).phase refl (not_idle (caller_of L events p).phase pending)).0 in
+        let y : distance_of L 0 (state_of L (take i events ++ made ∷ drop (suc i) events)) p ≡ distance_of L 0 (state_of L events) p = ap (λ z. distance_of L 0 (state_of L z) p) (sym whole) in
+        let h = (distance_pending 0 (state_of L events) (holds_after L Good agrees events may) p lt (caller_of L events p).phase refl (not_idle (caller_of L events p).phase pending)).0 in
         let d = dropped in
         let n : length (caller_of L events p).seen + 1 ≤ since + 2 = (let l = low in omega (arith, l)) in
         let m = mul-le-mul_right (cost1 0) n in

@@ -6,8 +6,8 @@ use Rattle.cn_log.specs.declared.batch.Batch.{Batch}
 use Rattle.cn_log.specs.declared.entry.Entry.{Entry}
 use Rattle.cn_log.specs.Batches.{Has, has}
 use Rattle.cn_log.specs.Log.{Setting, World, Caller, Note, Called, Replied, FoundFull, put, phase_after, after_decision, after_step, first_look, response_in}
-use Rattle.cn_log.specs.declared.progress.Phase.{Phase}
-use Rattle.cn_log.specs.declared.progress.Phase.TheVariants.{Idle, Looks, Runs}
+use Rattle.cn_log.specs.declared.caller_state.Phase.{Phase}
+use Rattle.cn_log.specs.declared.caller_state.Phase.TheVariants.{Idle, Looks, Runs}
 use Rattle.cn_log.specs.Agreement.{RoundsAgree}
 use Rattle.cn_log.proofs.ListLemmas.{put_same, put_other, get_push_cases, get_push_old, get_push_new, there_is}
 use Rattle.cn_log.proofs.Having.{has_is, has_isnt}

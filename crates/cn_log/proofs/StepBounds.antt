@@ -8,7 +8,7 @@ use Rattle.cn_log.specs.declared.event.Event.{Event}
 use Rattle.cn_log.specs.declared.event.Event.TheVariants.{Invoke, Step}
 use Rattle.cn_log.specs.declared.event.StepAnswer.{StepAnswer}
 use Rattle.cn_log.specs.declared.event.StepAnswer.TheVariants.{Working, Answered, Full}
-use Rattle.cn_log.specs.declared.progress.Phase.TheVariants.{Idle}
+use Rattle.cn_log.specs.declared.caller_state.Phase.TheVariants.{Idle}
 use Rattle.cn_log.specs.Agreement.{RoundsAgree}
 use Rattle.cn_log.specs.Bypass.{fixed_before}
 use Rattle.cn_log.specs.Callers.{process_of, pending_in, caller_of, call_of, IsStepped}

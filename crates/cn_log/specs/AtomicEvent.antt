@@ -3,7 +3,7 @@
 use Rattle.std.specs.Prelude.{ℕ, ◌≡◌, ◌≢◌, ◌+◌, ◌==◌, Bool, true, false, List, [], ◌∷◌, ◌++◌, length, Option, Some, None}
 use Rattle.cn_proto.specs.Plan.{protocol_of, processes_of}
 use Rattle.cn_proto.specs.Protocol.{place_of}
-use Rattle.cn_agree.specs.AtomicStep.{Part, Content, content, part_touched, ActsOnce}
+use Rattle.cn_agree.specs.AtomicStep.{SharedPart, Content, content, part_touched, ActsOnce}
 use Rattle.cn_agree.specs.Rounds.{decision_at}
 use Rattle.cn_agree.specs.Steps.{after_begin}
 use Rattle.cn_agree.specs.World.{World as RoundWorld, node_at, local_at}
@@ -15,8 +15,8 @@ use Rattle.cn_log.specs.declared.entry.Entry.{Entry}
 use Rattle.cn_log.specs.declared.event.Event.{Event}
 use Rattle.cn_log.specs.declared.event.Event.TheVariants.{Invoke, Step}
 use Rattle.cn_log.specs.declared.event.StepAnswer.{StepAnswer}
-use Rattle.cn_log.specs.declared.progress.Phase.{Phase}
-use Rattle.cn_log.specs.declared.progress.Phase.TheVariants.{Idle, Looks, Runs}
+use Rattle.cn_log.specs.declared.caller_state.Phase.{Phase}
+use Rattle.cn_log.specs.declared.caller_state.Phase.TheVariants.{Idle, Looks, Runs}
 use Rattle.cn_log.specs.Callers.{call_of, process_of}
 use Rattle.cn_log.specs.Log.{World, Caller, entries_of_batches, first_look, batch_with, state_of, answer, IsEventList}
 use Rattle.cn_log.specs.Opening.{Opening, setting_of}
@@ -28,7 +28,7 @@ LogWorld = World (RoundWorld Batch)
 -- what is shared in a log: the announcement of each process, and in the round of each slot what is shared at each of its nodes
 pub data LogPart : Type 0 where
   Announcement : ℕ → LogPart
-  InRound : ℕ → ℕ → Part → LogPart
+  InRound : ℕ → ℕ → SharedPart → LogPart
 
 -- what stands there: the call that is announced, or what stands at the node
 pub data LogContent : Type 0 where

@@ -8,8 +8,8 @@ use Rattle.cn_log.specs.declared.event.Event.{Event}
 use Rattle.cn_log.specs.declared.event.Event.TheVariants.{Invoke, Step}
 use Rattle.cn_log.specs.declared.event.StepAnswer.{StepAnswer}
 use Rattle.cn_log.specs.declared.event.StepAnswer.TheVariants.{Working, Answered, Full}
-use Rattle.cn_log.specs.declared.progress.Phase.{Phase}
-use Rattle.cn_log.specs.declared.progress.Phase.TheVariants.{Idle, Looks, Runs}
+use Rattle.cn_log.specs.declared.caller_state.Phase.{Phase}
+use Rattle.cn_log.specs.declared.caller_state.Phase.TheVariants.{Idle, Looks, Runs}
 use Rattle.cn_log.specs.Batches.{Has, entry_at, members}
 use Rattle.cn_log.specs.Linearized.{calls_of}
 use Rattle.cn_log.specs.Log.{Setting, Caller, state_of, response_in, entries_of_batches}

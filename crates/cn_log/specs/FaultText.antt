@@ -1,37 +1,32 @@
 -- The text of a fault: its number and its name, and the place of the event in the list.
-use Rattle.std.specs.Prelude.{ℕ, List, [], ◌++◌, codes, Option, Some, None}
-use Rattle.std.specs.Fmt.{decimal}
+use Rattle.std.specs.Prelude.{ℕ, List, codes, Option, Some, None}
+use Rattle.cn_table.specs.FaultText.{numbered_text}
 use Rattle.cn_log.specs.declared.fault.ReplayFault.{ReplayFault}
 use Rattle.cn_log.specs.declared.fault.ReplayFault.TheVariants.{NoSuchProcess, NoSuchOperation, NotIdle, Idle, AtEnd, OutOfMemory}
 
-abbrev pub number_of : ReplayFault → ℕ
-number_of (NoSuchProcess place) = 1
-number_of (NoSuchOperation place) = 2
-number_of (NotIdle place) = 3
-number_of (Idle place) = 4
-number_of (AtEnd place) = 5
-number_of OutOfMemory = 6
+abbrev pub replay_fault_number : ReplayFault → ℕ
+replay_fault_number (NoSuchProcess place) = 1
+replay_fault_number (NoSuchOperation place) = 2
+replay_fault_number (NotIdle place) = 3
+replay_fault_number (Idle place) = 4
+replay_fault_number (AtEnd place) = 5
+replay_fault_number OutOfMemory = 6
 
-abbrev pub name_of : ReplayFault → List ℕ
-name_of (NoSuchProcess place) = codes "NoSuchProcess"
-name_of (NoSuchOperation place) = codes "NoSuchOperation"
-name_of (NotIdle place) = codes "NotIdle"
-name_of (Idle place) = codes "Idle"
-name_of (AtEnd place) = codes "AtEnd"
-name_of OutOfMemory = codes "OutOfMemory"
+abbrev pub replay_fault_name : ReplayFault → List ℕ
+replay_fault_name (NoSuchProcess place) = codes "NoSuchProcess"
+replay_fault_name (NoSuchOperation place) = codes "NoSuchOperation"
+replay_fault_name (NotIdle place) = codes "NotIdle"
+replay_fault_name (Idle place) = codes "Idle"
+replay_fault_name (AtEnd place) = codes "AtEnd"
+replay_fault_name OutOfMemory = codes "OutOfMemory"
 
-abbrev pub place_of : ReplayFault → Option ℕ
-place_of (NoSuchProcess place) = Some place
-place_of (NoSuchOperation place) = Some place
-place_of (NotIdle place) = Some place
-place_of (Idle place) = Some place
-place_of (AtEnd place) = Some place
-place_of OutOfMemory = None
-
--- a place behind the name, where there is one
-abbrev pub place_text : Option ℕ → List ℕ
-place_text None = []
-place_text (Some place) = codes " " ++ decimal place
+abbrev pub replay_fault_place : ReplayFault → Option ℕ
+replay_fault_place (NoSuchProcess place) = Some place
+replay_fault_place (NoSuchOperation place) = Some place
+replay_fault_place (NotIdle place) = Some place
+replay_fault_place (Idle place) = Some place
+replay_fault_place (AtEnd place) = Some place
+replay_fault_place OutOfMemory = None
 
 abbrev pub replay_fault_text : ReplayFault → List ℕ
-replay_fault_text fault = decimal (number_of fault) ++ codes " " ++ name_of fault ++ place_text (place_of fault)
+replay_fault_text fault = numbered_text (replay_fault_number fault) (replay_fault_name fault) (replay_fault_place fault)

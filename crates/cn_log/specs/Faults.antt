@@ -4,9 +4,9 @@ use Rattle.cn_log.specs.declared.event.Event.{Event}
 use Rattle.cn_log.specs.declared.event.Event.TheVariants.{Invoke, Step}
 use Rattle.cn_log.specs.declared.fault.ReplayFault.{ReplayFault}
 use Rattle.cn_log.specs.declared.fault.ReplayFault.TheVariants.{NoSuchProcess, NoSuchOperation, NotIdle, Idle, AtEnd}
-use Rattle.cn_log.specs.declared.progress.Phase.{Phase}
-use Rattle.cn_log.specs.declared.progress.Phase.TheVariants.{Looks, Runs}
-use Rattle.cn_log.specs.declared.progress.Phase.TheVariants.{Idle as IsIdle}
+use Rattle.cn_log.specs.declared.caller_state.Phase.{Phase}
+use Rattle.cn_log.specs.declared.caller_state.Phase.TheVariants.{Looks, Runs}
+use Rattle.cn_log.specs.declared.caller_state.Phase.TheVariants.{Idle as IsIdle}
 use Rattle.cn_log.specs.Log.{Setting, World, Caller, state_of, IsEventList}
 
 -- the fault of a call by a process that exists with an operation that exists: it is in a call already, or at the end of the log
@@ -30,7 +30,7 @@ event_fault L w i (Invoke p operation) =
 event_fault L w i (Step p) = if nat_lt p L.processes then step_fault i (w.caller p).phase else Some (NoSuchProcess i)
 
 -- this is the fault of the first event of the list that cannot come
-pub record IsFirstFault {R : Type 0} (L : Setting R) (events : List Event) (fault : ReplayFault) : Type 0 where
+pub record IsFirstEventFault {R : Type 0} (L : Setting R) (events : List Event) (fault : ReplayFault) : Type 0 where
   pub place : ℕ
   pub event : Event
   pub before : IsEventList L (take place events)

@@ -10,9 +10,9 @@ use Rattle.cn_log.specs.Callers.{entries_by}
 use Rattle.cn_log.specs.declared.event.Event.{Event}
 use Rattle.cn_log.specs.declared.event.StepAnswer.{StepAnswer}
 use Rattle.cn_log.specs.declared.event.StepAnswer.TheVariants.{Working, Answered, Full}
-use Rattle.cn_log.specs.declared.progress.Phase.{Phase}
-use Rattle.cn_log.specs.declared.progress.Phase.TheVariants.{Idle}
-use Rattle.cn_log.specs.declared.progress.Progress.{Progress}
+use Rattle.cn_log.specs.declared.caller_state.Phase.{Phase}
+use Rattle.cn_log.specs.declared.caller_state.Phase.TheVariants.{Idle}
+use Rattle.cn_log.specs.declared.caller_state.CallerState.{CallerState}
 use Rattle.cn_log.specs.Opening.{Opening, setting_of}
 use Rattle.cn_proto.specs.Plan.{processes_of}
 use Rattle.cn_agree.specs.World.{World as RoundWorld}
@@ -26,8 +26,8 @@ no_calls = record { calls = replicate MOST_PROCESSES 0 }
 abbrev pub count_at : CallCounts → ℕ → ℕ
 count_at counts p = slice_index_or counts.calls p 0
 
-abbrev pub no_progress : Progress
-no_progress = record { replayed = 0; seen = 0; calls_seen = no_calls; calls = 0; phase = Idle; state = record { 0 = 0 } }
+abbrev pub no_caller_state : CallerState
+no_caller_state = record { applied_slots = 0; applied_entries = 0; calls_seen = no_calls; calls = 0; phase = Idle; state = record { 0 = 0 } }
 
 -- what a process has gathered that has read the announcement of process q, where so many calls of process q stand in the slots that it has applied
 abbrev pub batch_with_calls : Option Entry → ℕ → ℕ → Batch → Batch
@@ -41,10 +41,10 @@ next_batch many k (Some b) = if many == k then b ∷ [] else []
 
 -- what is kept of a log: the round of each slot, the announcement register of each process, how far each process has come, the entries of the
 -- fixed slots, each with its slot, how many slots are fixed, and how many entries and slots there is room for
-pub record Kept (R : Type 0) : Type 0 where
+pub record Fields (R : Type 0) : Type 0 where
   pub rounds : List R
   pub announced : List (Option Entry)
-  pub progress : List Progress
+  pub callers : List CallerState
   pub entries : List Entry
   pub slots : List ℕ
   pub fixed : ℕ
@@ -60,57 +60,57 @@ module _ {R : Type 0} (L : Setting R) where
       else (if k + 1 == L.capacity then Full else Working)
 
   -- of what a caller has seen only the numbers of slots, of entries and of each process's calls are kept, and the state of its copy of the object
-  pub record IsProgressOf (progress : Progress) (caller : Caller) : Type 0 where
-    pub replayed : progress.replayed ≡ length caller.seen
-    pub seen : progress.seen ≡ length (entries_of_batches L caller.seen)
-    pub calls_places : length progress.calls_seen.calls ≡ MOST_PROCESSES
-    pub calls_seen : (q : ℕ) → q < L.processes → count_at progress.calls_seen q ≡ length (entries_by q (entries_of_batches L caller.seen))
-    pub calls : progress.calls ≡ caller.calls
-    pub phase : progress.phase ≡ caller.phase
-    pub state : progress.state.0 ≡ object_after L (entries_of_batches L caller.seen)
-    pub known : progress.state.0 < length L.object.states
+  pub record IsCallerState (here : CallerState) (caller : Caller) : Type 0 where
+    pub applied_slots : here.applied_slots ≡ length caller.seen
+    pub applied_entries : here.applied_entries ≡ length (entries_of_batches L caller.seen)
+    pub calls_places : length here.calls_seen.calls ≡ MOST_PROCESSES
+    pub calls_seen : (q : ℕ) → q < L.processes → count_at here.calls_seen q ≡ length (entries_by q (entries_of_batches L caller.seen))
+    pub calls : here.calls ≡ caller.calls
+    pub phase : here.phase ≡ caller.phase
+    pub state : here.state.0 ≡ object_after L (entries_of_batches L caller.seen)
+    pub known : here.state.0 < length L.object.states
 
   -- this state is kept
-  pub record Fits (w : World R) (kept : Kept R) : Type 0 where
+  pub record AreFieldsOf (w : World R) (kept : Fields R) : Type 0 where
     pub rounds_many : length kept.rounds ≡ L.capacity
     pub round : (k : ℕ) → k < L.capacity → slice_index_or kept.rounds k L.untouched ≡ w.round k
     pub announced_many : length kept.announced ≡ L.processes
     pub announcement : (p : ℕ) → p < L.processes → slice_index_or kept.announced p None ≡ w.announced p
-    pub progress_many : length kept.progress ≡ L.processes
-    pub caller : (p : ℕ) → p < L.processes → IsProgressOf (slice_index_or kept.progress p no_progress) (w.caller p)
+    pub callers_many : length kept.callers ≡ L.processes
+    pub caller : (p : ℕ) → p < L.processes → IsCallerState (slice_index_or kept.callers p no_caller_state) (w.caller p)
     pub entries_are : kept.entries ≡ entries_of L w
     pub slots_are : kept.slots ≡ slots_from L.processes 0 (batches_of L w)
     pub fixed_is : kept.fixed ≡ length (batches_of L w)
 
   -- the state after the schedule is kept
-  pub record Keeps (schedule : List Event) (kept : Kept R) : Type 0 where
+  pub record Keeps (schedule : List Event) (kept : Fields R) : Type 0 where
     pub events : IsEventList L schedule
-    pub fits : Fits (state_of L schedule) kept
+    pub fits : AreFieldsOf (state_of L schedule) kept
 
   -- and process p is in this phase
-  pub record IsAt (schedule : List Event) (kept : Kept R) (p : ℕ) (phase : Phase) : Type 0 where
+  pub record IsAt (schedule : List Event) (kept : Fields R) (p : ℕ) (phase : Phase) : Type 0 where
     pub keeps : Keeps schedule kept
     pub process : p < L.processes
     pub phase_is : ((state_of L schedule).caller p).phase ≡ phase
 
 -- what a log keeps that runs by rounds of a plan
-abbrev pub KeptLog : Type 0
-KeptLog = Kept (RoundWorld Batch)
+abbrev pub LogFields : Type 0
+LogFields = Fields (RoundWorld Batch)
 
 -- the state of a core is that after the schedule
-abbrev pub IsStateAfter : Opening → List Event → KeptLog → Type 0
+abbrev pub IsStateAfter : Opening → List Event → LogFields → Type 0
 IsStateAfter o schedule state = Keeps (setting_of o) schedule state
 
 -- and process p is in this phase
-abbrev pub IsStateAt : Opening → List Event → KeptLog → ℕ → Phase → Type 0
+abbrev pub IsStateAt : Opening → List Event → LogFields → ℕ → Phase → Type 0
 IsStateAt o schedule state p phase = IsAt (setting_of o) schedule state p phase
 
 -- the state has room for an entry of each process in each slot
-pub record HasRoom (o : Opening) (state : KeptLog) : Type 0 where
+pub record HasRoom (o : Opening) (state : LogFields) : Type 0 where
   pub entries : processes_of o.plan * o.capacity ≤ state.entries_room
   pub slots : processes_of o.plan * o.capacity ≤ state.slots_room
 
 -- and as much as before
-pub record HasSameRoom (old new : KeptLog) : Type 0 where
+pub record HasSameRoom (old new : LogFields) : Type 0 where
   pub entries : new.entries_room ≡ old.entries_room
   pub slots : new.slots_room ≡ old.slots_room

@@ -11,8 +11,8 @@ use Rattle.cn_log.specs.declared.event.Event.{Event}
 use Rattle.cn_log.specs.declared.event.Event.TheVariants.{Invoke, Step}
 use Rattle.cn_log.specs.declared.event.StepAnswer.{StepAnswer}
 use Rattle.cn_log.specs.declared.event.StepAnswer.TheVariants.{Working, Answered, Full}
-use Rattle.cn_log.specs.declared.progress.Phase.{Phase}
-use Rattle.cn_log.specs.declared.progress.Phase.TheVariants.{Idle, Looks, Runs}
+use Rattle.cn_log.specs.declared.caller_state.Phase.{Phase}
+use Rattle.cn_log.specs.declared.caller_state.Phase.TheVariants.{Idle, Looks, Runs}
 
 -- what a log runs by: consensus in each slot and a round in which nothing has happened, how many processes and slots there are, and the object with its
 -- start state

@@ -4,7 +4,7 @@ ghost use Rattle.cn_log.specs.declared.event.Event.{Event as EventOf};
 ghost use Rattle.cn_log.specs.declared.fault.ReplayFault.TheVariants.{OutOfMemory};
 ghost use Rattle.cn_log.specs.declared.limits.TheConstants.{MOST_SLOTS};
 ghost use Rattle.cn_log.specs.Bypass.{IsBypassBounded};
-ghost use Rattle.cn_log.specs.Faults.{IsFirstFault};
+ghost use Rattle.cn_log.specs.Faults.{IsFirstEventFault};
 ghost use Rattle.cn_log.specs.Linearized.{BeginsInTurn, Grows, IsLinearized};
 ghost use Rattle.cn_log.specs.Log.{IsEventList};
 ghost use Rattle.cn_log.specs.Opening.{opening_of, setting, setting_of};
@@ -12,12 +12,14 @@ ghost use Rattle.cn_log.specs.OwnSteps.{IsWaitFree};
 
 use crate::event::Event;
 use crate::fault::ReplayFault;
+use crate::laws;
 use crate::log_core::LogCore;
 use cn_proto::Plan;
 use cn_table::{State, Table};
 use std::alloc::Global;
 
-/// The core in which these events happened, one after the other.
+/// The core in which these events happened, one after the other: for a caller who has the whole list,
+/// as of a schedule that was kept. [`LogCore::take`] does one event, and tells how it ends a call.
 ///
 /// The object starts in a state of its table, and there are 1 to
 /// [`MOST_SLOTS`](crate::MOST_SLOTS) slots.
@@ -39,7 +41,7 @@ pub fn replay(
     requires few { capacity ≤ MOST_SLOTS }
     ensures opening { IfOk result (λ core. core.opening ≡ opening_of plan.now object.now start.0 capacity) }
     ensures schedule { IfOk result (λ core. core.schedule ≡ events.now) }
-    ensures fault { IfErr result (λ fault. fault ≢ OutOfMemory → IsFirstFault (setting_of (opening_of plan.now object.now start.0 capacity)) events.now fault) }
+    ensures fault { IfErr result (λ fault. fault ≢ OutOfMemory → IsFirstEventFault (setting_of (opening_of plan.now object.now start.0 capacity)) events.now fault) }
 
     // Where there is no fault, these are events that can come, and the log is as it should be.
     ensures events { IfOk result (λ core. IsEventList (setting core) core.schedule) }
@@ -53,6 +55,6 @@ pub fn replay(
     for event in events {
         core.take(*event)?;
     }
-    core.is_linearized();
+    laws::logs_are_linearized(&core);
     Ok(core)
 }

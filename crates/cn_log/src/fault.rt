@@ -1,6 +1,6 @@
 //! Why a list of events cannot be replayed.
 ghost use Rattle.std.specs.Prelude.{◌≡◌};
-ghost use Rattle.cn_log.specs.FaultText.{name_of, number_of, place_of};
+ghost use Rattle.cn_log.specs.FaultText.{replay_fault_name, replay_fault_number, replay_fault_place};
 ghost use Rattle.cn_log.specs.declared.fault.ReplayFault.TheVariants.{OutOfMemory};
 
 use std::alloc::{AllocError, AllocFailed};
@@ -45,7 +45,7 @@ impl From<AllocError> for ReplayFault {
 impl ReplayFault {
     /// Its number in their order, from 1.
     pub fn number(&self) -> u8
-        ensures { result ≡ number_of self.now }
+        ensures { result ≡ replay_fault_number self.now }
     {
         match self {
             ReplayFault::NoSuchProcess(_) => 1,
@@ -59,7 +59,7 @@ impl ReplayFault {
 
     /// Its name.
     pub fn name(&self) -> &'static str
-        ensures { result.now ≡ name_of self.now }
+        ensures { result.now ≡ replay_fault_name self.now }
     {
         match self {
             ReplayFault::NoSuchProcess(_) => "NoSuchProcess",
@@ -73,7 +73,7 @@ impl ReplayFault {
 
     /// The place in the list that it carries.
     pub fn place(&self) -> Option<u64>
-        ensures { result ≡ place_of self.now }
+        ensures { result ≡ replay_fault_place self.now }
     {
         match self {
             ReplayFault::NoSuchProcess(place)

@@ -11,7 +11,7 @@ ghost use Rattle.cn_log.specs.Callers.{BeginsWith, HasAppliedBy, HasAppliedItsOw
 ghost use Rattle.cn_log.specs.Linearized.{BeginsInTurn, Grows, IsLinearized};
 ghost use Rattle.cn_log.specs.Faults.{event_fault};
 ghost use Rattle.cn_log.specs.Log.{IsEventList, MayCome, answer, batches, entries, first_look, state_of};
-ghost use Rattle.cn_log.specs.Opening.{IsOpening, Opening as OpeningOf, setting_of};
+ghost use Rattle.cn_log.specs.Opening.{IsOpening, Opening as OpeningOf, setting, setting_of};
 ghost use Rattle.cn_log.specs.OwnSteps.{IsWaitFree, event_room};
 ghost use Rattle.cn_log.specs.declared.batch.Batch.{Batch as BatchOf};
 ghost use Rattle.cn_log.specs.declared.entry.Entry.{Entry as EntryOf};
@@ -19,6 +19,8 @@ ghost use Rattle.cn_log.specs.declared.event.Event.{Event as EventOf};
 ghost use Rattle.cn_log.specs.declared.event.Event.TheVariants.{Invoke, Step};
 
 use crate::batch::Batch;
+use crate::log_core::LogCore;
+use crate::opening::Opening;
 use cn_agree::laws::{atomic_steps, every_round};
 use cn_proto::laws::every_plan;
 
@@ -33,6 +35,21 @@ pub(crate) fn rounds_agree()
 {
     every_plan();
     every_round::<Batch>();
+}
+
+/// The law of openings in memory, however they came to be: `opening`, the plan is one, the start state
+/// is one of the object, and there are 1 to [`MOST_SLOTS`](crate::MOST_SLOTS) slots; `agrees`, the
+/// rounds are what a log needs; `begun` and `sizes`, what stands in them for each process.
+pub(crate) fn openings_are_valid(opening: &Opening)
+    ensures opening { IsOpening opening.now }
+    ensures agrees { RoundsAgree (setting_of opening.now) (RunsBy opening.now.plan) }
+    ensures begun { (w : RoundWorld BatchOf) → RunsBy opening.now.plan w → (p : ℕ) → p < processes_of opening.now.plan
+        → (local_at w p ≡ NotBegun) ↔ (input_at w p ≡ None) }
+    ensures sizes { (w : RoundWorld BatchOf) → RunsBy opening.now.plan w → (length w.nodes ≡ nodes_of opening.now.plan)
+        × (length w.locals ≡ processes_of opening.now.plan) × (length w.inputs ≡ processes_of opening.now.plan) }
+{
+    opening.plan.is_sound();
+    rounds_agree();
 }
 
 /// The law of logs, for every plan, object, start state, number of slots and list of events:
@@ -52,6 +69,23 @@ pub fn every_log()
         → length events < event_room (processes_of o.plan) o.capacity }
 {
     rounds_agree();
+}
+
+/// The law of cores in memory, however they came to be: `opening`, the plan is one, the start state is
+/// one of the object, and there are 1 to [`MOST_SLOTS`](crate::MOST_SLOTS) slots; `events`, each event
+/// of the schedule could come where it stands; and of the schedule all that [`every_log`] says but
+/// `room`.
+pub fn logs_are_linearized(core: &LogCore)
+    ensures opening { IsOpening core.now.opening }
+    ensures events { IsEventList (setting core.now) core.now.schedule }
+    ensures linearized { IsLinearized (setting core.now) core.now.schedule }
+    ensures grows { (before after : List EventOf) → core.now.schedule ≡ before ++ after → Grows (setting core.now) before after }
+    ensures in_turn { BeginsInTurn (setting core.now) core.now.schedule }
+    ensures bypass { IsBypassBounded (setting core.now) core.now.schedule }
+    ensures wait_free { IsWaitFree (setting core.now) core.now.schedule }
+{
+    openings_are_valid(&core.opening);
+    every_log();
 }
 
 /// The law of faults: after any list of events, an event has a fault exactly where it cannot come.

@@ -16,7 +16,7 @@
 
 mod batch;
 mod call_counts;
-mod checked;
+mod caller_state;
 mod entry;
 mod event;
 mod event_list;
@@ -25,8 +25,8 @@ pub mod laws;
 mod limits;
 mod log_core;
 mod log_state;
+mod next_event;
 mod opening;
-mod progress;
 
 pub use batch::Batch;
 pub use entry::Entry;

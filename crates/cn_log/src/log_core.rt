@@ -5,24 +5,25 @@ ghost use Rattle.cn_proto.specs.Plan.{processes_of};
 ghost use Rattle.cn_log.specs.declared.event.Event.{Event as EventOf};
 ghost use Rattle.cn_log.specs.declared.event.Event.TheVariants.{Invoke, Step};
 ghost use Rattle.cn_log.specs.declared.limits.TheConstants.{MOST_SLOTS};
-ghost use Rattle.cn_log.specs.declared.progress.Phase.TheVariants.{Idle};
+ghost use Rattle.cn_log.specs.declared.caller_state.Phase.TheVariants.{Idle};
 ghost use Rattle.cn_log.specs.Bypass.{IsBypassBounded};
 ghost use Rattle.cn_log.specs.CallEnds.{call_end, EndsWithResponse};
 ghost use Rattle.cn_log.specs.Callers.{HasResponse, seen_of};
-ghost use Rattle.cn_log.specs.Faults.{IsFirstFault, event_fault};
+ghost use Rattle.cn_log.specs.Faults.{IsFirstEventFault, event_fault};
 ghost use Rattle.cn_log.specs.Linearized.{BeginsInTurn, Grows, IsLinearized, entry_slots};
 ghost use Rattle.cn_log.specs.Log.{MayCome, IsEventList, answer, batches, entries, state_of};
 ghost use Rattle.cn_log.specs.Opening.{IsOpening, opening_of, setting, setting_of};
 ghost use Rattle.cn_log.specs.OwnSteps.{IsWaitFree, event_room};
 ghost use Rattle.cn_choice.specs.declared.limits.TheConstants.{MOST_PROCESSES};
 
-use crate::checked::{come, fault_of};
 use crate::entry::Entry;
 use crate::event::{CallEnd, Event, StepAnswer};
 use crate::fault::ReplayFault;
+use crate::laws;
 use crate::log_state::LogState;
+use crate::next_event::{apply_event, fault_of};
 use crate::opening::Opening;
-use crate::progress::Phase;
+use crate::caller_state::Phase;
 use cn_proto::Plan;
 use cn_table::{Operation, State, Table};
 use std::alloc::{AllocError, Global};
@@ -35,7 +36,7 @@ use std::marker::Model;
 /// schedule have room for all that can come from the first on, so that no event takes memory.
 #[derive(Drop)]
 pub struct LogCore {
-    opening: Box<Opening>,
+    pub(crate) opening: Box<Opening>,
     state: Box<LogState>,
     schedule: Vec<Event>,
 }
@@ -98,26 +99,6 @@ impl LogCore {
         })
     }
 
-    /// The law of cores, however they came to be: `opening`, the plan is one, the start state is one
-    /// of the object, and there are 1 to [`MOST_SLOTS`](crate::MOST_SLOTS) slots; `events`, each
-    /// event of the schedule could come where it stands; `linearized`, the answers are those of one
-    /// sequential run of the calls in the order of the log; `grows`, entries stay, and new ones come
-    /// behind them; `in_turn`, a slot begins only after those before it are fixed; `bypass`, a call
-    /// stands in the slot after those fixed when it was made or in the next; `wait_free`, it is over
-    /// within so many steps of its process.
-    pub fn is_linearized(&self)
-        ensures opening { IsOpening self.now.opening }
-        ensures events { IsEventList (setting self.now) self.now.schedule }
-        ensures linearized { IsLinearized (setting self.now) self.now.schedule }
-        ensures grows { (before after : List EventOf) → self.now.schedule ≡ before ++ after → Grows (setting self.now) before after }
-        ensures in_turn { BeginsInTurn (setting self.now) self.now.schedule }
-        ensures bypass { IsBypassBounded (setting self.now) self.now.schedule }
-        ensures wait_free { IsWaitFree (setting self.now) self.now.schedule }
-    {
-        self.opening.is_opening();
-        crate::laws::every_log();
-    }
-
     /// Process `p` makes a call of an operation of the object. It is in no call, and has not
     /// applied every slot.
     pub fn invoke(&mut self, p: u8, operation: Operation)
@@ -155,14 +136,14 @@ impl LogCore {
         ensures range { IfOk result (λ end. IfSome end (EndsWithResponse self.old.opening.object)) }
         ensures fault { IfErr result (λ fault.
             event_fault (setting self.old) (state_of (setting self.old) self.old.schedule) (length self.old.schedule) event ≡ Some fault) }
-        ensures first { IfErr result (λ fault. (rest : List EventOf) → IsFirstFault (setting self.old) (self.old.schedule ++ event ∷ rest) fault) }
+        ensures first { IfErr result (λ fault. (rest : List EventOf) → IsFirstEventFault (setting self.old) (self.old.schedule ++ event ∷ rest) fault) }
         ensures same { OnErr result (self.new ≡ self.old) }
     {
-        self.is_linearized();
-        crate::laws::every_fault();
+        laws::logs_are_linearized(self);
+        laws::every_fault();
         match fault_of(self, event) {
             Some(fault) => Err(fault),
-            None => Ok(come(self, event)),
+            None => Ok(apply_event(self, event)),
         }
     }
 
@@ -173,7 +154,7 @@ impl LogCore {
         self.state.entries.as_slice()
     }
 
-    /// How many slots are fixed.
+    /// How many slots are fixed: how far the log is, whatever each process has applied of it.
     pub fn fixed_slots(&self) -> u16
         ensures { result ≡ length (batches (setting self.now) self.now.schedule) }
     {
@@ -226,21 +207,21 @@ impl LogCore {
     }
 
     /// How many slots process `p` has applied.
-    pub fn replayed(&self, p: u8) -> u16
+    pub fn applied_slots(&self, p: u8) -> u16
         requires { p < processes_of self.now.opening.plan }
         ensures number { result ≡ length ((state_of (setting self.now) self.now.schedule).caller p).seen }
         ensures range { result ≤ self.now.opening.capacity }
     {
-        self.opening.is_opening();
-        self.state.progress[usize::from(p)].replayed
+        laws::openings_are_valid(&self.opening);
+        self.state.callers[usize::from(p)].applied_slots
     }
 
     /// How many entries stand in the slots that process `p` has applied.
-    pub fn seen(&self, p: u8) -> u16
+    pub fn applied_entries(&self, p: u8) -> u16
         requires { p < processes_of self.now.opening.plan }
         ensures { result ≡ length (seen_of (setting self.now) self.now.schedule p) }
     {
-        self.state.progress[usize::from(p)].seen
+        self.state.callers[usize::from(p)].applied_entries
     }
 
     /// Whether process `p` is in no call.
@@ -248,7 +229,7 @@ impl LogCore {
         requires { p < processes_of self.now.opening.plan }
         ensures { IsTrue result ↔ (((state_of (setting self.now) self.now.schedule).caller p).phase ≡ Idle) }
     {
-        matches!(self.state.progress[usize::from(p)].phase, Phase::Idle)
+        matches!(self.state.callers[usize::from(p)].phase, Phase::Idle)
     }
 
     /// Whether process `p` has applied every slot; else it has applied fewer.
@@ -257,7 +238,7 @@ impl LogCore {
         ensures end { IsTrue result ↔ (length ((state_of (setting self.now) self.now.schedule).caller p).seen ≡ self.now.opening.capacity) }
         ensures before { IsFalse result ↔ (length ((state_of (setting self.now) self.now.schedule).caller p).seen < self.now.opening.capacity) }
     {
-        self.replayed(p) == self.opening.capacity
+        self.applied_slots(p) == self.opening.capacity
     }
 }
 
@@ -266,7 +247,7 @@ fn empty_schedule(alloc: Global, opening: &Opening) -> Result<Vec<Event>, AllocE
     ensures empty { IfOk result (λ schedule. schedule.items ≡ []) }
     ensures room { IfOk result (λ schedule. event_room (processes_of opening.now.plan) opening.now.capacity ≤ vec_capacity schedule) }
 {
-    opening.is_opening();
+    laws::openings_are_valid(opening);
     let processes = usize::from(opening.plan.processes());
     let slot_cost = 5 * processes - 4;
     let slots = usize::from(opening.capacity);
@@ -280,7 +261,7 @@ fn put_event(schedule: &mut Vec<Event>, opening: &Opening, event: Event)
     ensures put { schedule.new.items ≡ schedule.old.items ++ event ∷ [] }
     ensures room { vec_capacity schedule.new ≡ vec_capacity schedule.old }
 {
-    opening.is_opening();
-    crate::laws::every_log();
+    laws::openings_are_valid(opening);
+    laws::every_log();
     schedule.push_reserved(event);
 }

@@ -11,7 +11,7 @@ ghost use Rattle.cn_log.specs.declared.entry.Entry.{Entry as EntryOf};
 ghost use Rattle.cn_log.specs.declared.event.Event.{Event as EventOf};
 ghost use Rattle.cn_log.specs.declared.event.Event.TheVariants.{Invoke, Step};
 ghost use Rattle.cn_log.specs.declared.limits.TheConstants.{MOST_SLOTS, MOST_ENTRIES};
-ghost use Rattle.cn_log.specs.declared.progress.Phase.TheVariants.{Idle, Looks, Runs};
+ghost use Rattle.cn_log.specs.declared.caller_state.Phase.TheVariants.{Idle, Looks, Runs};
 ghost use Rattle.cn_log.specs.Callers.{HasResponse};
 ghost use Rattle.cn_log.specs.Fields.{count_at, batch_with_calls, next_batch, reply, HasRoom, HasSameRoom, IsStateAfter, IsStateAt};
 ghost use Rattle.cn_log.specs.Log.{MayInvoke, MayStep, answer, first_look, operations_of, phase_after, state_of};
@@ -22,8 +22,9 @@ use crate::batch::{Batch, count, put_batch, state_after};
 use crate::call_counts::CallCounts;
 use crate::entry::Entry;
 use crate::event::StepAnswer;
+use crate::laws::openings_are_valid;
 use crate::opening::Opening;
-use crate::progress::{Phase, Progress};
+use crate::caller_state::{Phase, CallerState};
 use cn_agree::Round;
 use cn_table::{Operation, Response, State};
 use std::alloc::{AllocError, Global};
@@ -35,7 +36,7 @@ use std::marker::Model;
 pub(crate) struct LogState {
     pub rounds: Vec<Round<Batch>>,
     pub announced: Vec<Option<Entry>>,
-    pub progress: Vec<Progress>,
+    pub callers: Vec<CallerState>,
     pub entries: Vec<Entry>,
     pub slots: Vec<u16>,
     pub fixed: u16,
@@ -43,14 +44,14 @@ pub(crate) struct LogState {
 
 impl Model for LogState {
     ghost use Rattle.std.specs.Vec.{vec_capacity};
-    ghost use Rattle.cn_log.specs.Fields.{KeptLog};
+    ghost use Rattle.cn_log.specs.Fields.{LogFields};
 
-    ghost Value = { KeptLog };
+    ghost Value = { LogFields };
 
     ghost view = { λ s. record {
       rounds = s.rounds.items;
       announced = s.announced.items;
-      progress = s.progress.items;
+      callers = s.callers.items;
       entries = s.entries.items;
       slots = s.slots.items;
       fixed = s.fixed;
@@ -65,11 +66,11 @@ impl LogState {
         ensures keeps { IfOk result (λ state. IsStateAfter opening.now [] state) }
         ensures room { IfOk result (λ state. HasRoom opening.now state) }
     {
-        opening.is_opening();
+        openings_are_valid(opening);
         let processes = usize::from(opening.plan.processes());
-        let none = Progress {
-            replayed: 0,
-            seen: 0,
+        let none = CallerState {
+            applied_slots: 0,
+            applied_entries: 0,
             calls_seen: CallCounts::new(),
             calls: 0,
             phase: Phase::Idle,
@@ -78,7 +79,7 @@ impl LogState {
         Ok(LogState {
             rounds: untouched_rounds(alloc, opening)?,
             announced: Vec::from_elem(alloc, None, processes)?,
-            progress: Vec::from_elem(alloc, none, processes)?,
+            callers: Vec::from_elem(alloc, none, processes)?,
             entries: Vec::with_capacity(alloc, processes * usize::from(opening.capacity))?,
             slots: Vec::with_capacity(alloc, processes * usize::from(opening.capacity))?,
             fixed: 0,
@@ -94,15 +95,15 @@ impl LogState {
             → MayInvoke (setting_of opening.now) (state_of (setting_of opening.now) s) p operation.0
             → IsStateAfter opening.now (s ++ Invoke p operation.0 ∷ []) self.new }
     {
-        opening.is_opening();
-        let here = self.progress[usize::from(p)];
+        openings_are_valid(opening);
+        let here = self.callers[usize::from(p)];
         let entry = Entry {
             process: p,
             operation,
             call: here.calls,
         };
         self.announced[usize::from(p)] = Some(entry);
-        self.progress[usize::from(p)] = Progress {
+        self.callers[usize::from(p)] = CallerState {
             calls: here.calls + 1,
             phase: first_look(entry),
             ..here
@@ -120,7 +121,7 @@ impl LogState {
             → MayStep (setting_of opening.now) (state_of (setting_of opening.now) s) p → result ≡ answer (setting_of opening.now) s p }
         ensures range { HasResponse opening.now.object result }
     {
-        match self.progress[usize::from(p)].phase {
+        match self.callers[usize::from(p)].phase {
             Phase::Idle => unreachable!(),
             Phase::Looks(mine, q, batch) => {
                 self.look(opening, p, mine, q, batch);
@@ -137,18 +138,18 @@ impl LogState {
         ensures room { HasSameRoom self.old self.new }
         ensures keeps { (s : List EventOf) → IsStateAt opening.now s self.old p (Looks mine q batch) → IsStateAfter opening.now (s ++ Step p ∷ []) self.new }
     {
-        opening.is_opening();
-        let here = self.progress[usize::from(p)];
+        openings_are_valid(opening);
+        let here = self.callers[usize::from(p)];
         let announced = self.announced[usize::from(q)];
-        let batch = gathered(announced, here.calls_seen.of(q), q, batch);
+        let batch = batch_with_calls(announced, here.calls_seen.of(q), q, batch);
         let phase = if q + 1 == opening.plan.processes() {
-            let round = &mut self.rounds[usize::from(here.replayed)];
+            let round = &mut self.rounds[usize::from(here.applied_slots)];
             round.begin(p, batch);
             Phase::Runs(mine)
         } else {
             Phase::Looks(mine, q + 1, batch)
         };
-        self.progress[usize::from(p)] = Progress { phase, ..here };
+        self.callers[usize::from(p)] = CallerState { phase, ..here };
     }
 
     /// The process takes one atomic step in the round of its next slot, and replays what it decides.
@@ -160,9 +161,9 @@ impl LogState {
         ensures answer { (s : List EventOf) → IsStateAt opening.now s self.old p (Runs mine) → result ≡ answer (setting_of opening.now) s p }
         ensures range { HasResponse opening.now.object result }
     {
-        opening.is_opening();
-        let here = &self.progress[usize::from(p)];
-        let slot = usize::from(here.replayed);
+        openings_are_valid(opening);
+        let here = &self.callers[usize::from(p)];
+        let slot = usize::from(here.applied_slots);
         let round = &mut self.rounds[slot];
         let decision = round.step(&opening.plan, p);
         let processes = opening.plan.processes();
@@ -171,15 +172,15 @@ impl LogState {
             &mut self.slots,
             &mut self.fixed,
             processes,
-            here.replayed,
+            here.applied_slots,
             round,
         );
         match decision {
             None => StepAnswer::Working,
             Some(batch) => {
-                let outcome = replay_batch(opening, *here, mine, batch);
-                self.progress[usize::from(p)] = outcome.progress;
-                outcome.answer
+                let effect = replay_batch(opening, *here, mine, batch);
+                self.callers[usize::from(p)] = effect.caller;
+                effect.answer
             }
         }
     }
@@ -206,7 +207,7 @@ fn first_look(mine: Entry) -> Phase
 /// What a process has gathered that has read the announcement of process q: also the call that it
 /// finds there, unless that is one of the calls of process q in the slots that it has applied,
 /// which are its first so many.
-fn gathered(announced: Option<Entry>, calls_seen: u16, q: u8, batch: Batch) -> Batch
+fn batch_with_calls(announced: Option<Entry>, calls_seen: u16, q: u8, batch: Batch) -> Batch
     requires { q < MOST_PROCESSES }
     ensures { result ≡ batch_with_calls announced calls_seen q batch }
 {
@@ -243,7 +244,7 @@ fn enter(
     ensures slots_room { vec_capacity slots.new ≡ vec_capacity slots.old }
 {
     if *fixed == slot
-        && let Some(batch) = round.fixed()
+        && let Some(batch) = round.fixed_value()
     {
         put_batch(entries, slots, processes, slot, batch);
         *fixed += 1;
@@ -252,37 +253,37 @@ fn enter(
 
 /// How far a process has come by a batch, and what its step answers.
 #[derive(Clone, Copy)]
-struct Applied {
-    progress: Progress,
+struct BatchEffect {
+    caller: CallerState,
     answer: StepAnswer,
 }
 
 /// The process, with a call of its own pending, replays the batch of its next slot.
-fn replay_batch(opening: &Opening, here: Progress, mine: Entry, batch: Batch) -> Applied
-    requires slot { here.replayed < opening.now.capacity }
+fn replay_batch(opening: &Opening, here: CallerState, mine: Entry, batch: Batch) -> BatchEffect
+    requires slot { here.applied_slots < opening.now.capacity }
     requires few { opening.now.capacity ≤ MOST_SLOTS }
-    requires seen { here.seen ≤ MOST_ENTRIES }
+    requires applied_entries { here.applied_entries ≤ MOST_ENTRIES }
     requires calls_places { length here.calls_seen.calls ≡ MOST_PROCESSES }
     requires calls_seen { (q : ℕ) → q < processes_of opening.now.plan → count_at here.calls_seen q ≤ MOST_ENTRIES }
     requires mine { mine.process < processes_of opening.now.plan }
     requires operation { mine.operation.0 < length opening.now.object.operations }
     requires operations { (q : ℕ) (e : EntryOf) → entry_at batch q ≡ Some e → e.operation.0 < length opening.now.object.operations }
     requires state { here.state.0 < length opening.now.object.states }
-    ensures replayed { result.progress.replayed ≡ here.replayed + 1 }
-    ensures seen { result.progress.seen ≡ here.seen + length (members (processes_of opening.now.plan) 0 batch) }
-    ensures calls_places { length result.progress.calls_seen.calls ≡ MOST_PROCESSES }
+    ensures applied_slots { result.caller.applied_slots ≡ here.applied_slots + 1 }
+    ensures applied_entries { result.caller.applied_entries ≡ here.applied_entries + length (members (processes_of opening.now.plan) 0 batch) }
+    ensures calls_places { length result.caller.calls_seen.calls ≡ MOST_PROCESSES }
     ensures calls_seen { (q : ℕ) → q < processes_of opening.now.plan →
-        count_at result.progress.calls_seen q ≡ count_at here.calls_seen q + length (and_entry (entry_at batch q) []) }
-    ensures calls { result.progress.calls ≡ here.calls }
-    ensures phase { result.progress.phase ≡ phase_after (setting_of opening.now) here.replayed mine batch }
-    ensures state { result.progress.state.0 ≡ run_of opening.now.object here.state.0 (operations_of (members (processes_of opening.now.plan) 0 batch)) }
-    ensures known { result.progress.state.0 < length opening.now.object.states }
-    ensures answer { result.answer ≡ reply (setting_of opening.now) here.replayed here.state.0 mine batch }
+        count_at result.caller.calls_seen q ≡ count_at here.calls_seen q + length (and_entry (entry_at batch q) []) }
+    ensures calls { result.caller.calls ≡ here.calls }
+    ensures phase { result.caller.phase ≡ phase_after (setting_of opening.now) here.applied_slots mine batch }
+    ensures state { result.caller.state.0 ≡ run_of opening.now.object here.state.0 (operations_of (members (processes_of opening.now.plan) 0 batch)) }
+    ensures known { result.caller.state.0 < length opening.now.object.states }
+    ensures answer { result.answer ≡ reply (setting_of opening.now) here.applied_slots here.state.0 mine batch }
     ensures range { HasResponse opening.now.object result.answer }
 {
     let processes = opening.plan.processes();
     let state = state_after(&opening.object, processes, batch, here.state);
-    let slot = here.replayed;
+    let slot = here.applied_slots;
     let (phase, answer) = if batch.has(mine) {
         let response = response_at(opening, here.state, batch, mine);
         (Phase::Idle, StepAnswer::Answered { slot, response })
@@ -291,10 +292,10 @@ fn replay_batch(opening: &Opening, here: Progress, mine: Entry, batch: Batch) ->
     } else {
         (first_look(mine), StepAnswer::Working)
     };
-    Applied {
-        progress: Progress {
-            replayed: slot + 1,
-            seen: here.seen + count(processes, batch),
+    BatchEffect {
+        caller: CallerState {
+            applied_slots: slot + 1,
+            applied_entries: here.applied_entries + count(processes, batch),
             calls_seen: here.calls_seen.with_batch(processes, batch),
             calls: here.calls,
             phase,

@@ -1,15 +1,8 @@
 //! What a log is made of.
-ghost use Rattle.std.specs.Prelude.{◌≡◌, ◌<◌, ◌≤◌, ◌↔◌, ℕ, None, length};
-ghost use Rattle.cn_agree.specs.World.{World as RoundWorld, input_at, local_at};
-ghost use Rattle.cn_agree.specs.declared.local.Local.TheVariants.{NotBegun};
-ghost use Rattle.cn_proto.specs.Plan.{nodes_of, processes_of};
-ghost use Rattle.cn_log.specs.declared.batch.Batch.{Batch as BatchOf};
+ghost use Rattle.std.specs.Prelude.{◌≡◌, ◌<◌, ◌≤◌, length};
 ghost use Rattle.cn_log.specs.declared.limits.TheConstants.{MOST_SLOTS};
-ghost use Rattle.cn_agree.specs.Rounds.{RunsBy};
-ghost use Rattle.cn_log.specs.Agreement.{RoundsAgree};
-ghost use Rattle.cn_log.specs.Opening.{IsOpening, opening_of, setting_of};
+ghost use Rattle.cn_log.specs.Opening.{opening_of};
 
-use crate::laws::rounds_agree;
 use cn_proto::Plan;
 use cn_table::{State, Table};
 use std::marker::Model;
@@ -73,20 +66,5 @@ impl Opening {
         ensures range { result.0 < length self.now.object.states }
     {
         self.start
-    }
-
-    /// Every opening is one: `opening`, its plan is one, the start state is one of the object, and
-    /// there are 1 to [`MOST_SLOTS`](crate::MOST_SLOTS) slots; `agrees`, its rounds are what a log
-    /// needs; `begun` and `sizes`, what stands in them for each process.
-    pub(crate) fn is_opening(&self)
-        ensures opening { IsOpening self.now }
-        ensures agrees { RoundsAgree (setting_of self.now) (RunsBy self.now.plan) }
-        ensures begun { (w : RoundWorld BatchOf) → RunsBy self.now.plan w → (p : ℕ) → p < processes_of self.now.plan
-            → (local_at w p ≡ NotBegun) ↔ (input_at w p ≡ None) }
-        ensures sizes { (w : RoundWorld BatchOf) → RunsBy self.now.plan w → (length w.nodes ≡ nodes_of self.now.plan)
-            × (length w.locals ≡ processes_of self.now.plan) × (length w.inputs ≡ processes_of self.now.plan) }
-    {
-        self.plan.is_sound();
-        rounds_agree();
     }
 }

@@ -12,6 +12,6 @@ pub returns-clause-consensus : goal.returns-clause-consensus
 returns-clause-consensus c =
     let Q : List (Option ℕ) → Type 0 = IsConsensus (protocol_of c.args.plan.now) (processes_of c.args.plan.now) c.args.inputs.now c.args.schedule.now in
     let none = sym c.fault_of.ensures ∙ c.in_default.is in
-    subst Q (sym (c.in_ok-decisions.ensures ∙ ap decisions_of c.in_ok-round.ensures.world))
+    subst Q (sym (c.in_ok-decisions_of.ensures ∙ ap decisions_of c.in_ok-round.ensures.world))
     (c.every_schedule.ensures c.args.inputs.now c.args.schedule.now (right_count (processes_of c.args.plan.now) c.args.inputs.now c.args.schedule.now none)
     (no_stranger (processes_of c.args.plan.now) c.args.inputs.now c.args.schedule.now none))

@@ -1,10 +1,10 @@
 use Rattle.std.proofs.Common.{◌≡◌, ◌∙◌, ◌-◌, [], ℕ, List, ap, append-nil, arith, length, subst, sym}
 use Rattle.std.specs.List.{flat_map, range_with_len}
 use Rattle.cn_choice.specs.Canonical.{Choice, with_state}
-use Rattle.cn_check.specs.Progress.{AreRefuted, counting}
+use Rattle.cn_check.specs.Refutations.{AreRefuted, counting}
 use Rattle.cn_check.specs.Versions.{choices_in_version}
 use Rattle.cn_check.proofs.EntryLemmas.{past_end}
-use Rattle.cn_check.proofs.ProgressLemmas.{all_counting, all_refuted, come_as, come_first, come_to_end, part_next, part_past}
+use Rattle.cn_check.proofs.RefutationLemmas.{all_counting, all_refuted, come_as, come_first, come_to_end, part_next, part_past}
 use Rattle.cn_check.proofs.refutation.check_entries.Goals as goal
 use Rattle.cn_table.proofs.Lists.{range_first}
 

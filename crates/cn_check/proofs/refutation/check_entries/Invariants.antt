@@ -1,7 +1,7 @@
 use Rattle.std.proofs.Common.{◌-◌, length}
 use Rattle.std.specs.List.{flat_map, range_with_len}
 use Rattle.cn_choice.specs.Canonical.{with_state}
-use Rattle.cn_check.specs.Progress.{AreRefuted, HasComeTo, counting}
+use Rattle.cn_check.specs.Refutations.{AreRefuted, HasComeTo, counting}
 use Rattle.cn_check.specs.Versions.{choices_in_version}
 use Rattle.cn_check.proofs.refutation.check_entries.Given as goal
 

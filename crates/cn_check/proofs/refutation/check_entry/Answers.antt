@@ -3,7 +3,7 @@ use Rattle.std.specs.Prelude.{slice_get}
 use Rattle.std.proofs.lemmas.Option.{slice_get_read}
 use Rattle.cn_check.specs.Versions.{choices_in_version}
 use Rattle.cn_choice.specs.Canonical.{FitsTable}
-use Rattle.cn_check.proofs.ProgressLemmas.{listed_fits}
+use Rattle.cn_check.proofs.RefutationLemmas.{listed_fits}
 use Rattle.cn_check.proofs.EntryLemmas.{no_collision, of_other_choice, refuted_more}
 use Rattle.cn_check.proofs.refutation.check_entry.Goals as goal
 

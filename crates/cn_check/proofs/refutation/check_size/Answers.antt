@@ -3,9 +3,9 @@ use Rattle.std.specs.List.{flat_map, refill}
 use Rattle.std.proofs.lemmas.List.{length-replicate}
 use Rattle.cn_choice.specs.Canonical.{Choice, with_first, with_size}
 use Rattle.cn_choice.specs.Rising.{rising_after}
-use Rattle.cn_check.specs.Progress.{AreRefuted, HasComeTo, counting}
+use Rattle.cn_check.specs.Refutations.{AreRefuted, HasComeTo, counting}
 use Rattle.cn_check.specs.Versions.{choices_in_version}
-use Rattle.cn_check.proofs.ProgressLemmas.{come_as, come_first, none_counts, part_over, part_past}
+use Rattle.cn_check.proofs.RefutationLemmas.{come_as, come_first, none_counts, part_over, part_past}
 use Rattle.cn_check.proofs.StepLemmas.{first_list, written_over, zeros_known}
 use Rattle.cn_check.proofs.refutation.check_size.Goals as goal
 use Rattle.cn_check.proofs.refutation.check_size.Goals.{Joined-all_count, then-all_count+in_ok-place, else-all_count}

@@ -2,7 +2,7 @@ use Rattle.std.proofs.Common.{◌≡◌, ◌<◌, ◌∷◌, All, length}
 use Rattle.std.specs.List.{flat_map}
 use Rattle.cn_choice.specs.Canonical.{with_first, with_size}
 use Rattle.cn_choice.specs.Rising.{rising_after}
-use Rattle.cn_check.specs.Progress.{AreRefuted, HasComeTo, counting}
+use Rattle.cn_check.specs.Refutations.{AreRefuted, HasComeTo, counting}
 use Rattle.cn_check.specs.Versions.{choices_in_version}
 use Rattle.cn_check.proofs.refutation.check_size.Given as goal
 

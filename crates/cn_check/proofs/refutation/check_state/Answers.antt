@@ -1,9 +1,9 @@
 use Rattle.std.proofs.Common.{◌+◌, ◌/◌, ℕ, List, length, ap}
 use Rattle.std.specs.List.{flat_map}
 use Rattle.cn_choice.specs.Canonical.{Choice, with_size, with_state}
-use Rattle.cn_check.specs.Progress.{counting}
+use Rattle.cn_check.specs.Refutations.{counting}
 use Rattle.cn_check.specs.Versions.{choices_in_version}
-use Rattle.cn_check.proofs.ProgressLemmas.{come_as, part_next, part_past}
+use Rattle.cn_check.proofs.RefutationLemmas.{come_as, part_next, part_past}
 use Rattle.cn_check.proofs.refutation.check_state.Goals as goal
 use Rattle.cn_table.proofs.Lists.{range_first}
 

@@ -2,9 +2,9 @@ use Rattle.std.proofs.Common.{◌≡◌, ◌∙◌, ℕ, List, length, ap, sym}
 use Rattle.std.specs.List.{refill}
 use Rattle.cn_choice.specs.Canonical.{Choice, with_first}
 use Rattle.cn_choice.specs.Rising.{rising_after}
-use Rattle.cn_check.specs.Progress.{AreRefuted, HasComeTo, counting}
+use Rattle.cn_check.specs.Refutations.{AreRefuted, HasComeTo, counting}
 use Rattle.cn_check.specs.Versions.{choices_in_version}
-use Rattle.cn_check.proofs.ProgressLemmas.{beside, come_as, come_first, team_next, team_over, team_past}
+use Rattle.cn_check.proofs.RefutationLemmas.{beside, come_as, come_first, team_next, team_over, team_past}
 use Rattle.cn_check.proofs.StepLemmas.{written_over}
 use Rattle.cn_check.proofs.refutation.check_team.Goals as goal
 use Rattle.cn_check.proofs.refutation.check_team.Goals.{Joined-all_count, then-all_count+in_ok-place, else-all_count}

@@ -1,9 +1,9 @@
 use Rattle.std.proofs.Common.{◌<◌, ◌∷◌, All, length}
 use Rattle.cn_choice.specs.Canonical.{with_first}
 use Rattle.cn_choice.specs.Rising.{rising_after}
-use Rattle.cn_check.specs.Progress.{AreRefuted, HasComeTo, counting}
+use Rattle.cn_check.specs.Refutations.{AreRefuted, HasComeTo, counting}
 use Rattle.cn_check.specs.Versions.{choices_in_version}
-use Rattle.cn_check.proofs.ProgressLemmas.{beside}
+use Rattle.cn_check.proofs.RefutationLemmas.{beside}
 use Rattle.cn_check.proofs.refutation.check_team.Given as goal
 
 -- the choices with this list of team B and the later ones are left, and those before are refuted

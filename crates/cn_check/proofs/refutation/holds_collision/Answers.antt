@@ -9,7 +9,7 @@ pub returns : goal.returns
 returns c =
     let entry = c.entry.inside in
     let shown =
-    collision_shown c.args.table.now (raw_choice_of entry.choice) entry.process entry.alpha.items entry.beta.items c.pair_shown-alpha.result c.pair_shown-beta.result
-    (rw c.as_slice.ensures.value at c.pair_shown-alpha.ensures.pair) (rw c.as_slice-2.ensures.value at c.pair_shown-beta.ensures.pair) in
+    collision_shown c.args.table.now (raw_choice_of entry.choice) entry.process entry.alpha.items entry.beta.items c.shown_pair-alpha.result c.shown_pair-beta.result
+    (rw c.as_slice.ensures.value at c.shown_pair-alpha.ensures.pair) (rw c.as_slice-2.ensures.value at c.shown_pair-beta.ensures.pair) in
     subst (λ (e : Collision). IsTrue c.are_one_pair.result ↔ HoldsCollision c.args.table.now e) c.entry.view_is
     (λ h. shown.0 (c.are_one_pair.ensures.0 h), λ k. c.are_one_pair.ensures.1 (shown.1 k))

@@ -2,7 +2,7 @@ use Rattle.std.proofs.Common.{◌≡◌, ◌≢◌, ◌<◌, ◌+◌, inl, inr, 
 use Rattle.cn_choice.specs.Canonical.{raw_choice_of}
 use Rattle.cn_choice.specs.RawChoices.{RawChoice}
 use Rattle.cn_check.specs.Runs.{IsIn, ShowsFrom}
-use Rattle.cn_check.specs.Seen.{HasPair, kept_at}
+use Rattle.cn_check.specs.WalkedRuns.{HasPair, ends_at}
 use Rattle.cn_check.proofs.RunLemmas.{Below, EndsNext, ShowsNext, as_other, below_next, both_cases, ends_by, ends_by_first, no_case, same_case, shows_by, shows_by_first, with_fact}
 use Rattle.cn_check.proofs.WalkedLemmas.{walked_more, walked_put}
 use Rattle.cn_check.proofs.witness.+walk.Goals as goal
@@ -11,7 +11,7 @@ use Rattle.cn_check.proofs.witness.+walk.Goals.{then-not-has_moved, else-not-has
 pub returns-then-before-ne0-clause-shown : goal.returns-then-before-ne0-clause-shown
 returns-then-before-ne0-clause-shown t c j r q =
     let known : c.args.state.0 < 16 = omega (arith, c.requires.state, c.states-states.ensures.number, c.states-states.ensures.range.1) in
-    let some : kept_at c.args.kept.now c.args.used c.args.state.0 ≢ 0 = λ none. absurd (omega (arith, none, c.at-before.ensures, c.if-before-ne0.true)) in (
+    let some : ends_at c.args.end_sets.now c.args.used c.args.state.0 ≢ 0 = λ none. absurd (omega (arith, none, c.at-before.ensures, c.if-before-ne0.true)) in (
       λ old. inl old,
       λ h. elim h [ inl old ↦ old | inr s ↦ c.requires.walked.shown c.args.used c.args.state.0 j r q known some s ],
     )
@@ -57,8 +57,8 @@ loop-next-preserved t c =
                 (both_cases (HasPair c.loop-next.pairs j r q) _ (HasPair c.args.pairs.now j r q) (Below S next) (S next) (Below S (next + 1)) (c.loop-next.invariant.shown j r q) (no_case _ (S next) (λ e. e.0 old)) (below_next S next)))
           ];
       walked = elim c.if-not-has_moved.branch [
-        | then-not-has_moved w ↦ rw (w.kept-is, w.pairs-is) (walked_more table choice w.walk-later.new.kept w.walk-later.new.pairs w.add.new.self (λ j r q h. (w.add.ensures j r q).1 (inl h)) w.walk-later.ensures.walked)
-        | else-not-has_moved w ↦ rw (w.kept-is, w.pairs-is) c.loop-next.invariant.walked
+        | then-not-has_moved w ↦ rw (w.end_sets-is, w.pairs-is) (walked_more table choice w.walk-later.new.end_sets w.walk-later.new.pairs w.add.new.self (λ j r q h. (w.add.ensures j r q).1 (inl h)) w.walk-later.ensures.walked)
+        | else-not-has_moved w ↦ rw (w.end_sets-is, w.pairs-is) c.loop-next.invariant.walked
       ];
     }
 
@@ -80,6 +80,6 @@ returns-clause-walked t c =
     let table = c.args.table.now in
     let choice : RawChoice = raw_choice_of c.args.choice.now in
     let all : c.loop-next.next ≡ length choice.operations = omega (arith, c.loop-next-test.false, c.loop-next.auto.next-end, c.processes-next-end.ensures, length-append c.args.choice.now.a c.args.choice.now.b) in
-    walked_put table choice c.loop-next.kept c.put.new.self c.loop-next.pairs c.args.used c.args.state.0 c.loop-next.ends c.put.ensures.here c.put.ensures.others
+    walked_put table choice c.loop-next.end_sets c.put.new.self c.loop-next.pairs c.args.used c.args.state.0 c.loop-next.ends c.put.ensures.here c.put.ensures.others
     (λ q. as_other _ _ _ (c.loop-next.invariant.ends q) (ends_by_first table choice c.args.used c.args.state.0 c.loop-next.next q all))
     (λ j r q h. (c.loop-next.invariant.shown j r q).1 (inr ((shows_by_first table choice c.args.used c.args.state.0 c.loop-next.next j r q all).0 h))) c.loop-next.invariant.walked

@@ -6,7 +6,7 @@ use Rattle.cn_choice.specs.Canonical.{raw_choice_of}
 use Rattle.cn_choice.specs.RawChoices.{RawChoice}
 use Rattle.cn_check.specs.Runs.{IsIn, ShowsFrom}
 use Rattle.cn_choice.specs.Subsets.{move_of}
-use Rattle.cn_check.specs.Seen.{HasPair}
+use Rattle.cn_check.specs.WalkedRuns.{HasPair}
 use Rattle.cn_check.proofs.RunLemmas.{Below, ShowsFirst, as_other, below_next, both_cases, no_case, or_next, orders_by_first, shows_by}
 use Rattle.cn_check.proofs.WalkedLemmas.{walked_more}
 use Rattle.cn_check.proofs.witness.outcome_sets.Goals as goal
@@ -39,8 +39,8 @@ loop-first-preserved c =
                 rw w.pairs-is (or_next (HasPair c.loop-first.pairs j r q) _ (Below F first) (F first) (Below F (first + 1)) (c.loop-first.invariant.shown j r q) (no_case _ (F first) none) (below_next F first)))
           ];
       walked = elim c.if-eq.branch [
-        | then-eq w ↦ rw (w.kept-is, w.pairs-is) (walked_more table choice w.walk-later.new.kept w.walk-later.new.pairs w.add.new.self (λ j r q h. (w.add.ensures j r q).1 (inl h)) w.walk-later.ensures.walked)
-        | else-eq w ↦ rw (w.kept-is, w.pairs-is) c.loop-first.invariant.walked
+        | then-eq w ↦ rw (w.end_sets-is, w.pairs-is) (walked_more table choice w.walk-later.new.end_sets w.walk-later.new.pairs w.add.new.self (λ j r q h. (w.add.ensures j r q).1 (inl h)) w.walk-later.ensures.walked)
+        | else-eq w ↦ rw (w.end_sets-is, w.pairs-is) c.loop-first.invariant.walked
       ];
     }
 

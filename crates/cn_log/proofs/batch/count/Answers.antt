@@ -1,7 +1,7 @@
 use Rattle.std.proofs.Common.{length, [], ◌∷◌, sym, ap, ◌∙◌, arith, length-append}
 use Rattle.cn_log.specs.Batches.{members}
 use Rattle.cn_log.proofs.Members.{next_some, next_none}
-use Rattle.cn_log.proofs.Places.{members_few}
+use Rattle.cn_log.proofs.EntryPositions.{members_few}
 use Rattle.cn_log.proofs.batch.count.Goals.{in-Some, in_default}
 use Rattle.cn_log.proofs.batch.count.Goals as goal
 

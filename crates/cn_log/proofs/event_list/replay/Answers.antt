@@ -1,7 +1,7 @@
 use Rattle.std.proofs.Common.{subst}
 use Rattle.std.proofs.lemmas.Result.{err_from_is_err_and}
 use Rattle.cn_log.proofs.FaultLemmas.{first_in}
-use Rattle.cn_log.specs.Faults.{IsFirstFault}
+use Rattle.cn_log.specs.Faults.{IsFirstEventFault}
 use Rattle.cn_log.specs.Opening.{Opening, setting, setting_of}
 use Rattle.cn_log.proofs.event_list.replay.Goals as goal
 
@@ -11,5 +11,5 @@ returns-in_err-take-clause-fault c =
     let i = c.loop-event.invariant in
     let core = c.loop-event.core in
     let fault = c.in_err-take.field-0.0 in
-    rw (p.1, p.2) (λ memory. subst (λ (o : Opening). IsFirstFault (setting_of o) c.args.events.now fault) i.opening
+    rw (p.1, p.2) (λ memory. subst (λ (o : Opening). IsFirstEventFault (setting_of o) c.args.events.now fault) i.opening
     (first_in (setting core) c.args.events.now c.loop-event.event-index _ core.schedule fault i.schedule c.loop-event-test.true c.in_err-take.ensures.first))

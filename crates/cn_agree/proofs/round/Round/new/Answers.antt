@@ -6,8 +6,8 @@ use Rattle.cn_agree.proofs.round.Round.new.Goals as goal
 
 pub returns-clause-world : goal.returns-clause-world
 returns-clause-world g c =
-    first_is c.args.plan.now c.in_ok-filled.field-0.items c.in_ok-filled-2.field-0.items c.in_ok-filled-3.field-0.items c.start.result c.from.result c.from-processes.result
-    c.start.ensures.start (c.from.ensures ∙ c.nodes.ensures.number) (c.from-processes.ensures ∙ c.processes.ensures.number) c.in_ok-filled.ensures c.in_ok-filled-2.ensures c.in_ok-filled-3.ensures
+    first_is c.args.plan.now c.in_ok-copies.field-0.items c.in_ok-copies-2.field-0.items c.in_ok-copies-3.field-0.items c.start.result c.from.result c.from-processes.result
+    c.start.ensures.start (c.from.ensures ∙ c.nodes.ensures.number) (c.from-processes.ensures ∙ c.processes.ensures.number) c.in_ok-copies.ensures c.in_ok-copies-2.ensures c.in_ok-copies-3.ensures
 
 pub returns-clause-of_plan : goal.returns-clause-of_plan
 returns-clause-of_plan g c =

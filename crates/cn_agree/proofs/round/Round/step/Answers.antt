@@ -113,7 +113,7 @@ invariant_of-self g c =
 pub returns-clause-decision : goal.returns-clause-decision
 returns-clause-decision g c =
     let w : World g.row.V.Denot = record { nodes = c.self.inside.nodes.items; locals = c.self.inside.locals.items; inputs = c.self.inside.inputs.items; first = c.self.inside.first } in
-    c.decided.ensures ∙ next_decides w.locals c.args.p c.from-in-Some-2.result c.act.new.local c.from-in-Some-2.ensures (local_within c.args.plan.now c.args.self.now c.requires.of_plan w c.self.view_is c.args.p c.requires.process)
+    c.decision.ensures ∙ next_decides w.locals c.args.p c.from-in-Some-2.result c.act.new.local c.from-in-Some-2.ensures (local_within c.args.plan.now c.args.self.now c.requires.of_plan w c.self.view_is c.args.p c.requires.process)
 
 pub returns-clause-fixed : goal.returns-clause-fixed
 returns-clause-fixed g c = λ x e. ap fixed_value (after g c) ∙ fixed_goes_on c.args.plan.now c.args.self.now c.requires.of_plan c.args.p c.requires.process x e

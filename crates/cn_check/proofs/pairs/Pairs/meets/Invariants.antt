@@ -1,5 +1,5 @@
 use Rattle.std.proofs.Common.{ℕ, ◌<◌}
-use Rattle.cn_check.specs.Seen.{HasPair}
+use Rattle.cn_check.specs.WalkedRuns.{HasPair}
 use Rattle.cn_check.proofs.pairs.Pairs.meets.Given as goal
 
 -- the process has no common pair with a response so far

@@ -40,7 +40,7 @@ returns-then-seat-clause-fault g c = let s : SeatState = c.args.seat.now in
     let one : c.seat.inside.standing.slots ≡ length (slots_seen s) = c.seat.invariant.4.1 ∙ ap (λ (t : SeatState). length (slots_seen t)) c.seat.view_is in
     let two : c.seat.inside.capacity ≡ s.core.opening.capacity = c.seat.invariant.3 ∙ ap (λ (t : SeatState). t.core.opening.capacity) c.seat.view_is in (
       (c.requires.idle, sym one ∙ c.if-seat.true ∙ two),
-      next_unseen c.every_call.ensures.own c.every_call.ensures.called s c.args.operation.0 c.has_its_calls.ensures.log
+      next_unseen c.every_call.ensures.own c.every_call.ensures.called s c.args.operation.0 c.seats_have_their_calls.ensures.log
           (subst (λ (t : SeatState). t.process < processes_of t.core.opening.plan) c.seat.view_is c.seat.invariant.2),
       inl refl,
     )

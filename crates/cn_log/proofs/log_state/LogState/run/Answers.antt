@@ -2,42 +2,42 @@ use Rattle.std.proofs.Common.{ap, ◌∙◌, arith, sym, subst}
 use Rattle.cn_agree.specs.Rounds.{RunsBy}
 use Rattle.cn_agree.specs.Steps.{after_step}
 use Rattle.cn_proto.specs.Plan.{processes_of, protocol_of}
-use Rattle.cn_log.specs.Fields.{KeptLog}
+use Rattle.cn_log.specs.Fields.{LogFields}
 use Rattle.cn_log.specs.Opening.{Opening}
-use Rattle.cn_log.proofs.Fitting.{found, read_at}
+use Rattle.cn_log.proofs.Fitting.{read_caller, read_at}
 use Rattle.cn_log.proofs.Stepping.{runs_in_rounds, runs_room, runs_good, runs_begun, none_keeps, none_answer, some_operation, some_keeps, some_answer, seen_most, calls_most, calls_places, mine_low, mine_operation, entries_room, slots_room}
 use Rattle.cn_log.proofs.log_state.LogState.run.Goals as goal
 
 pub index_mut-round-requires : goal.index_mut-round-requires
-index_mut-round-requires c = omega (arith, c.from-slot.ensures, c.self.inside.rounds.ok.0, runs_in_rounds (found c.is_opening.ensures.agrees c.requires.at.1 c.self.view_is c.index-here.ensures c.from.ensures))
+index_mut-round-requires c = omega (arith, c.from-slot.ensures, c.self.inside.rounds.ok.0, runs_in_rounds (read_caller c.openings_are_valid.ensures.agrees c.requires.at.1 c.self.view_is c.index-here.ensures c.from.ensures))
 
 pub step-decision-requires-clause-of_plan : goal.step-decision-requires-clause-of_plan
 step-decision-requires-clause-of_plan c =
-    let here = found c.is_opening.ensures.agrees c.requires.at.1 c.self.view_is c.index-here.ensures c.from.ensures in
+    let here = read_caller c.openings_are_valid.ensures.agrees c.requires.at.1 c.self.view_is c.index-here.ensures c.from.ensures in
     let round = read_at c.self.inside.rounds.items c.index_mut-round.ensures.value c.from-slot.ensures in
     subst (λ (o : Opening). RunsBy o.plan c.index_mut-round.result.now) (sym c.opening.view_is)
     (runs_good here _ round)
 
 pub step-decision-requires-clause-begun : goal.step-decision-requires-clause-begun
 step-decision-requires-clause-begun c =
-    let here = found c.is_opening.ensures.agrees c.requires.at.1 c.self.view_is c.index-here.ensures c.from.ensures in
+    let here = read_caller c.openings_are_valid.ensures.agrees c.requires.at.1 c.self.view_is c.index-here.ensures c.from.ensures in
     let round = read_at c.self.inside.rounds.items c.index_mut-round.ensures.value c.from-slot.ensures in
     let good = runs_good here _ round in
     let given = runs_begun here _ round in
-    λ none. (let empty = (c.is_opening.ensures.begun _ good c.args.p c.requires.at.1.process).0 none in let there = given.1 in absurd (cc (empty, there)))
+    λ none. (let empty = (c.openings_are_valid.ensures.begun _ good c.args.p c.requires.at.1.process).0 none in let there = given.1 in absurd (cc (empty, there)))
 
 pub step-decision-requires-clause-undecided : goal.step-decision-requires-clause-undecided
 step-decision-requires-clause-undecided c =
-    let here = found c.is_opening.ensures.agrees c.requires.at.1 c.self.view_is c.index-here.ensures c.from.ensures in
+    let here = read_caller c.openings_are_valid.ensures.agrees c.requires.at.1 c.self.view_is c.index-here.ensures c.from.ensures in
     let round = read_at c.self.inside.rounds.items c.index_mut-round.ensures.value c.from-slot.ensures in
     (runs_begun here _ round).2
 
-pub replay_batch-outcome-requires-clause-slot : goal.replay_batch-outcome-requires-clause-slot
-replay_batch-outcome-requires-clause-slot c = runs_room (found c.is_opening.ensures.agrees c.requires.at.1 c.self.view_is c.index-here.ensures c.from.ensures)
+pub replay_batch-effect-requires-clause-slot : goal.replay_batch-effect-requires-clause-slot
+replay_batch-effect-requires-clause-slot c = runs_room (read_caller c.openings_are_valid.ensures.agrees c.requires.at.1 c.self.view_is c.index-here.ensures c.from.ensures)
 
-pub replay_batch-outcome-requires-clause-operations : goal.replay_batch-outcome-requires-clause-operations
-replay_batch-outcome-requires-clause-operations c =
-    let here = found c.is_opening.ensures.agrees c.requires.at.1 c.self.view_is c.index-here.ensures c.from.ensures in
+pub replay_batch-effect-requires-clause-operations : goal.replay_batch-effect-requires-clause-operations
+replay_batch-effect-requires-clause-operations c =
+    let here = read_caller c.openings_are_valid.ensures.agrees c.requires.at.1 c.self.view_is c.index-here.ensures c.from.ensures in
     let round = read_at c.self.inside.rounds.items c.index_mut-round.ensures.value c.from-slot.ensures in
     let next = c.step-decision.ensures.world ∙ ap (λ (o : Opening). after_step (protocol_of o.plan) c.args.p c.index_mut-round.result.now) c.opening.view_is in
     some_operation here round next (sym c.step-decision.ensures.decision ∙ c.in-Some.is)
@@ -48,7 +48,7 @@ returns-in-None-clause-keeps c =
     let next = c.step-decision.ensures.world ∙ ap (λ (o : Opening). after_step (protocol_of o.plan) c.args.p c.index_mut-round.result.now) c.opening.view_is in
     let n = c.processes-processes.ensures.number ∙ ap (λ (o : Opening). processes_of o.plan) c.opening.view_is in
     λ s at.
-    let here = found c.is_opening.ensures.agrees at c.self.view_is c.index-here.ensures c.from.ensures in
+    let here = read_caller c.openings_are_valid.ensures.agrees at c.self.view_is c.index-here.ensures c.from.ensures in
     rw (c.enter.ensures.entries, c.enter.ensures.slots, c.enter.ensures.fixed, c.enter.ensures.room, c.enter.ensures.slots_room, c.from-slot.ensures, n)
     (none_keeps here round next (sym c.step-decision.ensures.decision ∙ c.in-None.is))
 
@@ -57,7 +57,7 @@ returns-in-None-clause-answer c =
     let round = read_at c.self.inside.rounds.items c.index_mut-round.ensures.value c.from-slot.ensures in
     let next = c.step-decision.ensures.world ∙ ap (λ (o : Opening). after_step (protocol_of o.plan) c.args.p c.index_mut-round.result.now) c.opening.view_is in
     λ s at.
-    let here = found c.is_opening.ensures.agrees at c.self.view_is c.index-here.ensures c.from.ensures in
+    let here = read_caller c.openings_are_valid.ensures.agrees at c.self.view_is c.index-here.ensures c.from.ensures in
     none_answer here round next (sym c.step-decision.ensures.decision ∙ c.in-None.is)
 
 pub returns-in-Some-clause-keeps : goal.returns-in-Some-clause-keeps
@@ -66,49 +66,49 @@ returns-in-Some-clause-keeps c =
     let next = c.step-decision.ensures.world ∙ ap (λ (o : Opening). after_step (protocol_of o.plan) c.args.p c.index_mut-round.result.now) c.opening.view_is in
     let n = c.processes-processes.ensures.number ∙ ap (λ (o : Opening). processes_of o.plan) c.opening.view_is in
     λ s at.
-    let here = found c.is_opening.ensures.agrees at c.self.view_is c.index-here.ensures c.from.ensures in
+    let here = read_caller c.openings_are_valid.ensures.agrees at c.self.view_is c.index-here.ensures c.from.ensures in
     rw (c.enter.ensures.entries, c.enter.ensures.slots, c.enter.ensures.fixed, c.enter.ensures.room, c.enter.ensures.slots_room, c.from-slot.ensures, c.from-in-Some.ensures, n)
     (some_keeps here round next (sym c.step-decision.ensures.decision ∙ c.in-Some.is)
-    c.replay_batch-outcome.result.progress c.replay_batch-outcome.ensures.replayed c.replay_batch-outcome.ensures.seen c.replay_batch-outcome.ensures.calls_places c.replay_batch-outcome.ensures.calls_seen
-    c.replay_batch-outcome.ensures.calls c.replay_batch-outcome.ensures.phase c.replay_batch-outcome.ensures.state c.replay_batch-outcome.ensures.known)
+    c.replay_batch-effect.result.caller c.replay_batch-effect.ensures.applied_slots c.replay_batch-effect.ensures.applied_entries c.replay_batch-effect.ensures.calls_places c.replay_batch-effect.ensures.calls_seen
+    c.replay_batch-effect.ensures.calls c.replay_batch-effect.ensures.phase c.replay_batch-effect.ensures.state c.replay_batch-effect.ensures.known)
 
 pub returns-in-Some-clause-answer : goal.returns-in-Some-clause-answer
 returns-in-Some-clause-answer c =
     let round = read_at c.self.inside.rounds.items c.index_mut-round.ensures.value c.from-slot.ensures in
     let next = c.step-decision.ensures.world ∙ ap (λ (o : Opening). after_step (protocol_of o.plan) c.args.p c.index_mut-round.result.now) c.opening.view_is in
     λ s at.
-    let here = found c.is_opening.ensures.agrees at c.self.view_is c.index-here.ensures c.from.ensures in
+    let here = read_caller c.openings_are_valid.ensures.agrees at c.self.view_is c.index-here.ensures c.from.ensures in
     some_answer here round next (sym c.step-decision.ensures.decision ∙ c.in-Some.is)
-    c.replay_batch-outcome.result.answer c.replay_batch-outcome.ensures.answer
+    c.replay_batch-effect.result.answer c.replay_batch-effect.ensures.answer
 
-pub replay_batch-outcome-requires-clause-seen : goal.replay_batch-outcome-requires-clause-seen
-replay_batch-outcome-requires-clause-seen c = seen_most (found c.is_opening.ensures.agrees c.requires.at.1 c.self.view_is c.index-here.ensures c.from.ensures) c.is_opening.ensures.opening.few
+pub replay_batch-effect-requires-clause-applied_entries : goal.replay_batch-effect-requires-clause-applied_entries
+replay_batch-effect-requires-clause-applied_entries c = seen_most (read_caller c.openings_are_valid.ensures.agrees c.requires.at.1 c.self.view_is c.index-here.ensures c.from.ensures) c.openings_are_valid.ensures.opening.few
 
-pub replay_batch-outcome-requires-clause-calls_places : goal.replay_batch-outcome-requires-clause-calls_places
-replay_batch-outcome-requires-clause-calls_places c = calls_places (found c.is_opening.ensures.agrees c.requires.at.1 c.self.view_is c.index-here.ensures c.from.ensures)
+pub replay_batch-effect-requires-clause-calls_places : goal.replay_batch-effect-requires-clause-calls_places
+replay_batch-effect-requires-clause-calls_places c = calls_places (read_caller c.openings_are_valid.ensures.agrees c.requires.at.1 c.self.view_is c.index-here.ensures c.from.ensures)
 
-pub replay_batch-outcome-requires-clause-calls_seen : goal.replay_batch-outcome-requires-clause-calls_seen
-replay_batch-outcome-requires-clause-calls_seen c = calls_most (found c.is_opening.ensures.agrees c.requires.at.1 c.self.view_is c.index-here.ensures c.from.ensures) c.is_opening.ensures.opening.few
+pub replay_batch-effect-requires-clause-calls_seen : goal.replay_batch-effect-requires-clause-calls_seen
+replay_batch-effect-requires-clause-calls_seen c = calls_most (read_caller c.openings_are_valid.ensures.agrees c.requires.at.1 c.self.view_is c.index-here.ensures c.from.ensures) c.openings_are_valid.ensures.opening.few
 
-pub replay_batch-outcome-requires-clause-mine : goal.replay_batch-outcome-requires-clause-mine
-replay_batch-outcome-requires-clause-mine c = mine_low (found c.is_opening.ensures.agrees c.requires.at.1 c.self.view_is c.index-here.ensures c.from.ensures)
+pub replay_batch-effect-requires-clause-mine : goal.replay_batch-effect-requires-clause-mine
+replay_batch-effect-requires-clause-mine c = mine_low (read_caller c.openings_are_valid.ensures.agrees c.requires.at.1 c.self.view_is c.index-here.ensures c.from.ensures)
 
-pub replay_batch-outcome-requires-clause-operation : goal.replay_batch-outcome-requires-clause-operation
-replay_batch-outcome-requires-clause-operation c = mine_operation (found c.is_opening.ensures.agrees c.requires.at.1 c.self.view_is c.index-here.ensures c.from.ensures)
+pub replay_batch-effect-requires-clause-operation : goal.replay_batch-effect-requires-clause-operation
+replay_batch-effect-requires-clause-operation c = mine_operation (read_caller c.openings_are_valid.ensures.agrees c.requires.at.1 c.self.view_is c.index-here.ensures c.from.ensures)
 
 pub enter-requires-clause-slot : goal.enter-requires-clause-slot
-enter-requires-clause-slot c = omega (arith, runs_room (found c.is_opening.ensures.agrees c.requires.at.1 c.self.view_is c.index-here.ensures c.from.ensures), c.is_opening.ensures.opening.few)
+enter-requires-clause-slot c = omega (arith, runs_room (read_caller c.openings_are_valid.ensures.agrees c.requires.at.1 c.self.view_is c.index-here.ensures c.from.ensures), c.openings_are_valid.ensures.opening.few)
 
 pub enter-requires-clause-room : goal.enter-requires-clause-room
 enter-requires-clause-room c =
     λ next. (
-    let room = entries_room (found c.is_opening.ensures.agrees c.requires.at.1 c.self.view_is c.index-here.ensures c.from.ensures) next in
+    let room = entries_room (read_caller c.openings_are_valid.ensures.agrees c.requires.at.1 c.self.view_is c.index-here.ensures c.from.ensures) next in
     let n = (c.processes-processes.ensures.number ∙ ap (λ (o : Opening). processes_of o.plan) c.opening.view_is) in
-    omega (arith, room, n, c.requires.room.entries, ap (λ (k : KeptLog). k.entries_room) c.self.view_is, c.self.inside.entries.ok))
+    omega (arith, room, n, c.requires.room.entries, ap (λ (k : LogFields). k.entries_room) c.self.view_is, c.self.inside.entries.ok))
 
 pub enter-requires-clause-slots_room : goal.enter-requires-clause-slots_room
 enter-requires-clause-slots_room c =
     λ next. (
-    let room = slots_room (found c.is_opening.ensures.agrees c.requires.at.1 c.self.view_is c.index-here.ensures c.from.ensures) next in
+    let room = slots_room (read_caller c.openings_are_valid.ensures.agrees c.requires.at.1 c.self.view_is c.index-here.ensures c.from.ensures) next in
     let n = (c.processes-processes.ensures.number ∙ ap (λ (o : Opening). processes_of o.plan) c.opening.view_is) in
-    omega (arith, room, n, c.requires.room.slots, ap (λ (k : KeptLog). k.slots_room) c.self.view_is, c.self.inside.slots.ok))
+    omega (arith, room, n, c.requires.room.slots, ap (λ (k : LogFields). k.slots_room) c.self.view_is, c.self.inside.slots.ok))

@@ -1,0 +1,132 @@
+//! One removal of the core from the queue, or its return.
+ghost use Rattle.std.specs.Prelude.{◌≡◌, ◌<◌, Some, []};
+ghost use Rattle.cn_hall.specs.Rule.{FitsItem, Holds, IsOneEventLater, IsOneSeatMore, MayPut, bare_view, first_view, holding_view, later_view, opened_view, seated_view};
+ghost use Rattle.cn_hall.specs.declared.rule.Stage.TheVariants.{Live};
+ghost use Rattle.cn_proto.specs.Plan.{processes_of};
+ghost use Rattle.cn_hall.specs.Seats.{IsLog, IsStanding};
+ghost use Rattle.crossbeam_queue.specs.Fifo.{Learns, Pushes};
+ghost use Rattle.crossbeam_queue.specs.Passes.{view, IsPassOf, IsSamePass, ruled_capacity};
+
+use crate::laws;
+use crate::rule::{Item, Pass, Puts, Queue, Takes};
+use cn_log::LogCore;
+use std::sync::Wait;
+use std::sync::atomic::{AtomicU64, Ordering};
+use std::thread;
+
+/// How far a process has come in the core: how many entries and how many slots it has seen, and
+/// whether it is in a call.
+#[derive(Clone, Copy)]
+pub(crate) struct Standing {
+    pub seen: u16,
+    pub slots: u16,
+    pub in_call: bool,
+}
+
+impl Standing {
+    /// That of a process of the core.
+    pub(crate) fn of(core: &LogCore, process: u8) -> Standing
+        requires { process < processes_of core.now.opening.plan }
+        ensures standing { IsStanding core.now process result }
+        ensures log { IsLog core.now }
+    {
+        laws::cores_are_logs(core);
+        Standing {
+            seen: core.applied_entries(process),
+            slots: core.applied_slots(process),
+            in_call: !core.is_idle(process),
+        }
+    }
+}
+
+/// How far a thread counts before it looks for the core again: for some 10 microseconds.
+const SPINS: u32 = 2_000;
+
+/// Takes the core out of the queue, and waits until it is there. Each look disturbs the thread that
+/// has the core: who waits looks seldom, so that the other does many events in a row.
+pub(crate) fn take<R: Wait>(rt: &R, queue: &Queue, pass: &mut Pass) -> Item
+    requires queue { IsPassOf queue.now pass.old }
+    requires live { (view pass.old).stage ≡ Live }
+    ensures same { IsSamePass pass.old pass.new }
+    ensures held { view pass.new ≡ holding_view (view pass.old) result }
+    ensures agrees { FitsItem (view pass.old) result }
+{
+    for _ in rt.forever() {
+        if let Some(item) = queue.try_pop_as::<Takes>(pass) {
+            return item;
+        }
+        give_way();
+    }
+    unreachable!()
+}
+
+/// Lets another thread run, once, and then counts. Where other programs want the processor, to give
+/// way is to wait for as long as they please. The count is atomic so that it is made at all.
+fn give_way() {
+    thread::yield_now();
+    let count = AtomicU64::new(0);
+    for _spin in 0..SPINS {
+        count.fetch_add(1, Ordering::Relaxed);
+    }
+}
+
+/// Puts an item in, whose place is free: the first attempt fails only where another thread is in
+/// the way.
+fn put<R: Wait>(rt: &R, queue: &Queue, pass: &mut Pass, item: Item)
+    requires queue { IsPassOf queue.now pass.old × (ruled_capacity queue.now ≡ 1) }
+    requires may { Pushes Holds (ruled_capacity queue.now) pass.old.id (view pass.old) item (MayPut (view pass.old) item) }
+    requires free { Learns Holds pass.old.id (view pass.old) (λ items. items ≡ []) }
+    ensures same { IsSamePass pass.old pass.new }
+    ensures put { MayPut (view pass.old) item (view pass.new) }
+{
+    let Err(item) = queue.try_push_as::<Puts>(pass, item) else {
+        return;
+    };
+    let Ok(()) = queue.push_as::<Puts, R>(rt, pass, item) else {
+        unreachable!()
+    };
+}
+
+/// Puts the core back as it was.
+pub(crate) fn put_back<R: Wait>(rt: &R, queue: &Queue, pass: &mut Pass, item: Item)
+    requires queue { IsPassOf queue.now pass.old × (ruled_capacity queue.now ≡ 1) }
+    requires live { (view pass.old).stage ≡ Live }
+    requires held { (view pass.old).held ≡ Some item }
+    ensures same { IsSamePass pass.old pass.new }
+    ensures now { view pass.new ≡ bare_view (view pass.old) }
+{
+    put(rt, queue, pass, item);
+}
+
+/// Puts the core in for the first time.
+pub(crate) fn put_first<R: Wait>(rt: &R, queue: &Queue, pass: &mut Pass, item: Item)
+    requires queue { IsPassOf queue.now pass.old × (ruled_capacity queue.now ≡ 1) }
+    requires first { view pass.old ≡ first_view }
+    requires one { item.seated ≡ 1 }
+    ensures same { IsSamePass pass.old pass.new }
+    ensures now { view pass.new ≡ opened_view item }
+{
+    put(rt, queue, pass, item);
+}
+
+/// Puts the core back one event of the pass's process later.
+pub(crate) fn put_step<R: Wait>(rt: &R, queue: &Queue, pass: &mut Pass, item: Item)
+    requires queue { IsPassOf queue.now pass.old × (ruled_capacity queue.now ≡ 1) }
+    requires live { (view pass.old).stage ≡ Live }
+    requires event { IsOneEventLater (view pass.old) item }
+    ensures same { IsSamePass pass.old pass.new }
+    ensures now { view pass.new ≡ later_view (view pass.old) item }
+{
+    put(rt, queue, pass, item);
+}
+
+/// Puts the core back with one process more seated, in this pass.
+pub(crate) fn put_seat<R: Wait>(rt: &R, queue: &Queue, pass: &mut Pass, item: Item)
+    requires queue { IsPassOf queue.now pass.old × (ruled_capacity queue.now ≡ 1) }
+    requires live { (view pass.old).stage ≡ Live }
+    requires count { IsOneSeatMore (view pass.old) item }
+    ensures same { IsSamePass pass.old pass.new }
+    ensures now { view pass.new ≡ seated_view (view pass.old) item }
+{
+    put(rt, queue, pass, item);
+}
