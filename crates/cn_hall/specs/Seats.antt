@@ -12,7 +12,7 @@ use Rattle.cn_log.specs.declared.event.Event.TheVariants.{Invoke, Step}
 use Rattle.cn_log.specs.declared.event.StepAnswer.{StepAnswer}
 use Rattle.cn_log.specs.declared.caller_state.Phase.{Phase}
 use Rattle.cn_log.specs.declared.caller_state.Phase.TheVariants.{Idle, Looks, Runs}
-use Rattle.cn_hall.specs.declared.transfers.Standing.{Standing}
+use Rattle.cn_hall.specs.declared.standing.Standing.{Standing}
 use Rattle.cn_hall.specs.declared.rule.Item.{Item}
 use Rattle.cn_hall.specs.declared.rule.Pair.{Pair}
 use Rattle.cn_hall.specs.declared.rule.Stage.TheVariants.{Live}
@@ -106,7 +106,7 @@ SitsAs v p core = v ≡ view_of Live (pair p core ∷ []) v.notes None
 
 -- how far a process has come in the core
 abbrev pub IsStanding : Log → ℕ → Standing → Type 0
-IsStanding core p x = (x.seen ≡ length (seen_of (setting core) core.schedule p)) × (x.slots ≡ length (caller_at core p).seen)
+IsStanding core p x = (x.entries ≡ length (seen_of (setting core) core.schedule p)) × (x.slots ≡ length (caller_at core p).seen)
     × (x.slots ≤ core.opening.capacity) × (x.in_call ≡ is_in_call (caller_at core p).phase)
 
 -- the process took a step in a later core, before which it had done nothing since

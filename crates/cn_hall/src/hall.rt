@@ -177,7 +177,7 @@ impl Hall {
         events::look(rt, &self.queue, &mut second.pass, &mut first.pass, two);
         every_caller();
         every_call();
-        first.standing.seen.cmp(&second.standing.seen)
+        first.standing.entries.cmp(&second.standing.entries)
     }
 
     /// Takes the core out for good. It carries each seat's core further, with no event since of the

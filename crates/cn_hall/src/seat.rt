@@ -3,7 +3,7 @@ ghost use Rattle.std.specs.Prelude.{◌≡◌, ◌≢◌, ◌≤◌, ◌↔◌, 
 ghost use Rattle.cn_hall.specs.Seats.{pending, entries_seen, slots_seen};
 
 use crate::rule::Pass;
-use crate::transfers::Standing;
+use crate::standing::Standing;
 use std::marker::Model;
 
 /// What a thread has of a hall: a process, how far it has come, and the core as it was when the seat
@@ -52,7 +52,7 @@ impl Seat {
     pub fn seen_entries(&self) -> u16
         ensures number { result ≡ length (entries_seen self.now) }
     {
-        self.standing.seen
+        self.standing.entries
     }
 
     /// How many slots the seat has seen: its process has applied them. At the capacity of the log

@@ -2,42 +2,13 @@
 ghost use Rattle.std.specs.Prelude.{◌≡◌, ◌<◌, Some, []};
 ghost use Rattle.cn_hall.specs.Rule.{FitsItem, Holds, IsOneEventLater, IsOneSeatMore, MayPut, bare_view, first_view, holding_view, later_view, opened_view, seated_view};
 ghost use Rattle.cn_hall.specs.declared.rule.Stage.TheVariants.{Live};
-ghost use Rattle.cn_proto.specs.Plan.{processes_of};
-ghost use Rattle.cn_hall.specs.Seats.{IsLog, IsStanding};
 ghost use Rattle.crossbeam_queue.specs.Fifo.{Learns, Pushes};
 ghost use Rattle.crossbeam_queue.specs.Passes.{view, IsPassOf, IsSamePass, ruled_capacity};
 
-use crate::laws;
 use crate::rule::{Item, Pass, Puts, Queue, Takes};
-use cn_log::LogCore;
 use std::sync::Wait;
 use std::sync::atomic::{AtomicU64, Ordering};
 use std::thread;
-
-/// How far a process has come in the core: how many entries and how many slots it has seen, and
-/// whether it is in a call.
-#[derive(Clone, Copy)]
-pub(crate) struct Standing {
-    pub seen: u16,
-    pub slots: u16,
-    pub in_call: bool,
-}
-
-impl Standing {
-    /// That of a process of the core.
-    pub(crate) fn of(core: &LogCore, process: u8) -> Standing
-        requires { process < processes_of core.now.opening.plan }
-        ensures standing { IsStanding core.now process result }
-        ensures log { IsLog core.now }
-    {
-        laws::cores_are_logs(core);
-        Standing {
-            seen: core.applied_entries(process),
-            slots: core.applied_slots(process),
-            in_call: !core.is_idle(process),
-        }
-    }
-}
 
 /// How far a thread counts before it looks for the core again: for some 10 microseconds.
 const SPINS: u32 = 2_000;

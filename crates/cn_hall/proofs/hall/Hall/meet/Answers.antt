@@ -33,6 +33,6 @@ returns-clause-seen g c = let see = both_see _ _ c.args.first.now c.args.second.
 
 pub returns-clause-order : goal.returns-clause-order
 returns-clause-order g c =
-    let one : c.first.inside.standing.seen ≡ length (entries_seen c.args.first.now) = c.first.invariant.4.0 ∙ ap (λ (s : SeatState). length (entries_seen s)) c.first.view_is in
-    let two : c.second.inside.standing.seen ≡ length (entries_seen c.args.second.now) = c.second.invariant.4.0 ∙ ap (λ (s : SeatState). length (entries_seen s)) c.second.view_is in
+    let one : c.first.inside.standing.entries ≡ length (entries_seen c.args.first.now) = c.first.invariant.4.0 ∙ ap (λ (s : SeatState). length (entries_seen s)) c.first.view_is in
+    let two : c.second.inside.standing.entries ≡ length (entries_seen c.args.second.now) = c.second.invariant.4.0 ∙ ap (λ (s : SeatState). length (entries_seen s)) c.second.view_is in
     rw (← one, ← two) (search rules)
