@@ -1,5 +1,5 @@
 //! Whole schedules: lists of the processes that take the steps.
-ghost use Rattle.std.specs.Prelude.{◌≡◌, ◌<◌, ◌⊎◌, length, Err, IfErr, IfOk, OnOk, None, Some, nat_le, position};
+ghost use Rattle.std.specs.Prelude.{◌≡◌, ◌⊎◌, length, Err, IfErr, IfOk, OnOk, None, Some, nat_le, position};
 ghost use Rattle.cn_proto.specs.Plan.{protocol_of, processes_of, nodes_of};
 ghost use Rattle.cn_agree.specs.Beginning.{AllHaveBegun, HaveBegun};
 ghost use Rattle.cn_agree.specs.Consensus.{IsConsensus, IsSchedule};

@@ -1,5 +1,5 @@
 -- Arrays, an item after another, and values of other kinds than the wanted one.
-use Rattle.std.proofs.Common.{◌≡◌, ℕ, zero, suc, append-nil, ◌-◌, ◌<◌, List, [], ◌∷◌, ◌++◌, length, Bool, true, false, Option, Some, None, Result, Ok, Err, IfOk, IfErr, option_map, option_and_then, refl, sym, ap, ◌∙◌, subst, arith, inl, inr, ◌==◌, Bor}
+use Rattle.std.proofs.Common.{◌≡◌, ℕ, zero, suc, append-nil, ◌<◌, List, [], ◌∷◌, ◌++◌, length, Bool, true, false, Option, Some, None, Result, Ok, Err, IfOk, IfErr, option_map, option_and_then, refl, sym, ap, ◌∙◌, subst, arith, inl, inr, ◌==◌, Bor}
 use Rattle.json.specs.Json.{after_end_array, value}
 use Rattle.json.specs.Token.{Token}
 use Rattle.serde_json.specs.Data.{Num, Data, null, boolean, number, string, array, object, Items, no_items, item}

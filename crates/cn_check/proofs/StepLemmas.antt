@@ -1,5 +1,5 @@
 -- Lists that never fall: the first of its length, and the one that comes next.
-use Rattle.std.proofs.Common.{◌≡◌, ℕ, zero, suc, ◌+◌, ◌-◌, ◌<◌, ◌≤◌, List, [], ◌∷◌, ◌++◌, length, length-append, length-drop, length-take-le, append-nil, get_or, set, take, drop, drop-cons, refl, sym, ap, ◌∙◌, arith, ltb, replicate, All}
+use Rattle.std.proofs.Common.{◌≡◌, ℕ, zero, suc, ◌+◌, ◌-◌, ◌<◌, ◌≤◌, List, [], ◌∷◌, ◌++◌, length, length-append, length-drop, length-take-le, append-nil, get_or, set, take, drop, drop-cons, refl, sym, ap, ◌∙◌, arith, replicate, All}
 use Rattle.std.specs.List.{AllByRecursion, refill}
 use Rattle.std.proofs.lemmas.Bool.{lt-ltb}
 use Rattle.std.proofs.lemmas.List.{drop_all, length-replicate, set-append_right, take-append-drop, take_all}

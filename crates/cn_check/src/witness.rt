@@ -59,7 +59,14 @@ fn walk(
     for next in 0..processes(table, choice) {
         if !has_moved(used, next) {
             let (response, after) = move_of(table, choice, next, state);
-            let later = walk(end_sets, pairs, table, choice, with_moved(used, next), after);
+            let later = walk(
+                end_sets,
+                pairs,
+                table,
+                choice,
+                with_moved(used, next),
+                after,
+            );
             pairs.add(next, response, later);
             ends = union(ends, later);
         }

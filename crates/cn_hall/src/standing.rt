@@ -1,4 +1,5 @@
 //! How far a process has come in the core.
+ghost use Rattle.std.specs.Prelude.{◌<◌};
 ghost use Rattle.cn_proto.specs.Plan.{processes_of};
 ghost use Rattle.cn_hall.specs.Seats.{IsLog, IsStanding};
 

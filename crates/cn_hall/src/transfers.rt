@@ -1,5 +1,5 @@
 //! One removal of the core from the queue, or its return.
-ghost use Rattle.std.specs.Prelude.{◌≡◌, ◌<◌, Some, []};
+ghost use Rattle.std.specs.Prelude.{◌≡◌, Some, []};
 ghost use Rattle.cn_hall.specs.Rule.{FitsItem, Holds, IsOneEventLater, IsOneSeatMore, MayPut, bare_view, first_view, holding_view, later_view, opened_view, seated_view};
 ghost use Rattle.cn_hall.specs.declared.rule.Stage.TheVariants.{Live};
 ghost use Rattle.crossbeam_queue.specs.Fifo.{Learns, Pushes};

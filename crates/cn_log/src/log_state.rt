@@ -20,11 +20,11 @@ ghost use Rattle.cn_choice.specs.declared.limits.TheConstants.{MOST_PROCESSES};
 
 use crate::batch::{Batch, count, put_batch, state_after};
 use crate::call_counts::CallCounts;
+use crate::caller_state::{CallerState, Phase};
 use crate::entry::Entry;
 use crate::event::StepAnswer;
 use crate::laws::openings_are_valid;
 use crate::opening::Opening;
-use crate::caller_state::{Phase, CallerState};
 use cn_agree::Round;
 use cn_table::{Operation, Response, State};
 use std::alloc::{AllocError, Global};
