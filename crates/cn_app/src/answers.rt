@@ -1,6 +1,6 @@
 //! What comes of events, one after the other.
 ghost use Rattle.std.specs.Prelude.{◌≡◌, ◌≢◌, ◌<◌, ◌≤◌, ◌+◌, ◌++◌, ◌∷◌, [], List, length, vec_capacity, vec_len, IfErr, IfOk, OnOk};
-ghost use Rattle.cn_log.specs.Faults.{IsFirstFault};
+ghost use Rattle.cn_log.specs.Faults.{IsFirstEventFault};
 ghost use Rattle.cn_log.specs.Linearized.{IsLinearized};
 ghost use Rattle.cn_log.specs.Log.{IsEventList};
 ghost use Rattle.cn_log.specs.Opening.{setting, setting_of};
@@ -25,7 +25,7 @@ fn come(core: &mut LogCore, event: Event, ends: &mut Vec<CallEnd>) -> Result<(),
     ensures core { OnOk result (core.new ≡ record core.old { schedule = core.old.schedule ++ event ∷ [] }) }
     ensures ends { OnOk result (ends.new.items ≡ ends.old.items ++ ends_by (setting core.old) core.old.schedule event) }
     ensures responses { OnOk result (HaveResponses core.old.opening.object (ends_by (setting core.old) core.old.schedule event)) }
-    ensures first { IfErr result (λ fault. (rest : List EventOf) → IsFirstFault (setting core.old) (core.old.schedule ++ event ∷ rest) fault) }
+    ensures first { IfErr result (λ fault. (rest : List EventOf) → IsFirstEventFault (setting core.old) (core.old.schedule ++ event ∷ rest) fault) }
     ensures few { length ends.new.items ≤ length ends.old.items + 1 }
     ensures room { vec_capacity ends.new ≡ vec_capacity ends.old }
 {
@@ -46,7 +46,7 @@ pub(crate) fn answers_of(
     ensures schedule { IfOk result (λ replayed. replayed.core.schedule ≡ events.now) }
     ensures ends { IfOk result (λ replayed. replayed.ends.items ≡ ends_after (setting_of opening) [] events.now) }
     ensures responses { IfOk result (λ replayed. HaveResponses opening.object replayed.ends.items) }
-    ensures fault { IfErr result (λ fault. fault ≢ OutOfMemory → IsFirstFault (setting_of opening) events.now fault) }
+    ensures fault { IfErr result (λ fault. fault ≢ OutOfMemory → IsFirstEventFault (setting_of opening) events.now fault) }
     ensures events { OnOk result (IsEventList (setting_of opening) events.now) }
     ensures linearized { OnOk result (IsLinearized (setting_of opening) events.now) }
 {
@@ -55,6 +55,6 @@ pub(crate) fn answers_of(
     for event in events {
         come(&mut core, *event, &mut ends)?;
     }
-    core.is_linearized();
+    cn_log::laws::logs_are_linearized(&core);
     Ok(Replayed { core, ends })
 }

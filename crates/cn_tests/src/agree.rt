@@ -92,7 +92,7 @@ fn comes_to(
 ) -> Result<bool, AllocError> {
     assert!(rt; plan.processes() == 2);
     let round = replay(rt, alloc, plan, &[('a', true), ('b', false)], schedule)?;
-    let is_right = is_second(round.fixed(), is_fixed);
+    let is_right = is_second(round.fixed_value(), is_fixed);
     let decided = decision_of(plan, &round, 0);
     Ok(is_right && is_second(decided, is_decided) && decision_of(plan, &round, 1).is_none())
 }

@@ -25,7 +25,7 @@ impl Gate for StopsAt {
         self.last
     }
 
-    fn said(&self) -> Go {
+    fn last_answer(&self) -> Go {
         self.last
     }
 }
@@ -59,7 +59,7 @@ impl Gate for Holds<'_> {
         self.last
     }
 
-    fn said(&self) -> Go {
+    fn last_answer(&self) -> Go {
         self.last
     }
 }
@@ -98,7 +98,7 @@ impl Gate for WritesDown {
         Go::On
     }
 
-    fn said(&self) -> Go {
+    fn last_answer(&self) -> Go {
         Go::On
     }
 }

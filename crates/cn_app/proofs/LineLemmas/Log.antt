@@ -11,7 +11,7 @@ use Rattle.cn_log.specs.declared.event.CallEnd.{CallEnd}
 use Rattle.cn_log.specs.declared.event.Event.{Event}
 use Rattle.cn_log.specs.declared.event.Event.TheVariants.{Invoke}
 use Rattle.cn_log.specs.declared.fault.ReplayFault.{ReplayFault}
-use Rattle.cn_log.specs.Faults.{IsFirstFault}
+use Rattle.cn_log.specs.Faults.{IsFirstEventFault}
 use Rattle.cn_log.specs.Linearized.{IsLinearized}
 use Rattle.cn_log.specs.Log.{Setting, World, IsEventList, MayAllCome, MayCome, after_event, after_events, entries, first_world, state_of}
 use Rattle.cn_lines.specs.Log.{HaveResponses}
@@ -36,11 +36,11 @@ module _ {R : Type 0} (L : Setting R) where
 
 -- the fault of an event behind the first of a list, in whatever list it stands so, is that of the first event of the list that cannot come
 pub first_in_list : {R : Type 0} (L : Setting R) (events : List Event) (k : ℕ) (d : Event) (s : List Event) (fault : ReplayFault) → s ≡ take k events → k < length events
-    → ((rest : List Event) → IsFirstFault L (s ++ slice_index_or events k d ∷ rest) fault) → IsFirstFault L events fault
+    → ((rest : List Event) → IsFirstEventFault L (s ++ slice_index_or events k d ∷ rest) fault) → IsFirstEventFault L events fault
 first_in_list L events k d s fault is less first =
     let e : Event = slice_index_or events k d in
     let parted = ap (λ front. front ++ e ∷ drop (suc k) events) is ∙ ap (λ rest. take k events ++ rest) (sym (drop-cons events k d less)) ∙ take-append-drop k events in
-    subst (λ (es : List Event). IsFirstFault L es fault) parted (first (drop (suc k) events))
+    subst (λ (es : List Event). IsFirstEventFault L es fault) parted (first (drop (suc k) events))
 
 -- more calls that ended have responses too
 pub responses_more : (object other : TypeTable) (ends more : List CallEnd) → other ≡ object → HaveResponses object ends → HaveResponses other more → HaveResponses object (ends ++ more)

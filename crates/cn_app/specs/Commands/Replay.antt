@@ -4,7 +4,7 @@ use Rattle.std.specs.List.{list_any}
 use Rattle.cn_log.specs.Log.{IsEventList, entries}
 use Rattle.cn_log.specs.Linearized.{IsLinearized, entry_slots}
 use Rattle.cn_log.specs.Opening.{Opening, setting_of}
-use Rattle.cn_log.specs.Faults.{IsFirstFault}
+use Rattle.cn_log.specs.Faults.{IsFirstEventFault}
 use Rattle.cn_log.specs.declared.event.CallEnd.{CallEnd}
 use Rattle.cn_log.specs.declared.event.Event.{Event}
 use Rattle.cn_log.specs.declared.fault.ReplayFault.{ReplayFault}
@@ -30,7 +30,7 @@ pub record IsServed (o : Opening) (events : List Event) (lines : List ℕ) (outc
 
 -- e is for the first event that cannot come
 abbrev pub IsEventFault : Opening → List Event → AppFault → Type 0
-IsEventFault o events e = (fault : ReplayFault) × IsFirstFault (setting_of o) events fault × (e ≡ Replay fault)
+IsEventFault o events e = (fault : ReplayFault) × IsFirstEventFault (setting_of o) events fault × (e ≡ Replay fault)
 
 -- serving fails with e: an event cannot come, or, where each can, that writing failed
 abbrev pub ServingFails : Opening → List Event → AppFault → Type 0

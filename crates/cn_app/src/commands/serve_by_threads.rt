@@ -70,7 +70,7 @@ where
     }
     let core = LogCore::open(alloc, opening)?;
     let left = serve_calls(rt, alloc, core, calls, make_gate)?;
-    left.core.is_linearized();
+    cn_log::laws::logs_are_linearized(&left.core);
     let opening = left.core.opening();
     let lines = left_lines(alloc, opening.object(), opening.start(), &left)?;
     let outcome = outcome_of_calls(&left.worked);

@@ -93,7 +93,7 @@ pub(crate) fn left_lines(
     requires range { EachHasResponses object.now left.now.worked.items }
     ensures { IfOk result (λ lines. string_bytes lines ≡ left_lines object.now start.0 left.now.worked.items left.now.core) }
 {
-    left.core.is_linearized();
+    cn_log::laws::logs_are_linearized(&left.core);
     let mut lines = worked_lines(alloc, object, &left.worked)?;
     let entries = entry_lines(alloc, object, start, &left.core)?;
     lines.push_str(&entries)?;

@@ -5,7 +5,7 @@ use crate::app::runs::test_and_set_shown;
 use crate::fixtures::{choice_of, events_of, plan_for_two, table_of};
 use crate::hall::core_after;
 use crate::types::*;
-use cn_agree::{Decided, ScheduleFault, run_schedule};
+use cn_agree::{Decisions, ScheduleFault, run_schedule};
 use cn_hall::{OpenFault, open};
 use cn_log::{Event, LogCore, ReplayFault, replay};
 use cn_proto::{Plan, PlanFault};
@@ -88,7 +88,7 @@ const INPUTS: [u64; 2] = [10, 20];
 
 /// What a round has fixed after these steps.
 fn fixed(rt: &impl Abort, alloc: Global, plan: &Plan) -> Result<Option<u64>, AllocError> {
-    Ok(agree::replay(rt, alloc, plan, &INPUTS, &STEPS)?.fixed())
+    Ok(agree::replay(rt, alloc, plan, &INPUTS, &STEPS)?.fixed_value())
 }
 
 fn round_ended(fixed: Result<Option<u64>, AllocError>) -> Ended {
@@ -106,7 +106,7 @@ fn rounds(rt: HostRuntime) -> Result<(), Fail> {
     Ok(())
 }
 
-fn schedule_ended(ran: Result<Decided, ScheduleFault>) -> Ended {
+fn schedule_ended(ran: Result<Decisions, ScheduleFault>) -> Ended {
     match ran {
         Ok(decided) => Ended::whole_if(decided.decisions.as_slice() == [Some(20), None].as_slice()),
         Err(fault) => Ended::out_of_memory_if(fault == ScheduleFault::OutOfMemory),

@@ -2,7 +2,7 @@ use Rattle.std.proofs.Common.{◌≡◌, ◌∙◌, ◌++◌, List, ap, append-n
 use Rattle.std.proofs.lemmas.Grind.{common_steps}
 use Rattle.std.proofs.lemmas.List.{drop_all, take_all}
 use Rattle.std.proofs.lemmas.Result.{err_from_is_err_and}
-use Rattle.cn_log.specs.Faults.{IsFirstFault}
+use Rattle.cn_log.specs.Faults.{IsFirstEventFault}
 use Rattle.cn_log.specs.Linearized.{IsLinearized}
 use Rattle.cn_log.specs.Log.{IsEventList}
 use Rattle.cn_log.specs.Opening.{Opening, setting, setting_of}
@@ -31,7 +31,7 @@ returns-in_err-come-clause-fault c =
     let i = c.loop-event.invariant in
     let core = c.loop-event.core in
     let fault = c.in_err-come.field-0.0 in
-    rw (p.1, p.2) (λ memory. subst (λ (o : Opening). IsFirstFault (setting_of o) c.args.events.now fault) i.opening
+    rw (p.1, p.2) (λ memory. subst (λ (o : Opening). IsFirstEventFault (setting_of o) c.args.events.now fault) i.opening
     (first_in_list (setting core) c.args.events.now c.loop-event.event-index _ core.schedule fault i.schedule c.loop-event-test.true c.in_err-come.ensures.first))
 
 pub returns-clause-schedule : goal.returns-clause-schedule
@@ -49,11 +49,11 @@ returns-clause-events c =
     let i = c.loop-event.invariant in
     let all : c.loop-event.core.schedule ≡ c.args.events.now = i.schedule ∙ take_all c.loop-event.event-index c.args.events.now c.loop-event-test.false in
     subst (λ (o : Opening). IsEventList (setting_of o) c.args.events.now) i.opening
-    (subst (λ (es : List Event). IsEventList (setting c.loop-event.core) es) all c.is_linearized.ensures.events)
+    (subst (λ (es : List Event). IsEventList (setting c.loop-event.core) es) all c.logs_are_linearized.ensures.events)
 
 pub returns-clause-linearized : goal.returns-clause-linearized
 returns-clause-linearized c =
     let i = c.loop-event.invariant in
     let all : c.loop-event.core.schedule ≡ c.args.events.now = i.schedule ∙ take_all c.loop-event.event-index c.args.events.now c.loop-event-test.false in
     subst (λ (o : Opening). IsLinearized (setting_of o) c.args.events.now) i.opening
-    (subst (λ (es : List Event). IsLinearized (setting c.loop-event.core) es) all c.is_linearized.ensures.linearized)
+    (subst (λ (es : List Event). IsLinearized (setting c.loop-event.core) es) all c.logs_are_linearized.ensures.linearized)

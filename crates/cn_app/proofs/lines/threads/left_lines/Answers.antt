@@ -5,4 +5,4 @@ use Rattle.cn_app.proofs.lines.threads.left_lines.Goals as goal
 pub entry_lines-requires-clause-known : goal.entry_lines-requires-clause-known
 entry_lines-requires-clause-known c =
     rw (← c.requires.object)
-    (known_entries (setting c.args.left.now.core) c.args.left.now.core.schedule c.is_linearized.ensures.events c.is_linearized.ensures.linearized)
+    (known_entries (setting c.args.left.now.core) c.args.left.now.core.schedule c.logs_are_linearized.ensures.events c.logs_are_linearized.ensures.linearized)
