@@ -5,7 +5,7 @@ use Rattle.cn_table.specs.TypeTable.{TypeTable}
 use Rattle.cn_choice.specs.declared.team.Team.TheVariants.{A, B}
 use Rattle.cn_choice.specs.RawChoices.{RawChoice}
 use Rattle.cn_choice.specs.Collisions.{IsCollision}
-use Rattle.cn_check.specs.Seeing.{Shows}
+use Rattle.cn_check.specs.ShownPairs.{Shows}
 
 -- both orders show one pair
 abbrev pub ShowOnePair : Option (ℕ × ℕ) → Option (ℕ × ℕ) → Type 0

@@ -4,7 +4,7 @@ pub mod FaultText
 pub mod PartFaults
 pub mod Progress
 pub mod Runs
-pub mod Seeing
+pub mod ShownPairs
 pub mod Seen
 pub mod Verdict
 pub mod Versions

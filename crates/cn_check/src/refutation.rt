@@ -11,7 +11,7 @@ ghost use Rattle.cn_check.specs.Progress.{AreRefuted, ComeNext, HasComeTo, IsFir
 ghost use Rattle.cn_check.specs.Versions.{choices_in_version};
 
 use crate::CheckFault;
-use crate::seeing::pair_shown;
+use crate::shown_pairs::pair_shown;
 use crate::steps::{first_beside, step, zeros};
 use cn_choice::laws::{canonical_list, live_list};
 use cn_choice::{Choice, Collision, Team};
