@@ -17,8 +17,8 @@ use Rattle.cn_choice.specs.Moves.{answer_of, next_of}
 use Rattle.cn_choice.proofs.Members.{IsIn}
 use Rattle.cn_choice.proofs.Walks.{first_some, pair_of-response_of}
 use Rattle.cn_choice.specs.OutcomeSets.{response_of}
-use Rattle.cn_choice.proofs.LastMoves.{Known, response_along_last}
 use Rattle.cn_outcomes.proofs.LastProcess.{Exactly, ending, with_last, alone, order_before, begins_more, state_along, finds_from, exactly_from, exactly_to, known_from, same_or_not, bit_from, set_from}
+use Rattle.cn_choice.proofs.LastMoves.{Known, after, along, last_self, pair_whole, response_along_last}
 
 map_some : {X Y : Type 0} (f : X → Y) (k : Option X) (y : Y) → option_map f k ≡ Some y → (x : X) × (k ≡ Some x) × (f x ≡ y)
 map_some f None y e = absurd (cc e)

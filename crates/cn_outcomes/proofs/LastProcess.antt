@@ -19,6 +19,7 @@ use Rattle.cn_choice.specs.Moves.{next_of}
 use Rattle.cn_choice.proofs.Members.{IsIn, IsIn-append_left, IsIn-append_right, IsIn-append_cases, each_from, each_at, Contains-from_IsIn, IsIn-from_Contains}
 use Rattle.cn_choice.proofs.ArrangementLemmas.{Differ}
 use Rattle.cn_choice.proofs.Listing.{differ_from}
+use Rattle.cn_choice.proofs.LastMoves.{Known, known_last, order_from}
 
 -- ---- bits
 

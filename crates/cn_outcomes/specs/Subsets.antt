@@ -9,6 +9,7 @@ use Rattle.cn_choice.specs.Orders.{IsOrder}
 use Rattle.cn_choice.specs.OutcomeSets.{BeginsIn, operations_of, pair_of}
 use Rattle.cn_outcomes.specs.PairSets.{Has}
 use Rattle.cn_outcomes.specs.Twins.{IsPacked}
+use Rattle.cn_choice.specs.Moves.{answer_of, next_of}
 
 -- an order of exactly the processes of the subset
 pub record IsOrderOf (n subset : ℕ) (order : List ℕ) : Type 0 where
