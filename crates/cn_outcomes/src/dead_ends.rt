@@ -1,5 +1,5 @@
 //! Places from which an order cannot go on into a set.
-ghost use Rattle.std.specs.Prelude.{◌≡◌, ◌<◌, ◌⊎◌, ℕ, Option, IfSome, IsTrue, Bool, true, false};
+ghost use Rattle.std.specs.Prelude.{◌≡◌, ◌<◌, ◌⊎◌, ℕ, Option, IfSome, IsTrue};
 ghost use Rattle.cn_table.specs.declared.limits.TheConstants.{MOST_RESPONSES, MOST_STATES};
 ghost use Rattle.cn_outcomes.specs.Tails.{IsKept, rank_of};
 ghost use Rattle.cn_outcomes.specs.declared.limits.TheConstants.{RANKS, SUBSETS};

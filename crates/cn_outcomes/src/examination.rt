@@ -1,7 +1,7 @@
 //! Whether a choice is a witness, and the collision that is recorded where it is none.
-ghost use Rattle.std.specs.Prelude.{◌≡◌, ◌<◌, ◌≤◌, ◌+◌, ◌↔◌, ℕ, List, length, ◌^◌, IsBitSet, IfNone, IfSome, IsFalse, Some};
+ghost use Rattle.std.specs.Prelude.{◌≡◌, ◌<◌, ◌≤◌, ◌+◌, ◌↔◌, ℕ, List, length, ◌^◌, IsBitSet, IfNone, IfSome, IsFalse};
 ghost use Rattle.cn_table.specs.declared.limits.TheConstants.{MOST_RESPONSES, MOST_STATES};
-ghost use Rattle.cn_choice.specs.RawChoices.{RawChoice, IsRawChoice};
+ghost use Rattle.cn_choice.specs.RawChoices.{IsRawChoice};
 ghost use Rattle.cn_outcomes.specs.Examination.{IsExamined};
 ghost use Rattle.cn_choice.specs.Canonical.{FitsTable, raw_choice_of};
 ghost use Rattle.cn_choice.specs.FirstCollision.{IsFirstCollision};

@@ -1,5 +1,5 @@
 //! Neighbours with the same operation in the same team, which can stand for each other.
-ghost use Rattle.std.specs.Prelude.{◌≡◌, ◌+◌, ◌-◌, ◌<◌, ◌≤◌, ◌↔◌, ℕ, length, IsBitSet, IsTrue};
+ghost use Rattle.std.specs.Prelude.{◌≡◌, ◌-◌, ◌<◌, ◌≤◌, ◌↔◌, ℕ, length, IsBitSet, IsTrue};
 ghost use Rattle.cn_outcomes.specs.Twins.{AreLinks, AreTwins, IsMover, IsPacked, IsRun};
 ghost use Rattle.cn_choice.specs.declared.limits.TheConstants.{MOST_PROCESSES};
 
