@@ -14,7 +14,7 @@ use Rattle.cn_choice.specs.RawChoices.{RawChoice}
 use Rattle.cn_choice.specs.Orders.{IsOrder}
 use Rattle.cn_choice.specs.OutcomeSets.{BeginsIn, InOutcomeSet, operations_of, response_of}
 use Rattle.cn_check.specs.Runs.{AreMoves, EndsIn, IsIn, ShowsBy, ShowsFrom, with_mover}
-use Rattle.cn_choice.specs.Subsets.{move_of}
+use Rattle.cn_choice.specs.Moves.{move_of}
 use Rattle.cn_check.proofs.SetLemmas.{moved_before, moved_other, moved_same, none_in_0}
 use Rattle.cn_check.proofs.WalkLemmas.{IsSeenAlong}
 

@@ -6,7 +6,7 @@ use Rattle.cn_table.specs.Run.{responses_along, state_after}
 use Rattle.cn_table.specs.TypeTable.{TypeTable}
 use Rattle.cn_choice.specs.RawChoices.{RawChoice}
 use Rattle.cn_choice.specs.OutcomeSets.{operations_of, response_of}
-use Rattle.cn_choice.specs.Subsets.{move_of}
+use Rattle.cn_choice.specs.Moves.{move_of}
 
 -- the number is in the set: sets of small numbers are the bits of a number
 abbrev pub IsIn : ℕ → ℕ → Type 0

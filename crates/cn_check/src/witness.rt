@@ -4,7 +4,7 @@ ghost use Rattle.cn_choice.specs.Canonical.{FitsTable, raw_choice_of};
 ghost use Rattle.cn_choice.specs.Discerning.{IsWitness, OutcomeSetsMeet};
 ghost use Rattle.cn_choice.specs.OutcomeSets.{InOutcomeSet};
 ghost use Rattle.cn_check.specs.Runs.{EndsIn, IsIn, ShowsFrom};
-ghost use Rattle.cn_choice.specs.Subsets.{move_of};
+ghost use Rattle.cn_choice.specs.Moves.{move_of};
 ghost use Rattle.cn_check.specs.WalkedRuns.{AreWalked, HasPair};
 
 use crate::choice::{operation_of, processes, team_of};

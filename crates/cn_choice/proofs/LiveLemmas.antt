@@ -14,7 +14,7 @@ use Rattle.cn_choice.specs.Discerning.{IsDiscerning, IsWitness}
 use Rattle.cn_choice.specs.Live.{IsLive, all_move, is_live, live_blocks, live_choices, live_in}
 use Rattle.cn_choice.specs.RawChoices.{IsRawChoice, RawChoice}
 use Rattle.cn_choice.specs.OutcomeSets.{InOutcomeSet}
-use Rattle.cn_choice.specs.Subsets.{answer_of, next_of}
+use Rattle.cn_choice.specs.Moves.{answer_of, next_of}
 use Rattle.cn_choice.proofs.Ascending.{canonical_ascend}
 use Rattle.cn_choice.proofs.BlockLemmas.{blocks_are, blocks_cover, blocks_listed}
 use Rattle.cn_choice.proofs.CanonicalForms.{canonical_listed, coverage}

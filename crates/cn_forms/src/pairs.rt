@@ -1,11 +1,12 @@
 //! The pairs that the processes of a choice can get, by the team that moves first.
 ghost use Rattle.std.specs.Prelude.{◌≡◌, ◌↔◌, ◌+◌, ◌<◌, ◌++◌, ℕ, Bool, length, slice_get, string_bytes, All, IfOk, IfSome, IsTrue, OnOk};
 ghost use Rattle.cn_choice.specs.Canonical.{FitsTable};
-ghost use Rattle.cn_choice.specs.OutcomeSets.{Has};
+ghost use Rattle.cn_outcomes.specs.PairSets.{Has};
 ghost use Rattle.cn_forms.specs.Pairs.{before_left, before_right, pair_words, pairs_if, left_gap, left_part, pair_row, pair_rows, right_part, seen_pairs, seen_rows};
 
 use crate::laws::told_pairs;
-use cn_choice::{Choice, OutcomeSet, Team, outcomes};
+use cn_choice::{Choice, Team};
+use cn_outcomes::{OutcomeSet, outcomes};
 use cn_table::{Response, State, Table};
 use std::alloc::{AllocError, Global};
 

@@ -1,7 +1,8 @@
 //! The search choice by choice, in one thread and with nothing left out, to compare with.
 ghost use Rattle.std.specs.Prelude.{◌≤◌};
 
-use cn_choice::{Choice, Choices, Collision, Examined, examine};
+use cn_choice::{Choice, Choices, Collision};
+use cn_outcomes::{Examined, examine};
 use cn_search::Finding;
 use cn_table::Table;
 use std::alloc::Global;

@@ -5,7 +5,7 @@ use Rattle.cn_choice.specs.contracts.team.Team.{the_type}
 use Rattle.cn_choice.specs.Canonical.{raw_choice_of}
 use Rattle.cn_choice.specs.RawChoices.{RawChoice}
 use Rattle.cn_check.specs.Runs.{IsIn, ShowsFrom}
-use Rattle.cn_choice.specs.Subsets.{move_of}
+use Rattle.cn_choice.specs.Moves.{move_of}
 use Rattle.cn_check.specs.WalkedRuns.{HasPair}
 use Rattle.cn_check.proofs.RunLemmas.{Below, ShowsFirst, as_other, below_next, both_cases, no_case, or_next, orders_by_first, shows_by}
 use Rattle.cn_check.proofs.WalkedLemmas.{walked_more}

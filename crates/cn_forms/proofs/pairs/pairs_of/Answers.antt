@@ -1,6 +1,6 @@
 use Rattle.std.proofs.Common.{◌↔◌, ◌≤◌, ℕ, Bool, IsTrue, [], arith, length}
 use Rattle.std.proofs.lemmas.List.Elements.{All-same}
-use Rattle.cn_choice.specs.OutcomeSets.{Has}
+use Rattle.cn_outcomes.specs.PairSets.{Has}
 use Rattle.cn_forms.specs.Pairs.{pairs_if, sees}
 use Rattle.cn_forms.proofs.PairLemmas.{IsBelow, all_below}
 use Rattle.cn_forms.proofs.Pieces.{piece_more}

@@ -1,6 +1,6 @@
 use Rattle.std.proofs.Common.{◌≡◌, ◌++◌, ◌↔◌, ℕ, Bool, IsTrue, flat_map}
 use Rattle.std.specs.List.{range_with_len}
-use Rattle.cn_choice.specs.OutcomeSets.{Has}
+use Rattle.cn_outcomes.specs.PairSets.{Has}
 use Rattle.cn_forms.specs.Pairs.{pair_if}
 use Rattle.cn_forms.proofs.pairs.push_pairs.Given as goal
 

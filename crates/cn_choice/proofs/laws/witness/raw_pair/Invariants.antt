@@ -1,7 +1,0 @@
-use Rattle.std.proofs.Common.{◌<◌, IfSome, length}
-use Rattle.cn_choice.proofs.Walks.{Walked}
-use Rattle.cn_choice.proofs.laws.witness.raw_pair.Given as goal
-
--- the pair so far, and its response is one of the type's
-abbrev pub invariant-loop-p : goal.invariant-loop-p
-invariant-loop-p l = Walked l.table l.choice l.order l.process l.p-index l.state.0 l.kept × IfSome l.kept (λ response. response < length l.table.responses)

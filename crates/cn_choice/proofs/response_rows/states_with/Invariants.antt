@@ -1,8 +1,0 @@
-use Rattle.std.proofs.Common.{◌≡◌, ◌<◌, ◌↔◌, ℕ}
-use Rattle.std.specs.Prelude.{IsBitSet}
-use Rattle.cn_table.specs.TypeTable.{transition}
-use Rattle.cn_choice.proofs.response_rows.states_with.Given as goal
-
--- those of the states so far
-abbrev pub invariant-loop-state : goal.invariant-loop-state
-invariant-loop-state l = (q : ℕ) → IsBitSet l.set q ↔ ((q < l.state) × ((transition l.table l.operation.0 q).0 ≡ l.response.0))

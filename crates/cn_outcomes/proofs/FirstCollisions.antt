@@ -1,0 +1,74 @@
+-- The first collision of a process, found in the list of all orders.
+use Rattle.std.specs.Prelude.{IsBitSet}
+use Rattle.std.proofs.Common.{◌≡◌, ℕ, ◌<◌, List, refl, sym, ◌∙◌, ◌↔◌, Option, Some, None}
+use Rattle.cn_choice.specs.declared.team.Team.TheVariants.{A, B}
+use Rattle.cn_table.specs.TypeTable.{TypeTable}
+use Rattle.cn_choice.specs.RawChoices.{RawChoice}
+use Rattle.cn_choice.specs.FirstCollision.{IsFirstCollision}
+use Rattle.cn_outcomes.specs.OutcomeOrders.{IsFirstInto, LeadsInto, NoneInto}
+use Rattle.cn_outcomes.specs.PairSets.{Has, HaveCommonPair}
+use Rattle.cn_choice.specs.OutcomeSets.{InOutcomeSet, pair_of}
+use Rattle.cn_choice.specs.Collisions.{IsCollision}
+use Rattle.cn_outcomes.specs.Twins.{AreLinks}
+use Rattle.cn_outcomes.proofs.Packing.{linked_outcomes}
+use Rattle.cn_choice.proofs.Walks.{the_pair}
+
+pub same_pair : (a b x y : ℕ) → a ≡ x → b ≡ y → ◌≡◌ {A = Option (ℕ × ℕ)} (Some (a, b)) (Some (x, y))
+same_pair a b x y e f = cc
+
+module _ (t : TypeTable) (c : RawChoice) (j : ℕ) where
+  -- the set has the pairs that lead from B, and the single one has one of them
+  module _ (set : List ℕ) (from_b : (r q : ℕ) → Has set r q ↔ InOutcomeSet t c B j (r, q)) where
+    into_set : (x y : List ℕ) → IsCollision t c j x y → LeadsInto t c A j set x
+    into_set x y k =
+        let p = the_pair (pair_of t c x j) k.takes_part in
+        (p.0, (k.alpha_in_a, p.1), (from_b p.0.0 p.0.1).1 (y, k.beta_order, k.beta_in_b, sym k.same ∙ p.1))
+
+    pub none_collides : NoneInto t c A j set → (x y : List ℕ) → ¬ IsCollision t c j x y
+    none_collides none x y k = none x k.alpha_order (into_set x y k)
+
+    module _ (alpha : List ℕ) (pair : ℕ × ℕ) (first : IsFirstInto t c A j set alpha pair) (single : List ℕ) (only : (r q : ℕ) → Has single r q ↔ ((r ≡ pair.0) × (q ≡ pair.1))) where
+      pub some_from_b : ¬ NoneInto t c B j single
+      some_from_b none =
+          let r = (from_b pair.0 pair.1).0 first.has in
+          none r.0 r.1 (pair, (r.2, r.3), (only pair.0 pair.1).1 (refl, refl))
+
+      pub first_collision : (beta : List ℕ) (again : ℕ × ℕ) → IsFirstInto t c B j single beta again → IsFirstCollision t c j alpha beta
+      first_collision beta again second =
+          let is = (only again.0 again.1).0 second.has in
+          let same : pair_of t c beta j ≡ Some pair = second.leads.1 ∙ same_pair again.0 again.1 pair.0 pair.1 is.0 is.1 in
+          record {
+            collision = record {
+              alpha_order = first.ordered;
+              beta_order = second.ordered;
+              alpha_in_a = first.leads.0;
+              beta_in_b = second.leads.0;
+              takes_part = λ e. let no : None ≡ Some pair = sym e ∙ first.leads.1 in absurd (cc);
+              same = first.leads.1 ∙ sym same;
+            };
+            first_alpha = λ x y before k. first.earlier x k.alpha_order before (into_set x y k);
+            first_beta = λ y before k. second.earlier y k.beta_order before (pair, (k.beta_in_b, sym k.same ∙ first.leads.1), (only pair.0 pair.1).1 (refl, refl));
+          }
+
+-- where the outcome sets have no common pair there is no collision
+pub apart : (t : TypeTable) (c : RawChoice) (j : ℕ) (from_a from_b : List ℕ) → ((r q : ℕ) → Has from_a r q ↔ InOutcomeSet t c A j (r, q)) → ((r q : ℕ) → Has from_b r q ↔ InOutcomeSet t c B j (r, q))
+    → ¬ HaveCommonPair from_a from_b → (x y : List ℕ) → ¬ IsCollision t c j x y
+apart t c j from_a from_b a b none x y k =
+    let p = the_pair (pair_of t c x j) k.takes_part in
+    none (p.0.0, p.0.1, (a p.0.0 p.0.1).1 (x, k.alpha_order, k.alpha_in_a, p.1), (b p.0.0 p.0.1).1 (y, k.beta_order, k.beta_in_b, sym k.same ∙ p.1))
+
+-- a linked process has a collision only where the one before it has one
+pub linked_collides : (t : TypeTable) (c : RawChoice) (links : ℕ) → AreLinks c links → (j : ℕ) → IsBitSet links j → ((i : ℕ) → i < j → (x y : List ℕ) → ¬ IsCollision t c i x y) → (x y : List ℕ) → ¬ IsCollision t c j x y
+linked_collides t c links linked j s none x y k =
+    let p = the_pair (pair_of t c x j) k.takes_part in
+    let b = linked_outcomes t c links linked j s in
+    let a = b.2 A p.0 (x, k.alpha_order, k.alpha_in_a, p.1) in
+    let o = b.2 B p.0 (y, k.beta_order, k.beta_in_b, sym k.same ∙ p.1) in
+    none b.0 b.1 a.0 o.0 (record {
+      alpha_order = a.1;
+      beta_order = o.1;
+      alpha_in_a = a.2;
+      beta_in_b = o.2;
+      takes_part = λ e. let no : None ≡ Some p.0 = sym e ∙ a.3 in absurd (cc);
+      same = a.3 ∙ sym o.3;
+    })

@@ -1,0 +1,77 @@
+-- The images of sets of states, by two sets of eight.
+use Rattle.std.proofs.Common.{◌≡◌, ◌≢◌, ℕ, ◌+◌, ◌-◌, ◌/◌, ◌%◌, ◌^◌, ◌<◌, ◌⊎◌, inl, inr, ◌↔◌, List, length, get_or, get_or-set_other, get_or-set_same, sym, ap, ◌∙◌, subst, arith}
+use Rattle.std.specs.Prelude.{IsBitSet}
+use Rattle.std.specs.Int.{bit_at}
+use Rattle.std.proofs.Math.ListN.{set}
+use Rattle.std.proofs.lemmas.Nat.{shr_split}
+use Rattle.std.proofs.lemmas.Nat.Bits.{bit_at_cat_high, bit_at_cat_low}
+use Rattle.cn_table.specs.TypeTable.{TypeTable, transition}
+use Rattle.cn_outcomes.specs.Images.{IsImageFrom}
+use Rattle.cn_outcomes.specs.Subsets.{Below}
+use Rattle.cn_outcomes.proofs.BitSets.{member_below}
+use Rattle.cn_outcomes.proofs.LastProcess.{bit_from, set_from}
+use Rattle.cn_outcomes.proofs.Packing.{below_or_last}
+use Rattle.cn_outcomes.proofs.Unions.{below_or_not}
+
+-- number i stands for a state, which the operation leads to state q
+abbrev pub image_part : TypeTable → ℕ → ℕ → ℕ → ℕ → Type 0
+image_part t operation first i q = (first + i < length t.states) × ((transition t operation (first + i)).1 ≡ q)
+
+-- the number by its last eight bits and those before them
+low_bit : (n i : ℕ) → i < 8 → bit_at n i ≡ bit_at (n % 256) i
+low_bit n i l = ap (λ (m : ℕ). bit_at m i) (sym (shr_split n 8)) ∙ bit_at_cat_low (n / 256) 8 (n % 256) i l
+
+high_bit : (n i : ℕ) → bit_at n (8 + i) ≡ bit_at (n / 256) i
+high_bit n i =
+    let small : n % 256 < 2 ^ 8 = omega arith in
+    let back : 8 + i - 8 ≡ i = omega arith in
+    ap (λ (m : ℕ). bit_at m (8 + i)) (sym (shr_split n 8)) ∙ bit_at_cat_high (n / 256) 8 (n % 256) (8 + i) small (omega arith) ∙ ap (bit_at (n / 256)) back
+
+none_before : (i : ℕ) → 0 + i ≡ i
+none_before i = omega arith
+
+module _ (t : TypeTable) (operation from low high image : ℕ) (below : Below (length t.states) from)
+    (a : IsImageFrom t operation 0 (from % 256) low) (b : IsImageFrom t operation 8 (from / 256) high) (both : (q : ℕ) → IsBitSet image q ↔ (IsBitSet low q ⊎ IsBitSet high q)) where
+  pub image_same : (q : ℕ) → IsBitSet image q ↔ ((found : ℕ) × IsBitSet from found × ((transition t operation found).1 ≡ q))
+  image_same q = (
+    λ s. elim ((both q).0 s) [
+      | inl x ↦ (
+          let r = (a.same q).0 x in
+          let l : r.0 < 8 = member_below 8 (from % 256) r.0 (omega arith) r.1 in
+          (r.0, set_from from r.0 (low_bit from r.0 l ∙ bit_from (from % 256) r.0 r.1), subst (λ (k : ℕ). (transition t operation k).1 ≡ q) (none_before r.0) r.3)
+          )
+      | inr x ↦ (let r = (b.same q).0 x in (8 + r.0, set_from from (8 + r.0) (high_bit from r.0 ∙ bit_from (from / 256) r.0 r.1), r.3))
+    ],
+    λ h. (both q).1 (elim (below_or_not h.0 8) [
+      | inl l ↦ inl ((a.same q).1 (
+        h.0,
+        set_from (from % 256) h.0 (sym (low_bit from h.0 l) ∙ bit_from from h.0 h.1),
+        subst (λ (k : ℕ). k < length t.states) (sym (none_before h.0)) (below h.0 h.1),
+        subst (λ (k : ℕ). (transition t operation k).1 ≡ q) (sym (none_before h.0)) h.2,
+      ))
+      | inr l ↦ (
+          let e : 8 + (h.0 - 8) ≡ h.0 = omega (arith, l) in
+          let here = subst (λ (k : ℕ). IsBitSet from k) (sym e) h.1 in
+          let leads = subst (λ (k : ℕ). (transition t operation k).1 ≡ q) (sym e) h.2 in
+          inr ((b.same q).1 (h.0 - 8, set_from (from / 256) (h.0 - 8) (sym (high_bit from (h.0 - 8)) ∙ bit_from from (8 + (h.0 - 8)) here), below (8 + (h.0 - 8)) here, leads))
+          )
+    ]),
+  )
+
+  pub image_known : Below (length t.states) image
+  image_known q s = elim ((both q).0 s) [ inl x ↦ a.known q x | inr x ↦ b.known q x ]
+
+-- the same of an equal table and an equal operation
+pub image_of : (s t : TypeTable) → s ≡ t → (o p : ℕ) → o ≡ p → (from set : ℕ) → ((q : ℕ) → IsBitSet set q ↔ ((x : ℕ) × IsBitSet from x × ((transition s o x).1 ≡ q)))
+    → (q : ℕ) → IsBitSet set q ↔ ((x : ℕ) × IsBitSet from x × ((transition t p x).1 ≡ q))
+image_of s t e o p f from set h =
+    subst (λ (u : TypeTable). (q : ℕ) → IsBitSet set q ↔ ((x : ℕ) × IsBitSet from x × ((transition u p x).1 ≡ q))) e
+    (subst (λ (k : ℕ). (q : ℕ) → IsBitSet set q ↔ ((x : ℕ) × IsBitSet from x × ((transition s k x).1 ≡ q))) f h)
+
+-- one image more of a row, or one row more
+pub at_more : {X : Type 0} (fits : ℕ → X → Type 0) (none : X) (rows : List X) (k : ℕ) (row : X) → k < length rows → ((i : ℕ) → i < k → fits i (get_or rows i none)) → fits k row
+    → (i : ℕ) → i < k + 1 → fits i (get_or (set rows k row) i none)
+at_more fits none rows k row l g h i u = elim (below_or_last i k u) [
+  | inl b ↦ (let n : i ≢ k = omega arith in subst (fits i) (sym (get_or-set_other rows k i row none n)) (g i b))
+  | inr e ↦ subst (λ (j : ℕ). fits j (get_or (set rows k row) j none)) (sym e) (subst (fits k) (sym (get_or-set_same rows k row none l)) h)
+]

@@ -1,0 +1,380 @@
+-- Sets that are gathered one part after another.
+use Rattle.std.proofs.Common.{replicate, ◌^◌, ◌*◌, ◌%◌, List, [], ◌∷◌, length, get_or, get_or-set_other, get_or-set_same, length-set, ◌≡◌, ◌≢◌, ℕ, zero, suc, ◌+◌, ◌<◌, ◌≤◌, ◌⊎◌, inl, inr, ◌↔◌, refl, sym, ap, ◌∙◌, subst, arith}
+use Rattle.std.specs.Prelude.{IsBitSet, slice_get, slice_index, Some}
+use Rattle.cn_choice.specs.declared.team.Team.{Team}
+use Rattle.cn_table.specs.TypeTable.{TypeTable, transition}
+use Rattle.cn_choice.specs.RawChoices.{RawChoice}
+use Rattle.std.proofs.lemmas.Nat.{one_shl, pow_below, pow_pos}
+use Rattle.cn_outcomes.specs.PairSets.{Has}
+use Rattle.cn_choice.specs.OutcomeSets.{InOutcomeSet}
+use Rattle.std.proofs.Math.ListN.{set}
+use Rattle.cn_outcomes.specs.Subsets.{AreRows, ArePairRows, IsRow, Below, Leaves, Gives, Finds, IsWithout, OtherLast, OwnLast}
+use Rattle.cn_choice.specs.Moves.{answer_of, next_of}
+use Rattle.cn_outcomes.specs.Twins.{AreLinks, IsMover, IsPacked, IsRun}
+use Rattle.cn_outcomes.proofs.Packing.{below_or_last, finds_last, gives_by_mover, leaves_by_mover, packing}
+use Rattle.cn_outcomes.proofs.LastProcess.{zero_has_none, LeavesLast, leaves_to, leaves_from, leaves_some, same_or_not}
+use Rattle.cn_outcomes.proofs.LastAnswers.{gives_to, gives_from, gives_member, outcome_subset, pair_parts}
+use Rattle.cn_outcomes.proofs.BitSets.{cleared, cleared_is, without_one, member_below}
+
+-- the set has what the parts below k have
+abbrev pub Gathers : (ℕ → ℕ → Type 0) → ℕ → ℕ → Type 0
+Gathers part k set = (q : ℕ) → IsBitSet set q ↔ ((i : ℕ) × (i < k) × part i q)
+
+pub gathers_more : (part : ℕ → ℕ → Type 0) (k set more : ℕ) → Gathers part k set → ((q : ℕ) → IsBitSet more q ↔ (IsBitSet set q ⊎ part k q)) → Gathers part (k + 1) more
+gathers_more part k set more g h q = (
+  λ s. elim ((h q).0 s) [ inl a ↦ (let r = (g q).0 a in (r.0, omega (arith, r.1), r.2)) | inr b ↦ (k, omega arith, b) ],
+  λ r. (h q).1 (elim (below_or_last r.0 k r.1) [ inl l ↦ inl ((g q).1 (r.0, l, r.2)) | inr e ↦ inr (subst (λ (i : ℕ). part i q) e r.2) ]),
+)
+
+pub gathers_none : (part : ℕ → ℕ → Type 0) (k set : ℕ) → Gathers part k set → ((q : ℕ) → ¬ part k q) → Gathers part (k + 1) set
+gathers_none part k set g n = gathers_more part k set set g (λ q. (λ s. inl s, λ h. elim h [ inl a ↦ a | inr b ↦ absurd (n q b) ]))
+
+abbrev pub zeros : ℕ → List ℕ
+zeros n = replicate n 0
+
+pub zeros_at : (n r : ℕ) → get_or (zeros n) r 0 ≡ 0
+zeros_at zero r = refl
+zeros_at (suc n) zero = refl
+zeros_at (suc n) (suc r) = zeros_at n r
+
+pub zeros_none : (n r q : ℕ) → ¬ IsBitSet (get_or (zeros n) r 0) q
+zeros_none n r q b = zero_has_none q (subst (λ (x : ℕ). IsBitSet x q) (zeros_at n r) b)
+
+-- ---- unions over the members of a set, of which some are left
+
+-- the set has what the parts of those members have that are not left any more
+pub record GathersFrom (part : ℕ → ℕ → Type 0) (from left set : ℕ) : Type 0 where
+  pub within : (i : ℕ) → IsBitSet left i → IsBitSet from i
+  pub same : (q : ℕ) → IsBitSet set q ↔ ((i : ℕ) × IsBitSet from i × (¬ IsBitSet left i) × part i q)
+
+pub from_none : (part : ℕ → ℕ → Type 0) (from set : ℕ) → ((q : ℕ) → ¬ IsBitSet set q) → GathersFrom part from from set
+from_none part from set n = record { within = λ i s. s; same = λ q. (λ s. absurd (n q s), λ h. absurd (h.2 h.1)) }
+
+-- one member more
+pub from_more : (part : ℕ → ℕ → Type 0) (from left set k rest more : ℕ) → GathersFrom part from left set → IsBitSet left k → IsWithout left k rest
+    → ((q : ℕ) → IsBitSet more q ↔ (IsBitSet set q ⊎ part k q)) → GathersFrom part from rest more
+from_more part from left set k rest more g s w h = record {
+  within = λ i b. g.within i ((w i).0 b).0;
+  same = λ q. (
+    λ b. elim ((h q).0 b) [
+      | inl a ↦ (let r = (g.same q).0 a in (r.0, r.1, (λ x. r.2 ((w r.0).0 x).0), r.3))
+      | inr p ↦ (k, g.within k s, (λ x. ((w k).0 x).1 refl), p)
+    ],
+    λ r. (h q).1 (elim (same_or_not r.0 k) [
+      | inl e ↦ inr (subst (λ (i : ℕ). part i q) e r.3)
+      | inr n ↦ inl ((g.same q).1 (r.0, r.1, (λ b. r.2 ((w r.0).1 (b, n))), r.3))
+    ]),
+  );
+}
+
+-- none is left
+pub from_all : (part : ℕ → ℕ → Type 0) (from left set : ℕ) → GathersFrom part from left set → left ≡ 0 → (q : ℕ) → IsBitSet set q ↔ ((i : ℕ) × IsBitSet from i × part i q)
+from_all part from left set g e q = (
+  λ s. (let r = (g.same q).0 s in (r.0, r.1, r.3)),
+  λ r. (g.same q).1 (r.0, r.1, (λ b. zero_has_none r.0 (subst (λ (x : ℕ). IsBitSet x r.0) e b)), r.2),
+)
+
+-- ---- what a process may find
+
+module _ (t : TypeTable) (c : RawChoice) (team : Team) (p rest : ℕ) where
+  pub found_first : rest ≡ 0 → slice_get c.marks p ≡ Some team → (set : ℕ) → ((q : ℕ) → IsBitSet set q ↔ (IsBitSet 0 q ⊎ (q ≡ c.state))) → ((q : ℕ) → ¬ IsBitSet 0 q) → (q : ℕ) → IsBitSet set q ↔ Finds t c team p rest q
+  found_first z m set h n q = (
+    λ s. elim ((h q).0 s) [ inl a ↦ absurd (n q a) | inr b ↦ inl (z, m, sym b) ],
+    λ f. elim f [ inl a ↦ (h q).1 (inr (sym a.2)) | inr b ↦ absurd (leaves_some t c team q (subst (λ (r : ℕ). Leaves t c team r q) z b)) ],
+  )
+
+  pub found_nothing : rest ≡ 0 → ¬ (slice_get c.marks p ≡ Some team) → (q : ℕ) → Finds t c team p rest q → ⊥
+  found_nothing z m q f = elim f [ inl a ↦ m a.1 | inr b ↦ leaves_some t c team q (subst (λ (r : ℕ). Leaves t c team r q) z b) ]
+
+-- ---- a row
+
+-- process p of the subset moved last
+abbrev pub row_part : TypeTable → RawChoice → Team → ℕ → ℕ → ℕ → Type 0
+row_part t c team subset p q = (rest : ℕ) × IsWithout subset p rest × LeavesLast t c team p rest q
+
+pub row_more : (t : TypeTable) (c : RawChoice) (team : Team) (subset of left k after set more rest from new : ℕ) → ((p : ℕ) → IsBitSet of p → IsBitSet subset p) → GathersFrom (row_part t c team subset) of left set
+    → IsBitSet left k → IsWithout left k after
+    → IsWithout subset k rest → ((q : ℕ) → IsBitSet from q ↔ Finds t c team k rest q) → ((q : ℕ) → IsBitSet new q ↔ ((found : ℕ) × IsBitSet from found × (next_of t c k found ≡ q)))
+    → ((q : ℕ) → IsBitSet more q ↔ (IsBitSet set q ⊎ IsBitSet new q)) → GathersFrom (row_part t c team subset) of after more
+row_more t c team subset of left k after set more rest from new inside g s u w f n m =
+    from_more (row_part t c team subset) of left set k after more g s u
+    (λ q. (
+      λ b. elim ((m q).0 b) [ inl a ↦ inl a | inr x ↦ (let r = (n q).0 x in inr (rest, w, (r.0, (f r.0).0 r.1, r.2))) ],
+      λ b. (m q).1 (elim b [
+        | inl a ↦ inl a
+        | inr y ↦ (
+            let last = subst (λ (z : ℕ). LeavesLast t c team k z q) (without_one subset k y.0 rest (inside k (g.within k s)) y.1 w) y.2 in
+            inr ((n q).1 (last.0, (f last.0).1 last.1, last.2))
+            )
+      ]),
+    ))
+
+pub row_all : (t : TypeTable) (c : RawChoice) (team : Team) (links : ℕ) → AreLinks c links → (subset of left set : ℕ) → left ≡ 0 → subset < 2 ^ 16 → subset < 2 ^ length c.operations → ((p : ℕ) → IsBitSet of p ↔ IsMover links subset p)
+    → GathersFrom (row_part t c team subset) of left set → (q : ℕ) → IsBitSet set q ↔ Leaves t c team subset q
+row_all t c team links linked subset of left set e small l movers g q =
+    let whole = from_all (row_part t c team subset) of left set g e q in (
+      λ s. (let r = whole.0 s in let m = (movers r.0).0 r.1 in leaves_from t c team subset r.2.0 r.0 q m.0 (member_below (length c.operations) subset r.0 l m.0) r.2.1 r.2.2),
+      λ h.
+          let r = leaves_to t c team subset (cleared subset) q (λ p s. cleared_is subset p (member_below 16 subset p small s) small) h in
+          let top = leaves_by_mover t c team links linked subset r.0 q small r.1 r.3 in
+          whole.1 (top.0, (movers top.0).1 top.1, (cleared subset top.0, cleared_is subset top.0 (member_below 16 subset top.0 small top.1.0) small, top.2)),
+    )
+
+-- ---- the rows
+
+module _ (t : TypeTable) (c : RawChoice) (team : Team) (links : ℕ) where
+  pub rows_first : (rows : List ℕ) → length rows ≡ 256 → get_or rows 0 0 ≡ 0 → AreRows t c team links 1 rows
+  rows_first rows e z = record {
+    long = e;
+    same = λ s l _ q. none s (omega arith) q;
+    known = λ s l _ q b. absurd (zero_has_none q (subst (λ (x : ℕ). IsBitSet x q) (here s (omega arith)) b));
+  }
+    where
+      here : (s : ℕ) → s ≡ 0 → get_or rows s 0 ≡ 0
+      here s e = ap (λ (i : ℕ). get_or rows i 0) e ∙ z
+
+      none : (s : ℕ) → s ≡ 0 → (q : ℕ) → IsBitSet (get_or rows s 0) q ↔ Leaves t c team s q
+      none s e q = (
+        λ b. absurd (zero_has_none q (subst (λ (x : ℕ). IsBitSet x q) (here s e) b)),
+        λ h. absurd (leaves_some t c team q (subst (λ (x : ℕ). Leaves t c team x q) e h)),
+      )
+
+  pub rows_more : (rows : List ℕ) (k part : ℕ) → k < length rows → AreRows t c team links k rows → ((q : ℕ) → IsBitSet part q ↔ Leaves t c team k q) → Below (length t.states) part → AreRows t c team links (k + 1) (set rows k part)
+  rows_more rows k part l r h b = record { long = length-set rows k part ∙ r.long; same = λ s u p. same s p (below_or_last s k u); known = λ s u p. known s p (below_or_last s k u) }
+    where
+      other : (s : ℕ) → s < k → get_or rows s 0 ≡ get_or (set rows k part) s 0
+      other s u = let n : s ≢ k = omega arith in sym (get_or-set_other rows k s part 0 n)
+
+      at : (s : ℕ) → s ≡ k → part ≡ get_or (set rows k part) s 0
+      at s e = sym (get_or-set_same rows k part 0 l) ∙ ap (λ (i : ℕ). get_or (set rows k part) i 0) (sym e)
+
+      same : (s : ℕ) → IsPacked links s → (s < k) ⊎ (s ≡ k) → (q : ℕ) → IsBitSet (get_or (set rows k part) s 0) q ↔ Leaves t c team s q
+      same s p (inl u) = subst (λ (x : ℕ). (q : ℕ) → IsBitSet x q ↔ Leaves t c team s q) (other s u) (r.same s u p)
+      same s p (inr e) = subst (λ (x : ℕ). (q : ℕ) → IsBitSet x q ↔ Leaves t c team s q) (at s e) (subst (λ (x : ℕ). (q : ℕ) → IsBitSet part q ↔ Leaves t c team x q) (sym e) h)
+
+      known : (s : ℕ) → IsPacked links s → (s < k) ⊎ (s ≡ k) → Below (length t.states) (get_or (set rows k part) s 0)
+      known s p (inl u) = subst (Below (length t.states)) (other s u) (r.known s u p)
+      known s p (inr e) = subst (Below (length t.states)) (at s e) b
+
+  -- a subset that is not packed is passed by
+  pub rows_passed : (rows : List ℕ) (k : ℕ) → ¬ IsPacked links k → AreRows t c team links k rows → AreRows t c team links (k + 1) rows
+  rows_passed rows k n r = record { long = r.long; same = λ s u p. r.same s (below s u p) p; known = λ s u p. r.known s (below s u p) p }
+    where
+      below : (s : ℕ) → s < k + 1 → IsPacked links s → s < k
+      below s u p = elim (below_or_last s k u) [ inl l ↦ l | inr e ↦ absurd (n (subst (IsPacked links) e p)) ]
+
+-- ---- rows of pairs
+
+-- one cell of a row more: only that cell has a part of this member
+pub cell_more : (part : ℕ → ℕ → ℕ → Type 0) (from left k after : ℕ) (row : List ℕ) (a w : ℕ) → a < length row → IsBitSet left k → IsWithout left k after
+    → ((q : ℕ) → GathersFrom (part q) from left (get_or row q 0)) → ((r : ℕ) → IsBitSet w r ↔ (IsBitSet (get_or row a 0) r ⊎ part a k r)) → ((q r : ℕ) → q ≢ a → ¬ part q k r)
+    → (q : ℕ) → GathersFrom (part q) from after (get_or (set row a w) q 0)
+cell_more part from left k after row a w l s u g h none q = cases (same_or_not q a)
+  where
+    cases : (q ≡ a) ⊎ (q ≢ a) → GathersFrom (part q) from after (get_or (set row a w) q 0)
+    cases (inl x) = subst (λ (y : ℕ). GathersFrom (part y) from after (get_or (set row a w) y 0)) (sym x) (
+        subst (λ (m : ℕ). GathersFrom (part a) from after m) (sym (get_or-set_same row a w 0 l)) (
+        from_more (part a) from left (get_or row a 0) k after w (g a) s u h))
+    cases (inr n) = subst (λ (m : ℕ). GathersFrom (part q) from after m) (sym (get_or-set_other row a q w 0 n))
+        (from_more (part q) from left (get_or row q 0) k after (get_or row q 0) (g q) s u
+        (λ r. (λ m. inl m, λ m. elim m [ inl y ↦ y | inr y ↦ absurd (none q r n y) ])))
+
+-- a process finds state i, and gets response r and leaves state q
+abbrev pub answer_part : (ℕ → ℕ × ℕ) → ℕ → ℕ → ℕ → Type 0
+answer_part step q i r = ((step i).0 ≡ r) × ((step i).1 ≡ q)
+
+-- response r was got before state i was found, and state q is left
+abbrev pub image_part : (ℕ → ℕ × ℕ) → List ℕ → ℕ → ℕ → ℕ → Type 0
+image_part step row q i r = Has row r i × ((step i).1 ≡ q)
+
+pub answers_more : (step : ℕ → ℕ × ℕ) (from left k after : ℕ) (row : List ℕ) (a b w : ℕ) → b < length row → (a, b) ≡ step k → IsBitSet left k → IsWithout left k after
+    → ((q : ℕ) → GathersFrom (answer_part step q) from left (get_or row q 0)) → ((r : ℕ) → IsBitSet w r ↔ (IsBitSet (get_or row b 0) r ⊎ (r ≡ a)))
+    → (q : ℕ) → GathersFrom (answer_part step q) from after (get_or (set row b w) q 0)
+answers_more step from left k after row a b w l is s u g h =
+    let e : a ≡ (step k).0 = ap (λ (p : ℕ × ℕ). p.0) is in
+    let f : b ≡ (step k).1 = ap (λ (p : ℕ × ℕ). p.1) is in
+    cell_more (answer_part step) from left k after row b w l s u g
+    (λ r. (λ m. elim ((h r).0 m) [ inl y ↦ inl y | inr y ↦ inr (sym (y ∙ e), sym f) ], λ m. (h r).1 (elim m [ inl y ↦ inl y | inr y ↦ inr (sym (e ∙ y.0)) ])))
+    (λ q r n y. n (sym (f ∙ y.1)))
+
+pub images_more : (step : ℕ → ℕ × ℕ) (old : List ℕ) (from left k after : ℕ) (row : List ℕ) (b w : ℕ) → b < length row → b ≡ (step k).1 → IsBitSet left k → IsWithout left k after
+    → ((q : ℕ) → GathersFrom (image_part step old q) from left (get_or row q 0)) → ((r : ℕ) → IsBitSet w r ↔ (IsBitSet (get_or row b 0) r ⊎ IsBitSet (get_or old k 0) r))
+    → (q : ℕ) → GathersFrom (image_part step old q) from after (get_or (set row b w) q 0)
+images_more step old from left k after row b w l f s u g h =
+    cell_more (image_part step old) from left k after row b w l s u g
+    (λ r. (λ m. elim ((h r).0 m) [ inl y ↦ inl y | inr y ↦ inr (y, sym f) ], λ m. (h r).1 (elim m [ inl y ↦ inl y | inr y ↦ inr y.0 ])))
+    (λ q r n y. n (sym (f ∙ y.1)))
+
+pub beyond : (xs : List ℕ) (i : ℕ) → length xs ≤ i → get_or xs i 0 ≡ 0
+beyond [] i l = refl
+beyond (x ∷ xs) zero l = absurd (omega arith)
+beyond (x ∷ xs) (suc i) l = beyond xs i (omega arith)
+
+pub below_or_not : (i k : ℕ) → (i < k) ⊎ (k ≤ i)
+below_or_not i zero = inr (omega arith)
+below_or_not zero (suc k) = inl (omega arith)
+below_or_not (suc i) (suc k) = elim (below_or_not i k) [ inl h ↦ inl (omega arith) | inr h ↦ inr (omega arith) ]
+
+pub nothing_beyond : (xs : List ℕ) (n r q : ℕ) → length xs ≡ n → n ≤ r → ¬ IsBitSet (get_or xs r 0) q
+nothing_beyond xs n r q e l b = zero_has_none q (subst (λ (x : ℕ). IsBitSet x q) (beyond xs r (omega (arith, e, l))) b)
+
+pub other_more : (t : TypeTable) (c : RawChoice) (team : Team) (j subset of left k after set more rest new q : ℕ) → ((p : ℕ) → IsBitSet of p → IsBitSet subset p) → GathersFrom (OtherLast t c team j subset q) of left set
+    → IsBitSet left k → IsWithout left k after
+    → IsWithout subset k rest → ((r : ℕ) → IsBitSet new r ↔ ((found : ℕ) × Gives t c team j rest r found × (next_of t c k found ≡ q)))
+    → ((r : ℕ) → IsBitSet more r ↔ (IsBitSet set r ⊎ IsBitSet new r)) → GathersFrom (OtherLast t c team j subset q) of after more
+other_more t c team j subset of left k after set more rest new q inside g s u w n m =
+    from_more (OtherLast t c team j subset q) of left set k after more g s u
+    (λ r. (
+      λ b. elim ((m r).0 b) [ inl a ↦ inl a | inr x ↦ inr (rest, w, (n r).0 x) ],
+      λ b. (m r).1 (elim b [
+        | inl a ↦ inl a
+        | inr y ↦ inr ((n r).1 (subst (λ (z : ℕ). (found : ℕ) × Gives t c team j z r found × (next_of t c k found ≡ q)) (without_one subset k y.0 rest (inside k (g.within k s)) y.1 w) y.2))
+      ]),
+    ))
+
+-- process j moves last: it did not move before
+pub other_self : (t : TypeTable) (c : RawChoice) (team : Team) (j subset of left k after set q : ℕ) → k ≡ j → GathersFrom (OtherLast t c team j subset q) of left set → IsBitSet left k → IsWithout left k after
+    → GathersFrom (OtherLast t c team j subset q) of after set
+other_self t c team j subset of left k after set q e g s u =
+    from_more (OtherLast t c team j subset q) of left set k after set g s u (λ r. (
+      λ b. inl b,
+      λ b. elim b [ inl a ↦ a | inr y ↦ absurd (((y.1 j).0 (gives_member t c team j y.0 r y.2.0 y.2.1)).1 (sym e)) ],
+    ))
+
+-- what process j gets where it moves last, by what the last one of its run finds
+pub own_is : (t : TypeTable) (c : RawChoice) (team : Team) (links : ℕ) → AreLinks c links → (j subset last rest operation from : ℕ) (set : ℕ → ℕ → Type 0) → subset < 2 ^ 16 → j ≤ last → IsBitSet subset j
+    → IsBitSet subset last → IsPacked links subset → IsRun links j last
+    → IsWithout subset last rest → operation ≡ slice_index c.operations j → ((q : ℕ) → IsBitSet from q ↔ Finds t c team last rest q)
+    → ((r q : ℕ) → set r q ↔ ((found : ℕ) × IsBitSet from found × ((transition t operation found).0 ≡ r) × ((transition t operation found).1 ≡ q)))
+    → (r q : ℕ) → set r q ↔ OwnLast t c team j subset r q
+own_is t c team links linked j subset last rest operation from set small up s m packed run w is f a r q =
+    let b = subst (λ (o : ℕ). set r q ↔ ((found : ℕ) × IsBitSet from found × ((transition t o found).0 ≡ r) × ((transition t o found).1 ≡ q))) is (a r q) in
+    let cut : (i : ℕ) → IsBitSet subset i → IsWithout subset i (cleared subset i) = λ i n. cleared_is subset i (member_below 16 subset i small n) small in
+    let same = without_one subset last rest (cleared subset last) m w (cut last m) in
+    let finds : (x : ℕ) → Finds t c team j (cleared subset j) x ↔ Finds t c team last (cleared subset last) x = λ x. finds_last t c team links linked j subset last x small up m packed run in (
+      λ h. (let x = b.0 h in (cleared subset j, cut j s, (x.0, (finds x.0).1 (subst (λ (z : ℕ). Finds t c team last z x.0) same ((f x.0).0 x.1)), x.2, x.3))),
+      λ h.
+          let x = h.2 in
+          let found = subst (λ (z : ℕ). Finds t c team j z x.0) (without_one subset j h.0 (cleared subset j) s h.1 (cut j s)) x.1 in
+          b.1 (x.0, (f x.0).1 (subst (λ (z : ℕ). Finds t c team last z x.0) (sym same) ((finds x.0).0 found)), x.2, x.3),
+    )
+
+-- what is given to process j, by whether it moved last
+pub pair_all : (t : TypeTable) (c : RawChoice) (team : Team) (links : ℕ) → AreLinks c links → (j subset : ℕ) → ¬ IsBitSet links j → subset < 2 ^ 16 → subset < 2 ^ length c.operations → IsBitSet subset j → (own others all : ℕ → ℕ → Type 0)
+    → ((r q : ℕ) → own r q ↔ OwnLast t c team j subset r q) → ((r q : ℕ) → others r q ↔ ((p : ℕ) × IsMover links subset p × OtherLast t c team j subset q p r)) → ((r q : ℕ) → all r q ↔ (own r q ⊎ others r q))
+    → (r q : ℕ) → all r q ↔ Gives t c team j subset r q
+pair_all t c team links linked j subset first small l member own others all is_own is_others is_all r q = (
+  λ h. elim ((is_all r q).0 h) [
+    | inl a ↦ (let x = (is_own r q).0 a in gives_from t c team j subset x.0 j r q member (member_below (length c.operations) subset j l member) x.1 (inl (refl, x.2)))
+    | inr a ↦ (
+        let x = (is_others r q).0 a in
+        gives_from t c team j subset x.2.0 x.0 r q x.1.0 (member_below (length c.operations) subset x.0 l x.1.0) x.2.1
+        (inr ((λ e. ((x.2.1 x.0).0 (subst (IsBitSet x.2.0) (sym e) (gives_member t c team j x.2.0 r x.2.2.0 x.2.2.1))).1 refl), x.2.2))
+        )
+  ],
+  λ g.
+      let cut : (p : ℕ) → IsBitSet subset p → IsWithout subset p (cleared subset p) = λ p s. cleared_is subset p (member_below 16 subset p small s) small in
+      let x = gives_to t c team j subset (cleared subset) r q cut g in
+      (is_all r q).1 (elim x.3 [
+        | inl a ↦ inl ((is_own r q).1 (
+          cleared subset j,
+          cut j member,
+          (a.1.0, subst (λ (p : ℕ). Finds t c team p (cleared subset p) a.1.0) a.0 a.1.1, ap (λ (p : ℕ). answer_of t c p a.1.0) (sym a.0) ∙ a.1.2, ap (λ (p : ℕ). next_of t c p a.1.0) (sym a.0) ∙ a.1.3),
+        ))
+        | inr a ↦ (let top = gives_by_mover t c team links linked j first subset x.0 r q small x.1 a.0 a.1 in inr ((is_others r q).1 (top.0, top.1, (cleared subset top.0, cut top.0 top.1.0, top.2))))
+      ]),
+)
+
+-- what an order gives to a process, it leaves too
+pub gives_leaves : (t : TypeTable) (c : RawChoice) (team : Team) (j subset r q : ℕ) → Gives t c team j subset r q → Leaves t c team subset q
+gives_leaves t c team j subset r q g = (g.0, g.1, g.2, (pair_parts t c j g.0 r q g.3).1)
+
+pub row_set : (t : TypeTable) (row : List ℕ) (a w : ℕ) → IsRow t row → IsRow t (set row a w)
+row_set t row a w i = record { long = length-set row a w ∙ i.long }
+
+gives_some : (t : TypeTable) (c : RawChoice) (team : Team) (j s r q : ℕ) → s ≡ 0 → Gives t c team j s r q → ⊥
+gives_some t c team j s r q e g = zero_has_none j (subst (λ (x : ℕ). IsBitSet x j) e (gives_member t c team j s r q g))
+
+module _ (t : TypeTable) (c : RawChoice) (team : Team) (j links : ℕ) where
+  -- the pairs of the packed subsets so far
+  abbrev pub subset_part : ℕ → ℕ → ℕ → Type 0
+  subset_part q s r = IsPacked links s × Gives t c team j s r q
+
+  pub pairs_first : (rows : List (List ℕ)) → length rows ≡ 256 → ((r : ℕ) → get_or (get_or rows 0 []) r 0 ≡ 0) → length (get_or rows 0 []) ≡ 16 → ArePairRows t c team j links 1 rows
+  pairs_first rows e z y = record {
+    same = λ s l _ r q. (
+      λ b. absurd (zero_has_none r (subst (λ (x : ℕ). IsBitSet x r) (here s q (omega arith)) b)),
+      λ g. absurd (gives_some t c team j s r q (omega arith) g),
+    );
+    row = λ s l _. let f : s ≡ 0 = omega arith in record {
+      long = ap (λ (i : ℕ). length (get_or rows i [])) f ∙ y;
+    };
+    long = e;
+  }
+    where
+      here : (s r : ℕ) → s ≡ 0 → get_or (get_or rows s []) r 0 ≡ 0
+      here s r f = ap (λ (i : ℕ). get_or (get_or rows i []) r 0) f ∙ z r
+
+  pub pairs_more : (rows : List (List ℕ)) (k : ℕ) (row : List ℕ) → k < length rows → ArePairRows t c team j links k rows → ((r q : ℕ) → Has row r q ↔ Gives t c team j k r q) → IsRow t row
+      → ArePairRows t c team j links (k + 1) (set rows k row)
+  pairs_more rows k row l a h i = record { same = λ s u p. same s p (below_or_last s k u); row = λ s u p. row_is s p (below_or_last s k u); long = length-set rows k row ∙ a.long }
+    where
+      other : (s : ℕ) → s < k → get_or rows s [] ≡ get_or (set rows k row) s []
+      other s u = let n : s ≢ k = omega arith in sym (get_or-set_other rows k s row [] n)
+
+      at : (s : ℕ) → s ≡ k → row ≡ get_or (set rows k row) s []
+      at s e = sym (get_or-set_same rows k row [] l) ∙ ap (λ (i : ℕ). get_or (set rows k row) i []) (sym e)
+
+      same : (s : ℕ) → IsPacked links s → (s < k) ⊎ (s ≡ k) → (r q : ℕ) → Has (get_or (set rows k row) s []) r q ↔ Gives t c team j s r q
+      same s p (inl u) = subst (λ (x : List ℕ). (r q : ℕ) → Has x r q ↔ Gives t c team j s r q) (other s u) (a.same s u p)
+      same s p (inr e) = subst (λ (x : List ℕ). (r q : ℕ) → Has x r q ↔ Gives t c team j s r q) (at s e) (subst (λ (x : ℕ). (r q : ℕ) → Has row r q ↔ Gives t c team j x r q) (sym e) h)
+
+      row_is : (s : ℕ) → IsPacked links s → (s < k) ⊎ (s ≡ k) → IsRow t (get_or (set rows k row) s [])
+      row_is s p (inl u) = subst (IsRow t) (other s u) (a.row s u p)
+      row_is s p (inr e) = subst (IsRow t) (at s e) i
+
+  below : (s k : ℕ) → ¬ IsPacked links k → s < k + 1 → IsPacked links s → s < k
+  below s k n u p = elim (below_or_last s k u) [ inl l ↦ l | inr e ↦ absurd (n (subst (IsPacked links) e p)) ]
+
+  -- a subset without j gives nothing
+  pub gives_nothing : (k : ℕ) → ¬ IsBitSet k j → (r q : ℕ) → Has (zeros 16) r q ↔ Gives t c team j k r q
+  gives_nothing k n r q = (λ h. absurd (zeros_none 16 q r h), λ g. absurd (n (gives_member t c team j k r q g)))
+
+  pub subsets_without : (q k set : ℕ) → ¬ IsBitSet k j → Gathers (subset_part q) k set → Gathers (subset_part q) (k + 1) set
+  subsets_without q k set n g = gathers_none (subset_part q) k set g (λ r p. n (gives_member t c team j k r q p.1))
+
+  -- a subset that is not packed is passed by
+  pub pairs_passed : (rows : List (List ℕ)) (k : ℕ) → ¬ IsPacked links k → ArePairRows t c team j links k rows → ArePairRows t c team j links (k + 1) rows
+  pairs_passed rows k n a = record { same = λ s u p. a.same s (below s k n u p) p; row = λ s u p. a.row s (below s k n u p) p; long = a.long }
+
+  pub subsets_first : (q set : ℕ) → set ≡ 0 → Gathers (subset_part q) 1 set
+  subsets_first q set e r = (λ b. absurd (zero_has_none r (subst (λ (x : ℕ). IsBitSet x r) e b)), λ h. absurd (gives_some t c team j h.0 r q (omega (arith, h.1)) h.2.1))
+
+  pub subsets_more : (q k set row more : ℕ) → IsPacked links k → Gathers (subset_part q) k set → ((r : ℕ) → IsBitSet row r ↔ Gives t c team j k r q) → ((r : ℕ) → IsBitSet more r ↔ (IsBitSet set r ⊎ IsBitSet row r))
+      → Gathers (subset_part q) (k + 1) more
+  subsets_more q k set row more p g h m = gathers_more (subset_part q) k set more g (λ r. (
+    λ b. elim ((m r).0 b) [ inl a ↦ inl a | inr x ↦ inr (p, (h r).0 x) ],
+    λ b. (m r).1 (elim b [ inl a ↦ inl a | inr x ↦ inr ((h r).1 x.1) ]),
+  ))
+
+  pub subsets_passed : (q k set : ℕ) → ¬ IsPacked links k → Gathers (subset_part q) k set → Gathers (subset_part q) (k + 1) set
+  subsets_passed q k set n g = gathers_none (subset_part q) k set g (λ r p. n p.0)
+
+  pub subsets_all : AreLinks c links → ¬ IsBitSet links j → length c.operations ≤ 8 → (r q k set : ℕ) → k ≡ 2 ^ length c.operations → Gathers (subset_part q) k set → IsBitSet set r ↔ InOutcomeSet t c team j (r, q)
+  subsets_all linked first few r q k set e g = (
+    λ b. (let x = (g r).0 b in (outcome_subset t c team j r q).1 (x.0, omega (arith, x.1, e), gives_member t c team j x.0 r q x.2.1, x.2.1)),
+    λ o.
+        let x = (outcome_subset t c team j r q).0 o in
+        let y = packing t c team links linked j first (x.0 + 1) x.0 r q (omega arith) x.1 few x.3 in
+        (g r).1 (y.0, omega (arith, y.1, e), (y.2, y.3)),
+  )
+
+-- the count of subsets
+pub subsets_of : (n : ℕ) → n ≤ 8 → (1 * 2 ^ n % 65536 ≡ 2 ^ n) × (2 ^ n ≤ 256) × (1 ≤ 2 ^ n)
+subsets_of n l = (one, at_most n l, pow_pos n)
+  where
+    one : (1 * 2 ^ n) % 2 ^ 16 ≡ 2 ^ n
+    one = one_shl n 16 (omega arith)
+
+    at_most : (n : ℕ) → n ≤ 8 → 2 ^ n ≤ 256
+    at_most n l = elim (below_or_not n 8) [ inl h ↦ (let b = pow_below n 8 h in omega (arith, b)) | inr h ↦ (let e : n ≡ 8 = omega arith in rw e (omega arith)) ]

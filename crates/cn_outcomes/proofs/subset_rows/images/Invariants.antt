@@ -1,0 +1,12 @@
+use Rattle.std.proofs.Common.{ℕ, get_or}
+use Rattle.cn_table.specs.TypeTable.{transition}
+use Rattle.cn_outcomes.specs.Subsets.{IsRow}
+use Rattle.cn_outcomes.proofs.Unions.{GathersFrom, image_part}
+use Rattle.cn_outcomes.proofs.subset_rows.images.Given as goal
+
+-- the pairs of the states that are not left any more, moved
+abbrev pub invariant-loop-left : goal.invariant-loop-left
+invariant-loop-left l = ((q : ℕ) → GathersFrom (image_part (transition l.table l.operation.0) l.row q) l.from l.left (get_or l.moved q 0)) × IsRow l.table l.moved
+
+abbrev pub decreases-loop-left : goal.decreases-loop-left
+decreases-loop-left l = l.left

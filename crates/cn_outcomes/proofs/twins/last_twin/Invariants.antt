@@ -1,0 +1,16 @@
+use Rattle.std.proofs.Common.{◌≤◌, ◌<◌, ◌-◌}
+use Rattle.std.specs.Prelude.{IsBitSet}
+use Rattle.cn_outcomes.specs.Twins.{IsRun}
+use Rattle.cn_outcomes.proofs.twins.last_twin.Given as goal
+
+-- the processes behind process j up to this one are linked, and this one is in the subset
+abbrev pub invariant-loop-last : goal.invariant-loop-last
+invariant-loop-last l = record {
+  from : l.j ≤ l.last;
+  range : l.last < 16;
+  member : IsBitSet l.subset l.last;
+  run : IsRun l.fn.links l.j l.last;
+}
+
+abbrev pub decreases-loop-last : goal.decreases-loop-last
+decreases-loop-last l = 16 - l.last

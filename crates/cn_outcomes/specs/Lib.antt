@@ -1,0 +1,10 @@
+pub mod EarlyPairs
+pub mod Examination
+pub mod Images
+pub mod LedOrders
+pub mod OutcomeOrders
+pub mod PairSets
+pub mod ResponseRows
+pub mod Subsets
+pub mod Tails
+pub mod Twins

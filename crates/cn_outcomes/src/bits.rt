@@ -1,0 +1,89 @@
+//! Sets of numbers, each the bit of its place in a `u16`. So states and responses are below 16.
+ghost use Rattle.std.specs.Prelude.{◌≡◌, ◌≢◌, ◌<◌, ◌↔◌, ◌⊎◌, ◌+◌, ◌^◌, ℕ, IsBitSet, IsTrue};
+ghost use Rattle.cn_outcomes.specs.Subsets.{IsWithout};
+ghost use Rattle.cn_outcomes.specs.Tails.{count_below};
+ghost use Rattle.cn_choice.specs.declared.limits.TheConstants.{MOST_PROCESSES};
+
+use cn_choice::MOST_PROCESSES;
+
+pub(crate) fn contains(set: u16, number: u8) -> bool
+    requires { number < 16 }
+    ensures { IsTrue result ↔ IsBitSet set number }
+{
+    set & (1 << number) != 0
+}
+
+pub(crate) fn with(set: u16, number: u8) -> u16
+    requires { number < 16 }
+    ensures { (q : ℕ) → IsBitSet result q ↔ (IsBitSet set q ⊎ (q ≡ number)) }
+{
+    set | (1 << number)
+}
+
+/// The numbers of both sets.
+pub(crate) fn union(a: u16, b: u16) -> u16
+    ensures { (q : ℕ) → IsBitSet result q ↔ (IsBitSet a q ⊎ IsBitSet b q) }
+{
+    a | b
+}
+
+/// Whether some number is in both sets.
+pub(crate) fn share(a: u16, b: u16) -> bool
+    ensures { IsTrue result ↔ ((q : ℕ) × IsBitSet a q × IsBitSet b q) }
+{
+    a & b != 0
+}
+
+/// The numbers that are in both sets.
+pub(crate) fn common(a: u16, b: u16) -> u16
+    ensures { (q : ℕ) → IsBitSet result q ↔ (IsBitSet a q × IsBitSet b q) }
+{
+    a & b
+}
+
+/// The numbers of the first set that are not in the second.
+pub(crate) fn minus(a: u16, b: u16) -> u16
+    ensures { (q : ℕ) → IsBitSet result q ↔ (IsBitSet a q × ¬ IsBitSet b q) }
+{
+    a & !b
+}
+
+/// The numbers that are in both sets, each less one; 0 is left out.
+pub(crate) fn lowered(a: u16, b: u16) -> u16
+    ensures { (q : ℕ) → IsBitSet result q ↔ (IsBitSet a (q + 1) × IsBitSet b (q + 1)) }
+{
+    (a & b) >> 1
+}
+
+/// The set without one of its numbers.
+pub(crate) fn without(set: u16, number: u8) -> u16
+    requires known { number < 16 }
+    requires member { IsBitSet set number }
+    ensures smaller { result + 2 ^ number ≡ set }
+    ensures others { IsWithout set number result }
+{
+    set & !(1 << number)
+}
+
+/// The least number of a set that has one.
+pub(crate) fn least(set: u16) -> u8
+    requires { set ≢ 0 }
+    ensures member { IsBitSet set result }
+    ensures range { result < 16 }
+    ensures minimal { (i : ℕ) → i < result → ¬ IsBitSet set i }
+{
+    set.trailing_zeros() as u8
+}
+
+/// How many processes are in the set.
+pub(crate) fn size(set: u16) -> u8
+    ensures { result ≡ count_below MOST_PROCESSES set }
+{
+    let mut size = 0;
+    for number in 0..MOST_PROCESSES as u8 {
+        if contains(set, number) {
+            size += 1;
+        }
+    }
+    size
+}

@@ -1,0 +1,282 @@
+//! Whether a choice is a witness, and the collision that is recorded where it is none.
+ghost use Rattle.std.specs.Prelude.{◌≡◌, ◌<◌, ◌≤◌, ◌+◌, ◌↔◌, ℕ, List, length, ◌^◌, IsBitSet, IfNone, IfSome, IsFalse};
+ghost use Rattle.cn_table.specs.declared.limits.TheConstants.{MOST_RESPONSES, MOST_STATES};
+ghost use Rattle.cn_choice.specs.RawChoices.{IsRawChoice};
+ghost use Rattle.cn_outcomes.specs.Examination.{IsExamined};
+ghost use Rattle.cn_choice.specs.Canonical.{FitsTable, raw_choice_of};
+ghost use Rattle.cn_choice.specs.FirstCollision.{IsFirstCollision};
+ghost use Rattle.cn_outcomes.specs.OutcomeOrders.{IsFirstInto};
+ghost use Rattle.cn_outcomes.specs.PairSets.{Has};
+ghost use Rattle.cn_choice.specs.OutcomeSets.{InOutcomeSet};
+ghost use Rattle.cn_outcomes.specs.Subsets.{AreRows};
+ghost use Rattle.cn_outcomes.specs.Twins.{AreLinks};
+ghost use Rattle.cn_choice.specs.declared.team.Team.TheVariants.{A, B};
+ghost use Rattle.cn_choice.specs.Collisions.{IsCollision, IsRecordedCollision};
+ghost use Rattle.cn_choice.specs.Discerning.{IsWitness};
+ghost use Rattle.cn_choice.specs.declared.limits.TheConstants.{MOST_PROCESSES};
+
+use crate::bits::contains;
+use crate::dead_ends::DeadEnds;
+use crate::first_orders::first_order_into;
+use crate::images::Images;
+use crate::led_collisions::led_collision;
+use crate::limits::SUBSETS;
+use crate::outcome_sets::{OutcomeSet, outcomes_from};
+use crate::subset_rows::{least_size, rows};
+use crate::twins::links;
+use arrayvec::ArrayVec;
+use cn_choice::laws::{collision_or_witness, process_of_pair};
+use cn_choice::{Choice, Collision, MOST_PROCESSES, RawChoice, Team};
+use cn_table::{MOST_STATES, Table};
+
+/// Room for the tables of [`examine_in`]. What it holds from earlier choices doesn't matter.
+#[derive(Drop)]
+pub struct Room {
+    dead: DeadEnds,
+    from_a: [[u16; MOST_STATES]; SUBSETS],
+    from_b: [[u16; MOST_STATES]; SUBSETS],
+}
+
+impl Room {
+    /// Room for the tables.
+    pub fn new() -> Room {
+        Room {
+            dead: DeadEnds::new(),
+            from_a: [[0; MOST_STATES]; SUBSETS],
+            from_b: [[0; MOST_STATES]; SUBSETS],
+        }
+    }
+}
+
+/// What [`examine`] finds.
+#[derive(Drop)]
+pub enum Examined {
+    /// The choice is a witness.
+    Splits,
+    /// The choice is none: its recorded collision.
+    Meets(Collision),
+}
+
+/// Whether the process, the first of its twins, has a pair in the outcome sets of both teams; that for team B is known.
+fn meets(
+    table: &Table,
+    choice: &RawChoice,
+    process: u8,
+    links: u16,
+    from_b: &OutcomeSet,
+    pairs: &mut [[u16; MOST_STATES]; SUBSETS],
+) -> bool
+    requires few { length choice.now.operations ≤ MOST_PROCESSES }
+    requires fits { IsRawChoice table.now (length choice.now.operations) choice.now }
+    requires process { process < length choice.now.operations }
+    requires first { ¬ IsBitSet links process }
+    requires links { AreLinks choice.now links }
+    requires from_b { (r q : ℕ) → Has from_b.now r q ↔ InOutcomeSet table.now choice.now B process (r, q) }
+    ensures none { IsFalse result → (alpha beta : List ℕ) → ¬ IsCollision table.now choice.now process alpha beta }
+{
+    let rows_a = rows(table, choice, Team::A, links);
+    outcomes_from(table, choice, Team::A, process, links, &rows_a, pairs).meets(from_b)
+}
+
+/// The first order that begins in team A and gives the process, the first of its twins, a pair that it
+/// also gets where team B begins, and that pair. Its outcome set for team B is known.
+fn first_alpha(
+    table: &Table,
+    choice: &Choice,
+    raw: &RawChoice,
+    process: u8,
+    links: u16,
+    from_b: &OutcomeSet,
+    pairs: &mut [[u16; MOST_STATES]; SUBSETS],
+    dead: &mut DeadEnds,
+) -> Option<(ArrayVec<u8, MOST_PROCESSES>, (u8, u8))>
+    requires few { length choice.now.a + length choice.now.b ≤ MOST_PROCESSES }
+    requires same { raw.now ≡ raw_choice_of choice.now }
+    requires short { length raw.now.operations ≤ MOST_PROCESSES }
+    requires fits { IsRawChoice table.now (length raw.now.operations) raw.now }
+    requires process { process < length raw.now.operations }
+    requires first { ¬ IsBitSet links process }
+    requires links { AreLinks raw.now links }
+    requires from_b { (r q : ℕ) → Has from_b.now r q ↔ InOutcomeSet table.now raw.now B process (r, q) }
+    ensures none { IfNone result ((alpha beta : List ℕ) → ¬ IsCollision table.now raw.now process alpha beta) }
+    ensures first { IfSome result (λ found. IsFirstInto table.now raw.now A process from_b.now found.0.items found.1) }
+    ensures in_range { IfSome result (λ found. (found.1.0 < MOST_RESPONSES) × (found.1.1 < MOST_STATES)) }
+{
+    // Mostly a list of one or two is found, and the rows of team A are not wanted.
+    let soon = first_order_into(table, choice, raw, Team::A, process, from_b, 0, 3, dead);
+    if let Some((order, pair)) = soon {
+        return Some((order, pair));
+    }
+    if !meets(table, raw, process, links, from_b, pairs) {
+        return None;
+    }
+    let end = raw.operations.len() as u8 + 1;
+    let (order, pair) = first_order_into(
+        table,
+        choice,
+        raw,
+        Team::A,
+        process,
+        from_b,
+        3,
+        end,
+        dead,
+    )?;
+    Some((order, pair))
+}
+
+/// The first collision of the process, the first of its twins, if it has one: the one whose first order
+/// comes first, and of these the one whose second does.
+fn collision_of(
+    table: &Table,
+    choice: &Choice,
+    raw: &RawChoice,
+    process: u8,
+    links: u16,
+    rows_b: &[u16; SUBSETS],
+    room: &mut Room,
+) -> Option<(ArrayVec<u8, MOST_PROCESSES>, ArrayVec<u8, MOST_PROCESSES>)>
+    requires few { length choice.now.a + length choice.now.b ≤ MOST_PROCESSES }
+    requires same { raw.now ≡ raw_choice_of choice.now }
+    requires short { length raw.now.operations ≤ MOST_PROCESSES }
+    requires fits { IsRawChoice table.now (length raw.now.operations) raw.now }
+    requires process { process < length raw.now.operations }
+    requires first { ¬ IsBitSet links process }
+    requires links { AreLinks raw.now links }
+    requires rows_b { AreRows table.now raw.now B links (2 ^ length raw.now.operations) rows_b.now }
+    ensures none { IfNone result ((alpha beta : List ℕ) → ¬ IsCollision table.now raw.now process alpha beta) }
+    ensures first { IfSome result (λ found. IsFirstCollision table.now raw.now process found.0.items found.1.items) }
+{
+    let n = raw.operations.len() as u8;
+    let from_b = outcomes_from(
+        table,
+        raw,
+        Team::B,
+        process,
+        links,
+        rows_b,
+        &mut room.from_b,
+    );
+    let (alpha, (response, state)) = first_alpha(
+        table,
+        choice,
+        raw,
+        process,
+        links,
+        &from_b,
+        &mut room.from_a,
+        &mut room.dead,
+    )?;
+    let pair = OutcomeSet::only(response, state);
+    let least = least_size(links, n, &room.from_b, response, state);
+    let (beta, _) = first_order_into(
+        table,
+        choice,
+        raw,
+        Team::B,
+        process,
+        &pair,
+        least,
+        n + 1,
+        &mut room.dead,
+    )?;
+    Some((alpha, beta))
+}
+
+/// The first collision of the least process that has one, by the rows of both teams.
+fn collision_by_rows(
+    table: &Table,
+    choice: &Choice,
+    raw: &RawChoice,
+    links: u16,
+    room: &mut Room,
+) -> Option<
+    (
+        u8,
+        (ArrayVec<u8, MOST_PROCESSES>, ArrayVec<u8, MOST_PROCESSES>),
+    ),
+>
+    requires few { length choice.now.a + length choice.now.b ≤ MOST_PROCESSES }
+    requires same { raw.now ≡ raw_choice_of choice.now }
+    requires short { length raw.now.operations ≤ MOST_PROCESSES }
+    requires fits { IsRawChoice table.now (length raw.now.operations) raw.now }
+    requires links { AreLinks raw.now links }
+    ensures none { IfNone result (IsWitness table.now raw.now) }
+    ensures recorded { IfSome result (λ found. IsRecordedCollision table.now raw.now found.0 found.1.0.items found.1.1.items) }
+{
+    collision_or_witness();
+    process_of_pair();
+    let rows_b = rows(table, raw, Team::B, links);
+    for process in 0..raw.operations.len() as u8 {
+        if contains(links, process) {
+            continue;
+        }
+        let found = collision_of(table, choice, raw, process, links, &rows_b, room);
+        if let Some(found) = found {
+            return Some((process, found));
+        }
+    }
+    None
+}
+
+/// The first collision of the least process that has one.
+fn raw_collision(
+    table: &Table,
+    choice: &Choice,
+    raw: &RawChoice,
+    images: &Images,
+    room: &mut Room,
+) -> Option<
+    (
+        u8,
+        (ArrayVec<u8, MOST_PROCESSES>, ArrayVec<u8, MOST_PROCESSES>),
+    ),
+>
+    requires images { images.now ≡ table.now }
+    requires some { 1 ≤ length choice.now.a + length choice.now.b }
+    requires few { length choice.now.a + length choice.now.b ≤ MOST_PROCESSES }
+    requires same { raw.now ≡ raw_choice_of choice.now }
+    requires short { length raw.now.operations ≤ MOST_PROCESSES }
+    requires fits { IsRawChoice table.now (length raw.now.operations) raw.now }
+    ensures none { IfNone result (IsWitness table.now raw.now) }
+    ensures recorded { IfSome result (λ found. IsRecordedCollision table.now raw.now found.0 found.1.0.items found.1.1.items) }
+{
+    let links = links(raw);
+    if let Some(found) = led_collision(table, choice, raw, links, images, &mut room.dead) {
+        return Some((0, found));
+    }
+    let (process, found) = collision_by_rows(table, choice, raw, links, room)?;
+    Some((process, found))
+}
+
+/// Whether the choice is a witness, and its recorded collision where it is none: that of the least
+/// process that has one, with the first list that begins in A whose pair also comes from a list
+/// that begins in B, and the first list that begins in B with that pair.
+///
+/// The choice is for the table and for 2 to [`MOST_PROCESSES`](crate::MOST_PROCESSES)
+/// processes.
+pub fn examine(table: &Table, choice: &Choice) -> Examined
+    requires { FitsTable table.now choice.now }
+    ensures { IsExamined table.now choice.now result }
+{
+    examine_in(table, choice, &Images::new(table), &mut Room::new())
+}
+
+/// As [`examine`], with the table made ready, and with room, so that neither is made anew for each
+/// choice.
+pub fn examine_in(table: &Table, choice: &Choice, images: &Images, room: &mut Room) -> Examined
+    requires fits { FitsTable table.now choice.now }
+    requires images { images.now ≡ table.now }
+    ensures { IsExamined table.now choice.now result }
+{
+    let raw = RawChoice::of(choice);
+    match raw_collision(table, choice, &raw, images, room) {
+        Some((process, (alpha, beta))) => Examined::Meets(Collision {
+            choice: choice.copy(),
+            process,
+            alpha,
+            beta,
+        }),
+        None => Examined::Splits,
+    }
+}

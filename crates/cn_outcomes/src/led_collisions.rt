@@ -1,0 +1,86 @@
+//! Collisions of process 0 whose first order is short and led by it.
+ghost use Rattle.std.specs.Prelude.{◌≡◌, ◌≤◌, ◌<◌, ◌+◌, length, IfSome};
+ghost use Rattle.cn_table.specs.declared.limits.TheConstants.{MOST_RESPONSES, MOST_STATES};
+ghost use Rattle.cn_choice.specs.Canonical.{raw_choice_of};
+ghost use Rattle.cn_choice.specs.FirstCollision.{IsFirstCollision};
+ghost use Rattle.cn_choice.specs.RawChoices.{IsRawChoice};
+ghost use Rattle.cn_outcomes.specs.LedOrders.{IsFirstLed};
+ghost use Rattle.cn_outcomes.specs.Twins.{AreLinks};
+ghost use Rattle.cn_choice.specs.declared.limits.TheConstants.{MOST_PROCESSES};
+
+use crate::bits::{minus, with};
+use crate::dead_ends::DeadEnds;
+use crate::first_orders::first_order_into;
+use crate::images::Images;
+use crate::outcome_sets::OutcomeSet;
+use crate::response_rows::{asked_first, least_with, response_rows};
+use crate::subset_rows::is_in;
+use crate::tails::{Place, way_into};
+use arrayvec::ArrayVec;
+use cn_choice::{Choice, MOST_PROCESSES, RawChoice, Team};
+use cn_table::Table;
+
+/// The first order of one or two processes that process 0 leads and that gives it a pair of the set,
+/// and that pair.
+fn led_alpha(
+    table: &Table,
+    raw: &RawChoice,
+    set: &OutcomeSet,
+    dead: &mut DeadEnds,
+) -> Option<(ArrayVec<u8, MOST_PROCESSES>, (u8, u8))>
+    requires some { 1 ≤ length raw.now.operations }
+    requires short { length raw.now.operations ≤ MOST_PROCESSES }
+    requires fits { IsRawChoice table.now (length raw.now.operations) raw.now }
+    ensures first { IfSome result (λ found. IsFirstLed table.now raw.now set.now found.0.items found.1) }
+    ensures in_range { IfSome result (λ found. (found.1.0 < MOST_RESPONSES) × (found.1.1 < MOST_STATES)) }
+{
+    let alone = Place {
+        used: 0,
+        left: 1,
+        state: raw.state,
+        seen: None,
+    };
+    let soon = way_into(table, raw, 0, set, dead, 0, 1, alone);
+    if let Some((order, pair)) = soon {
+        return Some((order, pair));
+    }
+    let then = Place { left: 2, ..alone };
+    let (order, pair) = way_into(table, raw, 0, set, dead, 0, 1, then)?;
+    Some((order, pair))
+}
+
+/// The first collision of process 0, if its first order has one or two processes and 0 leads it;
+/// else it may be none. Then 0 gets in it what it gets in the start state, so that the rows for this
+/// response are enough.
+pub(crate) fn led_collision(
+    table: &Table,
+    choice: &Choice,
+    raw: &RawChoice,
+    links: u16,
+    images: &Images,
+    dead: &mut DeadEnds,
+) -> Option<(ArrayVec<u8, MOST_PROCESSES>, ArrayVec<u8, MOST_PROCESSES>)>
+    requires images { images.now ≡ table.now }
+    requires some { 1 ≤ length choice.now.a + length choice.now.b }
+    requires few { length choice.now.a + length choice.now.b ≤ MOST_PROCESSES }
+    requires same { raw.now ≡ raw_choice_of choice.now }
+    requires short { length raw.now.operations ≤ MOST_PROCESSES }
+    requires fits { IsRawChoice table.now (length raw.now.operations) raw.now }
+    requires links { AreLinks raw.now links }
+    ensures { IfSome result (λ found. IsFirstCollision table.now raw.now 0 found.0.items found.1.items) }
+{
+    if !is_in(raw, 0, Team::A) {
+        return None;
+    }
+    let links = minus(links, with(0, 1));
+    let n = raw.operations.len() as u8;
+    let count = 1u16 << (n - 1);
+    let asked = asked_first(table, raw, 0);
+    let rows = response_rows(table, raw, Team::B, asked, links, count, images);
+    let from_b = OutcomeSet::of_response(asked.response, rows.all);
+    let (alpha, (response, state)) = led_alpha(table, raw, &from_b, dead)?;
+    let pair = OutcomeSet::only(response, state);
+    let first = least_with(&rows.given, count, state) + 1;
+    let (beta, _) = first_order_into(table, choice, raw, Team::B, 0, &pair, first, n + 1, dead)?;
+    Some((alpha, beta))
+}

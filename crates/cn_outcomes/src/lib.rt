@@ -1,0 +1,21 @@
+//! What each process of a choice can see, computed fast: outcome sets as sets of bits, whether a
+//! choice is a witness, and the recorded collision where it is none.
+#![tactic(auto)]
+
+mod bits;
+mod dead_ends;
+mod early_pairs;
+mod examination;
+mod first_orders;
+mod images;
+mod led_collisions;
+mod limits;
+mod outcome_sets;
+mod response_rows;
+mod subset_rows;
+mod tails;
+mod twins;
+
+pub use examination::{Examined, Room, examine, examine_in};
+pub use images::Images;
+pub use outcome_sets::{OutcomeSet, is_witness, outcomes};

@@ -1,0 +1,216 @@
+//! Outcome sets: which pairs of its response and the last state a process can get where a team moves first.
+ghost use Rattle.std.specs.Prelude.{◌≡◌, ◌≤◌, ◌<◌, ◌↔◌, ◌⊎◌, ◌+◌, ◌^◌, ℕ, length, IsBitSet, IsTrue};
+ghost use Rattle.cn_table.specs.declared.limits.TheConstants.{MOST_RESPONSES, MOST_STATES};
+ghost use Rattle.cn_choice.specs.RawChoices.{IsRawChoice};
+ghost use Rattle.cn_choice.specs.Canonical.{FitsTable, raw_choice_of};
+ghost use Rattle.cn_choice.specs.Discerning.{IsWitness};
+ghost use Rattle.cn_outcomes.specs.PairSets.{Has, HaveCommonPair};
+ghost use Rattle.cn_choice.specs.OutcomeSets.{InOutcomeSet};
+ghost use Rattle.cn_outcomes.specs.Subsets.{ArePairRows, AreRows};
+ghost use Rattle.cn_outcomes.specs.Twins.{AreLinks};
+ghost use Rattle.cn_choice.specs.declared.limits.TheConstants.{MOST_PROCESSES};
+
+use crate::bits::{contains, least, share, union, with, without};
+use crate::early_pairs::some_meet_soon;
+use crate::limits::SUBSETS;
+use crate::subset_rows::{outcome_row, rows};
+use crate::twins::{first_twin, links};
+use cn_choice::{Choice, RawChoice, Team};
+use cn_table::{MOST_RESPONSES, MOST_STATES, Response, State, Table};
+use std::marker::Model;
+
+/// A set of pairs of a response and a state.
+#[derive(Drop)]
+pub struct OutcomeSet {
+    /// By state the set of the responses.
+    row: [u16; MOST_STATES],
+}
+
+impl Model for OutcomeSet {
+    ghost use Rattle.cn_table.specs.declared.limits.TheConstants.{MOST_STATES};
+    ghost use Rattle.std.specs.Prelude.{◌≡◌, List, ℕ, length};
+
+    ghost Value = { List ℕ };
+
+    ghost view = { λ s. s.row };
+
+    ghost invariant = { λ s. length s.row ≡ MOST_STATES };
+}
+
+impl OutcomeSet {
+    /// The set of no pairs.
+    pub(crate) fn none() -> OutcomeSet
+        ensures { (r q : ℕ) → ¬ Has result r q }
+    {
+        OutcomeSet {
+            row: [0; MOST_STATES],
+        }
+    }
+
+    /// Puts the pair into the set.
+    pub(crate) fn add(&mut self, response: u8, state: u8)
+        requires response { response < MOST_RESPONSES }
+        requires state { state < MOST_STATES }
+        ensures { (r q : ℕ) → Has self.new r q ↔ (Has self.old r q ⊎ ((r ≡ response) × (q ≡ state))) }
+    {
+        let place = state as usize;
+        self.row[place] = with(self.row[place], response);
+    }
+
+    /// The set of one pair.
+    pub(crate) fn only(response: u8, state: u8) -> OutcomeSet
+        requires response { response < MOST_RESPONSES }
+        requires state { state < MOST_STATES }
+        ensures { (r q : ℕ) → Has result r q ↔ ((r ≡ response) × (q ≡ state)) }
+    {
+        let mut row = [0; MOST_STATES];
+        row[state as usize] = with(0, response);
+        OutcomeSet { row }
+    }
+
+    /// The set of the pairs of the response and one of the states.
+    pub(crate) fn of_response(response: u8, states: u16) -> OutcomeSet
+        requires { response < MOST_RESPONSES }
+        ensures { (r q : ℕ) → Has result r q ↔ ((r ≡ response) × IsBitSet states q) }
+    {
+        let mut set = OutcomeSet::none();
+        let mut left = states;
+        while left != 0 {
+            let state = least(left);
+            left = without(left, state);
+            set.add(response, state);
+        }
+        set
+    }
+
+    /// Whether the pair is in the set. A response or state that no table has is in no pair.
+    pub fn has(&self, response: Response, state: State) -> bool
+        ensures found { IsTrue result ↔ Has self.now response.0 state.0 }
+        ensures in_range { IsTrue result → (response.0 < MOST_RESPONSES) × (state.0 < MOST_STATES) }
+    {
+        let row = self.row;
+        if state.0 as usize >= MOST_STATES {
+            return false;
+        }
+        let responses = row[state.0 as usize];
+        if response.0 as usize >= MOST_RESPONSES {
+            return false;
+        }
+        contains(responses, response.0)
+    }
+
+    /// The responses of the pairs.
+    pub(crate) fn responses(&self) -> u16
+        ensures { (r q : ℕ) → Has self.now r q → IsBitSet result r }
+    {
+        let mut all = 0;
+        for q in 0..MOST_STATES {
+            all = union(all, self.row[q]);
+        }
+        all
+    }
+
+    /// Whether some pair is in both sets.
+    pub fn meets(&self, other: &OutcomeSet) -> bool
+        ensures { IsTrue result ↔ HaveCommonPair self.now other.now }
+    {
+        for q in 0..MOST_STATES {
+            if share(self.row[q], other.row[q]) {
+                return true;
+            }
+        }
+        false
+    }
+}
+
+/// The outcome set of the team for process j, the first of its twins, from the team's rows.
+pub(crate) fn outcomes_from(
+    table: &Table,
+    choice: &RawChoice,
+    team: Team,
+    j: u8,
+    links: u16,
+    rows: &[u16; SUBSETS],
+    pairs: &mut [[u16; MOST_STATES]; SUBSETS],
+) -> OutcomeSet
+    requires few { length choice.now.operations ≤ MOST_PROCESSES }
+    requires fits { IsRawChoice table.now (length choice.now.operations) choice.now }
+    requires j { j < length choice.now.operations }
+    requires first { ¬ IsBitSet links j }
+    requires links { AreLinks choice.now links }
+    requires rows { AreRows table.now choice.now team links (2 ^ length choice.now.operations) rows.now }
+    ensures set { (r q : ℕ) → Has result r q ↔ InOutcomeSet table.now choice.now team j (r, q) }
+    ensures pairs { ArePairRows table.now choice.now team j links (2 ^ length choice.now.operations) pairs.new }
+{
+    OutcomeSet {
+        row: outcome_row(table, choice, team, j, links, rows, pairs),
+    }
+}
+
+/// The outcome set of the team for the process: what it can get where that team moves first, from
+/// every list of distinct processes that has it.
+///
+/// The choice is for the table and for 2 to [`MOST_PROCESSES`](crate::MOST_PROCESSES) processes,
+/// numbered with team A first.
+pub fn outcomes(table: &Table, choice: &Choice, team: Team, process: u8) -> OutcomeSet
+    requires fits { FitsTable table.now choice.now }
+    requires process { process < length choice.now.a + length choice.now.b }
+    ensures { (r q : ℕ) → Has result r q ↔ InOutcomeSet table.now (raw_choice_of choice.now) team process (r, q) }
+{
+    let raw = RawChoice::of(choice);
+    let links = links(&raw);
+    let rows = rows(table, &raw, team, links);
+    let first = first_twin(links, process);
+    outcomes_from(
+        table,
+        &raw,
+        team,
+        first,
+        links,
+        &rows,
+        &mut [[0; MOST_STATES]; SUBSETS],
+    )
+}
+
+/// Whether the raw choice is a witness, by the outcome sets of each process that is the first of its twins.
+fn is_witness_by_rows(table: &Table, choice: &RawChoice) -> bool
+    requires few { length choice.now.operations ≤ MOST_PROCESSES }
+    requires fits { IsRawChoice table.now (length choice.now.operations) choice.now }
+    ensures { IsTrue result ↔ IsWitness table.now choice.now }
+{
+    let links = links(choice);
+    let rows_a = rows(table, choice, Team::A, links);
+    let rows_b = rows(table, choice, Team::B, links);
+    let mut pairs = [[0; MOST_STATES]; SUBSETS];
+    for j in 0..choice.operations.len() as u8 {
+        if contains(links, j) {
+            continue;
+        }
+        let from_a = outcomes_from(table, choice, Team::A, j, links, &rows_a, &mut pairs);
+        let from_b = outcomes_from(table, choice, Team::B, j, links, &rows_b, &mut pairs);
+        if from_a.meets(&from_b) {
+            return false;
+        }
+    }
+    true
+}
+
+/// Whether the raw choice is a witness. The arrays of the rows are cleared where their function is entered, so that the short look comes before it.
+fn raw_is_witness(table: &Table, choice: &RawChoice) -> bool
+    requires few { length choice.now.operations ≤ MOST_PROCESSES }
+    requires fits { IsRawChoice table.now (length choice.now.operations) choice.now }
+    ensures { IsTrue result ↔ IsWitness table.now choice.now }
+{
+    !some_meet_soon(table, choice) && is_witness_by_rows(table, choice)
+}
+
+/// Whether the choice is a witness: no process has a pair in the outcome sets of both teams.
+///
+/// The choice is for the table and for 2 to [`MOST_PROCESSES`](crate::MOST_PROCESSES)
+/// processes.
+pub fn is_witness(table: &Table, choice: &Choice) -> bool
+    requires { FitsTable table.now choice.now }
+    ensures { IsTrue result ↔ IsWitness table.now (raw_choice_of choice.now) }
+{
+    raw_is_witness(table, &RawChoice::of(choice))
+}

@@ -1,0 +1,182 @@
+//! Rows for one process and one response of it, by the subsets of the other processes.
+ghost use Rattle.std.specs.Prelude.{◌≡◌, ◌<◌, ◌≤◌, ◌↔◌, ◌*◌, ◌^◌, ℕ, length, slice_get, slice_index, IsBitSet, Some};
+ghost use Rattle.cn_table.specs.TypeTable.{transition};
+ghost use Rattle.cn_table.specs.declared.limits.TheConstants.{MOST_RESPONSES, MOST_STATES};
+ghost use Rattle.cn_choice.specs.RawChoices.{IsRawChoice};
+ghost use Rattle.cn_outcomes.specs.ResponseRows.{AreAsked, AreGivenRows, AreRowsWithout, GivesWith};
+ghost use Rattle.cn_choice.specs.OutcomeSets.{InOutcomeSet};
+ghost use Rattle.cn_outcomes.specs.Subsets.{Below, Leaves};
+ghost use Rattle.cn_outcomes.specs.Tails.{count_below};
+ghost use Rattle.cn_outcomes.specs.Twins.{AreLinks, IsPacked};
+ghost use Rattle.cn_choice.specs.declared.limits.TheConstants.{MOST_PROCESSES};
+ghost use Rattle.cn_outcomes.specs.declared.limits.TheConstants.{SUBSETS, TOO_LONG};
+
+use crate::bits::{common, contains, least, size, union, with, without};
+use crate::images::Images;
+use crate::limits::{SUBSETS, TOO_LONG};
+use crate::subset_rows::{found, operation_of};
+use crate::twins::{is_packed, movers};
+use cn_choice::{RawChoice, Team};
+use cn_table::{Operation, Response, State, Table};
+
+/// A response of a process, and the states in which it gets it.
+#[derive(Clone, Copy)]
+pub(crate) struct Asked {
+    pub response: u8,
+    pub states: u16,
+}
+
+/// What process j gets by the response: by the subsets of the other processes the states in which
+/// orders of the subset and of j leave the object, and these states for all subsets.
+#[derive(Drop)]
+pub(crate) struct ResponseRows {
+    pub given: [u16; SUBSETS],
+    pub all: u16,
+}
+
+/// The states in which the operation gives the response.
+fn states_with(table: &Table, operation: Operation, response: Response) -> u16
+    requires operation { operation.0 < length table.now.operations }
+    ensures { (q : ℕ) → IsBitSet result q ↔ ((q < length table.now.states) × ((transition table.now operation.0 q).0 ≡ response.0)) }
+{
+    let mut set = 0;
+    for state in 0..table.states() {
+        let (got, _) = table.apply(operation, State(state));
+        if got == response {
+            set = with(set, state);
+        }
+    }
+    set
+}
+
+/// The response that the process gets in the start state, and the states in which it gets that.
+pub(crate) fn asked_first(table: &Table, choice: &RawChoice, j: u8) -> Asked
+    requires few { length choice.now.operations ≤ MOST_PROCESSES }
+    requires fits { IsRawChoice table.now (length choice.now.operations) choice.now }
+    requires j { j < length choice.now.operations }
+    ensures response { result.response ≡ (transition table.now (slice_index choice.now.operations j) choice.now.state).0 }
+    ensures in_range { result.response < MOST_RESPONSES }
+    ensures states { AreAsked table.now choice.now j result.response result.states }
+{
+    let _responses = table.responses();
+    let operation = operation_of(choice, j);
+    let (response, _) = table.apply(operation, choice.state);
+    Asked {
+        response: response.0,
+        states: states_with(table, operation, response),
+    }
+}
+
+/// The states in which orders of the packed subset leave the object, and those in which orders of it
+/// and of process j do that give j the response, from the rows of smaller subsets.
+fn both_rows(
+    table: &Table,
+    choice: &RawChoice,
+    team: Team,
+    j: u8,
+    asked: Asked,
+    links: u16,
+    rows: &[u16; SUBSETS],
+    given: &[u16; SUBSETS],
+    subset: u16,
+    images: &Images,
+) -> (u16, u16)
+    requires images { images.now ≡ table.now }
+    requires few { length choice.now.operations ≤ MOST_PROCESSES }
+    requires fits { IsRawChoice table.now (length choice.now.operations) choice.now }
+    requires j { j < length choice.now.operations }
+    requires other { ¬ (slice_get choice.now.marks j ≡ Some team) }
+    requires first { ¬ IsBitSet links j }
+    requires links { AreLinks choice.now links }
+    requires asked { AreAsked table.now choice.now j asked.response asked.states }
+    requires subset { subset < SUBSETS }
+    requires inside { subset < 2 ^ length choice.now.operations }
+    requires packed { IsPacked links subset }
+    requires without { ¬ IsBitSet subset j }
+    requires rows { AreRowsWithout table.now choice.now team links j subset rows.now }
+    requires given { AreGivenRows table.now choice.now team links j asked.response subset given.now }
+    ensures row { (q : ℕ) → IsBitSet result.0 q ↔ Leaves table.now choice.now team subset q }
+    ensures known { Below (length table.now.states) result.0 }
+    ensures given { (q : ℕ) → IsBitSet result.1 q ↔ GivesWith table.now choice.now team j asked.response subset q }
+    ensures given_known { Below (length table.now.states) result.1 }
+{
+    let (mut row, mut gets) = (0, 0);
+    let mut left = movers(links, subset);
+    while left != 0 {
+        let process = least(left);
+        left = without(left, process);
+        let rest = without(subset, process);
+        let operation = operation_of(choice, process);
+        let from = found(table, choice, team, rows, process, rest);
+        let moved = images.of(operation, from);
+        row = union(row, moved);
+        let passed = images.of(operation, given[rest as usize]);
+        gets = union(gets, passed);
+    }
+    let asking = common(row, asked.states);
+    let own = images.of(operation_of(choice, j), asking);
+    (row, union(gets, own))
+}
+
+/// The rows for process 0 and the response, where orders begin in the other team. Process 1 is not
+/// linked. The subsets of the other processes are the even numbers, and the count says how many
+/// there are.
+pub(crate) fn response_rows(
+    table: &Table,
+    choice: &RawChoice,
+    team: Team,
+    asked: Asked,
+    links: u16,
+    count: u16,
+    images: &Images,
+) -> ResponseRows
+    requires images { images.now ≡ table.now }
+    requires some { 1 ≤ length choice.now.operations }
+    requires few { length choice.now.operations ≤ MOST_PROCESSES }
+    requires fits { IsRawChoice table.now (length choice.now.operations) choice.now }
+    requires other { ¬ (slice_get choice.now.marks 0 ≡ Some team) }
+    requires alone { ¬ IsBitSet links 1 }
+    requires links { AreLinks choice.now links }
+    requires asked { AreAsked table.now choice.now 0 asked.response asked.states }
+    requires count { 2 * count ≡ 2 ^ length choice.now.operations }
+    requires small { 2 * count ≤ SUBSETS }
+    ensures all { (q : ℕ) → IsBitSet result.all q ↔ InOutcomeSet table.now choice.now team 0 (asked.response, q) }
+    ensures given { AreGivenRows table.now choice.now team links 0 asked.response (2 ^ length choice.now.operations) result.given }
+{
+    let mut rows = [0; SUBSETS];
+    let mut given = [0; SUBSETS];
+    let mut all = 0;
+    for place in 1..count {
+        let subset = 2 * place;
+        if !is_packed(links, subset) {
+            continue;
+        }
+        let (row, gets) = both_rows(
+            table, choice, team, 0, asked, links, &rows, &given, subset, images,
+        );
+        rows[subset as usize] = row;
+        given[subset as usize] = gets;
+        all = union(all, gets);
+    }
+    ResponseRows { given, all }
+}
+
+/// The size of the least subset without process 0 whose row has the state, or `TOO_LONG` if none has it. The
+/// count says how many such subsets there are.
+pub(crate) fn least_with(given: &[u16; SUBSETS], count: u16, state: u8) -> u8
+    requires small { 2 * count ≤ SUBSETS }
+    requires state { state < MOST_STATES }
+    ensures least { (subset : ℕ) → subset < 2 * count → ¬ IsBitSet subset 0 → IsBitSet (slice_index given.now subset) state
+        → result ≤ count_below MOST_PROCESSES subset }
+    ensures most { result ≤ TOO_LONG }
+{
+    let mut least = TOO_LONG;
+    for place in 0..count {
+        let subset = 2 * place;
+        if !contains(given[subset as usize], state) {
+            continue;
+        }
+        least = least.min(size(subset));
+    }
+    least
+}

@@ -1,0 +1,353 @@
+//! Rows for the subsets of the processes: what the orders of exactly one subset lead to.
+ghost use Rattle.std.specs.Prelude.{◌≡◌, ◌≤◌, ◌<◌, ◌↔◌, ◌⊎◌, ◌^◌, ℕ, [], length, IsBitSet, slice_index, slice_index_or, slice_get, IsTrue, Some};
+ghost use Rattle.cn_table.specs.TypeTable.{transition};
+ghost use Rattle.cn_table.specs.declared.limits.TheConstants.{MOST_RESPONSES, MOST_STATES};
+ghost use Rattle.cn_outcomes.specs.PairSets.{Has};
+ghost use Rattle.cn_choice.specs.OutcomeSets.{InOutcomeSet};
+ghost use Rattle.cn_choice.specs.RawChoices.{IsRawChoice};
+ghost use Rattle.cn_outcomes.specs.Subsets.{Leaves, Gives, Finds, Below, AreRows, ArePairRows, IsRow, OtherLast, OwnLast};
+ghost use Rattle.cn_outcomes.specs.Tails.{count_below};
+ghost use Rattle.cn_outcomes.specs.Twins.{AreLinks, IsMover, IsPacked};
+ghost use Rattle.cn_choice.specs.declared.limits.TheConstants.{MOST_PROCESSES};
+ghost use Rattle.cn_outcomes.specs.declared.limits.TheConstants.{SUBSETS};
+
+use crate::bits::{contains, least, size, union, with, without};
+use crate::limits::{SUBSETS, TOO_LONG};
+use crate::twins::{is_packed, last_twin, movers};
+use cn_choice::{RawChoice, Team};
+use cn_table::{MOST_STATES, Operation, State, Table};
+
+/// The states in which the operation leaves the object, from one of these states.
+pub(crate) fn image(table: &Table, operation: Operation, from: u16) -> u16
+    requires operation { operation.0 < length table.now.operations }
+    requires known { Below (length table.now.states) from }
+    ensures same { (q : ℕ) → IsBitSet result q ↔ ((found : ℕ) × IsBitSet from found × ((transition table.now operation.0 found).1 ≡ q)) }
+    ensures known { Below (length table.now.states) result }
+{
+    let _states = table.states();
+    let mut set = 0;
+    let mut left = from;
+    while left != 0 {
+        let state = least(left);
+        left = without(left, state);
+        let (_, next) = table.apply(operation, State(state));
+        set = with(set, next.0);
+    }
+    set
+}
+
+/// What a process gets by the operation, and the states that it leaves, from one of these states.
+fn answers(table: &Table, operation: Operation, from: u16) -> [u16; MOST_STATES]
+    requires operation { operation.0 < length table.now.operations }
+    requires known { Below (length table.now.states) from }
+    ensures same { (r q : ℕ) → Has result r q
+        ↔ ((found : ℕ) × IsBitSet from found × ((transition table.now operation.0 found).0 ≡ r) × ((transition table.now operation.0 found).1 ≡ q)) }
+    ensures row { IsRow table.now result }
+{
+    let (_responses, _states) = (table.responses(), table.states());
+    let mut row = [0; MOST_STATES];
+    let mut left = from;
+    while left != 0 {
+        let state = least(left);
+        left = without(left, state);
+        let (response, next) = table.apply(operation, State(state));
+        let place = next.0 as usize;
+        row[place] = with(row[place], response.0);
+    }
+    row
+}
+
+pub(crate) fn is_in(choice: &RawChoice, process: u8, team: Team) -> bool
+    requires { process < length choice.now.marks }
+    ensures { IsTrue result ↔ (slice_get choice.now.marks process ≡ Some team) }
+{
+    choice.marks[process as usize] == team
+}
+
+pub(crate) fn operation_of(choice: &RawChoice, process: u8) -> Operation
+    requires { process < length choice.now.operations }
+    ensures { result.0 ≡ slice_index choice.now.operations process }
+{
+    Operation(choice.operations[process as usize])
+}
+
+/// The states in which the process may find the object where the rest moved.
+pub(crate) fn found(
+    table: &Table,
+    choice: &RawChoice,
+    team: Team,
+    rows: &[u16; SUBSETS],
+    process: u8,
+    rest: u16,
+) -> u16
+    requires fits { IsRawChoice table.now (length choice.now.operations) choice.now }
+    requires process { process < length choice.now.operations }
+    requires rest { rest < SUBSETS }
+    requires row { (q : ℕ) → IsBitSet (slice_index rows.now rest) q ↔ Leaves table.now choice.now team rest q }
+    requires known { Below (length table.now.states) (slice_index rows.now rest) }
+    ensures same { (q : ℕ) → IsBitSet result q ↔ Finds table.now choice.now team process rest q }
+    ensures known { Below (length table.now.states) result }
+{
+    let _states = table.states();
+    if rest != 0 {
+        rows[rest as usize]
+    } else if is_in(choice, process, team) {
+        with(0, choice.state.0)
+    } else {
+        0
+    }
+}
+
+/// The row of the packed subset, from the rows of smaller ones.
+fn row(
+    table: &Table,
+    choice: &RawChoice,
+    team: Team,
+    links: u16,
+    rows: &[u16; SUBSETS],
+    subset: u16,
+) -> u16
+    requires few { length choice.now.operations ≤ MOST_PROCESSES }
+    requires fits { IsRawChoice table.now (length choice.now.operations) choice.now }
+    requires links { AreLinks choice.now links }
+    requires subset { subset < SUBSETS }
+    requires inside { subset < 2 ^ length choice.now.operations }
+    requires packed { IsPacked links subset }
+    requires rows { AreRows table.now choice.now team links subset rows.now }
+    ensures same { (q : ℕ) → IsBitSet result q ↔ Leaves table.now choice.now team subset q }
+    ensures known { Below (length table.now.states) result }
+{
+    let _states = table.states();
+    let mut set = 0;
+    let mut left = movers(links, subset);
+    while left != 0 {
+        let process = least(left);
+        left = without(left, process);
+        let rest = without(subset, process);
+        let from = found(table, choice, team, rows, process, rest);
+        set = union(set, image(table, operation_of(choice, process), from));
+    }
+    set
+}
+
+/// A row for each packed subset: the states in which orders of that subset leave the object.
+pub(crate) fn rows(table: &Table, choice: &RawChoice, team: Team, links: u16) -> [u16; SUBSETS]
+    requires few { length choice.now.operations ≤ MOST_PROCESSES }
+    requires fits { IsRawChoice table.now (length choice.now.operations) choice.now }
+    requires links { AreLinks choice.now links }
+    ensures { AreRows table.now choice.now team links (2 ^ length choice.now.operations) result }
+{
+    let mut rows = [0; SUBSETS];
+    for subset in 1..1u16 << choice.operations.len() {
+        if !is_packed(links, subset) {
+            continue;
+        }
+        rows[subset as usize] = row(table, choice, team, links, &rows, subset);
+    }
+    rows
+}
+
+/// The pairs with the operation applied to their states, which are among these.
+fn images(
+    table: &Table,
+    operation: Operation,
+    row: &[u16; MOST_STATES],
+    from: u16,
+) -> [u16; MOST_STATES]
+    requires operation { operation.0 < length table.now.operations }
+    requires known { Below (length table.now.states) from }
+    requires among { (r q : ℕ) → Has row.now r q → IsBitSet from q }
+    ensures same { (r q : ℕ) → Has result r q ↔ ((found : ℕ) × Has row.now r found × ((transition table.now operation.0 found).1 ≡ q)) }
+    ensures row { IsRow table.now result }
+{
+    let _states = table.states();
+    let mut moved = [0; MOST_STATES];
+    let mut left = from;
+    while left != 0 {
+        let state = least(left);
+        left = without(left, state);
+        let (_, next) = table.apply(operation, State(state));
+        let place = next.0 as usize;
+        moved[place] = union(moved[place], row[state as usize]);
+    }
+    moved
+}
+
+/// The pairs of both rows.
+fn merged(table: &Table, a: &[u16; MOST_STATES], b: &[u16; MOST_STATES]) -> [u16; MOST_STATES]
+    requires a { IsRow table.now a.now }
+    requires b { IsRow table.now b.now }
+    ensures same { (r q : ℕ) → Has result r q ↔ (Has a.now r q ⊎ Has b.now r q) }
+    ensures row { IsRow table.now result }
+{
+    let mut both = [0; MOST_STATES];
+    for q in 0..MOST_STATES {
+        both[q] = union(a[q], b[q]);
+    }
+    both
+}
+
+/// What process j gets where it moves last of the packed subset, and the states that it leaves.
+fn own_row(
+    table: &Table,
+    choice: &RawChoice,
+    team: Team,
+    j: u8,
+    links: u16,
+    rows: &[u16; SUBSETS],
+    subset: u16,
+) -> [u16; MOST_STATES]
+    requires few { length choice.now.operations ≤ MOST_PROCESSES }
+    requires fits { IsRawChoice table.now (length choice.now.operations) choice.now }
+    requires j { j < length choice.now.operations }
+    requires links { AreLinks choice.now links }
+    requires subset { subset < SUBSETS }
+    requires inside { subset < 2 ^ length choice.now.operations }
+    requires packed { IsPacked links subset }
+    requires member { IsBitSet subset j }
+    requires rows { AreRows table.now choice.now team links subset rows.now }
+    ensures same { (r q : ℕ) → Has result r q ↔ OwnLast table.now choice.now team j subset r q }
+    ensures row { IsRow table.now result }
+{
+    let last = last_twin(links, subset, j);
+    let rest = without(subset, last);
+    let from = found(table, choice, team, rows, last, rest);
+    answers(table, operation_of(choice, j), from)
+}
+
+/// The pairs that process j got before some other process moved last of the packed subset.
+fn others_row(
+    table: &Table,
+    choice: &RawChoice,
+    team: Team,
+    j: u8,
+    links: u16,
+    rows: &[u16; SUBSETS],
+    pairs: &[[u16; MOST_STATES]; SUBSETS],
+    subset: u16,
+) -> [u16; MOST_STATES]
+    requires few { length choice.now.operations ≤ MOST_PROCESSES }
+    requires fits { IsRawChoice table.now (length choice.now.operations) choice.now }
+    requires links { AreLinks choice.now links }
+    requires subset { subset < SUBSETS }
+    requires inside { subset < 2 ^ length choice.now.operations }
+    requires packed { IsPacked links subset }
+    requires rows { AreRows table.now choice.now team links subset rows.now }
+    requires pairs { ArePairRows table.now choice.now team j links subset pairs.now }
+    ensures same { (r q : ℕ) → Has result r q ↔ ((p : ℕ) × IsMover links subset p × OtherLast table.now choice.now team j subset q p r) }
+    ensures row { IsRow table.now result }
+{
+    let mut row = [0; MOST_STATES];
+    let mut left = movers(links, subset);
+    while left != 0 {
+        let process = least(left);
+        left = without(left, process);
+        if process == j {
+            continue;
+        }
+        let rest = without(subset, process) as usize;
+        let moved = images(
+            table,
+            operation_of(choice, process),
+            &pairs[rest],
+            rows[rest],
+        );
+        row = merged(table, &row, &moved);
+    }
+    row
+}
+
+/// The pairs that orders of the packed subset give to process j, from the rows of smaller ones.
+fn pair_row(
+    table: &Table,
+    choice: &RawChoice,
+    team: Team,
+    j: u8,
+    links: u16,
+    rows: &[u16; SUBSETS],
+    pairs: &[[u16; MOST_STATES]; SUBSETS],
+    subset: u16,
+) -> [u16; MOST_STATES]
+    requires few { length choice.now.operations ≤ MOST_PROCESSES }
+    requires fits { IsRawChoice table.now (length choice.now.operations) choice.now }
+    requires j { j < length choice.now.operations }
+    requires first { ¬ IsBitSet links j }
+    requires links { AreLinks choice.now links }
+    requires subset { subset < SUBSETS }
+    requires inside { subset < 2 ^ length choice.now.operations }
+    requires packed { IsPacked links subset }
+    requires member { IsBitSet subset j }
+    requires rows { AreRows table.now choice.now team links subset rows.now }
+    requires pairs { ArePairRows table.now choice.now team j links subset pairs.now }
+    ensures same { (r q : ℕ) → Has result r q ↔ Gives table.now choice.now team j subset r q }
+    ensures row { IsRow table.now result }
+{
+    let own = own_row(table, choice, team, j, links, rows, subset);
+    let others = others_row(table, choice, team, j, links, rows, pairs, subset);
+    merged(table, &own, &others)
+}
+
+/// The pairs that orders of any subset give to process j, which is the first of its twins. The rows
+/// for the pairs are made anew.
+pub(crate) fn outcome_row(
+    table: &Table,
+    choice: &RawChoice,
+    team: Team,
+    j: u8,
+    links: u16,
+    rows: &[u16; SUBSETS],
+    pairs: &mut [[u16; MOST_STATES]; SUBSETS],
+) -> [u16; MOST_STATES]
+    requires few { length choice.now.operations ≤ MOST_PROCESSES }
+    requires fits { IsRawChoice table.now (length choice.now.operations) choice.now }
+    requires j { j < length choice.now.operations }
+    requires first { ¬ IsBitSet links j }
+    requires links { AreLinks choice.now links }
+    requires rows { AreRows table.now choice.now team links (2 ^ length choice.now.operations) rows.now }
+    ensures same { (r q : ℕ) → Has result r q ↔ InOutcomeSet table.now choice.now team j (r, q) }
+    ensures row { IsRow table.now result }
+    ensures pairs { ArePairRows table.now choice.now team j links (2 ^ length choice.now.operations) pairs.new }
+{
+    pairs[0] = [0; MOST_STATES];
+    let mut all = [0; MOST_STATES];
+    for subset in 1..1u16 << choice.operations.len() {
+        if !is_packed(links, subset) {
+            continue;
+        }
+        if !contains(subset, j) {
+            pairs[subset as usize] = [0; MOST_STATES];
+            continue;
+        }
+        let row = pair_row(table, choice, team, j, links, rows, pairs, subset);
+        pairs[subset as usize] = row;
+        all = merged(table, &all, &row);
+    }
+    all
+}
+
+/// The size of the least packed subset of n processes whose row has the pair, or `TOO_LONG` if none has it.
+pub(crate) fn least_size(
+    links: u16,
+    n: u8,
+    pairs: &[[u16; MOST_STATES]; SUBSETS],
+    response: u8,
+    state: u8,
+) -> u8
+    requires few { n ≤ MOST_PROCESSES }
+    requires response { response < MOST_RESPONSES }
+    requires state { state < MOST_STATES }
+    ensures { (subset : ℕ) → subset < 2 ^ n → IsPacked links subset → Has (slice_index_or pairs.now subset []) response state
+        → result ≤ count_below MOST_PROCESSES subset }
+{
+    let mut least = TOO_LONG;
+    for subset in 0..1u16 << n {
+        if !contains(pairs[subset as usize][state as usize], response) {
+            continue;
+        }
+        if !is_packed(links, subset) {
+            continue;
+        }
+        least = least.min(size(subset));
+    }
+    least
+}

@@ -1,0 +1,194 @@
+//! How an order may go on: the first way, in list order, to a pair of a set.
+ghost use Rattle.std.specs.Prelude.{◌≡◌, ◌≢◌, ◌+◌, ◌-◌, ◌^◌, ◌<◌, ◌≤◌, ◌⊎◌, ℕ, [], length, slice_index};
+ghost use Rattle.std.specs.Prelude.{IfNone, IfSome, IsBitSet, IsFalse, IsTrue, Some};
+ghost use Rattle.std.specs.Int.Bits.{bit_or};
+ghost use Rattle.cn_table.specs.declared.limits.TheConstants.{MOST_RESPONSES, MOST_STATES};
+ghost use Rattle.cn_outcomes.specs.PairSets.{Has};
+ghost use Rattle.cn_choice.specs.RawChoices.{IsRawChoice};
+ghost use Rattle.cn_choice.specs.Moves.{answer_of, next_of};
+ghost use Rattle.cn_outcomes.specs.Tails.{AreDead, IsFirstWay, IsPassed, IsTurn, NoWay, StayDead, count_moved, seen_after};
+ghost use Rattle.cn_choice.specs.declared.limits.TheConstants.{MOST_PROCESSES};
+ghost use Rattle.cn_outcomes.specs.declared.limits.TheConstants.{SUBSETS};
+
+use crate::bits::{contains, with};
+use crate::dead_ends::DeadEnds;
+use crate::outcome_sets::OutcomeSet;
+use crate::subset_rows::operation_of;
+use arrayvec::ArrayVec;
+use cn_choice::{MOST_PROCESSES, RawChoice};
+use cn_table::{Response, State, Table};
+
+/// Where an order has come to: the processes that have moved, how many are still to move, the state
+/// that was left, and the response that the process in question has got, if it has moved.
+#[derive(Clone, Copy)]
+pub(crate) struct Place {
+    pub used: u16,
+    pub left: u8,
+    pub state: State,
+    pub seen: Option<u8>,
+}
+
+/// The response that process j has got: the first.
+fn seen_after(j: u8, process: u8, response: u8, seen: Option<u8>) -> Option<u8>
+    ensures { result ≡ seen_after j process response seen }
+{
+    match seen {
+        None if process == j => Some(response),
+        _ => seen,
+    }
+}
+
+/// The place to which the process comes.
+fn place_after(table: &Table, choice: &RawChoice, j: u8, place: Place, process: u8) -> Place
+    requires fits { IsRawChoice table.now (length choice.now.operations) choice.now }
+    requires state { place.state.0 < length table.now.states }
+    requires process { process < length choice.now.operations }
+    requires few { length choice.now.operations ≤ MOST_PROCESSES }
+    requires left { 1 ≤ place.left }
+    requires used { place.used < SUBSETS }
+    requires seen { IfSome place.seen (λ response. response < MOST_RESPONSES) }
+    ensures used { result.used ≡ bit_or place.used (2 ^ process) }
+    ensures small { result.used < SUBSETS }
+    ensures left { result.left ≡ place.left - 1 }
+    ensures state { result.state.0 ≡ next_of table.now choice.now process place.state.0 }
+    ensures known { result.state.0 < length table.now.states }
+    ensures seen { result.seen ≡ seen_after j process (answer_of table.now choice.now process place.state.0) place.seen }
+    ensures in_range { IfSome result.seen (λ response. response < MOST_RESPONSES) }
+{
+    let _responses = table.responses();
+    let (response, state) = table.apply(operation_of(choice, process), place.state);
+    Place {
+        used: place.used | (1 << process),
+        left: place.left - 1,
+        state,
+        seen: seen_after(j, process, response.0, place.seen),
+    }
+}
+
+/// The empty list and the pair of the place, if the set has it.
+fn end_within(set: &OutcomeSet, place: Place) -> Option<(ArrayVec<u8, MOST_PROCESSES>, (u8, u8))>
+    ensures none { IfNone result ((response : ℕ) → place.seen ≡ Some response → ¬ Has set.now response place.state.0) }
+    ensures empty { IfSome result (λ found. found.0.items ≡ []) }
+    ensures ends { IfSome result (λ found. (place.seen ≡ Some found.1.0) × (place.state.0 ≡ found.1.1)) }
+    ensures has { IfSome result (λ found. Has set.now found.1.0 found.1.1) }
+    ensures in_range { IfSome result (λ found. (found.1.0 < MOST_RESPONSES) × (found.1.1 < MOST_STATES)) }
+{
+    let response = place.seen?;
+    if set.has(Response(response), place.state) {
+        Some((ArrayVec::new(), (response, place.state.0)))
+    } else {
+        None
+    }
+}
+
+/// Whether the set has no pair of the response that was got.
+fn is_unwanted(set: &OutcomeSet, place: Place) -> bool
+    requires { IfSome place.seen (λ response. response < MOST_RESPONSES) }
+    ensures { IsTrue result → (response : ℕ) × (place.seen ≡ Some response) × ((q : ℕ) → ¬ Has set.now response q) }
+{
+    match place.seen {
+        None => false,
+        Some(response) => !contains(set.responses(), response),
+    }
+}
+
+/// Whether the process is to move next: it has not moved, and it is j, or there is time for j and no
+/// process with its operation was tried.
+fn is_open(choice: &RawChoice, j: u8, place: Place, tried: u16, process: u8) -> bool
+    requires process { process < length choice.now.operations }
+    requires few { length choice.now.operations ≤ MOST_PROCESSES }
+    requires operation { slice_index choice.now.operations process < 16 }
+    ensures open { IsTrue result → ¬ IsBitSet place.used process }
+    ensures closed { IsFalse result → IsPassed choice.now j place.used place.left place.seen tried process }
+{
+    if contains(place.used, process) {
+        return false;
+    }
+    if process == j {
+        return true;
+    }
+    if place.left == 1 && place.seen.is_none() {
+        return false;
+    }
+    !contains(tried, operation_of(choice, process).0)
+}
+
+/// The operations tried, with that of the process. Process j stands for itself alone.
+fn tried_after(choice: &RawChoice, j: u8, tried: u16, process: u8) -> u16
+    requires process { process < length choice.now.operations }
+    requires operation { slice_index choice.now.operations process < 16 }
+    ensures { (o : ℕ) → IsBitSet result o → IsBitSet tried o ⊎ ((process ≢ j) × (o ≡ slice_index choice.now.operations process)) }
+{
+    if process == j {
+        tried
+    } else {
+        with(tried, operation_of(choice, process).0)
+    }
+}
+
+/// From which process on, and below which, the next one is tried: j alone where there is no time for
+/// another.
+fn turns(j: u8, place: Place, n: u8) -> (u8, u8)
+    ensures { IsTurn j place.left place.seen n result.0 result.1 }
+{
+    if place.left == 1 && place.seen.is_none() && j < n {
+        (j, j + 1)
+    } else {
+        (0, n)
+    }
+}
+
+/// The first way to go on to the end that leads into the set, and its pair. The first process of it
+/// is from low on and below high; of those with the same operation only the first is tried. The dead
+/// ends of orders of this length are kept, but for the last two processes.
+pub(crate) fn way_into(
+    table: &Table,
+    choice: &RawChoice,
+    j: u8,
+    set: &OutcomeSet,
+    dead: &mut DeadEnds,
+    low: u8,
+    high: u8,
+    place: Place,
+) -> Option<(ArrayVec<u8, MOST_PROCESSES>, (u8, u8))>
+    requires few { length choice.now.operations ≤ MOST_PROCESSES }
+    requires fits { IsRawChoice table.now (length choice.now.operations) choice.now }
+    requires left { place.left ≤ MOST_PROCESSES }
+    requires high { high ≤ length choice.now.operations }
+    requires used { place.used < SUBSETS }
+    requires seen { IfSome place.seen (λ response. response < MOST_RESPONSES) }
+    requires state { place.state.0 < length table.now.states }
+    requires dead { 2 < place.left → AreDead table.now choice.now j set.now (place.left + count_moved place.used) dead.old }
+    ensures none { IfNone result (NoWay table.now choice.now j set.now place.left low high place.used place.state.0 place.seen) }
+    ensures first { IfSome result (λ f. IsFirstWay table.now choice.now j set.now place.left low high place.used place.state.0 place.seen f.0.items f.1) }
+    ensures in_range { IfSome result (λ found. (found.1.0 < MOST_RESPONSES) × (found.1.1 < MOST_STATES)) }
+    ensures dead { StayDead table.now choice.now j set.now (place.left + count_moved place.used) dead.old dead.new }
+{
+    if place.left == 0 {
+        return end_within(set, place);
+    }
+    let (_operations, _states) = (table.operations(), table.states());
+    let n = choice.operations.len() as u8;
+    let mut tried = 0;
+    for process in low..high {
+        if !is_open(choice, j, place, tried, process) {
+            continue;
+        }
+        tried = tried_after(choice, j, tried, process);
+        let next = place_after(table, choice, j, place, process);
+        if process == j && is_unwanted(set, next) {
+            continue;
+        }
+        if dead.has(next) {
+            continue;
+        }
+        let (from, end) = turns(j, next, n);
+        let found = way_into(table, choice, j, set, dead, from, end, next);
+        if let Some((mut tail, pair)) = found {
+            tail.insert(0, process);
+            return Some((tail, pair));
+        }
+        dead.add(next);
+    }
+    None
+}
