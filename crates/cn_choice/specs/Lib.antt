@@ -25,5 +25,6 @@ pub mod ResponseRows
 pub mod Rising
 pub mod Subsets
 pub mod Tails
+pub mod TeamNames
 pub mod TeamOrders
 pub mod Twins
