@@ -76,11 +76,7 @@ fn push_operations(text: &mut String, table: &Table) -> Result<(), AllocError>
     Ok(())
 }
 
-fn push_operation(
-    text: &mut String,
-    table: &Table,
-    operation: Operation,
-) -> Result<(), AllocError>
+fn push_operation(text: &mut String, table: &Table, operation: Operation) -> Result<(), AllocError>
     requires { operation.0 < length table.now.operations }
     ensures { OnOk result (string_bytes text.new ≡ string_bytes text.old
         ++ operation_line table.now operation.0) }
@@ -96,11 +92,7 @@ fn push_operation(
     text.push_str("\n")
 }
 
-fn push_columns(
-    text: &mut String,
-    table: &Table,
-    row: Option<Operation>,
-) -> Result<(), AllocError>
+fn push_columns(text: &mut String, table: &Table, row: Option<Operation>) -> Result<(), AllocError>
     requires { IfSome row (λ o. o.0 < length table.now.operations) }
     ensures { OnOk result (string_bytes text.new ≡ string_bytes text.old
         ++ columns table.now (option_map (λ o. o.0) row)) }
@@ -168,7 +160,12 @@ fn push_gap(
         return text.push_str("    ");
     };
     let (response, next) = table.apply(operation, state);
-    push_pair_padding(text, table, table.response_name(response), table.state_name(next))?;
+    push_pair_padding(
+        text,
+        table,
+        table.response_name(response),
+        table.state_name(next),
+    )?;
     text.push_str("   ")
 }
 

@@ -132,10 +132,7 @@ fn push_proctype(text: &mut String, process: u8, body: &str) -> Result<(), Alloc
     ensures { OnOk result (string_bytes text.new ≡ string_bytes text.old
         ++ proctype process body.now) }
 {
-    write!(
-        text,
-        "\nactive proctype process_{process}() {{\n{body}}}\n"
-    )
+    write!(text, "\nactive proctype process_{process}() {{\n{body}}}\n")
 }
 
 /// What a process does.
@@ -165,12 +162,7 @@ fn push_stop(text: &mut String) -> Result<(), AllocError>
     text.push_str("stopped:\n    skip\n")
 }
 
-fn push_places(
-    alloc: Global,
-    text: &mut String,
-    plan: &Plan,
-    process: u8,
-) -> Result<(), AllocError>
+fn push_places(alloc: Global, text: &mut String, plan: &Plan, process: u8) -> Result<(), AllocError>
     requires { process < processes_of plan.now }
     ensures { OnOk result (string_bytes text.new ≡ string_bytes text.old
         ++ places_promela plan.now process) }
