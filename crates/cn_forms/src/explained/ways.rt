@@ -207,22 +207,9 @@ fn push_runs(text: &mut String, table: &Table, entry: &Collision) -> Result<(), 
         ++ run_lines table.now entry.now) }
 {
     let (choice, process) = (RawChoice::of(&entry.choice), entry.process);
-    push_run(
-        text,
-        table,
-        &choice,
-        Team::A,
-        entry.alpha.as_slice(),
-        process,
-    )?;
-    push_run(
-        text,
-        table,
-        &choice,
-        Team::B,
-        entry.beta.as_slice(),
-        process,
-    )
+    let (alpha, beta) = (entry.alpha.as_slice(), entry.beta.as_slice());
+    push_run(text, table, &choice, Team::A, alpha, process)?;
+    push_run(text, table, &choice, Team::B, beta, process)
 }
 
 fn push_way(
