@@ -7,7 +7,7 @@ ghost use Rattle.std.specs.Prelude.{◌≡◌, ◌⊎◌, ℕ, codes, Err, None,
 ghost use Rattle.std.specs.Io.KnownBytes.{Appends};
 ghost use Rattle.cn_choice.specs.Discerning.{IsNumberUpTo};
 ghost use Rattle.cn_proto.specs.Plan.{Plan};
-ghost use Rattle.cn_proto.specs.PlanText.{plan_text};
+ghost use Rattle.cn_forms.specs.PlanText.{plan_text};
 ghost use Rattle.cn_hall.specs.declared.call.Go.TheVariants.{On};
 ghost use Rattle.cn_app.specs.Commands.Agree.{IsAgreed, RunFails};
 ghost use Rattle.cn_app.specs.Arguments.Lists.{ListsFail, ListsGive, inputs_of, schedule_of};

@@ -18,4 +18,5 @@ pub mod Ranks
 pub mod RawChoices
 pub mod Renumbering
 pub mod Rising
+pub mod TeamNames
 pub mod TeamOrders

@@ -2,7 +2,7 @@
 use Rattle.std.specs.Prelude.{ℕ, List, [], ◌++◌, length, codes, flat_map, ◌==◌, if◌then◌else◌}
 use Rattle.std.specs.List.{range_with_len}
 use Rattle.cn_table.specs.TypeTable.{TypeTable, operation_names, transition}
-use Rattle.cn_table.specs.Grid.{name_at}
+use Rattle.cn_table.specs.Names.{name_at}
 
 abbrev pub state_dot : TypeTable → ℕ → List ℕ
 state_dot t state = codes "  \"" ++ name_at t.states state ++ codes "\";\n"

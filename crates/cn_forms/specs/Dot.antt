@@ -3,8 +3,8 @@
 use Rattle.std.specs.Prelude.{ℕ, zero, suc, List, ◌++◌, codes, decimal, flat_map}
 use Rattle.std.specs.List.{range_with_len}
 use Rattle.cn_proto.specs.Plan.{Plan, processes_of, nodes_of}
-use Rattle.cn_proto.specs.PlanText.{team_text}
-use Rattle.cn_table.specs.Grid.{name_at}
+use Rattle.cn_choice.specs.TeamNames.{team_name}
+use Rattle.cn_table.specs.Names.{name_at}
 use Rattle.cn_proto.specs.declared.place.Place.{Place}
 use Rattle.cn_forms.specs.Parts.{operation_of, place_at, places_of}
 
@@ -34,7 +34,7 @@ way_end team role operation = team ++ codes " role " ++ decimal role ++ codes " 
 
 -- how process p comes to a place: its team there, its role and the operation of the role
 abbrev pub arrival_dot : Plan → ℕ → Place → List ℕ
-arrival_dot plan p place = way_head place.node p ++ way_end (team_text place.team) place.role (operation_of plan place.role)
+arrival_dot plan p place = way_head place.node p ++ way_end (team_name place.team) place.role (operation_of plan place.role)
 
 -- the way of process p to place i of its path
 abbrev pub way_dot : Plan → ℕ → ℕ → List ℕ

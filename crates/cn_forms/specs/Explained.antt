@@ -2,14 +2,17 @@
 use Rattle.std.specs.Prelude.{ℕ, ◌+◌, ◌-◌, List, [], ◌∷◌, ◌++◌, length, codes, Bool, ◌==◌, nat_lt, Option, Some, None, if◌then◌else◌, flat_map, slice_index, take}
 use Rattle.std.specs.List.{range_with_len}
 use Rattle.std.specs.Fmt.{decimal}
-use Rattle.cn_table.specs.Grid.{cells_text}
+use Rattle.cn_forms.specs.Grid.{cells_text}
 use Rattle.cn_table.specs.TypeTable.{TypeTable, operation_names, transition}
 use Rattle.cn_choice.specs.Canonical.{Choice, FitsTable, raw_choice_of}
 use Rattle.cn_choice.specs.Collisions.{Collision, IsCollision}
 use Rattle.cn_choice.specs.RawChoices.{RawChoice}
 use Rattle.cn_choice.specs.OutcomeSets.{pair_of}
+use Rattle.cn_choice.specs.TeamNames.{team_name}
+use Rattle.cn_choice.specs.declared.team.Team.{Team}
+use Rattle.cn_choice.specs.declared.team.Team.TheVariants.{A, B}
 use Rattle.cn_cert.specs.Certificate.{Certificate}
-use Rattle.cn_table.specs.Grid.{name_at}
+use Rattle.cn_table.specs.Names.{name_at}
 use Rattle.cn_forms.specs.Pairs.{pair_words, seen_rows}
 use Rattle.cn_forms.specs.declared.limits.TheConstants.{MOST_TOLD}
 
@@ -56,10 +59,10 @@ abbrev pub sight : TypeTable → ℕ → Option (ℕ × ℕ) → List ℕ
 sight t j None = []
 sight t j (Some pair) = codes "     p" ++ decimal j ++ codes " " ++ pair_words t pair
 
--- a run from the start state in an order that begins in the team of this name, and what process j sees of it
-abbrev pub run_line : TypeTable → RawChoice → List ℕ → List ℕ → ℕ → List ℕ
+-- a run from the start state in an order that begins in the team, and what process j sees of it
+abbrev pub run_line : TypeTable → RawChoice → Team → List ℕ → ℕ → List ℕ
 run_line t c team order j =
-    codes "       " ++ team ++ codes " first:  " ++ name_at t.states c.state ++ steps_text t c c.state order ++ sight t j (pair_of t c order j) ++ codes "\n"
+    codes "       " ++ team_name team ++ codes " first:  " ++ name_at t.states c.state ++ steps_text t c c.state order ++ sight t j (pair_of t c order j) ++ codes "\n"
 
 -- ---- why the number is so much
 
@@ -108,7 +111,7 @@ way_line t number c j = way_number number ++ choice_text t c ++ cannot_tell j
 -- the two runs by which the process cannot tell
 unfoldable pub run_lines : TypeTable → Collision → List ℕ
 run_lines t e =
-    run_line t (raw_choice_of e.choice) (codes "A") e.alpha e.process ++ run_line t (raw_choice_of e.choice) (codes "B") e.beta e.process
+    run_line t (raw_choice_of e.choice) A e.alpha e.process ++ run_line t (raw_choice_of e.choice) B e.beta e.process
 
 -- the choice of an entry, and the two runs by which its process cannot tell
 abbrev pub way : TypeTable → ℕ → Collision → List ℕ

@@ -3,16 +3,16 @@ use Rattle.std.specs.Prelude.{ℕ, List, [], ◌++◌, length, map, codes, decim
 use Rattle.std.specs.List.{range_with_len}
 use Rattle.cn_table.specs.TypeTable.{TypeTable}
 use Rattle.cn_proto.specs.Plan.{Plan, processes_of, nodes_of, protocol_of}
-use Rattle.cn_proto.specs.PlanText.{team_text}
+use Rattle.cn_choice.specs.TeamNames.{team_name}
 use Rattle.cn_table.specs.Texts.{joined_texts}
-use Rattle.cn_table.specs.Grid.{name_at}
+use Rattle.cn_table.specs.Names.{name_at}
 use Rattle.cn_proto.specs.Tournament.{team_of}
 use Rattle.cn_proto.specs.declared.place.Place.{Place}
 use Rattle.cn_forms.specs.Parts.{comma, operation_of}
 
 abbrev pub place_json : Place → List ℕ
 place_json place =
-    codes "{\"node\":" ++ decimal place.node ++ codes ",\"role\":" ++ decimal place.role ++ codes ",\"team\":\"" ++ team_text place.team ++ codes "\"}"
+    codes "{\"node\":" ++ decimal place.node ++ codes ",\"role\":" ++ decimal place.role ++ codes ",\"team\":\"" ++ team_name place.team ++ codes "\"}"
 
 -- the places of a process, from its lowest node to the root, in an array
 abbrev pub path_json : Plan → ℕ → List ℕ
@@ -38,7 +38,7 @@ unfoldable pub role_end : List ℕ → List ℕ → List ℕ
 role_end operation team = codes "],\"operation\":\"" ++ operation ++ codes "\",\"team\":\"" ++ team ++ codes "\"}"
 
 abbrev pub end_json : Plan → ℕ → List ℕ
-end_json plan role = role_end (operation_of plan role) (team_text (team_of (length plan.choice.a) role))
+end_json plan role = role_end (operation_of plan role) (team_name (team_of (length plan.choice.a) role))
 
 -- what a role judges, its operation and its team
 abbrev pub role_json : Plan → ℕ → List ℕ

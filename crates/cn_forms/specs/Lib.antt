@@ -1,8 +1,10 @@
 pub mod Diagram
 pub mod Dot
 pub mod Explained
+pub mod Grid
 pub mod Json
 pub mod Pairs
 pub mod Parts
 pub mod PlanForms
+pub mod PlanText
 pub mod Promela

@@ -2,14 +2,14 @@
 use Rattle.std.specs.Prelude.{ℕ, List, [], ◌∷◌, ◌++◌, length, codes, Bool, false, ◌&&◌, ◌==◌, max, Option, Some, None, if◌then◌else◌, flat_map, slice_get}
 use Rattle.std.specs.List.{list_any, range_with_len}
 use Rattle.std.specs.Fmt.{decimal}
-use Rattle.cn_table.specs.Grid.{pair_padding}
+use Rattle.cn_forms.specs.Grid.{pair_padding}
 use Rattle.cn_table.specs.TypeTable.{TypeTable}
 use Rattle.cn_choice.specs.declared.team.Team.{Team}
 use Rattle.cn_choice.specs.declared.team.Team.TheVariants.{A, B}
 use Rattle.cn_choice.specs.Canonical.{Choice, raw_choice_of}
 use Rattle.cn_choice.specs.OutcomeSets.{pair_of}
 use Rattle.cn_choice.specs.TeamOrders.{orders_of}
-use Rattle.cn_table.specs.Grid.{name_at}
+use Rattle.cn_table.specs.Names.{name_at}
 
 -- ---- which pairs
 

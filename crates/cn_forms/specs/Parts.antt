@@ -3,7 +3,7 @@ use Rattle.std.specs.Prelude.{ℕ, zero, suc, List, [], length, codes, slice_ind
 use Rattle.cn_table.specs.TypeTable.{operation_names}
 use Rattle.cn_choice.specs.Canonical.{raw_choice_of}
 use Rattle.cn_proto.specs.Plan.{Plan, protocol_of}
-use Rattle.cn_table.specs.Grid.{name_at}
+use Rattle.cn_table.specs.Names.{name_at}
 use Rattle.cn_proto.specs.Protocol.{place_of}
 use Rattle.cn_proto.specs.declared.place.Place.{Place}
 

@@ -7,9 +7,13 @@ ghost use Rattle.cn_check.specs.Verdict.{IsAccepted};
 ghost use Rattle.cn_forms.specs.Explained.{apart_line, explain_text, head_line, left_out, more_line, movers, notes, number_told, refutation, same_ways, theorem_line, entries_told, told_ways, ways_words, why, why_not, witness_line, witness_start, witness_text, IsRefuted};
 ghost use Rattle.cn_forms.specs.Pairs.{seen_rows};
 
+mod pairs;
+mod ways;
+
+use crate::explained::pairs::push_seen;
+use crate::explained::ways::{push_both_teams, push_ways};
+use crate::grid::push_cells;
 use crate::limits::MOST_TOLD;
-use crate::pairs::push_seen;
-use crate::ways::{push_both_teams, push_ways};
 use cn_cert::Certificate;
 use cn_choice::laws::{canonical_list, live_list};
 use cn_choice::{Choice, Collision};
@@ -295,7 +299,7 @@ pub fn explanation_of(
     let mut text = String::new(alloc);
     push_head(&mut text, table, limit, number)?;
     text.push_str("\n")?;
-    table.push_cells(&mut text)?;
+    push_cells(&mut text, table)?;
     text.push_str("\n")?;
     push_why(alloc, &mut text, table, number, &certificate.witness)?;
     text.push_str("\n")?;

@@ -2,16 +2,23 @@
 ghost use Rattle.std.specs.Prelude.{◌≡◌, IfOk, string_bytes};
 ghost use Rattle.cn_forms.specs.PlanForms.{form_text};
 
-use crate::as_dot::plan_dot;
-use crate::as_json::plan_json;
-use crate::as_promela::plan_promela;
+mod as_dot;
+mod as_json;
+mod as_promela;
+mod as_text;
+mod parts;
+
+use crate::plan_forms::as_dot::plan_dot;
+use crate::plan_forms::as_json::plan_json;
+use crate::plan_forms::as_promela::plan_promela;
+use crate::plan_forms::as_text::plan_text;
 use cn_proto::Plan;
 use std::alloc::{AllocError, Global};
 
 /// A form in which a plan is written.
 #[derive(Clone, Copy, Debug, PartialEq, Eq)]
 pub enum Form {
-    /// Lines of text, as [`Plan::show`] gives them.
+    /// Lines of text for people.
     Text,
     /// One JSON object.
     Json,
@@ -23,7 +30,12 @@ pub enum Form {
 
 /// The text of a plan in a form; its last byte is a line feed. Each form writes the same plan.
 ///
-/// - [`Form::Text`]: the lines of [`Plan::show`].
+/// - [`Form::Text`]: lines that each end with a line feed. The first is
+///   `type T processes n nodes k start S`. Then comes for each role `role j X O judges ..`: its team,
+///   the name of its operation, and the pairs that it judges to be team A's, each as the names
+///   `response/state`, in order of their numbers. Last comes for each process `process p: ..`: its
+///   places from the lowest node to the root, each as `node N X role J`, with a comma and a space
+///   between two.
 /// - [`Form::Json`]: one compact object, its keys in the order of their bytes: `nodes` and
 ///   `processes`, numbers; `paths`, for each process its places from the lowest node to the root;
 ///   `roles`, for each role the pairs that it judges to be team A's, its operation and its team;
@@ -45,7 +57,7 @@ pub fn plan_as(alloc: Global, plan: &Plan, form: Form) -> Result<String, AllocEr
     ensures { IfOk result (λ text. string_bytes text ≡ form_text form plan.now) }
 {
     match form {
-        Form::Text => plan.show(alloc),
+        Form::Text => plan_text(alloc, plan),
         Form::Json => plan_json(alloc, plan),
         Form::Dot => plan_dot(alloc, plan),
         Form::Promela => plan_promela(alloc, plan),

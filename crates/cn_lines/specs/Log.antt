@@ -2,7 +2,7 @@
 use Rattle.std.specs.Prelude.{ℕ, List, [], ◌++◌, codes, ◌∷◌, All}
 use Rattle.std.specs.Fmt.{decimal}
 use Rattle.cn_table.specs.TypeTable.{TypeTable, operation_names, transition}
-use Rattle.cn_table.specs.Grid.{name_at}
+use Rattle.cn_table.specs.Names.{name_at}
 use Rattle.cn_log.specs.CallEnds.{EndsWithResponse}
 use Rattle.cn_log.specs.declared.event.CallEnd.{CallEnd}
 use Rattle.cn_log.specs.declared.event.CallEnd.TheVariants.{Answered, Full}

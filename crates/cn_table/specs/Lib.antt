@@ -11,4 +11,3 @@ pub mod DraftView
 pub mod TableView
 pub mod FaultText
 pub mod Reach
-pub mod Grid

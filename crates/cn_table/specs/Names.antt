@@ -1,5 +1,5 @@
 -- Names of types, states, responses and operations.
-use Rattle.std.specs.Prelude.{◌≤◌, codes, ℕ, List, [], ◌∷◌, length, Bool, false, IsTrue, ◌&&◌, ◌||◌, ◌==◌, not, nat_le, Option, position}
+use Rattle.std.specs.Prelude.{◌≤◌, codes, ℕ, List, [], ◌∷◌, length, Bool, false, IsTrue, ◌&&◌, ◌||◌, ◌==◌, not, nat_le, Option, position, slice_get, unwrap_or}
 use Rattle.std.specs.List.{list_all, list_any}
 use Rattle.std.specs.Str.{bytes_eq}
 use Rattle.cn_table.specs.declared.limits.TheConstants.{LONGEST_NAME}
@@ -30,6 +30,10 @@ has_repeat (t ∷ ts) = list_any (λ u. bytes_eq u t) ts || has_repeat ts
 -- the number of a name: its place among the names
 abbrev pub number_of : List (List ℕ) → List ℕ → Option ℕ
 number_of names text = position (λ name. bytes_eq name text) names
+
+-- the name with this number
+abbrev pub name_at : List (List ℕ) → ℕ → List ℕ
+name_at names k = unwrap_or (slice_get names k) []
 
 -- 1 to this many names, none twice
 pub record IsNameList (most : ℕ) (names : List (List ℕ)) : Type 0 where

@@ -14,7 +14,6 @@ pub mod draft;
 mod draft_faults;
 mod elements;
 mod fault;
-mod grid;
 pub mod keys;
 mod limits;
 pub mod names;

@@ -2,7 +2,7 @@
 ghost use Rattle.std.specs.Prelude.{◌≡◌, ◌<◌, ℕ, MatchOption, false, get_or, length, true};
 ghost use Rattle.cn_table.specs.TypeTable.{transition, IsTypeTable};
 ghost use Rattle.cn_table.specs.declared.limits.TheConstants.{MOST_STATES};
-ghost use Rattle.cn_table.specs.Reach.{AreReached};
+ghost use Rattle.cn_table.specs.Reach.{changes_nothing, is_in_place, AreReached};
 
 use crate::elements::{Operation, State};
 use crate::limits::MOST_STATES;
@@ -73,4 +73,23 @@ impl Table {
         }
         unreachable!()
     }
+
+    /// Whether an operation leads from each state to itself.
+    pub fn changes_nothing(&self, operation: Operation) -> bool
+        requires { operation.0 < length self.now.operations }
+        ensures { result ≡ changes_nothing self.now operation.0 }
+    {
+        is_in_place(self.operations[operation.0 as usize].next.as_slice())
+    }
+}
+
+fn is_in_place(numbers: &[u8]) -> bool
+    ensures { result ≡ is_in_place 0 numbers.now }
+{
+    for (i, number) in numbers.iter().enumerate() {
+        if *number as usize != i {
+            return false;
+        }
+    }
+    true
 }

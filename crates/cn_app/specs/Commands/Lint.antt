@@ -1,7 +1,7 @@
 -- What `lint` writes, by the bytes that it reads.
 use Rattle.std.specs.Prelude.{◌≡◌, ◌⊎◌, ◌≤◌, ◌<◌, ℕ, List, ◌++◌, codes, flat_map, length, IsOk, Err, MatchResult}
 use Rattle.cn_table.specs.Faults.{reading}
-use Rattle.cn_table.specs.Grid.{IsGrid}
+use Rattle.cn_forms.specs.Grid.{IsGrid}
 use Rattle.cn_flaws.specs.Flaws.{Flaw, flaws_at}
 use Rattle.cn_app.specs.declared.commands.lint_table.Linted.{Linted}
 use Rattle.cn_app.specs.declared.commands.lint_table.Linted.TheVariants.{Accepted, Refused}

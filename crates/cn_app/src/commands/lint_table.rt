@@ -11,6 +11,7 @@ use crate::limits::MOST_TABLE_BYTES;
 use crate::streams::output::Output;
 use crate::streams::text::Text;
 use cn_flaws::{Flaw, flaws};
+use cn_forms::grid_of;
 use cn_table::{TableFault, read_table};
 use std::alloc::{AllocError, Global};
 use std::io::{Read, Write};
@@ -58,7 +59,7 @@ fn report_on(alloc: Global, bytes: &[u8]) -> Result<Report, AllocError>
 {
     match read_table(alloc, bytes) {
         Ok(table) => Ok(Report {
-            text: table.grid(alloc)?,
+            text: grid_of(alloc, &table)?,
             linted: Linted::Accepted,
         }),
         Err(TableFault::OutOfMemory) => Err(AllocError),
@@ -83,7 +84,7 @@ fn report_from<R: Read>(alloc: Global, table: &mut Text<'_, R>) -> Result<Report
 }
 
 /// Reads a type table and writes what is to be said of it: of a table its grid
-/// ([`Table::grid`](cn_table::Table::grid)), else a line for each of its flaws
+/// ([`grid_of`](cn_forms::grid_of)), else a line for each of its flaws
 /// ([`flaws`](cn_flaws::flaws)).
 ///
 /// Of bytes that are not UTF-8 nothing is written.

@@ -1,7 +1,7 @@
 //! The command `show`.
 ghost use Rattle.std.specs.Prelude.{◌≡◌, ◌⊎◌, Some, IfOk, IfErr};
 ghost use Rattle.cn_proto.specs.Plan.{Plan};
-ghost use Rattle.cn_proto.specs.PlanText.{plan_text};
+ghost use Rattle.cn_forms.specs.PlanText.{plan_text};
 ghost use Rattle.cn_app.specs.Texts.Checked.{FailsChecked, GivesChecked};
 ghost use Rattle.cn_app.specs.FaultText.{text_of};
 ghost use Rattle.cn_forms.specs.PlanForms.{form_text};

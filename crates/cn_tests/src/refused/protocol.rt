@@ -6,6 +6,7 @@ use crate::fixtures::{choice_of, events_of, plan_for_two, table_of};
 use crate::hall::core_after;
 use crate::types::*;
 use cn_agree::{Decisions, ScheduleFault, run_schedule};
+use cn_forms::{Form, plan_as};
 use cn_hall::{OpenFault, open};
 use cn_log::{Event, LogCore, ReplayFault, replay};
 use cn_proto::{Plan, PlanFault};
@@ -14,7 +15,7 @@ use std::alloc::AllocError;
 
 /// Whether it is the plan of test-and-set.
 fn is_shown(alloc: Global, plan: &Plan) -> Result<bool, AllocError> {
-    let text = plan.show(alloc)?;
+    let text = plan_as(alloc, plan, Form::Text)?;
     Ok(text.as_str().strip_suffix("\n") == Some(test_and_set_shown()))
 }
 

@@ -1,0 +1,189 @@
+//! The pairs that the processes of a choice can get, by the team that moves first.
+ghost use Rattle.std.specs.Prelude.{◌≡◌, ◌↔◌, ◌+◌, ◌<◌, ◌++◌, ℕ, Bool, length, slice_get, string_bytes, All, IfOk, IfSome, IsTrue, OnOk};
+ghost use Rattle.cn_choice.specs.Canonical.{FitsTable};
+ghost use Rattle.cn_outcomes.specs.PairSets.{Has};
+ghost use Rattle.cn_forms.specs.Pairs.{before_left, before_right, pair_words, pairs_if, left_gap, left_part, pair_row, pair_rows, right_part, seen_pairs, seen_rows};
+
+use crate::grid::push_pair_padding;
+use crate::laws::told_pairs;
+use cn_choice::{Choice, Team};
+use cn_outcomes::{OutcomeSet, outcomes};
+use cn_table::{Response, State, Table};
+use std::alloc::{AllocError, Global};
+
+/// The pairs of the set with this response and one of so many states go to the end.
+fn push_pairs(
+    pairs: &mut Vec<(u8, u8)>,
+    set: &OutcomeSet,
+    response: u8,
+    states: u8,
+) -> Result<(), AllocError>
+    ensures { (test : ℕ → ℕ → Bool) → ((r q : ℕ) → IsTrue (test r q) ↔ Has set.now r q)
+        → OnOk result (pairs.new.items ≡ pairs.old.items ++ pairs_if test states response) }
+{
+    for state in 0..states {
+        if set.has(Response(response), State(state)) {
+            pairs.push((response, state))?;
+        }
+    }
+    Ok(())
+}
+
+/// The pairs that a process can get where the team is first.
+fn pairs_of(
+    alloc: Global,
+    table: &Table,
+    choice: &Choice,
+    team: Team,
+    process: u8,
+) -> Result<Vec<(u8, u8)>, AllocError>
+    requires fits { FitsTable table.now choice.now }
+    requires process { process < length choice.now.a + length choice.now.b }
+    ensures seen { IfOk result (λ pairs. pairs.items ≡ seen_pairs table.now choice.now team process) }
+    ensures known { IfOk result (λ pairs. All (λ pair. (pair.0 < length table.now.responses) × (pair.1 < length table.now.states)) pairs.items) }
+{
+    told_pairs();
+    let set = outcomes(table, choice, team, process);
+    let mut pairs = Vec::new(alloc);
+    for response in 0..table.responses() {
+        push_pairs(&mut pairs, &set, response, table.states())?;
+    }
+    Ok(pairs)
+}
+
+/// What a process got and reads.
+pub(crate) fn push_got(text: &mut String, table: &Table, pair: (u8, u8)) -> Result<(), AllocError>
+    requires response { pair.0 < length table.now.responses }
+    requires state { pair.1 < length table.now.states }
+    ensures { OnOk result (string_bytes text.new ≡ string_bytes text.old ++ pair_words table.now pair) }
+{
+    let response = table.response_name(Response(pair.0));
+    let state = table.state_name(State(pair.1));
+    write!(text, "got {response}, reads {state}")
+}
+
+/// The words or the spaces before the pair on the left.
+fn push_before_left(text: &mut String, process: u8, row: usize) -> Result<(), AllocError>
+    ensures { OnOk result (string_bytes text.new ≡ string_bytes text.old ++ before_left process row) }
+{
+    if row == 0 {
+        write!(text, "  p{process}   A first: ")
+    } else {
+        text.push_str("                ")
+    }
+}
+
+/// The spaces behind the pair on the left, or where there is none.
+fn push_left_gap(text: &mut String, table: &Table, pair: Option<(u8, u8)>) -> Result<(), AllocError>
+    requires { IfSome pair (λ x. (x.0 < length table.now.responses) × (x.1 < length table.now.states)) }
+    ensures { OnOk result (string_bytes text.new ≡ string_bytes text.old ++ left_gap table.now pair) }
+{
+    let Some((response, state)) = pair else {
+        push_pair_padding(text, table, "", "")?;
+        return text.push_str("            ");
+    };
+    let response = table.response_name(Response(response));
+    let state = table.state_name(State(state));
+    push_pair_padding(text, table, response, state)
+}
+
+/// The words or the spaces before the pair on the right.
+fn push_before_right(text: &mut String, row: usize) -> Result<(), AllocError>
+    ensures { OnOk result (string_bytes text.new ≡ string_bytes text.old ++ before_right row) }
+{
+    if row == 0 {
+        text.push_str("    B first: ")
+    } else {
+        text.push_str("             ")
+    }
+}
+
+fn push_left(text: &mut String, table: &Table, pair: Option<(u8, u8)>) -> Result<(), AllocError>
+    requires { IfSome pair (λ x. (x.0 < length table.now.responses) × (x.1 < length table.now.states)) }
+    ensures { OnOk result (string_bytes text.new ≡ string_bytes text.old ++ left_part table.now pair) }
+{
+    match pair {
+        None => Ok(()),
+        Some(pair) => push_got(text, table, pair),
+    }
+}
+
+fn push_right(
+    text: &mut String,
+    table: &Table,
+    row: usize,
+    left: Option<(u8, u8)>,
+    right: Option<(u8, u8)>,
+) -> Result<(), AllocError>
+    requires left { IfSome left (λ x. (x.0 < length table.now.responses) × (x.1 < length table.now.states)) }
+    requires right { IfSome right (λ x. (x.0 < length table.now.responses) × (x.1 < length table.now.states)) }
+    ensures { OnOk result (string_bytes text.new ≡ string_bytes text.old ++ right_part table.now row left right) }
+{
+    let Some(pair) = right else {
+        return Ok(());
+    };
+    push_left_gap(text, table, left)?;
+    push_before_right(text, row)?;
+    push_got(text, table, pair)
+}
+
+/// A row of a process: a pair of each side, if it has one more.
+fn push_row(
+    text: &mut String,
+    table: &Table,
+    process: u8,
+    row: usize,
+    left: Option<(u8, u8)>,
+    right: Option<(u8, u8)>,
+) -> Result<(), AllocError>
+    requires left { IfSome left (λ x. (x.0 < length table.now.responses) × (x.1 < length table.now.states)) }
+    requires right { IfSome right (λ x. (x.0 < length table.now.responses) × (x.1 < length table.now.states)) }
+    ensures { OnOk result (string_bytes text.new ≡ string_bytes text.old ++ pair_row table.now process row left right) }
+{
+    push_before_left(text, process, row)?;
+    push_left(text, table, left)?;
+    push_right(text, table, row, left, right)?;
+    text.push_str("\n")
+}
+
+fn pair_at(pairs: &[(u8, u8)], place: usize) -> Option<(u8, u8)>
+    ensures { result ≡ slice_get pairs.now place }
+{
+    pairs.get(place).copied()
+}
+
+/// The rows of a process, as many as the longer side has pairs.
+fn push_rows(
+    text: &mut String,
+    table: &Table,
+    process: u8,
+    left: &[(u8, u8)],
+    right: &[(u8, u8)],
+) -> Result<(), AllocError>
+    requires left { All (λ x. (x.0 < length table.now.responses) × (x.1 < length table.now.states)) left.now }
+    requires right { All (λ x. (x.0 < length table.now.responses) × (x.1 < length table.now.states)) right.now }
+    ensures { OnOk result (string_bytes text.new ≡ string_bytes text.old ++ pair_rows table.now process left.now right.now) }
+{
+    for row in 0..left.len().max(right.len()) {
+        let (a, b) = (pair_at(left, row), pair_at(right, row));
+        push_row(text, table, process, row, a, b)?;
+    }
+    Ok(())
+}
+
+/// All that a process can get, by the team that is first.
+pub(crate) fn push_seen(
+    alloc: Global,
+    text: &mut String,
+    table: &Table,
+    choice: &Choice,
+    process: u8,
+) -> Result<(), AllocError>
+    requires fits { FitsTable table.now choice.now }
+    requires process { process < length choice.now.a + length choice.now.b }
+    ensures { OnOk result (string_bytes text.new ≡ string_bytes text.old ++ seen_rows table.now choice.now process) }
+{
+    let left = pairs_of(alloc, table, choice, Team::A, process)?;
+    let right = pairs_of(alloc, table, choice, Team::B, process)?;
+    push_rows(text, table, process, &left, &right)
+}

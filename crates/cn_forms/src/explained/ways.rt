@@ -1,0 +1,242 @@
+//! The ways that a certificate refutes: a choice of each, and the two runs by which a process of it
+//! cannot tell which team was first.
+ghost use Rattle.std.specs.Prelude.{◌≡◌, ◌+◌, ◌≤◌, ◌<◌, ◌++◌, length, string_bytes, slice_index, All, IfOk, IfSome, OnOk};
+ghost use Rattle.cn_table.specs.TypeTable.{transition};
+ghost use Rattle.cn_choice.specs.Canonical.{FitsTable};
+ghost use Rattle.cn_choice.specs.RawChoices.{IsRawChoice};
+ghost use Rattle.cn_forms.specs.Explained.{both_teams, cannot_tell, choice_text, member, members, run_line, run_lines, sight, step_text, steps_text, way, way_line, way_number, ways, IsRefuted};
+
+use crate::explained::pairs::push_got;
+use cn_choice::RawChoice;
+use cn_choice::reference::raw_pair;
+use cn_choice::{Choice, Collision, Team};
+use cn_table::{Operation, State, Table};
+use std::alloc::AllocError;
+
+fn push_member(
+    text: &mut String,
+    table: &Table,
+    choice: &RawChoice,
+    word: &str,
+    first: u8,
+    process: u8,
+) -> Result<(), AllocError>
+    requires fits { IsRawChoice table.now (length choice.now.operations) choice.now }
+    requires process { process < length choice.now.operations }
+    ensures { OnOk result (string_bytes text.new ≡ string_bytes text.old ++ member table.now choice.now word.now first process) }
+{
+    if process != first {
+        text.push_str(", ")?;
+    }
+    let operation = table.operation_name(Operation(choice.operations[process as usize]));
+    write!(text, "p{process}{word}{operation}")
+}
+
+/// So many processes from the first on, each with the word and its operation behind it.
+#[tactic(auto, unfolding(crate::specs::Explained::members))]
+fn push_members(
+    text: &mut String,
+    table: &Table,
+    choice: &RawChoice,
+    word: &str,
+    first: u8,
+    count: u8,
+) -> Result<(), AllocError>
+    requires fits { IsRawChoice table.now (length choice.now.operations) choice.now }
+    requires within { first + count ≤ length choice.now.operations }
+    requires few { length choice.now.operations ≤ 8 }
+    ensures { OnOk result (string_bytes text.new ≡ string_bytes text.old ++ members table.now choice.now word.now first count) }
+{
+    for place in 0..count {
+        push_member(text, table, choice, word, first, first + place)?;
+    }
+    Ok(())
+}
+
+/// The step of a process in a state. Answers the next state.
+fn push_step(
+    text: &mut String,
+    table: &Table,
+    choice: &RawChoice,
+    state: State,
+    process: u8,
+) -> Result<State, AllocError>
+    requires fits { IsRawChoice table.now (length choice.now.operations) choice.now }
+    requires state { state.0 < length table.now.states }
+    requires process { process < length choice.now.operations }
+    ensures written { OnOk result (string_bytes text.new ≡ string_bytes text.old ++ step_text table.now choice.now state.0 process) }
+    ensures next { IfOk result (λ next. next.0 ≡ (transition table.now (slice_index choice.now.operations process) state.0).1) }
+    ensures known { IfOk result (λ next. next.0 < length table.now.states) }
+{
+    let operation = Operation(choice.operations[process as usize]);
+    let (response, next) = table.apply(operation, state);
+    let name = table.operation_name(operation);
+    let given = table.response_name(response);
+    write!(text, " --p{process} {name}/{given}--> ")?;
+    text.push_str(table.state_name(next))?;
+    Ok(next)
+}
+
+/// The steps of the processes of an order, one after the other.
+fn push_steps(
+    text: &mut String,
+    table: &Table,
+    choice: &RawChoice,
+    order: &[u8],
+) -> Result<(), AllocError>
+    requires fits { IsRawChoice table.now (length choice.now.operations) choice.now }
+    requires known { All (λ p. p < length choice.now.operations) order.now }
+    ensures { OnOk result (string_bytes text.new ≡ string_bytes text.old ++ steps_text table.now choice.now choice.now.state order.now) }
+{
+    let mut state = choice.state;
+    for process in order {
+        state = push_step(text, table, choice, state, *process)?;
+    }
+    Ok(())
+}
+
+/// What a process sees, if it takes part.
+fn push_sight(
+    text: &mut String,
+    table: &Table,
+    process: u8,
+    pair: Option<(u8, u8)>,
+) -> Result<(), AllocError>
+    requires { IfSome pair (λ x. (x.0 < length table.now.responses) × (x.1 < length table.now.states)) }
+    ensures { OnOk result (string_bytes text.new ≡ string_bytes text.old ++ sight table.now process pair) }
+{
+    let Some(pair) = pair else {
+        return Ok(());
+    };
+    write!(text, "     p{process} ")?;
+    push_got(text, table, pair)
+}
+
+/// A run from the start state, and what a process sees of it.
+fn push_run(
+    text: &mut String,
+    table: &Table,
+    choice: &RawChoice,
+    team: Team,
+    order: &[u8],
+    process: u8,
+) -> Result<(), AllocError>
+    requires fits { IsRawChoice table.now (length choice.now.operations) choice.now }
+    requires known { All (λ p. p < length choice.now.operations) order.now }
+    ensures { OnOk result (string_bytes text.new ≡ string_bytes text.old
+        ++ run_line table.now choice.now team order.now process) }
+{
+    let (team, start) = (team.name(), table.state_name(choice.state));
+    write!(text, "       {team} first:  {start}")?;
+    push_steps(text, table, choice, order)?;
+    push_sight(
+        text,
+        table,
+        process,
+        raw_pair(table, choice, order, process),
+    )?;
+    text.push_str("\n")
+}
+
+/// Who does what in a choice: the processes of team A, and those of team B, each with its team's
+/// word and its operation behind it.
+#[tactic(auto, unfolding(crate::specs::Explained::both_teams))]
+pub(crate) fn push_both_teams(
+    text: &mut String,
+    table: &Table,
+    choice: &Choice,
+    a_word: &str,
+    between: &str,
+    b_word: &str,
+) -> Result<(), AllocError>
+    requires { FitsTable table.now choice.now }
+    ensures { OnOk result (string_bytes text.new ≡ string_bytes text.old ++ both_teams table.now choice.now a_word.now between.now b_word.now) }
+{
+    let raw = RawChoice::of(choice);
+    let (a, b) = (choice.a.len() as u8, choice.b.len() as u8);
+    push_members(text, table, &raw, a_word, 0, a)?;
+    text.push_str(between)?;
+    push_members(text, table, &raw, b_word, a, b)
+}
+
+#[tactic(auto, unfolding(crate::specs::Explained::choice_text))]
+fn push_choice(text: &mut String, table: &Table, choice: &Choice) -> Result<(), AllocError>
+    requires { FitsTable table.now choice.now }
+    ensures { OnOk result (string_bytes text.new ≡ string_bytes text.old ++ choice_text table.now choice.now) }
+{
+    let start = table.state_name(choice.state);
+    write!(text, "start {start}; A: ")?;
+    push_both_teams(text, table, choice, " ", "; B: ", " ")
+}
+
+#[tactic(auto, unfolding(crate::specs::Explained::way_number))]
+fn push_way_number(text: &mut String, number: usize) -> Result<(), AllocError>
+    ensures { OnOk result (string_bytes text.new ≡ string_bytes text.old ++ way_number number) }
+{
+    write!(text, "  {number}. ")
+}
+
+#[tactic(auto, unfolding(crate::specs::Explained::cannot_tell))]
+fn push_cannot_tell(text: &mut String, process: u8) -> Result<(), AllocError>
+    ensures { OnOk result (string_bytes text.new ≡ string_bytes text.old ++ cannot_tell process) }
+{
+    write!(text, "        p{process} cannot tell:\n")
+}
+
+/// A choice, and a process of it.
+#[tactic(auto, unfolding(crate::specs::Explained::way_line))]
+fn push_way_line(
+    text: &mut String,
+    table: &Table,
+    number: usize,
+    choice: &Choice,
+    process: u8,
+) -> Result<(), AllocError>
+    requires { FitsTable table.now choice.now }
+    ensures { OnOk result (string_bytes text.new ≡ string_bytes text.old ++ way_line table.now number choice.now process) }
+{
+    push_way_number(text, number)?;
+    push_choice(text, table, choice)?;
+    push_cannot_tell(text, process)
+}
+
+/// The two runs by which the process of an entry cannot tell.
+#[tactic(auto, unfolding(crate::specs::Explained::run_lines))]
+fn push_runs(text: &mut String, table: &Table, entry: &Collision) -> Result<(), AllocError>
+    requires { IsRefuted table.now entry.now }
+    ensures { OnOk result (string_bytes text.new ≡ string_bytes text.old
+        ++ run_lines table.now entry.now) }
+{
+    let (choice, process) = (RawChoice::of(&entry.choice), entry.process);
+    let (alpha, beta) = (entry.alpha.as_slice(), entry.beta.as_slice());
+    push_run(text, table, &choice, Team::A, alpha, process)?;
+    push_run(text, table, &choice, Team::B, beta, process)
+}
+
+fn push_way(
+    text: &mut String,
+    table: &Table,
+    number: usize,
+    entry: &Collision,
+) -> Result<(), AllocError>
+    requires { IsRefuted table.now entry.now }
+    ensures { OnOk result (string_bytes text.new ≡ string_bytes text.old ++ way table.now number entry.now) }
+{
+    push_way_line(text, table, number, &entry.choice, entry.process)?;
+    push_runs(text, table, entry)
+}
+
+/// The ways of the entries, numbered from 1.
+pub(crate) fn push_ways(
+    text: &mut String,
+    table: &Table,
+    entries: &[Collision],
+) -> Result<(), AllocError>
+    requires { All (IsRefuted table.now) entries.now }
+    ensures { OnOk result (string_bytes text.new ≡ string_bytes text.old ++ ways table.now 0 entries.now) }
+{
+    for (place, entry) in entries.iter().enumerate() {
+        push_way(text, table, place + 1, entry)?;
+    }
+    Ok(())
+}

@@ -1,7 +1,0 @@
-use Rattle.std.proofs.Common.{◌≡◌, drop}
-use Rattle.cn_table.specs.Grid.{is_in_place}
-use Rattle.cn_table.proofs.grid.is_in_place.Given as goal
-
--- it is told by the rest
-abbrev pub invariant-loop-i : goal.invariant-loop-i
-invariant-loop-i l = is_in_place l.i (drop l.i l.numbers) ≡ is_in_place 0 l.numbers
