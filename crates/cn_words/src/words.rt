@@ -1,8 +1,9 @@
 //! The words of the command line, and the help on them.
-ghost use Rattle.std.specs.Prelude.{◌≡◌, [], ◌∷◌, IfOk, MatchOption, codes};
+ghost use Rattle.std.specs.Prelude.{◌≡◌, [], ◌∷◌, IfOk, MatchOption, codes, take};
 ghost use Rattle.std.specs.List.{list_any};
 ghost use Rattle.std.specs.Str.{bytes_eq};
-ghost use Rattle.cn_words.specs.CommandLine.{HasCommands, IsArgument, IsCommand, commands, table_readers};
+ghost use Rattle.clap.specs.Simple.{new_shape};
+ghost use Rattle.cn_words.specs.CommandLine.{AddsCommand, AddsWord, HasCommands, HasCommandsFor, IsArgument, IsCommand, IsShow, TakesForms, agree_words, certificate_word, classify_words, command_with, commands, explain_words, find_words, flag, form_option, limit_option, lint_words, draw_words, opening_words, replay_words, required_word, required_words, serve_words, table_readers};
 ghost use Rattle.cn_words.specs.WordTooMany.{IsOption, RefusesWord};
 
 use clap::builder::ValueParser;
@@ -276,9 +277,16 @@ pub fn word_too_many(text: &str) -> Option<&str>
     Some(word)
 }
 
+/// A word that has to stand there.
+fn required_word<'a>(alloc: Global, id: &'a str, help: &'a str) -> Arg<'a>
+    ensures { IsArgument (required_word id.entry.now) result }
+{
+    Arg::new(alloc, id).help(help).required(true)
+}
+
 /// The limit of a search.
 fn limit<'a>(alloc: Global) -> Arg<'a>
-    ensures { IsArgument (codes "limit") result }
+    ensures { IsArgument limit_option result }
 {
     Arg::new(alloc, "limit")
         .long("limit")
@@ -288,54 +296,77 @@ fn limit<'a>(alloc: Global) -> Arg<'a>
         .value_parser(value_parser!(u8))
 }
 
-fn find<'a>(alloc: Global) -> Result<Command<'a>, AllocError>
-    ensures { IfOk result (IsCommand (codes "find", codes "limit" ∷ [])) }
+/// The files that `classify` reads.
+fn files<'a>(alloc: Global) -> Arg<'a>
+    ensures { IsArgument (required_words (codes "FILE")) result }
 {
-    Command::new(alloc, "find")
-        .about(FIND_ABOUT)
-        .after_help(FIND_AFTER)
-        .arg(limit(alloc).required(true))
-}
-
-fn classify<'a>(alloc: Global) -> Result<Command<'a>, AllocError>
-    ensures { IfOk result (IsCommand (codes "classify", codes "limit" ∷ codes "FILE" ∷ [])) }
-{
-    let files = Arg::new(alloc, "FILE")
+    Arg::new(alloc, "FILE")
         .help("The files that hold the type tables")
         .required(true)
         .num_args(1..)
-        .action(ArgAction::Set);
-    Command::new(alloc, "classify")
-        .about(CLASSIFY_ABOUT)
-        .after_help(CLASSIFY_AFTER)
+        .action(ArgAction::Set)
+}
+
+/// The flag by which `explain` tells all.
+fn all<'a>(alloc: Global) -> Arg<'a>
+    ensures { IsArgument (flag (codes "all")) result }
+{
+    Arg::new(alloc, "all")
+        .long("all")
+        .help("Tells all choices that are refuted, not the first 12 alone")
+        .action(ArgAction::SetTrue)
+}
+
+/// The form in which `show` writes a plan.
+fn form<'a>(alloc: Global) -> Arg<'a>
+    ensures { (forms : _) × TakesForms forms × IsArgument (form_option forms) result }
+{
+    Arg::new(alloc, "as")
+        .long("as")
+        .value_name("FORM")
+        .help("The form in which the plan is written")
+        .action(ArgAction::Set)
+        .value_parser(ValueParser::Names(&FORMS))
+        .default_value("text")
+}
+
+/// A command with no arguments yet.
+fn bare_command<'a>(alloc: Global, name: &'a str, about: &'a str, after: &'a str) -> Command<'a>
+    ensures { IsCommand (new_shape name.entry.now) result }
+{
+    Command::new(alloc, name).about(about).after_help(after)
+}
+
+/// A command with one word more that has to stand there, the last.
+fn with_word<'a>(
+    alloc: Global,
+    command: Command<'a>,
+    id: &'a str,
+    help: &'a str,
+) -> Result<Command<'a>, AllocError>
+    ensures { IfOk result (AddsWord command.entry id.entry.now) }
+{
+    command.arg(required_word(alloc, id, help))
+}
+
+fn find<'a>(alloc: Global) -> Result<Command<'a>, AllocError>
+    ensures { IfOk result (IsCommand find_words) }
+{
+    bare_command(alloc, "find", FIND_ABOUT, FIND_AFTER).arg(limit(alloc).required(true))
+}
+
+fn classify<'a>(alloc: Global) -> Result<Command<'a>, AllocError>
+    ensures { IfOk result (IsCommand classify_words) }
+{
+    bare_command(alloc, "classify", CLASSIFY_ABOUT, CLASSIFY_AFTER)
         .arg(limit(alloc).default_value("8"))?
-        .arg(files)
+        .arg(files(alloc))
 }
 
 fn lint<'a>(alloc: Global) -> Command<'a>
-    ensures { IsCommand (codes "lint", []) result }
+    ensures { IsCommand lint_words result }
 {
-    Command::new(alloc, "lint")
-        .about(LINT_ABOUT)
-        .after_help(LINT_AFTER)
-}
-
-/// A command that tells the first of what it has to tell, or all.
-fn explain<'a>(alloc: Global) -> Result<Command<'a>, AllocError>
-    ensures { IfOk result (IsCommand (codes "explain", codes "CERT" ∷ codes "all" ∷ [])) }
-{
-    let all = Arg::new(alloc, "all")
-        .long("all")
-        .help("Tells all choices that are refuted, not the first 12 alone")
-        .action(ArgAction::SetTrue);
-    with_certificate(alloc, "explain", EXPLAIN_ABOUT, EXPLAIN_AFTER)?.arg(all)
-}
-
-/// A word that has to stand there.
-fn word<'a>(alloc: Global, name: &'a str, help: &'a str) -> Arg<'a>
-    ensures { IsArgument name.entry.now result }
-{
-    Arg::new(alloc, name).help(help).required(true)
+    bare_command(alloc, "lint", LINT_ABOUT, LINT_AFTER)
 }
 
 /// A command that reads a certificate.
@@ -345,49 +376,44 @@ fn with_certificate<'a>(
     about: &'a str,
     after: &'a str,
 ) -> Result<Command<'a>, AllocError>
-    ensures { IfOk result (IsCommand (name.entry.now, codes "CERT" ∷ [])) }
+    ensures { IfOk result (IsCommand (command_with name.entry.now (certificate_word ∷ []))) }
 {
-    Command::new(alloc, name)
-        .about(about)
-        .after_help(after)
-        .arg(word(alloc, "CERT", "The file that holds the certificate"))
+    let command = bare_command(alloc, name, about, after);
+    with_word(
+        alloc,
+        command,
+        "CERT",
+        "The file that holds the certificate",
+    )
+}
+
+/// A command that tells the first of what it has to tell, or all.
+fn explain<'a>(alloc: Global) -> Result<Command<'a>, AllocError>
+    ensures { IfOk result (IsCommand explain_words) }
+{
+    with_certificate(alloc, "explain", EXPLAIN_ABOUT, EXPLAIN_AFTER)?.arg(all(alloc))
 }
 
 fn show<'a>(alloc: Global) -> Result<Command<'a>, AllocError>
-    ensures { IfOk result (IsCommand (codes "show", codes "CERT" ∷ codes "as" ∷ [])) }
+    ensures { IfOk result IsShow }
 {
-    let form = Arg::new(alloc, "as")
-        .long("as")
-        .value_name("FORM")
-        .help("The form in which the plan is written")
-        .action(ArgAction::Set)
-        .value_parser(ValueParser::Names(&FORMS))
-        .default_value("text");
-    with_certificate(alloc, "show", SHOW_ABOUT, SHOW_AFTER)?.arg(form)
+    with_certificate(alloc, "show", SHOW_ABOUT, SHOW_AFTER)?.arg(form(alloc))
 }
 
 fn draw<'a>(alloc: Global) -> Command<'a>
-    ensures { IsCommand (codes "draw", []) result }
+    ensures { IsCommand draw_words result }
 {
-    Command::new(alloc, "draw")
-        .about(DRAW_ABOUT)
-        .after_help(DRAW_AFTER)
+    bare_command(alloc, "draw", DRAW_ABOUT, DRAW_AFTER)
 }
 
 fn agree<'a>(alloc: Global) -> Result<Command<'a>, AllocError>
-    ensures { IfOk result (IsCommand (codes "agree", codes "CERT" ∷ codes "INPUTS" ∷ codes "SCHEDULE" ∷ [])) }
+    ensures { IfOk result (IsCommand agree_words) }
 {
-    with_certificate(alloc, "agree", AGREE_ABOUT, AGREE_AFTER)?
-        .arg(word(
-            alloc,
-            "INPUTS",
-            "The numbers that the processes begin with, or @FILE",
-        ))?
-        .arg(word(
-            alloc,
-            "SCHEDULE",
-            "The processes in the order of their steps, or @FILE",
-        ))
+    let command = with_certificate(alloc, "agree", AGREE_ABOUT, AGREE_AFTER)?;
+    let inputs = "The numbers that the processes begin with, or @FILE";
+    let command = with_word(alloc, command, "INPUTS", inputs)?;
+    let schedule = "The processes in the order of their steps, or @FILE";
+    with_word(alloc, command, "SCHEDULE", schedule)
 }
 
 /// A command that serves an object.
@@ -397,41 +423,34 @@ fn with_object<'a>(
     about: &'a str,
     after: &'a str,
 ) -> Result<Command<'a>, AllocError>
-    ensures { IfOk result (IsCommand (name.entry.now, codes "CERT" ∷ codes "OBJECT" ∷ codes "START" ∷ codes "CAPACITY" ∷ [])) }
+    ensures { IfOk result (IsCommand (command_with name.entry.now opening_words)) }
 {
-    with_certificate(alloc, name, about, after)?
-        .arg(word(
-            alloc,
-            "OBJECT",
-            "The file that holds the table of the object",
-        ))?
-        .arg(word(alloc, "START", "The state in which the object starts"))?
-        .arg(word(alloc, "CAPACITY", "How many slots the log has"))
+    let command = with_certificate(alloc, name, about, after)?;
+    let object = "The file that holds the table of the object";
+    let command = with_word(alloc, command, "OBJECT", object)?;
+    let start = "The state in which the object starts";
+    let command = with_word(alloc, command, "START", start)?;
+    with_word(alloc, command, "CAPACITY", "How many slots the log has")
 }
 
 fn replay<'a>(alloc: Global) -> Result<Command<'a>, AllocError>
-    ensures { IfOk result (IsCommand (codes "replay", codes "CERT" ∷ codes "OBJECT" ∷ codes "START" ∷ codes "CAPACITY" ∷ codes "EVENTS" ∷ [])) }
+    ensures { IfOk result (IsCommand replay_words) }
 {
-    with_object(alloc, "replay", REPLAY_ABOUT, REPLAY_AFTER)?.arg(word(
-        alloc,
-        "EVENTS",
-        "The events, in order, or @FILE",
-    ))
+    let command = with_object(alloc, "replay", REPLAY_ABOUT, REPLAY_AFTER)?;
+    with_word(alloc, command, "EVENTS", "The events, in order, or @FILE")
 }
 
 fn serve<'a>(alloc: Global) -> Result<Command<'a>, AllocError>
-    ensures { IfOk result (IsCommand (codes "serve", codes "CERT" ∷ codes "OBJECT" ∷ codes "START" ∷ codes "CAPACITY" ∷ codes "CALLS" ∷ [])) }
+    ensures { IfOk result (IsCommand serve_words) }
 {
-    with_object(alloc, "serve", SERVE_ABOUT, SERVE_AFTER)?.arg(word(
-        alloc,
-        "CALLS",
-        "The calls of each process, in order, or @FILE",
-    ))
+    let command = with_object(alloc, "serve", SERVE_ABOUT, SERVE_AFTER)?;
+    let calls = "The calls of each process, in order, or @FILE";
+    with_word(alloc, command, "CALLS", calls)
 }
 
 /// The program with no command yet.
 fn program<'a>(alloc: Global) -> Command<'a>
-    ensures { HasCommands (codes "cnum") [] result }
+    ensures { HasCommands [] result }
 {
     Command::new(alloc, "cnum")
         .version("0.2.0")
@@ -440,19 +459,43 @@ fn program<'a>(alloc: Global) -> Command<'a>
         .subcommand_required(true)
 }
 
+/// The program with one command more, the last, where it was made.
+fn with_command<'a>(
+    program: Command<'a>,
+    command: Result<Command<'a>, AllocError>,
+) -> Result<Command<'a>, AllocError>
+    ensures { IfOk result (AddsCommand program.entry command.entry) }
+{
+    program.subcommand(command?)
+}
+
+/// The program with its first commands, which take no certificate.
+fn with_searches<'a>(alloc: Global) -> Result<Command<'a>, AllocError>
+    ensures { IfOk result (HasCommands (find_words ∷ classify_words ∷ lint_words ∷ [])) }
+{
+    let program = with_command(program(alloc), find(alloc))?;
+    let program = with_command(program, classify(alloc))?;
+    with_command(program, Ok(lint(alloc)))
+}
+
+/// The same, and the commands that check a certificate and tell of it, and the picture of a type.
+fn with_texts<'a>(alloc: Global) -> Result<Command<'a>, AllocError>
+    ensures { IfOk result (HasCommandsFor (λ forms. take 7 (commands forms))) }
+{
+    let program = with_searches(alloc)?;
+    let check = with_certificate(alloc, "check", CHECK_ABOUT, CHECK_AFTER);
+    let program = with_command(program, check)?;
+    let program = with_command(program, explain(alloc))?;
+    let program = with_command(program, show(alloc))?;
+    with_command(program, Ok(draw(alloc)))
+}
+
 /// All that the program takes: its commands in this order, each with its arguments.
 pub fn command<'a>(alloc: Global) -> Result<Command<'a>, AllocError>
-    ensures { IfOk result (HasCommands (codes "cnum") commands) }
+    ensures { IfOk result (HasCommandsFor commands) }
 {
-    program(alloc)
-        .subcommand(find(alloc)?)?
-        .subcommand(classify(alloc)?)?
-        .subcommand(lint(alloc))?
-        .subcommand(with_certificate(alloc, "check", CHECK_ABOUT, CHECK_AFTER)?)?
-        .subcommand(explain(alloc)?)?
-        .subcommand(show(alloc)?)?
-        .subcommand(draw(alloc))?
-        .subcommand(agree(alloc)?)?
-        .subcommand(replay(alloc)?)?
-        .subcommand(serve(alloc)?)
+    let program = with_texts(alloc)?;
+    let program = with_command(program, agree(alloc))?;
+    let program = with_command(program, replay(alloc))?;
+    with_command(program, serve(alloc))
 }

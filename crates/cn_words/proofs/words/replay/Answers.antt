@@ -1,10 +1,8 @@
 use Rattle.std.proofs.Common.{codes}
 use Rattle.std.proofs.lemmas.Result.{IfOk-weaker}
-use Rattle.cn_words.proofs.CommandLemmas.{argument_more}
+use Rattle.cn_words.proofs.CommandLemmas.{word_more}
 use Rattle.cn_words.proofs.words.replay.Goals as goal
 
 pub returns : goal.returns
 returns c =
-    IfOk-weaker c.arg.result _ _
-    (λ new adds. argument_more _ _ new (codes "replay") (codes "EVENTS") _ c.in_ok-with_object.ensures c.word.ensures adds)
-    c.arg.ensures
+    IfOk-weaker c.with_word.result _ _ (λ new adds. word_more _ new _ (codes "EVENTS") c.in_ok-command.ensures adds) c.with_word.ensures
