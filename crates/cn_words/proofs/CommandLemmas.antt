@@ -1,18 +1,14 @@
 -- Commands with one argument or one command more.
-use Rattle.std.proofs.Common.{◌≡◌, ◌∙◌, Bool, true, false, not, ◌&&◌, List, [], Result, Ok, Err, ap, ap₂, refl, subst}
+use Rattle.std.proofs.Common.{◌≡◌, ◌∙◌, ◌&&◌, Bool, true, false, not, Result, Ok, Err, ap, ap₂, refl, subst}
 use Rattle.std.specs.Prelude.{IfOk}
+use Rattle.std.proofs.lemmas.Result.{IfOk-weaker}
+use Rattle.clap.specs.Built.{AddsSubcommand}
 use Rattle.clap.specs.Simple.{App, Shape, app_of, with_rule, with_subcommand}
-use Rattle.clap.specs.Built.{AddsArg}
-use Rattle.clap.specs.Walk.{Rule, Text}
+use Rattle.clap.specs.Walk.{Rule}
 use Rattle.clap.specs.declared.builder.arg.Arg.{Arg}
 use Rattle.clap.specs.declared.builder.command.Command.{Command}
 use Rattle.clap.specs.declared.builder.value_parser.ValueParser.{ValueParser}
-use Rattle.cn_words.specs.CommandLine.{AddsCommand, AddsWord, HasCommands, IsArgument, IsCommand, IsShow, TakesForms, program_with, required_word, show_words}
-
--- the words with one argument more, the last
-pub argument_more : (old : Command) (a : Arg) (new : Command) (app : App) (rule : Rule) → app_of old ≡ app → IsArgument rule a
-    → AddsArg old a new → app_of new ≡ with_rule app rule
-argument_more old a new app rule was is adds = adds.shape is.1 ∙ ap₂ with_rule was is.0
+use Rattle.cn_words.specs.CommandLine.{AddsArgument, AddsCommand, IsArgument, IsCommand, IsShow, TakesForms, show_words}
 
 -- what holds of the value that was made
 of_made : {T E : Type 0} (P : T → Type 0) (r : Result T E) (x : T) → IfOk r P → r ≡ Ok x → P x
@@ -26,23 +22,39 @@ third true true g d h = cc
 third true false true d h = cc
 third true false false d h = refl
 
--- the program with one command more, the last
-pub command_more : {E : Type 0} (old new : Command) (made : Result Command E) (before : List Shape) (words : Shape) → HasCommands before old
-    → IfOk made (IsCommand words) → words.is_plain ≡ true → AddsCommand old made new → app_of new ≡ with_subcommand (program_with before) words
-command_more old new made before words has is plain adds =
-    let shape : app_of adds.0 ≡ record { top = words; subs = [] } = of_made (IsCommand words) made adds.0 is adds.1 in
-    let top : (app_of adds.0).top ≡ words = ap (λ (x : App). x.top) shape in
+-- the words with one argument more, the last
+pub argument_more : {E : Type 0} (made new : Result Command E) (a : Arg) (app : App) (rule : Rule) → IfOk made (λ old. app_of old ≡ app)
+    → IsArgument rule a → IfOk new (AddsArgument made a) → IfOk new (λ c. app_of c ≡ with_rule app rule)
+argument_more made new a app rule was is adds = IfOk-weaker new _ _ (λ c more.
+    more.2.shape is.1 ∙ ap₂ with_rule (of_made (λ old. app_of old ≡ app) made more.0 was more.1) is.0) adds
+
+-- the program with one command more, the last, whose words are known
+subcommand_more : (old command new : Command) (app : App) (words : Shape) → app_of old ≡ app → IsCommand words command → words.is_plain ≡ true
+    → AddsSubcommand old command new → app_of new ≡ with_subcommand app words
+subcommand_more old command new app words has is plain adds =
+    let top : (app_of command).top ≡ words = ap (λ (x : App). x.top) is in
     let no_globals = third _ _ _ _ (ap (λ (s : Shape). s.is_plain) top ∙ plain) in
-    adds.2.shape no_globals ∙ ap₂ with_subcommand has top
+    adds.shape no_globals ∙ ap₂ with_subcommand has top
 
--- the words with one word more that has to stand there
-pub word_more : (old new : Command) (app : App) (id : Text) → app_of old ≡ app → AddsWord old id new → app_of new ≡ with_rule app (required_word id)
-word_more old new app id was adds = adds ∙ ap (λ (a : App). with_rule a (required_word id)) was
+pub command_more : {E : Type 0} (program made new : Result Command E) (app : App) (words : Shape) → IfOk program (λ old. app_of old ≡ app)
+    → IfOk made (IsCommand words) → words.is_plain ≡ true → IfOk new (AddsCommand program made) → IfOk new (λ c. app_of c ≡ with_subcommand app words)
+command_more program made new app words has is plain adds = IfOk-weaker new _ _ (λ c more.
+    subcommand_more more.0 more.1 c app words (of_made (λ old. app_of old ≡ app) program more.0 has more.2)
+    (of_made (IsCommand words) made more.1 is more.3) plain more.4) adds
 
--- the program with show more, the last
-pub show_more : {E : Type 0} (old new : Command) (made : Result Command E) (before : List Shape) → HasCommands before old
-    → IfOk made IsShow → AddsCommand old made new
-    → (forms : ValueParser) × TakesForms forms × (app_of new ≡ with_subcommand (program_with before) (show_words forms))
-show_more {E} old new made before has is adds =
-    let show = of_made IsShow made adds.0 is adds.1 in
-    (show.0, show.1, command_more {E = E} old new (Ok adds.0) before (show_words show.0) has show.2 refl (adds.0, refl, adds.2))
+-- the program with show more
+pub show_more : {E : Type 0} (program made new : Result Command E) (app : App) → IfOk program (λ old. app_of old ≡ app)
+    → IfOk made IsShow → IfOk new (AddsCommand program made)
+    → IfOk new (λ c. (forms : ValueParser) × TakesForms forms × (app_of c ≡ with_subcommand app (show_words forms)))
+show_more program made new app has is adds = IfOk-weaker new _ _ (λ c more.
+    let show = of_made IsShow made more.1 is more.3 in
+    (show.0, show.1, subcommand_more more.0 more.1 c app (show_words show.0) (of_made (λ old. app_of old ≡ app) program more.0 has more.2) show.2 refl more.4)) adds
+
+-- the program with one command more behind show
+pub command_more_for : {E : Type 0} (program made new : Result Command E) (app : ValueParser → App) (words : Shape)
+    → IfOk program (λ old. (forms : ValueParser) × TakesForms forms × (app_of old ≡ app forms))
+    → IfOk made (IsCommand words) → words.is_plain ≡ true → IfOk new (AddsCommand program made)
+    → IfOk new (λ c. (forms : ValueParser) × TakesForms forms × (app_of c ≡ with_subcommand (app forms) words))
+command_more_for program made new app words has is plain adds = IfOk-weaker new _ _ (λ c more.
+    let old = of_made (λ o. (forms : ValueParser) × TakesForms forms × (app_of o ≡ app forms)) program more.0 has more.2 in
+    (old.0, old.1, subcommand_more more.0 more.1 c (app old.0) words old.2 (of_made (IsCommand words) made more.1 is more.3) plain more.4)) adds

@@ -1,8 +1,8 @@
 -- The words of the command line: the program, its commands and their arguments, as clap reads them.
 use Rattle.std.specs.Prelude.{◌≡◌, ◌++◌, true, false, List, [], ◌∷◌, Result, Ok, Some, pos, codes}
 use Rattle.clap.specs.Lexer.{usize_max}
-use Rattle.clap.specs.Built.{AddsSubcommand}
-use Rattle.clap.specs.Simple.{App, Shape, app_of, new_rule, new_shape, with_rule}
+use Rattle.clap.specs.Built.{AddsArg, AddsSubcommand}
+use Rattle.clap.specs.Simple.{App, Shape, app_of, new_rule, new_shape}
 use Rattle.clap.specs.Walk.{Rule, Text, is_empty, rule_of, texts}
 use Rattle.clap.specs.declared.builder.action.ArgAction.TheVariants.{Set, SetTrue}
 use Rattle.clap.specs.declared.builder.arg.Arg.{Arg}
@@ -130,14 +130,14 @@ IsCommand words c = app_of c ≡ record { top = words; subs = [] }
 abbrev pub IsShow : Command → Type 0
 IsShow c = (forms : ValueParser) × TakesForms forms × IsCommand (show_words forms) c
 
--- `new` is the command with one word more that has to stand there, the last
-abbrev pub AddsWord : Command → Text → Command → Type 0
-AddsWord old id new = app_of new ≡ with_rule (app_of old) (required_word id)
+-- `new` is the command that was made with one argument more, the last
+abbrev pub AddsArgument : {E : Type 0} → Result Command E → Arg → Command → Type 0
+AddsArgument made argument new = (old : Command) × (made ≡ Ok old) × AddsArg old argument new
 
--- `new` is the program with one command more, the last, which was made
-abbrev pub AddsCommand : {E : Type 0} → Command → Result Command E → Command → Type 0
-AddsCommand old made new =
-    (command : Command) × (made ≡ Ok command) × AddsSubcommand old command new
+-- `new` is the program that was made with one command more, the last, which was made too
+abbrev pub AddsCommand : {E : Type 0} → Result Command E → Result Command E → Command → Type 0
+AddsCommand program made new = (old : Command) × (command : Command) × (program ≡ Ok old)
+    × (made ≡ Ok command) × AddsSubcommand old command new
 
 -- the program has these commands in this order
 abbrev pub HasCommands : List Shape → Command → Type 0

@@ -1,9 +1,9 @@
 //! The words of the command line, and the help on them.
-ghost use Rattle.std.specs.Prelude.{◌≡◌, [], ◌∷◌, IfOk, MatchOption, codes, take};
+ghost use Rattle.std.specs.Prelude.{◌≡◌, [], ◌∷◌, IfOk, MatchOption, codes};
 ghost use Rattle.std.specs.List.{list_any};
 ghost use Rattle.std.specs.Str.{bytes_eq};
 ghost use Rattle.clap.specs.Simple.{new_shape};
-ghost use Rattle.cn_words.specs.CommandLine.{AddsCommand, AddsWord, HasCommands, HasCommandsFor, IsArgument, IsCommand, IsShow, TakesForms, agree_words, certificate_word, classify_words, command_with, commands, explain_words, find_words, flag, form_option, limit_option, lint_words, draw_words, opening_words, replay_words, required_word, required_words, serve_words, table_readers};
+ghost use Rattle.cn_words.specs.CommandLine.{AddsArgument, AddsCommand, HasCommands, HasCommandsFor, IsArgument, IsCommand, IsShow, TakesForms, agree_words, certificate_word, classify_words, command_with, commands, draw_words, explain_words, find_words, flag, form_option, limit_option, lint_words, opening_words, replay_words, required_word, required_words, serve_words, table_readers, value_option};
 ghost use Rattle.cn_words.specs.WordTooMany.{IsOption, RefusesWord};
 
 use clap::builder::ValueParser;
@@ -284,25 +284,30 @@ fn required_word<'a>(alloc: Global, id: &'a str, help: &'a str) -> Arg<'a>
     Arg::new(alloc, id).help(help).required(true)
 }
 
+/// An option with a value.
+fn value_option<'a>(alloc: Global, id: &'a str, value: &'a str, help: &'a str) -> Arg<'a>
+    ensures { IsArgument (value_option id.entry.now) result }
+{
+    Arg::new(alloc, id)
+        .long(id)
+        .value_name(value)
+        .help(help)
+        .action(ArgAction::Set)
+}
+
 /// The limit of a search.
 fn limit<'a>(alloc: Global) -> Arg<'a>
     ensures { IsArgument limit_option result }
 {
-    Arg::new(alloc, "limit")
-        .long("limit")
-        .value_name("N")
-        .help("The greatest number looked for, from 2 to 8")
-        .action(ArgAction::Set)
-        .value_parser(value_parser!(u8))
+    let help = "The greatest number looked for, from 2 to 8";
+    value_option(alloc, "limit", "N", help).value_parser(value_parser!(u8))
 }
 
 /// The files that `classify` reads.
 fn files<'a>(alloc: Global) -> Arg<'a>
     ensures { IsArgument (required_words (codes "FILE")) result }
 {
-    Arg::new(alloc, "FILE")
-        .help("The files that hold the type tables")
-        .required(true)
+    required_word(alloc, "FILE", "The files that hold the type tables")
         .num_args(1..)
         .action(ArgAction::Set)
 }
@@ -321,11 +326,7 @@ fn all<'a>(alloc: Global) -> Arg<'a>
 fn form<'a>(alloc: Global) -> Arg<'a>
     ensures { (forms : _) × TakesForms forms × IsArgument (form_option forms) result }
 {
-    Arg::new(alloc, "as")
-        .long("as")
-        .value_name("FORM")
-        .help("The form in which the plan is written")
-        .action(ArgAction::Set)
+    value_option(alloc, "as", "FORM", "The form in which the plan is written")
         .value_parser(ValueParser::Names(&FORMS))
         .default_value("text")
 }
@@ -337,30 +338,43 @@ fn bare_command<'a>(alloc: Global, name: &'a str, about: &'a str, after: &'a str
     Command::new(alloc, name).about(about).after_help(after)
 }
 
-/// A command with one word more that has to stand there, the last.
-fn with_word<'a>(
-    alloc: Global,
-    command: Command<'a>,
-    id: &'a str,
-    help: &'a str,
+// The next functions take what the last one made, so that only they end early for want of memory:
+// each place that may end while a command is alive is dear to prove.
+
+/// A command with one argument more, the last.
+fn with_argument<'a>(
+    command: Result<Command<'a>, AllocError>,
+    argument: Arg<'a>,
 ) -> Result<Command<'a>, AllocError>
-    ensures { IfOk result (AddsWord command.entry id.entry.now) }
+    ensures { IfOk result (AddsArgument command.entry argument.entry) }
 {
-    command.arg(required_word(alloc, id, help))
+    command?.arg(argument)
+}
+
+/// The program with one command more, the last.
+fn with_command<'a>(
+    program: Result<Command<'a>, AllocError>,
+    command: Result<Command<'a>, AllocError>,
+) -> Result<Command<'a>, AllocError>
+    ensures { IfOk result (AddsCommand program.entry command.entry) }
+{
+    let command = command?;
+    program?.subcommand(command)
 }
 
 fn find<'a>(alloc: Global) -> Result<Command<'a>, AllocError>
     ensures { IfOk result (IsCommand find_words) }
 {
-    bare_command(alloc, "find", FIND_ABOUT, FIND_AFTER).arg(limit(alloc).required(true))
+    let command = bare_command(alloc, "find", FIND_ABOUT, FIND_AFTER);
+    with_argument(Ok(command), limit(alloc).required(true))
 }
 
 fn classify<'a>(alloc: Global) -> Result<Command<'a>, AllocError>
     ensures { IfOk result (IsCommand classify_words) }
 {
-    bare_command(alloc, "classify", CLASSIFY_ABOUT, CLASSIFY_AFTER)
-        .arg(limit(alloc).default_value("8"))?
-        .arg(files(alloc))
+    let command = bare_command(alloc, "classify", CLASSIFY_ABOUT, CLASSIFY_AFTER);
+    let command = with_argument(Ok(command), limit(alloc).default_value("8"));
+    with_argument(command, files(alloc))
 }
 
 fn lint<'a>(alloc: Global) -> Command<'a>
@@ -379,25 +393,23 @@ fn with_certificate<'a>(
     ensures { IfOk result (IsCommand (command_with name.entry.now (certificate_word ∷ []))) }
 {
     let command = bare_command(alloc, name, about, after);
-    with_word(
-        alloc,
-        command,
-        "CERT",
-        "The file that holds the certificate",
-    )
+    let certificate = required_word(alloc, "CERT", "The file that holds the certificate");
+    with_argument(Ok(command), certificate)
 }
 
 /// A command that tells the first of what it has to tell, or all.
 fn explain<'a>(alloc: Global) -> Result<Command<'a>, AllocError>
     ensures { IfOk result (IsCommand explain_words) }
 {
-    with_certificate(alloc, "explain", EXPLAIN_ABOUT, EXPLAIN_AFTER)?.arg(all(alloc))
+    let command = with_certificate(alloc, "explain", EXPLAIN_ABOUT, EXPLAIN_AFTER);
+    with_argument(command, all(alloc))
 }
 
 fn show<'a>(alloc: Global) -> Result<Command<'a>, AllocError>
     ensures { IfOk result IsShow }
 {
-    with_certificate(alloc, "show", SHOW_ABOUT, SHOW_AFTER)?.arg(form(alloc))
+    let command = with_certificate(alloc, "show", SHOW_ABOUT, SHOW_AFTER);
+    with_argument(command, form(alloc))
 }
 
 fn draw<'a>(alloc: Global) -> Command<'a>
@@ -409,11 +421,11 @@ fn draw<'a>(alloc: Global) -> Command<'a>
 fn agree<'a>(alloc: Global) -> Result<Command<'a>, AllocError>
     ensures { IfOk result (IsCommand agree_words) }
 {
-    let command = with_certificate(alloc, "agree", AGREE_ABOUT, AGREE_AFTER)?;
     let inputs = "The numbers that the processes begin with, or @FILE";
-    let command = with_word(alloc, command, "INPUTS", inputs)?;
     let schedule = "The processes in the order of their steps, or @FILE";
-    with_word(alloc, command, "SCHEDULE", schedule)
+    let command = with_certificate(alloc, "agree", AGREE_ABOUT, AGREE_AFTER);
+    let command = with_argument(command, required_word(alloc, "INPUTS", inputs));
+    with_argument(command, required_word(alloc, "SCHEDULE", schedule))
 }
 
 /// A command that serves an object.
@@ -425,27 +437,29 @@ fn with_object<'a>(
 ) -> Result<Command<'a>, AllocError>
     ensures { IfOk result (IsCommand (command_with name.entry.now opening_words)) }
 {
-    let command = with_certificate(alloc, name, about, after)?;
     let object = "The file that holds the table of the object";
-    let command = with_word(alloc, command, "OBJECT", object)?;
     let start = "The state in which the object starts";
-    let command = with_word(alloc, command, "START", start)?;
-    with_word(alloc, command, "CAPACITY", "How many slots the log has")
+    let capacity = "How many slots the log has";
+    let command = with_certificate(alloc, name, about, after);
+    let command = with_argument(command, required_word(alloc, "OBJECT", object));
+    let command = with_argument(command, required_word(alloc, "START", start));
+    with_argument(command, required_word(alloc, "CAPACITY", capacity))
 }
 
 fn replay<'a>(alloc: Global) -> Result<Command<'a>, AllocError>
     ensures { IfOk result (IsCommand replay_words) }
 {
-    let command = with_object(alloc, "replay", REPLAY_ABOUT, REPLAY_AFTER)?;
-    with_word(alloc, command, "EVENTS", "The events, in order, or @FILE")
+    let events = "The events, in order, or @FILE";
+    let command = with_object(alloc, "replay", REPLAY_ABOUT, REPLAY_AFTER);
+    with_argument(command, required_word(alloc, "EVENTS", events))
 }
 
 fn serve<'a>(alloc: Global) -> Result<Command<'a>, AllocError>
     ensures { IfOk result (IsCommand serve_words) }
 {
-    let command = with_object(alloc, "serve", SERVE_ABOUT, SERVE_AFTER)?;
     let calls = "The calls of each process, in order, or @FILE";
-    with_word(alloc, command, "CALLS", calls)
+    let command = with_object(alloc, "serve", SERVE_ABOUT, SERVE_AFTER);
+    with_argument(command, required_word(alloc, "CALLS", calls))
 }
 
 /// The program with no command yet.
@@ -459,43 +473,19 @@ fn program<'a>(alloc: Global) -> Command<'a>
         .subcommand_required(true)
 }
 
-/// The program with one command more, the last, where it was made.
-fn with_command<'a>(
-    program: Command<'a>,
-    command: Result<Command<'a>, AllocError>,
-) -> Result<Command<'a>, AllocError>
-    ensures { IfOk result (AddsCommand program.entry command.entry) }
-{
-    program.subcommand(command?)
-}
-
-/// The program with its first commands, which take no certificate.
-fn with_searches<'a>(alloc: Global) -> Result<Command<'a>, AllocError>
-    ensures { IfOk result (HasCommands (find_words ∷ classify_words ∷ lint_words ∷ [])) }
-{
-    let program = with_command(program(alloc), find(alloc))?;
-    let program = with_command(program, classify(alloc))?;
-    with_command(program, Ok(lint(alloc)))
-}
-
-/// The same, and the commands that check a certificate and tell of it, and the picture of a type.
-fn with_texts<'a>(alloc: Global) -> Result<Command<'a>, AllocError>
-    ensures { IfOk result (HasCommandsFor (λ forms. take 7 (commands forms))) }
-{
-    let program = with_searches(alloc)?;
-    let check = with_certificate(alloc, "check", CHECK_ABOUT, CHECK_AFTER);
-    let program = with_command(program, check)?;
-    let program = with_command(program, explain(alloc))?;
-    let program = with_command(program, show(alloc))?;
-    with_command(program, Ok(draw(alloc)))
-}
-
 /// All that the program takes: its commands in this order, each with its arguments.
 pub fn command<'a>(alloc: Global) -> Result<Command<'a>, AllocError>
     ensures { IfOk result (HasCommandsFor commands) }
 {
-    let program = with_texts(alloc)?;
-    let program = with_command(program, agree(alloc))?;
-    let program = with_command(program, replay(alloc))?;
-    with_command(program, serve(alloc))
+    let check = with_certificate(alloc, "check", CHECK_ABOUT, CHECK_AFTER);
+    let to_find = with_command(Ok(program(alloc)), find(alloc));
+    let to_classify = with_command(to_find, classify(alloc));
+    let to_lint = with_command(to_classify, Ok(lint(alloc)));
+    let to_check = with_command(to_lint, check);
+    let to_explain = with_command(to_check, explain(alloc));
+    let to_show = with_command(to_explain, show(alloc));
+    let to_draw = with_command(to_show, Ok(draw(alloc)));
+    let to_agree = with_command(to_draw, agree(alloc));
+    let to_replay = with_command(to_agree, replay(alloc));
+    with_command(to_replay, serve(alloc))
 }

@@ -1,9 +1,7 @@
-use Rattle.std.proofs.Common.{codes}
-use Rattle.std.proofs.lemmas.Result.{IfOk-weaker}
-use Rattle.cn_words.proofs.CommandLemmas.{word_more}
+use Rattle.cn_words.proofs.CommandLemmas.{argument_more}
 use Rattle.cn_words.proofs.words.agree.Goals as goal
 
 pub returns : goal.returns
 returns c =
-    let with_inputs = word_more _ _ _ (codes "INPUTS") c.in_ok-command.ensures c.in_ok-command-2.ensures in
-    IfOk-weaker c.with_word-2.result _ _ (λ new adds. word_more _ new _ (codes "SCHEDULE") with_inputs adds) c.with_word-2.ensures
+    let with_inputs = argument_more _ c.with_argument-command.result _ _ _ c.with_certificate-command.ensures c.required_word.ensures c.with_argument-command.ensures in
+    argument_more _ c.with_argument.result _ _ _ with_inputs c.required_word-2.ensures c.with_argument.ensures

@@ -1,8 +1,6 @@
-use Rattle.std.proofs.Common.{codes}
-use Rattle.std.proofs.lemmas.Result.{IfOk-weaker}
-use Rattle.cn_words.proofs.CommandLemmas.{word_more}
+use Rattle.cn_words.proofs.CommandLemmas.{argument_more}
 use Rattle.cn_words.proofs.words.serve.Goals as goal
 
 pub returns : goal.returns
 returns c =
-    IfOk-weaker c.with_word.result _ _ (λ new adds. word_more _ new _ (codes "CALLS") c.in_ok-command.ensures adds) c.with_word.ensures
+    argument_more _ c.with_argument.result _ _ _ c.with_object-command.ensures c.required_word.ensures c.with_argument.ensures

@@ -4,6 +4,5 @@ use Rattle.cn_words.proofs.words.show.Goals as goal
 
 pub returns : goal.returns
 returns c =
-    IfOk-weaker c.arg.result _ _
-    (λ new adds. (c.form.ensures.0, c.form.ensures.1, argument_more _ _ new _ _ c.in_ok-with_certificate.ensures c.form.ensures.2 adds))
-    c.arg.ensures
+    IfOk-weaker c.with_argument.result _ _ (λ new is. (c.form.ensures.0, c.form.ensures.1, is))
+    (argument_more _ c.with_argument.result _ _ _ c.with_certificate-command.ensures c.form.ensures.2 c.with_argument.ensures)

@@ -1,8 +1,0 @@
-use Rattle.std.proofs.Common.{refl}
-use Rattle.std.proofs.lemmas.Result.{IfOk-weaker}
-use Rattle.cn_words.proofs.CommandLemmas.{argument_more}
-use Rattle.cn_words.proofs.words.with_word.Goals as goal
-
-pub returns : goal.returns
-returns c =
-    IfOk-weaker c.arg.result _ _ (λ new adds. argument_more _ _ new _ _ refl c.required_word.ensures adds) c.arg.ensures
