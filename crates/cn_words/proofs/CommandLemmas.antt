@@ -1,22 +1,19 @@
 -- Commands with one argument or one command more.
-use Rattle.std.proofs.Common.{ℕ, ◌≡◌, ◌∙◌, ◌++◌, ◌&&◌, Bool, true, false, not, List, [], ◌∷◌, ap, ap₂, map, refl}
-use Rattle.std.proofs.lemmas.List.{map-append}
-use Rattle.clap.specs.Words.{AddsArg, AddsSubcommand, App, Rule, app_of, rule_of, shape_of, with_rule, with_subcommand}
+use Rattle.std.proofs.Common.{◌≡◌, ◌∙◌, ◌&&◌, Bool, true, false, not, Result, Ok, Err, ap, ap₂, refl, subst}
+use Rattle.std.specs.Prelude.{IfOk}
+use Rattle.std.proofs.lemmas.Result.{IfOk-weaker}
+use Rattle.clap.specs.Built.{AddsSubcommand}
+use Rattle.clap.specs.Simple.{App, Shape, app_of, with_rule, with_subcommand}
+use Rattle.clap.specs.Walk.{Rule}
 use Rattle.clap.specs.declared.builder.arg.Arg.{Arg}
 use Rattle.clap.specs.declared.builder.command.Command.{Command}
-use Rattle.cn_words.specs.CommandLine.{CommandWords, HasCommands, IsArgument, IsCommand, words_of}
+use Rattle.clap.specs.declared.builder.value_parser.ValueParser.{ValueParser}
+use Rattle.cn_words.specs.CommandLine.{AddsArgument, AddsCommand, IsArgument, IsCommand, IsShow, TakesForms, show_words}
 
--- the words with one argument more, the last
-pub argument_more : (old : Command) (a : Arg) (new : Command) (name id : List ℕ) (ids : List (List ℕ)) → IsCommand (name, ids) old → IsArgument id a
-    → AddsArg old a new → IsCommand (name, ids ++ id ∷ []) new
-argument_more old a new name id ids was is adds =
-    let shape : app_of new ≡ with_rule (app_of old) (rule_of a) = adds.shape is.1 in
-    let before : List Rule = (app_of old).top.rules in
-    let all : map (λ (r : Rule). r.id) (before ++ rule_of a ∷ []) ≡ ids ++ id ∷ [] =
-    map-append (λ (r : Rule). r.id) before (rule_of a ∷ []) ∙ ap₂ (λ xs x. xs ++ x ∷ []) (ap (λ (w : CommandWords). w.1) was.0) is.0 in (
-      ap (λ (x : App). words_of x.top) shape ∙ ap₂ (λ n xs. (n, xs)) (ap (λ (w : CommandWords). w.0) was.0) all,
-      ap (λ (x : App). x.top.is_plain) shape ∙ was.1,
-    )
+-- what holds of the value that was made
+of_made : {T E : Type 0} (P : T → Type 0) (r : Result T E) (x : T) → IfOk r P → r ≡ Ok x → P x
+of_made P (Ok y) x holds is = subst (λ o. IfOk o P) is holds
+of_made P (Err e) x holds is = cc
 
 -- of three tests that hold, the third
 third : (a b g d : Bool) → (a && (not b && (not g && d))) ≡ true → g ≡ false
@@ -25,11 +22,39 @@ third true true g d h = cc
 third true false true d h = cc
 third true false false d h = refl
 
--- the program with one command more, the last
-pub command_more : (old sub new : Command) (name : List ℕ) (before : List CommandWords) (words : CommandWords) → HasCommands name before old
-    → IsCommand words sub → AddsSubcommand old sub new → HasCommands name (before ++ words ∷ []) new
-command_more old sub new name before words has is adds =
-    let shape : app_of new ≡ with_subcommand (app_of old) (shape_of sub) = adds.shape (third _ _ _ _ is.1) in (
-      ap (λ (x : App). x.top.name) shape ∙ has.0,
-      ap (λ (x : App). map words_of x.subs) shape ∙ map-append words_of (app_of old).subs (shape_of sub ∷ []) ∙ ap₂ (λ ws w. ws ++ w ∷ []) has.1 is.0,
-    )
+-- the words with one argument more, the last
+pub argument_more : {E : Type 0} (made new : Result Command E) (a : Arg) (app : App) (rule : Rule) → IfOk made (λ old. app_of old ≡ app)
+    → IsArgument rule a → IfOk new (AddsArgument made a) → IfOk new (λ c. app_of c ≡ with_rule app rule)
+argument_more made new a app rule was is adds = IfOk-weaker new _ _ (λ c more.
+    more.2.shape is.1 ∙ ap₂ with_rule (of_made (λ old. app_of old ≡ app) made more.0 was more.1) is.0) adds
+
+-- the program with one command more, the last, whose words are known
+subcommand_more : (old command new : Command) (app : App) (words : Shape) → app_of old ≡ app → IsCommand words command → words.is_plain ≡ true
+    → AddsSubcommand old command new → app_of new ≡ with_subcommand app words
+subcommand_more old command new app words has is plain adds =
+    let top : (app_of command).top ≡ words = ap (λ (x : App). x.top) is in
+    let no_globals = third _ _ _ _ (ap (λ (s : Shape). s.is_plain) top ∙ plain) in
+    adds.shape no_globals ∙ ap₂ with_subcommand has top
+
+pub command_more : {E : Type 0} (program made new : Result Command E) (app : App) (words : Shape) → IfOk program (λ old. app_of old ≡ app)
+    → IfOk made (IsCommand words) → words.is_plain ≡ true → IfOk new (AddsCommand program made) → IfOk new (λ c. app_of c ≡ with_subcommand app words)
+command_more program made new app words has is plain adds = IfOk-weaker new _ _ (λ c more.
+    subcommand_more more.0 more.1 c app words (of_made (λ old. app_of old ≡ app) program more.0 has more.2)
+    (of_made (IsCommand words) made more.1 is more.3) plain more.4) adds
+
+-- the program with show more
+pub show_more : {E : Type 0} (program made new : Result Command E) (app : App) → IfOk program (λ old. app_of old ≡ app)
+    → IfOk made IsShow → IfOk new (AddsCommand program made)
+    → IfOk new (λ c. (forms : ValueParser) × TakesForms forms × (app_of c ≡ with_subcommand app (show_words forms)))
+show_more program made new app has is adds = IfOk-weaker new _ _ (λ c more.
+    let show = of_made IsShow made more.1 is more.3 in
+    (show.0, show.1, subcommand_more more.0 more.1 c app (show_words show.0) (of_made (λ old. app_of old ≡ app) program more.0 has more.2) show.2 refl more.4)) adds
+
+-- the program with one command more behind show
+pub command_more_for : {E : Type 0} (program made new : Result Command E) (app : ValueParser → App) (words : Shape)
+    → IfOk program (λ old. (forms : ValueParser) × TakesForms forms × (app_of old ≡ app forms))
+    → IfOk made (IsCommand words) → words.is_plain ≡ true → IfOk new (AddsCommand program made)
+    → IfOk new (λ c. (forms : ValueParser) × TakesForms forms × (app_of c ≡ with_subcommand (app forms) words))
+command_more_for program made new app words has is plain adds = IfOk-weaker new _ _ (λ c more.
+    let old = of_made (λ o. (forms : ValueParser) × TakesForms forms × (app_of o ≡ app forms)) program more.0 has more.2 in
+    (old.0, old.1, subcommand_more more.0 more.1 c (app old.0) words old.2 (of_made (IsCommand words) made more.1 is more.3) plain more.4)) adds

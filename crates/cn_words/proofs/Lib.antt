@@ -1,2 +1,4 @@
 mod CommandLemmas
+mod GivenLemmas
+mod ReplyLemmas
 mod WordLemmas

@@ -1,44 +1,148 @@
--- The commands of the program, by what the command line calls them.
-use Rattle.std.specs.Prelude.{◌≡◌, ℕ, true, false, List, [], ◌∷◌, map, codes}
-use Rattle.clap.specs.Words.{Rule, Shape, app_of, rule_of, shape_of}
+-- The words of the command line: the program, its commands and their arguments, as clap reads them.
+use Rattle.std.specs.Prelude.{◌≡◌, ◌++◌, true, false, List, [], ◌∷◌, Result, Ok, Some, pos, codes}
+use Rattle.clap.specs.Lexer.{usize_max}
+use Rattle.clap.specs.Built.{AddsArg, AddsSubcommand}
+use Rattle.clap.specs.Simple.{App, Shape, app_of, new_rule, new_shape}
+use Rattle.clap.specs.Walk.{Rule, Text, is_empty, rule_of, texts}
+use Rattle.clap.specs.declared.builder.action.ArgAction.TheVariants.{Set, SetTrue}
 use Rattle.clap.specs.declared.builder.arg.Arg.{Arg}
 use Rattle.clap.specs.declared.builder.command.Command.{Command}
+use Rattle.clap.specs.declared.builder.value_parser.ValueParser.{ValueParser}
+use Rattle.clap.specs.declared.builder.value_parser.ValueParser.TheVariants.{Names, Signed}
 
--- the name of a command, and the ids of its arguments in their order
-abbrev pub CommandWords : Type 0
-CommandWords = List ℕ × List (List ℕ)
+-- ---- the arguments
 
-abbrev pub words_of : Shape → CommandWords
-words_of s = (s.name, map (λ (r : Rule). r.id) s.rules)
+-- a word that has to stand there
+abbrev pub required_word : Text → Rule
+required_word id = record (new_rule id) { required = true }
+
+-- words, of which one has to stand there at least
+abbrev pub required_words : Text → Rule
+required_words id = record (required_word id) {
+  range = Some (record { start_inclusive = 1; end_inclusive = usize_max });
+  action = Some Set;
+}
+
+-- an option with a value: --ID VALUE
+abbrev pub value_option : Text → Rule
+value_option id = record (new_rule id) { long = Some id; value_names = 1; action = Some Set }
+
+-- --limit N, where N is a number of one byte
+abbrev pub limit_option : Rule
+limit_option =
+    record (value_option (codes "limit")) { parser = Some (Signed (pos 0) (pos 255)) }
+
+-- --as FORM, the form text where it is left out
+abbrev pub form_option : ValueParser → Rule
+form_option forms =
+    record (value_option (codes "as")) { defaults = codes "text" ∷ []; parser = Some forms }
+
+-- a flag: --ID
+abbrev pub flag : Text → Rule
+flag id = record (new_rule id) { long = Some id; action = Some SetTrue }
+
+-- the words for the forms of a plan
+abbrev pub form_words : List Text
+form_words = codes "text" ∷ codes "json" ∷ codes "dot" ∷ codes "promela" ∷ []
+
+-- a value is one of these words
+abbrev pub TakesForms : ValueParser → Type 0
+TakesForms (Names names) = texts names.now ≡ form_words
+TakesForms parser = ⊥
+
+-- ---- the commands
+
+-- a command of this name, with these arguments in their order
+abbrev pub command_with : Text → List Rule → Shape
+command_with name rules = record (new_shape name) { rules = rules }
+
+abbrev pub certificate_word : Rule
+certificate_word = required_word (codes "CERT")
+
+abbrev pub opening_words : List Rule
+opening_words = certificate_word ∷ required_word (codes "OBJECT") ∷ required_word (codes "START")
+    ∷ required_word (codes "CAPACITY") ∷ []
+
+abbrev pub find_words : Shape
+find_words = command_with (codes "find") (record limit_option { required = true } ∷ [])
+
+abbrev pub classify_words : Shape
+classify_words = command_with (codes "classify")
+    (record limit_option { defaults = codes "8" ∷ [] } ∷ required_words (codes "FILE") ∷ [])
+
+abbrev pub lint_words : Shape
+lint_words = command_with (codes "lint") []
+
+abbrev pub check_words : Shape
+check_words = command_with (codes "check") (certificate_word ∷ [])
+
+abbrev pub explain_words : Shape
+explain_words = command_with (codes "explain") (certificate_word ∷ flag (codes "all") ∷ [])
+
+abbrev pub show_words : ValueParser → Shape
+show_words forms = command_with (codes "show") (certificate_word ∷ form_option forms ∷ [])
+
+abbrev pub draw_words : Shape
+draw_words = command_with (codes "draw") []
+
+abbrev pub agree_words : Shape
+agree_words = command_with (codes "agree")
+    (certificate_word ∷ required_word (codes "INPUTS") ∷ required_word (codes "SCHEDULE") ∷ [])
+
+abbrev pub replay_words : Shape
+replay_words = command_with (codes "replay") (opening_words ++ required_word (codes "EVENTS") ∷ [])
+
+abbrev pub serve_words : Shape
+serve_words = command_with (codes "serve") (opening_words ++ required_word (codes "CALLS") ∷ [])
 
 -- the commands, in the order in which the help names them
-abbrev pub commands : List CommandWords
-commands =
-    (codes "find", codes "limit" ∷ [])
-    ∷ (codes "classify", codes "limit" ∷ codes "FILE" ∷ [])
-    ∷ (codes "lint", [])
-    ∷ (codes "check", codes "CERT" ∷ [])
-    ∷ (codes "explain", codes "CERT" ∷ codes "all" ∷ [])
-    ∷ (codes "show", codes "CERT" ∷ codes "as" ∷ [])
-    ∷ (codes "draw", [])
-    ∷ (codes "agree", codes "CERT" ∷ codes "INPUTS" ∷ codes "SCHEDULE" ∷ [])
-    ∷ (codes "replay", codes "CERT" ∷ codes "OBJECT" ∷ codes "START" ∷ codes "CAPACITY" ∷ codes "EVENTS" ∷ [])
-    ∷ (codes "serve", codes "CERT" ∷ codes "OBJECT" ∷ codes "START" ∷ codes "CAPACITY" ∷ codes "CALLS" ∷ [])
-    ∷ []
+abbrev pub commands : ValueParser → List Shape
+commands forms = find_words ∷ classify_words ∷ lint_words ∷ check_words ∷ explain_words
+    ∷ show_words forms ∷ draw_words ∷ agree_words ∷ replay_words ∷ serve_words ∷ []
 
 -- those that read the table of the type from standard input, which is each one but classify
-abbrev pub table_readers : List (List ℕ)
+abbrev pub table_readers : List Text
 table_readers = codes "find" ∷ codes "lint" ∷ codes "check" ∷ codes "explain" ∷ codes "show"
     ∷ codes "draw" ∷ codes "agree" ∷ codes "replay" ∷ codes "serve" ∷ []
 
--- an argument of this id, for one command alone
-abbrev pub IsArgument : List ℕ → Arg → Type 0
-IsArgument id a = ((rule_of a).id ≡ id) × (a.global ≡ false)
+-- the program with these commands in this order, one of which has to be named
+abbrev pub program_with : List Shape → App
+program_with subs = record {
+  top = record (new_shape (codes "cnum")) {
+    is_leaf = is_empty subs;
+    has_version = true;
+    subcommand_required = true;
+  };
+  subs = subs;
+}
 
--- a command of these words, none of which goes on to another command
-abbrev pub IsCommand : CommandWords → Command → Type 0
-IsCommand words c = (words_of (shape_of c) ≡ words) × ((shape_of c).is_plain ≡ true)
+-- ---- what clap is told
 
--- a program of this name, with these commands in this order
-abbrev pub HasCommands : List ℕ → List CommandWords → Command → Type 0
-HasCommands name words c = ((app_of c).top.name ≡ name) × (map words_of (app_of c).subs ≡ words)
+-- the argument reads words by this rule, for one command alone
+abbrev pub IsArgument : Rule → Arg → Type 0
+IsArgument rule a = (rule_of a ≡ rule) × (a.global ≡ false)
+
+-- the command reads words in this way, and goes on to no other command
+abbrev pub IsCommand : Shape → Command → Type 0
+IsCommand words c = app_of c ≡ record { top = words; subs = [] }
+
+-- the command is show, whose option takes the forms
+abbrev pub IsShow : Command → Type 0
+IsShow c = (forms : ValueParser) × TakesForms forms × IsCommand (show_words forms) c
+
+-- `new` is the command that was made with one argument more, the last
+abbrev pub AddsArgument : {E : Type 0} → Result Command E → Arg → Command → Type 0
+AddsArgument made argument new = (old : Command) × (made ≡ Ok old) × AddsArg old argument new
+
+-- `new` is the program that was made with one command more, the last, which was made too
+abbrev pub AddsCommand : {E : Type 0} → Result Command E → Result Command E → Command → Type 0
+AddsCommand program made new = (old : Command) × (command : Command) × (program ≡ Ok old)
+    × (made ≡ Ok command) × AddsSubcommand old command new
+
+-- the program has these commands in this order
+abbrev pub HasCommands : List Shape → Command → Type 0
+HasCommands subs c = app_of c ≡ program_with subs
+
+-- the same of commands that take the forms of a plan
+abbrev pub HasCommandsFor : (ValueParser → List Shape) → Command → Type 0
+HasCommandsFor subs c = (forms : ValueParser) × TakesForms forms × HasCommands (subs forms) c

@@ -1,2 +1,4 @@
 pub mod CommandLine
+pub mod GivenCommands
+pub mod Replies
 pub mod WordTooMany

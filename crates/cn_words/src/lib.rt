@@ -1,9 +1,14 @@
-//! The words of the command line of `cnum`, and the help on them.
+//! The words of the command line of `cnum`, the help on them, and the command that they give.
 //!
-//! [`command`] is what the crate `clap` parses the words by. It stands on no other crate of the
-//! repository, and knows nothing of what a command does.
+//! [`parse`] makes a [`Command`] of a command line, or a [`Reply`] where there is none to run. The
+//! crate `clap` parses the words by what [`command`] says, and [`command_of`] reads what it found.
+//! The crate knows nothing of what a command does.
 #![tactic(auto)]
 
+mod commands;
+mod replies;
 mod words;
 
+pub use commands::{Command, CommandFault, ListSource, OpeningWords, TableSource, command_of};
+pub use replies::{Reply, parse};
 pub use words::{command, reads_input, word_too_many};

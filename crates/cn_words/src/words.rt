@@ -2,7 +2,8 @@
 ghost use Rattle.std.specs.Prelude.{◌≡◌, [], ◌∷◌, IfOk, MatchOption, codes};
 ghost use Rattle.std.specs.List.{list_any};
 ghost use Rattle.std.specs.Str.{bytes_eq};
-ghost use Rattle.cn_words.specs.CommandLine.{HasCommands, IsArgument, IsCommand, commands, table_readers};
+ghost use Rattle.clap.specs.Simple.{new_shape};
+ghost use Rattle.cn_words.specs.CommandLine.{AddsArgument, AddsCommand, HasCommands, HasCommandsFor, IsArgument, IsCommand, IsShow, TakesForms, agree_words, certificate_word, classify_words, command_with, commands, draw_words, explain_words, find_words, flag, form_option, limit_option, lint_words, opening_words, replay_words, required_word, required_words, serve_words, table_readers, value_option};
 ghost use Rattle.cn_words.specs.WordTooMany.{IsOption, RefusesWord};
 
 use clap::builder::ValueParser;
@@ -276,66 +277,110 @@ pub fn word_too_many(text: &str) -> Option<&str>
     Some(word)
 }
 
+/// A word that has to stand there.
+fn required_word<'a>(alloc: Global, id: &'a str, help: &'a str) -> Arg<'a>
+    ensures { IsArgument (required_word id.entry.now) result }
+{
+    Arg::new(alloc, id).help(help).required(true)
+}
+
+/// An option with a value.
+fn value_option<'a>(alloc: Global, id: &'a str, value: &'a str, help: &'a str) -> Arg<'a>
+    ensures { IsArgument (value_option id.entry.now) result }
+{
+    Arg::new(alloc, id)
+        .long(id)
+        .value_name(value)
+        .help(help)
+        .action(ArgAction::Set)
+}
+
 /// The limit of a search.
 fn limit<'a>(alloc: Global) -> Arg<'a>
-    ensures { IsArgument (codes "limit") result }
+    ensures { IsArgument limit_option result }
 {
-    Arg::new(alloc, "limit")
-        .long("limit")
-        .value_name("N")
-        .help("The greatest number looked for, from 2 to 8")
+    let help = "The greatest number looked for, from 2 to 8";
+    value_option(alloc, "limit", "N", help).value_parser(value_parser!(u8))
+}
+
+/// The files that `classify` reads.
+fn files<'a>(alloc: Global) -> Arg<'a>
+    ensures { IsArgument (required_words (codes "FILE")) result }
+{
+    required_word(alloc, "FILE", "The files that hold the type tables")
+        .num_args(1..)
         .action(ArgAction::Set)
-        .value_parser(value_parser!(u8))
+}
+
+/// The flag by which `explain` tells all.
+fn all<'a>(alloc: Global) -> Arg<'a>
+    ensures { IsArgument (flag (codes "all")) result }
+{
+    Arg::new(alloc, "all")
+        .long("all")
+        .help("Tells all choices that are refuted, not the first 12 alone")
+        .action(ArgAction::SetTrue)
+}
+
+/// The form in which `show` writes a plan.
+fn form<'a>(alloc: Global) -> Arg<'a>
+    ensures { (forms : _) × TakesForms forms × IsArgument (form_option forms) result }
+{
+    value_option(alloc, "as", "FORM", "The form in which the plan is written")
+        .value_parser(ValueParser::Names(&FORMS))
+        .default_value("text")
+}
+
+/// A command with no arguments yet.
+fn bare_command<'a>(alloc: Global, name: &'a str, about: &'a str, after: &'a str) -> Command<'a>
+    ensures { IsCommand (new_shape name.entry.now) result }
+{
+    Command::new(alloc, name).about(about).after_help(after)
+}
+
+// The next functions take what the last one made, so that only they end early for want of memory:
+// each place that may end while a command is alive is dear to prove.
+
+/// A command with one argument more, the last.
+fn with_argument<'a>(
+    command: Result<Command<'a>, AllocError>,
+    argument: Arg<'a>,
+) -> Result<Command<'a>, AllocError>
+    ensures { IfOk result (AddsArgument command.entry argument.entry) }
+{
+    command?.arg(argument)
+}
+
+/// The program with one command more, the last.
+fn with_command<'a>(
+    program: Result<Command<'a>, AllocError>,
+    command: Result<Command<'a>, AllocError>,
+) -> Result<Command<'a>, AllocError>
+    ensures { IfOk result (AddsCommand program.entry command.entry) }
+{
+    let command = command?;
+    program?.subcommand(command)
 }
 
 fn find<'a>(alloc: Global) -> Result<Command<'a>, AllocError>
-    ensures { IfOk result (IsCommand (codes "find", codes "limit" ∷ [])) }
+    ensures { IfOk result (IsCommand find_words) }
 {
-    Command::new(alloc, "find")
-        .about(FIND_ABOUT)
-        .after_help(FIND_AFTER)
-        .arg(limit(alloc).required(true))
+    let command = bare_command(alloc, "find", FIND_ABOUT, FIND_AFTER);
+    with_argument(Ok(command), limit(alloc).required(true))
 }
 
 fn classify<'a>(alloc: Global) -> Result<Command<'a>, AllocError>
-    ensures { IfOk result (IsCommand (codes "classify", codes "limit" ∷ codes "FILE" ∷ [])) }
+    ensures { IfOk result (IsCommand classify_words) }
 {
-    let files = Arg::new(alloc, "FILE")
-        .help("The files that hold the type tables")
-        .required(true)
-        .num_args(1..)
-        .action(ArgAction::Set);
-    Command::new(alloc, "classify")
-        .about(CLASSIFY_ABOUT)
-        .after_help(CLASSIFY_AFTER)
-        .arg(limit(alloc).default_value("8"))?
-        .arg(files)
+    let command = bare_command(alloc, "classify", CLASSIFY_ABOUT, CLASSIFY_AFTER);
+    let command = with_argument(Ok(command), limit(alloc).default_value("8"));
+    with_argument(command, files(alloc))
 }
 
 fn lint<'a>(alloc: Global) -> Command<'a>
-    ensures { IsCommand (codes "lint", []) result }
+    ensures { IsCommand lint_words result }
 {
-    Command::new(alloc, "lint")
-        .about(LINT_ABOUT)
-        .after_help(LINT_AFTER)
-}
-
-/// A command that tells the first of what it has to tell, or all.
-fn explain<'a>(alloc: Global) -> Result<Command<'a>, AllocError>
-    ensures { IfOk result (IsCommand (codes "explain", codes "CERT" ∷ codes "all" ∷ [])) }
-{
-    let all = Arg::new(alloc, "all")
-        .long("all")
-        .help("Tells all choices that are refuted, not the first 12 alone")
-        .action(ArgAction::SetTrue);
-    with_certificate(alloc, "explain", EXPLAIN_ABOUT, EXPLAIN_AFTER)?.arg(all)
-}
-
-/// A word that has to stand there.
-fn word<'a>(alloc: Global, name: &'a str, help: &'a str) -> Arg<'a>
-    ensures { IsArgument name.entry.now result }
-{
-    Arg::new(alloc, name).help(help).required(true)
+    bare_command(alloc, "lint", LINT_ABOUT, LINT_AFTER)
 }
 
 /// A command that reads a certificate.
@@ -345,49 +390,42 @@ fn with_certificate<'a>(
     about: &'a str,
     after: &'a str,
 ) -> Result<Command<'a>, AllocError>
-    ensures { IfOk result (IsCommand (name.entry.now, codes "CERT" ∷ [])) }
+    ensures { IfOk result (IsCommand (command_with name.entry.now (certificate_word ∷ []))) }
 {
-    Command::new(alloc, name)
-        .about(about)
-        .after_help(after)
-        .arg(word(alloc, "CERT", "The file that holds the certificate"))
+    let command = bare_command(alloc, name, about, after);
+    let certificate = required_word(alloc, "CERT", "The file that holds the certificate");
+    with_argument(Ok(command), certificate)
+}
+
+/// A command that tells the first of what it has to tell, or all.
+fn explain<'a>(alloc: Global) -> Result<Command<'a>, AllocError>
+    ensures { IfOk result (IsCommand explain_words) }
+{
+    let command = with_certificate(alloc, "explain", EXPLAIN_ABOUT, EXPLAIN_AFTER);
+    with_argument(command, all(alloc))
 }
 
 fn show<'a>(alloc: Global) -> Result<Command<'a>, AllocError>
-    ensures { IfOk result (IsCommand (codes "show", codes "CERT" ∷ codes "as" ∷ [])) }
+    ensures { IfOk result IsShow }
 {
-    let form = Arg::new(alloc, "as")
-        .long("as")
-        .value_name("FORM")
-        .help("The form in which the plan is written")
-        .action(ArgAction::Set)
-        .value_parser(ValueParser::Names(&FORMS))
-        .default_value("text");
-    with_certificate(alloc, "show", SHOW_ABOUT, SHOW_AFTER)?.arg(form)
+    let command = with_certificate(alloc, "show", SHOW_ABOUT, SHOW_AFTER);
+    with_argument(command, form(alloc))
 }
 
 fn draw<'a>(alloc: Global) -> Command<'a>
-    ensures { IsCommand (codes "draw", []) result }
+    ensures { IsCommand draw_words result }
 {
-    Command::new(alloc, "draw")
-        .about(DRAW_ABOUT)
-        .after_help(DRAW_AFTER)
+    bare_command(alloc, "draw", DRAW_ABOUT, DRAW_AFTER)
 }
 
 fn agree<'a>(alloc: Global) -> Result<Command<'a>, AllocError>
-    ensures { IfOk result (IsCommand (codes "agree", codes "CERT" ∷ codes "INPUTS" ∷ codes "SCHEDULE" ∷ [])) }
+    ensures { IfOk result (IsCommand agree_words) }
 {
-    with_certificate(alloc, "agree", AGREE_ABOUT, AGREE_AFTER)?
-        .arg(word(
-            alloc,
-            "INPUTS",
-            "The numbers that the processes begin with, or @FILE",
-        ))?
-        .arg(word(
-            alloc,
-            "SCHEDULE",
-            "The processes in the order of their steps, or @FILE",
-        ))
+    let inputs = "The numbers that the processes begin with, or @FILE";
+    let schedule = "The processes in the order of their steps, or @FILE";
+    let command = with_certificate(alloc, "agree", AGREE_ABOUT, AGREE_AFTER);
+    let command = with_argument(command, required_word(alloc, "INPUTS", inputs));
+    with_argument(command, required_word(alloc, "SCHEDULE", schedule))
 }
 
 /// A command that serves an object.
@@ -397,41 +435,36 @@ fn with_object<'a>(
     about: &'a str,
     after: &'a str,
 ) -> Result<Command<'a>, AllocError>
-    ensures { IfOk result (IsCommand (name.entry.now, codes "CERT" ∷ codes "OBJECT" ∷ codes "START" ∷ codes "CAPACITY" ∷ [])) }
+    ensures { IfOk result (IsCommand (command_with name.entry.now opening_words)) }
 {
-    with_certificate(alloc, name, about, after)?
-        .arg(word(
-            alloc,
-            "OBJECT",
-            "The file that holds the table of the object",
-        ))?
-        .arg(word(alloc, "START", "The state in which the object starts"))?
-        .arg(word(alloc, "CAPACITY", "How many slots the log has"))
+    let object = "The file that holds the table of the object";
+    let start = "The state in which the object starts";
+    let capacity = "How many slots the log has";
+    let command = with_certificate(alloc, name, about, after);
+    let command = with_argument(command, required_word(alloc, "OBJECT", object));
+    let command = with_argument(command, required_word(alloc, "START", start));
+    with_argument(command, required_word(alloc, "CAPACITY", capacity))
 }
 
 fn replay<'a>(alloc: Global) -> Result<Command<'a>, AllocError>
-    ensures { IfOk result (IsCommand (codes "replay", codes "CERT" ∷ codes "OBJECT" ∷ codes "START" ∷ codes "CAPACITY" ∷ codes "EVENTS" ∷ [])) }
+    ensures { IfOk result (IsCommand replay_words) }
 {
-    with_object(alloc, "replay", REPLAY_ABOUT, REPLAY_AFTER)?.arg(word(
-        alloc,
-        "EVENTS",
-        "The events, in order, or @FILE",
-    ))
+    let events = "The events, in order, or @FILE";
+    let command = with_object(alloc, "replay", REPLAY_ABOUT, REPLAY_AFTER);
+    with_argument(command, required_word(alloc, "EVENTS", events))
 }
 
 fn serve<'a>(alloc: Global) -> Result<Command<'a>, AllocError>
-    ensures { IfOk result (IsCommand (codes "serve", codes "CERT" ∷ codes "OBJECT" ∷ codes "START" ∷ codes "CAPACITY" ∷ codes "CALLS" ∷ [])) }
+    ensures { IfOk result (IsCommand serve_words) }
 {
-    with_object(alloc, "serve", SERVE_ABOUT, SERVE_AFTER)?.arg(word(
-        alloc,
-        "CALLS",
-        "The calls of each process, in order, or @FILE",
-    ))
+    let calls = "The calls of each process, in order, or @FILE";
+    let command = with_object(alloc, "serve", SERVE_ABOUT, SERVE_AFTER);
+    with_argument(command, required_word(alloc, "CALLS", calls))
 }
 
 /// The program with no command yet.
 fn program<'a>(alloc: Global) -> Command<'a>
-    ensures { HasCommands (codes "cnum") [] result }
+    ensures { HasCommands [] result }
 {
     Command::new(alloc, "cnum")
         .version("0.2.0")
@@ -442,17 +475,17 @@ fn program<'a>(alloc: Global) -> Command<'a>
 
 /// All that the program takes: its commands in this order, each with its arguments.
 pub fn command<'a>(alloc: Global) -> Result<Command<'a>, AllocError>
-    ensures { IfOk result (HasCommands (codes "cnum") commands) }
+    ensures { IfOk result (HasCommandsFor commands) }
 {
-    program(alloc)
-        .subcommand(find(alloc)?)?
-        .subcommand(classify(alloc)?)?
-        .subcommand(lint(alloc))?
-        .subcommand(with_certificate(alloc, "check", CHECK_ABOUT, CHECK_AFTER)?)?
-        .subcommand(explain(alloc)?)?
-        .subcommand(show(alloc)?)?
-        .subcommand(draw(alloc))?
-        .subcommand(agree(alloc)?)?
-        .subcommand(replay(alloc)?)?
-        .subcommand(serve(alloc)?)
+    let check = with_certificate(alloc, "check", CHECK_ABOUT, CHECK_AFTER);
+    let to_find = with_command(Ok(program(alloc)), find(alloc));
+    let to_classify = with_command(to_find, classify(alloc));
+    let to_lint = with_command(to_classify, Ok(lint(alloc)));
+    let to_check = with_command(to_lint, check);
+    let to_explain = with_command(to_check, explain(alloc));
+    let to_show = with_command(to_explain, show(alloc));
+    let to_draw = with_command(to_show, Ok(draw(alloc)));
+    let to_agree = with_command(to_draw, agree(alloc));
+    let to_replay = with_command(to_agree, replay(alloc));
+    with_command(to_replay, serve(alloc))
 }

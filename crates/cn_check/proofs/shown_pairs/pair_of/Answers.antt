@@ -1,11 +1,7 @@
 use Rattle.std.proofs.Common.{arith}
 use Rattle.cn_choice.specs.Canonical.{raw_choice_of}
 use Rattle.cn_check.proofs.WalkLemmas.{walk_end}
-<<<<<<<< HEAD:crates/cn_check/proofs/shown_pairs/pair_of/Answers.antt
 use Rattle.cn_check.proofs.shown_pairs.pair_of.Goals as goal
-========
-use Rattle.cn_check.proofs.shown_pairs.pair_seen.Goals as goal
->>>>>>>> 0e5862bdfe78be276ead8442353cd60608ede49e:crates/cn_check/proofs/shown_pairs/pair_seen/Answers.antt
 
 pub returns-in-Some-clause-pair : goal.returns-in-Some-clause-pair
 returns-in-Some-clause-pair c = rw c.in-Some.is at (walk_end c.pair_along_order.ensures c.args.table.now (raw_choice_of c.args.choice.now) c.args.order.now c.args.process c.loop-p.p-index c.loop-p.state.0 c.loop-p.own_response

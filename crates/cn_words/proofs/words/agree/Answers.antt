@@ -1,11 +1,7 @@
-use Rattle.std.proofs.Common.{codes}
-use Rattle.std.proofs.lemmas.Result.{IfOk-weaker}
 use Rattle.cn_words.proofs.CommandLemmas.{argument_more}
 use Rattle.cn_words.proofs.words.agree.Goals as goal
 
 pub returns : goal.returns
 returns c =
-    let first_more = argument_more _ _ _ (codes "agree") (codes "INPUTS") _ c.in_ok-with_certificate.ensures c.word.ensures c.in_ok-arg.ensures in
-    IfOk-weaker c.arg-2.result _ _
-    (λ new adds. argument_more _ _ new (codes "agree") (codes "SCHEDULE") _ first_more c.word-2.ensures adds)
-    c.arg-2.ensures
+    let with_inputs = argument_more _ c.with_argument-command.result _ _ _ c.with_certificate-command.ensures c.required_word.ensures c.with_argument-command.ensures in
+    argument_more _ c.with_argument.result _ _ _ with_inputs c.required_word-2.ensures c.with_argument.ensures

@@ -1,10 +1,6 @@
-use Rattle.std.proofs.Common.{codes}
-use Rattle.std.proofs.lemmas.Result.{IfOk-weaker}
 use Rattle.cn_words.proofs.CommandLemmas.{argument_more}
 use Rattle.cn_words.proofs.words.replay.Goals as goal
 
 pub returns : goal.returns
 returns c =
-    IfOk-weaker c.arg.result _ _
-    (λ new adds. argument_more _ _ new (codes "replay") (codes "EVENTS") _ c.in_ok-with_object.ensures c.word.ensures adds)
-    c.arg.ensures
+    argument_more _ c.with_argument.result _ _ _ c.with_object-command.ensures c.required_word.ensures c.with_argument.ensures

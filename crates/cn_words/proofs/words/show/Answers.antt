@@ -1,10 +1,8 @@
-use Rattle.std.proofs.Common.{[], ◌∷◌, codes, rules}
 use Rattle.std.proofs.lemmas.Result.{IfOk-weaker}
 use Rattle.cn_words.proofs.CommandLemmas.{argument_more}
 use Rattle.cn_words.proofs.words.show.Goals as goal
 
 pub returns : goal.returns
 returns c =
-    IfOk-weaker c.arg.result _ _
-    (λ new adds. argument_more _ _ new (codes "show") (codes "as") _ c.in_ok-with_certificate.ensures (search rules) adds)
-    c.arg.ensures
+    IfOk-weaker c.with_argument.result _ _ (λ new is. (c.form.ensures.0, c.form.ensures.1, is))
+    (argument_more _ c.with_argument.result _ _ _ c.with_certificate-command.ensures c.form.ensures.2 c.with_argument.ensures)

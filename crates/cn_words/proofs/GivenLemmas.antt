@@ -1,0 +1,93 @@
+-- What clap's getters say, in the words of the command line.
+use Rattle.std.proofs.Common.{ℕ, ◌≡◌, ◌∙◌, Bool, true, false, List, [], ◌∷◌, Option, Some, None, Result, Ok, Err, ap, ap₂, refl, subst, sym, codes, Vec, Global}
+use Rattle.std.specs.Prelude.{MatchBool, option_map, unwrap_or, map}
+use Rattle.std.specs.Str.{bytes_eq}
+use Rattle.std.specs.Str.Parse.{ParsesUnsigned}
+use Rattle.std.specs.Borrow.{Bor}
+use Rattle.clap.specs.Matches.{ReadsOne, matched_of, one_text, raw_values}
+use Rattle.clap.specs.Walk.{Row, Text, rows_of}
+use Rattle.clap.specs.declared.parser.matches.Found.{Found}
+use Rattle.clap.proofs.WalkLemmas.{one_text-rows, raw_values-rows}
+use Rattle.cn_forms.specs.declared.plan_forms.Form.{Form}
+use Rattle.cn_words.specs.declared.commands.Command.{Command}
+use Rattle.cn_words.specs.declared.commands.Command.TheVariants.{Find, Classify, Lint, Draw, Check, Explain, Show, Agree, Replay, Serve}
+use Rattle.cn_words.specs.declared.commands.ListSource.{ListSource}
+use Rattle.cn_words.specs.declared.commands.OpeningWords.{OpeningWords}
+use Rattle.cn_words.specs.declared.commands.TableSource.{TableSource}
+use Rattle.cn_words.specs.GivenCommands.{Finds, HasFlag, HasForm, HasList, HasNumber, HasOpening, HasTables, HasWord, IsByte, IsNamed, path_in, path_of}
+
+-- two views of a value that may be there make the pair of them
+pub pair_of : {A B C : Type 0} (f : A → B) (g : A → C) (o : Option A) (q : Option (B × C)) → option_map f o ≡ option_map (λ p. p.0) q
+    → option_map g o ≡ option_map (λ p. p.1) q → option_map (λ a. (f a, g a)) o ≡ q
+pair_of f g None None e h = refl
+pair_of f g None (Some p) e h = cc
+pair_of f g (Some a) None e h = cc
+pair_of f g (Some a) (Some p) e h = ap₂ (λ b c. Some (b, c)) (ap (λ o. unwrap_or o (f a)) e) (ap (λ o. unwrap_or o (g a)) h)
+
+pub first_of_pair : {A B C : Type 0} (f : A → B) (g : A → C) (o : Option A)
+    → option_map f o ≡ option_map (λ (p : B × C). p.0) (option_map (λ a. (f a, g a)) o)
+first_of_pair f g None = refl
+first_of_pair f g (Some a) = refl
+
+-- a number as `get_one` reads it
+pub number_read : {E : Type 0} (gives : Text → Result ℕ E → Type 0) (o : Option Text) (r : Option ℕ)
+    → ((u : Text) (x : Result ℕ E) → gives u x → ParsesUnsigned 8 10 u x)
+    → (o ≡ None → r ≡ None) → ((t : Text) → o ≡ Some t → ReadsOne gives t r) → Finds (λ n. (t : Text) × (o ≡ Some t) × IsByte t n) r
+number_read {E} gives o (Some n) only none some = go o refl
+  where
+    go : (p : Option Text) → o ≡ p → (t : Text) × (o ≡ Some t) × IsByte t n
+    go None e = let bad = none e in cc
+    go (Some t) e = (t, e, only t (Ok n) (some t e))
+number_read gives o None only none some = λ n given. let read = some given.0 given.1 in only given.0 (Err read.0) read.1 given.2.0
+
+-- a flag as `get_flag` reads it
+pub flag_read : (f : Found) (id : Text) (is_set : Bool) → (one_text f id ≡ None → is_set ≡ false)
+    → (one_text f id ≡ Some (codes "true") → is_set ≡ true) → (one_text f id ≡ Some (codes "false") → is_set ≡ false)
+    → HasFlag id (rows_of f) is_set
+flag_read f id is_set none set unset =
+    let same = one_text-rows f id in
+    (λ e. set (same ∙ e), λ e. unset (same ∙ e), λ e. none (same ∙ e))
+
+-- the tables that the words name
+pub tables_read : (f : Found) (words : List (Bor Text)) (tables : List TableSource)
+    → Some (map (λ w. w.now) words) ≡ option_map raw_values (matched_of f (codes "FILE"))
+    → map path_of tables ≡ map (λ (w : Bor Text). path_in w.now) words → HasTables (rows_of f) tables
+tables_read f words tables found are =
+    (map (λ w. w.now) words, sym (raw_values-rows f (codes "FILE")) ∙ sym found, are ∙ same words)
+  where
+    same : (ws : List (Bor Text)) → map (λ (w : Bor Text). path_in w.now) ws ≡ map path_in (map (λ w. w.now) ws)
+    same [] = refl
+    same (w ∷ ws) = ap (λ rest. path_in w.now ∷ rest) (same ws)
+
+-- no tables, where there are no such words
+pub no_tables : (f : Found) (tables : List TableSource) → None ≡ option_map raw_values (matched_of f (codes "FILE")) → HasTables (rows_of f) tables → ⊥
+no_tables f tables found given = let bad = found ∙ raw_values-rows f (codes "FILE") ∙ given.1 in cc
+
+-- what a command of this name wants of its words
+abbrev pub Wants : Text → List Row → Type 0
+Wants name rows =
+    MatchBool (bytes_eq name (codes "find")) ((n : ℕ) × HasNumber (codes "limit") rows n)
+    (MatchBool (bytes_eq name (codes "classify")) (((n : ℕ) × HasNumber (codes "limit") rows n) × ((ts : Vec TableSource Global) × HasTables rows ts.items))
+    (MatchBool (bytes_eq name (codes "lint")) (Unit {0})
+    (MatchBool (bytes_eq name (codes "draw")) (Unit {0})
+    (MatchBool (bytes_eq name (codes "check")) ((w : Text) × HasWord (codes "CERT") rows w)
+    (MatchBool (bytes_eq name (codes "explain")) ((w : Text) × HasWord (codes "CERT") rows w)
+    (MatchBool (bytes_eq name (codes "show")) (((w : Text) × HasWord (codes "CERT") rows w) × ((plan : Form) × HasForm rows plan))
+    (MatchBool (bytes_eq name (codes "agree")) (((w : Text) × HasWord (codes "CERT") rows w) × ((l : ListSource) × HasList (codes "INPUTS") rows l) × ((l : ListSource) × HasList (codes "SCHEDULE") rows l))
+    (MatchBool (bytes_eq name (codes "replay")) (((o : OpeningWords) × HasOpening rows o) × ((l : ListSource) × HasList (codes "EVENTS") rows l))
+    (MatchBool (bytes_eq name (codes "serve")) (((o : OpeningWords) × HasOpening rows o) × ((l : ListSource) × HasList (codes "CALLS") rows l))
+    ⊥)))))))))
+
+-- a command of this name has it
+pub wants : (name : Text) (rows : List Row) (c : Command) → IsNamed name rows c → Wants name rows
+wants name rows (Find limit) h = subst (λ n. Wants n rows) (sym h.0) (limit, h.1)
+wants name rows (Classify limit tables) h = subst (λ n. Wants n rows) (sym h.0) ((limit, h.1.0), (tables, h.1.1))
+wants name rows Lint h = subst (λ n. Wants n rows) (sym h.0) tt
+wants name rows Draw h = subst (λ n. Wants n rows) (sym h.0) tt
+wants name rows (Check certificate) h = subst (λ n. Wants n rows) (sym h.0) (certificate.now, h.1)
+wants name rows (Explain certificate all) h = subst (λ n. Wants n rows) (sym h.0) (certificate.now, h.1.0)
+wants name rows (Show certificate plan) h = subst (λ n. Wants n rows) (sym h.0) ((certificate.now, h.1.0), (plan, h.1.1))
+wants name rows (Agree certificate inputs schedule) h =
+    subst (λ n. Wants n rows) (sym h.0) ((certificate.now, h.1.0), (inputs, h.1.1), (schedule, h.1.2))
+wants name rows (Replay opening events) h = subst (λ n. Wants n rows) (sym h.0) ((opening, h.1.0), (events, h.1.1))
+wants name rows (Serve opening calls) h = subst (λ n. Wants n rows) (sym h.0) ((opening, h.1.0), (calls, h.1.1))

@@ -1,0 +1,12 @@
+use Rattle.std.proofs.Common.{codes}
+use Rattle.cn_words.specs.GivenCommands.{rows_in}
+use Rattle.cn_words.proofs.GivenLemmas.{wants}
+use Rattle.cn_words.proofs.commands.agree.Goals as goal
+
+pub returns-in_err-list : goal.returns-in_err-list
+returns-in_err-list c = rw c.from_residual-in_err-list.ensures (λ command is.
+    let w = wants (codes "agree") (rows_in c.args.words.now) command is in c.in_err-list.ensures w.1.0 w.1.1)
+
+pub returns-in_err-list-2 : goal.returns-in_err-list-2
+returns-in_err-list-2 c = rw c.from_residual-in_err-list-2.ensures (λ command is.
+    let w = wants (codes "agree") (rows_in c.args.words.now) command is in c.in_err-list-2.ensures w.2.0 w.2.1)

@@ -1,0 +1,135 @@
+-- Which command the words of the command line give, by what clap found in them.
+use Rattle.std.specs.Prelude.{◌≡◌, ◌<◌, ◌^◌, ◌++◌, ℕ, Bool, true, false, List, Option, Some, None, MatchOption, if◌then◌else◌, codes, map}
+use Rattle.std.specs.Str.{bytes_eq}
+use Rattle.std.specs.Str.Parse.{IsNumeral, digits_value, without_leading_plus}
+use Rattle.clap.specs.Matches.{found_of}
+use Rattle.clap.specs.Simple.{subcommand_rows_of}
+use Rattle.clap.specs.Walk.{Row, Text, all_of, first_of, one_of, rows_of}
+use Rattle.clap.specs.declared.parser.matches.ArgMatches.{ArgMatches}
+use Rattle.cn_forms.specs.declared.plan_forms.Form.{Form}
+use Rattle.cn_forms.specs.declared.plan_forms.Form.TheVariants as form
+use Rattle.cn_words.specs.declared.commands.Command.{Command}
+use Rattle.cn_words.specs.declared.commands.Command.TheVariants.{Find, Classify, Lint, Draw, Check, Explain, Show, Agree, Replay, Serve}
+use Rattle.cn_words.specs.declared.commands.CommandFault.{CommandFault}
+use Rattle.cn_words.specs.declared.commands.CommandFault.TheVariants as fault
+use Rattle.cn_words.specs.declared.commands.ListSource.{ListSource}
+use Rattle.cn_words.specs.declared.commands.ListSource.TheVariants as list
+use Rattle.cn_words.specs.declared.commands.OpeningWords.{OpeningWords}
+use Rattle.cn_words.specs.declared.commands.TableSource.{TableSource}
+use Rattle.cn_words.specs.declared.commands.TableSource.TheVariants as table
+
+-- what was found, argument by argument
+abbrev pub rows_in : ArgMatches → List Row
+rows_in m = rows_of (found_of m)
+
+-- a value of which P holds, or none where it holds of none
+abbrev pub Finds : {T : Type 0} → (T → Type 0) → Option T → Type 0
+Finds {T} P o = MatchOption o ((x : T) → ¬ (P x)) P
+
+-- ---- the arguments
+
+-- the word that stands for an argument
+abbrev pub HasWord : Text → List Row → Text → Type 0
+HasWord id rows word = first_of id rows ≡ Some word
+
+-- the text is a number of one byte, in decimal digits
+abbrev pub IsByte : Text → ℕ → Type 0
+IsByte text n = (IsNumeral 10 (without_leading_plus text)
+    × (digits_value 10 (without_leading_plus text) < 2 ^ 8))
+    × (n ≡ digits_value 10 (without_leading_plus text))
+
+abbrev pub HasNumber : Text → List Row → ℕ → Type 0
+HasNumber id rows n = (text : Text) × (one_of id rows ≡ Some text) × IsByte text n
+
+-- a flag is set where it was given, and else it is not
+abbrev pub HasFlag : Text → List Row → Bool → Type 0
+HasFlag id rows is_set = (one_of id rows ≡ Some (codes "true") → is_set ≡ true)
+    × (one_of id rows ≡ Some (codes "false") → is_set ≡ false)
+    × (one_of id rows ≡ None → is_set ≡ false)
+
+abbrev pub form_word : Form → Text
+form_word form.Text = codes "text"
+form_word form.Json = codes "json"
+form_word form.Dot = codes "dot"
+form_word form.Promela = codes "promela"
+
+abbrev pub HasForm : List Row → Form → Type 0
+HasForm rows plan = HasWord (codes "as") rows (form_word plan)
+
+-- a word with an @ at its front names a file
+abbrev pub NamesFile : Text → Type 0
+NamesFile word = (path : Text) × (word ≡ codes "@" ++ path)
+
+-- the list that a word gives
+abbrev pub IsList : Text → ListSource → Type 0
+IsList word (list.Word text) = (text.now ≡ word) × ¬ (NamesFile word)
+IsList word (list.File path) = word ≡ codes "@" ++ path.now
+
+abbrev pub HasList : Text → List Row → ListSource → Type 0
+HasList id rows given = (word : Text) × HasWord id rows word × IsList word given
+
+-- the name of the file that a word names, where it is no - for standard input
+abbrev pub path_in : Text → Option Text
+path_in word = if bytes_eq word (codes "-") then None else Some word
+
+abbrev pub path_of : TableSource → Option Text
+path_of table.StandardInput = None
+path_of (table.File path) = Some path.now
+
+abbrev pub HasTables : List Row → List TableSource → Type 0
+HasTables rows tables = (words : List Text) × (all_of (codes "FILE") rows ≡ Some words)
+    × (map path_of tables ≡ map path_in words)
+
+abbrev pub HasOpening : List Row → OpeningWords → Type 0
+HasOpening rows opening = HasWord (codes "CERT") rows opening.certificate.now
+    × HasWord (codes "OBJECT") rows opening.object.now
+    × HasWord (codes "START") rows opening.start.now
+    × HasWord (codes "CAPACITY") rows opening.capacity.now
+
+-- ---- the commands
+
+abbrev pub name_of : Command → Text
+name_of (Find limit) = codes "find"
+name_of (Classify limit tables) = codes "classify"
+name_of Lint = codes "lint"
+name_of Draw = codes "draw"
+name_of (Check certificate) = codes "check"
+name_of (Explain certificate all) = codes "explain"
+name_of (Show certificate plan) = codes "show"
+name_of (Agree certificate inputs schedule) = codes "agree"
+name_of (Replay opening events) = codes "replay"
+name_of (Serve opening calls) = codes "serve"
+
+-- each argument is what its word says
+abbrev pub HasArguments : List Row → Command → Type 0
+HasArguments rows (Find limit) = HasNumber (codes "limit") rows limit
+HasArguments rows (Classify limit tables) =
+    HasNumber (codes "limit") rows limit × HasTables rows tables.items
+HasArguments rows Lint = Unit {0}
+HasArguments rows Draw = Unit {0}
+HasArguments rows (Check certificate) = HasWord (codes "CERT") rows certificate.now
+HasArguments rows (Explain certificate all) =
+    HasWord (codes "CERT") rows certificate.now × HasFlag (codes "all") rows all
+HasArguments rows (Show certificate plan) =
+    HasWord (codes "CERT") rows certificate.now × HasForm rows plan
+HasArguments rows (Agree certificate inputs schedule) =
+    HasWord (codes "CERT") rows certificate.now × HasList (codes "INPUTS") rows inputs
+    × HasList (codes "SCHEDULE") rows schedule
+HasArguments rows (Replay opening events) =
+    HasOpening rows opening × HasList (codes "EVENTS") rows events
+HasArguments rows (Serve opening calls) =
+    HasOpening rows opening × HasList (codes "CALLS") rows calls
+
+-- the command has this name, and its arguments are what the words behind the name say
+abbrev pub IsNamed : Text → List Row → Command → Type 0
+IsNamed name rows command = (name ≡ name_of command) × HasArguments rows command
+
+-- the command is the one that the parse met, of the words behind its name
+abbrev pub IsCommandOf : ArgMatches → Command → Type 0
+IsCommandOf matches command =
+    MatchOption (subcommand_rows_of matches) ⊥ (λ met. IsNamed met.0 met.1 command)
+
+-- the words are refused where they give no such command
+abbrev pub Refuses : (Command → Type 0) → CommandFault → Type 0
+Refuses IsGiven fault.Words = (command : Command) → ¬ (IsGiven command)
+Refuses IsGiven fault.OutOfMemory = Unit {0}

@@ -1,0 +1,51 @@
+-- What the words of a whole command line give.
+use Rattle.std.specs.Prelude.{◌≡◌, ◌⊎◌, List, [], MatchOption}
+use Rattle.clap.specs.Faults.{fault_of}
+use Rattle.clap.specs.Kinds.{IsAmong}
+use Rattle.clap.specs.Simple.{App, subcommand_of}
+use Rattle.clap.specs.Values.{kind_of}
+use Rattle.clap.specs.Walk.{Text}
+use Rattle.clap.specs.declared.builder.value_parser.ValueParser.{ValueParser}
+use Rattle.clap.specs.declared.error.Error.{Error}
+use Rattle.clap.specs.declared.error.kind.ErrorKind.{ErrorKind}
+use Rattle.clap.specs.declared.error.kind.ErrorKind.TheVariants.{DisplayHelp, DisplayVersion, OutOfMemory}
+use Rattle.cn_words.specs.CommandLine.{TakesForms, commands, program_with}
+use Rattle.cn_words.specs.GivenCommands.{IsNamed}
+use Rattle.cn_words.specs.declared.commands.Command.{Command}
+use Rattle.cn_words.specs.declared.commands.CommandFault.TheVariants as fault
+use Rattle.cn_words.specs.declared.replies.Reply.{Reply}
+use Rattle.cn_words.specs.declared.replies.Reply.TheVariants as reply
+
+-- the whole program, by the value parser of the forms
+abbrev pub program : ValueParser → App
+program forms = program_with (commands forms)
+
+-- the words have this command: its name and its arguments
+abbrev pub HasCommand : App → List Text → Command → Type 0
+HasCommand app words command =
+    MatchOption (subcommand_of app words) ⊥ (λ met. IsNamed met.0 met.1 command)
+
+-- the words are taken, and have this command
+abbrev pub GivesCommand : List Text → Command → Type 0
+GivesCommand words command = (forms : ValueParser) × TakesForms forms
+    × (fault_of (program forms) words ≡ []) × HasCommand (program forms) words command
+
+abbrev pub IsHelp : ErrorKind → Type 0
+IsHelp kind = (kind ≡ DisplayHelp) ⊎ (kind ≡ DisplayVersion)
+
+-- what is told of an error, if there is memory for it
+abbrev pub IsReplyOf : Error → Reply → Type 0
+IsReplyOf e (reply.Help text) = IsHelp (kind_of e)
+IsReplyOf e (reply.Refusal text) = ¬ (IsHelp (kind_of e)) × ¬ (kind_of e ≡ OutOfMemory)
+IsReplyOf e (reply.Fault why) = why ≡ fault.OutOfMemory
+
+-- help and the version are told where the words ask for it, and a refusal where they have another
+-- fault, so that one of the two is told of words that are not taken, memory aside
+abbrev pub GivesReply : List Text → Reply → Type 0
+GivesReply words (reply.Help text) = (forms : ValueParser) × TakesForms forms
+    × ((kind : ErrorKind) × IsAmong kind (fault_of (program forms) words) × IsHelp kind)
+GivesReply words (reply.Refusal text) = (forms : ValueParser) × TakesForms forms
+    × ((kind : ErrorKind) × IsAmong kind (fault_of (program forms) words) × ¬ (IsHelp kind))
+GivesReply words (reply.Fault fault.OutOfMemory) = Unit {0}
+GivesReply words (reply.Fault fault.Words) = (forms : ValueParser) × TakesForms forms
+    × ((command : Command) → ¬ (HasCommand (program forms) words command))

@@ -1,0 +1,333 @@
+//! The command that the words of the command line give, with its arguments.
+ghost use Rattle.std.specs.Prelude.{◌≡◌, IfOk, MatchResult, codes, map, option_map};
+ghost use Rattle.clap.specs.Simple.{subcommand_rows_of};
+ghost use Rattle.clap.specs.Walk.{first_of};
+ghost use Rattle.cn_words.specs.GivenCommands.{Finds, HasForm, HasList, HasNumber, HasOpening, HasTables, IsCommandOf, IsList, IsNamed, Refuses, path_in, path_of, rows_in};
+ghost use Rattle.cn_words.specs.declared.commands.CommandFault.TheVariants.{OutOfMemory};
+
+use clap::ArgMatches;
+use cn_forms::Form;
+use std::alloc::{AllocError, Global};
+
+/// A list that a word gives.
+#[derive(Clone, Copy)]
+pub enum ListSource<'a> {
+    /// The list itself.
+    Word(&'a str),
+    /// The name of a file that holds it, which stood behind an `@`.
+    File(&'a str),
+}
+
+/// Where a table is read from.
+#[derive(Clone, Copy)]
+pub enum TableSource<'a> {
+    /// Standard input, for which `-` stands.
+    StandardInput,
+    /// The file of this name.
+    File(&'a str),
+}
+
+/// The words for an object that is served by a certificate's witness.
+#[derive(Clone, Copy)]
+pub struct OpeningWords<'a> {
+    /// The name of the file that holds the certificate.
+    pub certificate: &'a str,
+    /// The name of the file that holds the table of the object.
+    pub object: &'a str,
+    /// The state in which it starts.
+    pub start: &'a str,
+    /// How many slots its log has.
+    pub capacity: &'a str,
+}
+
+/// A command, with the words for its arguments. Of these the limit, the form and the flag are read
+/// by now; a list, a state or a number of slots is still as it was spelled. A certificate is the
+/// name of the file that holds it.
+#[derive(Drop)]
+pub enum Command<'a> {
+    /// Writes the certificate of the type, up to the limit.
+    Find {
+        /// The greatest number looked for.
+        limit: u8,
+    },
+    /// Writes the number of each of these types, up to the limit.
+    Classify {
+        /// The greatest number looked for.
+        limit: u8,
+        /// The tables of the types, one at least.
+        tables: Vec<TableSource<'a>>,
+    },
+    /// Writes the table, or all that is wrong with it.
+    Lint,
+    /// Draws the states of the type.
+    Draw,
+    /// Checks the certificate.
+    Check {
+        /// The certificate.
+        certificate: &'a str,
+    },
+    /// Tells why the number is what it is.
+    Explain {
+        /// The certificate.
+        certificate: &'a str,
+        /// Whether all collisions are told.
+        all: bool,
+    },
+    /// Writes the plan of the witness.
+    Show {
+        /// The certificate.
+        certificate: &'a str,
+        /// The form of the plan.
+        form: Form,
+    },
+    /// Runs the plan by a schedule.
+    Agree {
+        /// The certificate.
+        certificate: &'a str,
+        /// The numbers that the processes begin with.
+        inputs: ListSource<'a>,
+        /// The processes in the order of their steps.
+        schedule: ListSource<'a>,
+    },
+    /// Serves an object by a list of events.
+    Replay {
+        /// The object, and what serves it.
+        opening: OpeningWords<'a>,
+        /// The events.
+        events: ListSource<'a>,
+    },
+    /// Serves an object by threads.
+    Serve {
+        /// The object, and what serves it.
+        opening: OpeningWords<'a>,
+        /// The calls of each process.
+        calls: ListSource<'a>,
+    },
+}
+
+/// Why no command was made.
+#[derive(Clone, Copy)]
+pub enum CommandFault {
+    /// The words give none.
+    Words,
+    /// Memory ran out.
+    OutOfMemory,
+}
+
+impl From<AllocError> for CommandFault {
+    ghost from_gives = { λ _ fault. fault ≡ OutOfMemory };
+
+    fn from(_error: AllocError) -> CommandFault {
+        CommandFault::OutOfMemory
+    }
+}
+
+impl<'a> ListSource<'a> {
+    // The list that a word gives.
+    fn of(word: &'a str) -> ListSource<'a>
+        ensures { IsList word.entry.now result }
+    {
+        match word.strip_prefix('@') {
+            Some(path) => ListSource::File(path),
+            None => ListSource::Word(word),
+        }
+    }
+}
+
+impl<'a> TableSource<'a> {
+    // The table that a word names.
+    fn of(word: &'a str) -> TableSource<'a>
+        ensures { path_of result ≡ path_in word.entry.now }
+    {
+        if word == "-" {
+            TableSource::StandardInput
+        } else {
+            TableSource::File(word)
+        }
+    }
+}
+
+// The word that stands for an argument.
+fn word<'a>(words: &ArgMatches<'a>, id: &str) -> Option<&'a str>
+    ensures { option_map (λ w. w.now) result ≡ first_of id.now (rows_in words.now) }
+{
+    words.get_str(id)
+}
+
+fn list<'a>(words: &ArgMatches<'a>, id: &str) -> Option<ListSource<'a>>
+    ensures { Finds (HasList id.now (rows_in words.now)) result }
+{
+    Some(ListSource::of(word(words, id)?))
+}
+
+fn limit(words: &ArgMatches<'_>) -> Option<u8>
+    ensures { Finds (HasNumber (codes "limit") (rows_in words.now)) result }
+{
+    words.get_one::<u8>("limit")
+}
+
+fn form(words: &ArgMatches<'_>) -> Option<Form>
+    ensures { Finds (HasForm (rows_in words.now)) result }
+{
+    match word(words, "as")? {
+        "text" => Some(Form::Text),
+        "json" => Some(Form::Json),
+        "dot" => Some(Form::Dot),
+        "promela" => Some(Form::Promela),
+        _ => None,
+    }
+}
+
+fn opening<'a>(words: &ArgMatches<'a>) -> Option<OpeningWords<'a>>
+    ensures { Finds (HasOpening (rows_in words.now)) result }
+{
+    Some(OpeningWords {
+        certificate: word(words, "CERT")?,
+        object: word(words, "OBJECT")?,
+        start: word(words, "START")?,
+        capacity: word(words, "CAPACITY")?,
+    })
+}
+
+fn sources<'a>(alloc: Global, words: &[&'a str]) -> Result<Vec<TableSource<'a>>, AllocError>
+    ensures { IfOk result (λ sources.
+        map path_of sources.items ≡ map (λ w. path_in w.now) words.now) }
+{
+    let mut sources = Vec::with_capacity(alloc, words.len())?;
+    for word in words {
+        sources.push(TableSource::of(*word))?;
+    }
+    Ok(sources)
+}
+
+fn tables<'a>(
+    alloc: Global,
+    words: &ArgMatches<'a>,
+) -> Result<Option<Vec<TableSource<'a>>>, AllocError>
+    ensures { IfOk result (Finds (λ tables. HasTables (rows_in words.now) tables.items)) }
+{
+    match words.get_strs("FILE") {
+        Some(files) => Ok(Some(sources(alloc, files)?)),
+        None => Ok(None),
+    }
+}
+
+fn find<'a>(words: &ArgMatches<'a>) -> Option<Command<'a>>
+    ensures { Finds (IsNamed (codes "find") (rows_in words.now)) result }
+{
+    Some(Command::Find {
+        limit: limit(words)?,
+    })
+}
+
+fn classify<'a>(alloc: Global, words: &ArgMatches<'a>) -> Result<Option<Command<'a>>, AllocError>
+    ensures { IfOk result (Finds (IsNamed (codes "classify") (rows_in words.now))) }
+{
+    let Some(limit) = limit(words) else {
+        return Ok(None);
+    };
+    let Some(tables) = tables(alloc, words)? else {
+        return Ok(None);
+    };
+    Ok(Some(Command::Classify { limit, tables }))
+}
+
+fn check<'a>(words: &ArgMatches<'a>) -> Option<Command<'a>>
+    ensures { Finds (IsNamed (codes "check") (rows_in words.now)) result }
+{
+    Some(Command::Check {
+        certificate: word(words, "CERT")?,
+    })
+}
+
+fn explain<'a>(words: &ArgMatches<'a>) -> Option<Command<'a>>
+    ensures { Finds (IsNamed (codes "explain") (rows_in words.now)) result }
+{
+    Some(Command::Explain {
+        certificate: word(words, "CERT")?,
+        all: words.get_flag("all"),
+    })
+}
+
+fn show<'a>(words: &ArgMatches<'a>) -> Option<Command<'a>>
+    ensures { Finds (IsNamed (codes "show") (rows_in words.now)) result }
+{
+    Some(Command::Show {
+        certificate: word(words, "CERT")?,
+        form: form(words)?,
+    })
+}
+
+fn agree<'a>(words: &ArgMatches<'a>) -> Option<Command<'a>>
+    ensures { Finds (IsNamed (codes "agree") (rows_in words.now)) result }
+{
+    Some(Command::Agree {
+        certificate: word(words, "CERT")?,
+        inputs: list(words, "INPUTS")?,
+        schedule: list(words, "SCHEDULE")?,
+    })
+}
+
+fn replay<'a>(words: &ArgMatches<'a>) -> Option<Command<'a>>
+    ensures { Finds (IsNamed (codes "replay") (rows_in words.now)) result }
+{
+    Some(Command::Replay {
+        opening: opening(words)?,
+        events: list(words, "EVENTS")?,
+    })
+}
+
+fn serve<'a>(words: &ArgMatches<'a>) -> Option<Command<'a>>
+    ensures { Finds (IsNamed (codes "serve") (rows_in words.now)) result }
+{
+    Some(Command::Serve {
+        opening: opening(words)?,
+        calls: list(words, "CALLS")?,
+    })
+}
+
+// The command of this name, of the words behind it.
+fn command_named<'a>(
+    alloc: Global,
+    name: &str,
+    words: &ArgMatches<'a>,
+) -> Result<Option<Command<'a>>, AllocError>
+    ensures { IfOk result (Finds (IsNamed name.now (rows_in words.now))) }
+{
+    match name {
+        "find" => Ok(find(words)),
+        "classify" => classify(alloc, words),
+        "lint" => Ok(Some(Command::Lint)),
+        "draw" => Ok(Some(Command::Draw)),
+        "check" => Ok(check(words)),
+        "explain" => Ok(explain(words)),
+        "show" => Ok(show(words)),
+        "agree" => Ok(agree(words)),
+        "replay" => Ok(replay(words)),
+        "serve" => Ok(serve(words)),
+        _ => Ok(None),
+    }
+}
+
+// The name of the command that was met, and the words behind it.
+fn command_met<'m, 'a>(matches: &'m ArgMatches<'a>) -> Option<(&'a str, &'m ArgMatches<'a>)>
+    ensures { option_map (λ met. (met.0.now, rows_in met.1.now)) result
+        ≡ subcommand_rows_of matches.now }
+{
+    matches.subcommand()
+}
+
+/// The command that a parse met.
+///
+/// # Errors
+///
+/// `Words` where it met none of the commands, or a word is missing, the limit is no number of one
+/// byte or the form is none; `OutOfMemory` for want of memory.
+pub fn command_of<'a>(alloc: Global, matches: &ArgMatches<'a>) -> Result<Command<'a>, CommandFault>
+    ensures { MatchResult result (IsCommandOf matches.now) (Refuses (IsCommandOf matches.now)) }
+{
+    let Some((name, words)) = command_met(matches) else {
+        return Err(CommandFault::Words);
+    };
+    command_named(alloc, name, words)?.ok_or(CommandFault::Words)
+}

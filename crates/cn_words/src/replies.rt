@@ -1,0 +1,78 @@
+//! The command that a command line gives, or what is told in its place.
+ghost use Rattle.std.specs.Prelude.{◌≡◌, MatchResult, map, string_bytes};
+ghost use Rattle.cn_words.specs.Replies.{GivesCommand, GivesReply, IsReplyOf};
+ghost use Rattle.cn_words.specs.declared.commands.CommandFault.TheVariants as fault;
+ghost use Rattle.cn_words.specs.declared.replies.Reply.TheVariants as reply;
+
+use crate::commands::{Command, CommandFault, command_of};
+use crate::words::{command, reads_input, word_too_many};
+use clap::Error;
+use clap::error::ErrorKind;
+use std::alloc::{AllocError, Global};
+
+/// What is told where no command is run.
+#[derive(Drop)]
+pub enum Reply {
+    /// The help or the version that the words ask for: a text for standard output.
+    Help(String),
+    /// What is wrong with the words: a text for standard error.
+    Refusal(String),
+    /// No command was made.
+    Fault(CommandFault),
+}
+
+impl From<AllocError> for Reply {
+    ghost from_gives = { λ _ told. told ≡ reply.Fault fault.OutOfMemory };
+
+    fn from(_error: AllocError) -> Reply {
+        Reply::Fault(CommandFault::OutOfMemory)
+    }
+}
+
+// What clap says, with a tip where a word too many may name the file of the table.
+fn text_with_tip(alloc: Global, error: &Error, words: &[String]) -> Result<String, AllocError> {
+    let text = format!(in alloc; "{error}")?;
+    let Some(command) = words.get(1) else {
+        return Ok(text);
+    };
+    if let (Some(word), Some((refused, usage))) = (word_too_many(&text), text.split_once("\n\n")) {
+        if reads_input(command) {
+            let tip = format!(in alloc; "  tip: the table is read from standard input: < {word}")?;
+            return format!(in alloc; "{refused}\n\n{tip}\n\n{usage}");
+        }
+    }
+    Ok(text)
+}
+
+// What is told of what clap answers in place of matches.
+fn reply_to(alloc: Global, error: &Error, words: &[String]) -> Reply
+    ensures { IsReplyOf error.now result }
+{
+    if error.kind() == ErrorKind::OutOfMemory {
+        return Reply::Fault(CommandFault::OutOfMemory);
+    }
+    match text_with_tip(alloc, error, words) {
+        Ok(text) if error.use_stderr() => Reply::Refusal(text),
+        Ok(text) => Reply::Help(text),
+        Err(_) => Reply::Fault(CommandFault::OutOfMemory),
+    }
+}
+
+/// The command that the words give; the first word is the name of the program.
+///
+/// # Errors
+///
+/// The text of the help or the version, where the words ask for it, or the text of what is wrong
+/// with them; `OutOfMemory` for want of memory.
+pub fn parse<'a>(alloc: Global, words: &'a [String]) -> Result<Command<'a>, Reply>
+    ensures { MatchResult result (GivesCommand (map string_bytes words.entry.now))
+        (GivesReply (map string_bytes words.entry.now)) }
+{
+    match command(alloc)?.try_get_matches_from(words) {
+        Ok(matches) => match command_of(alloc, &matches) {
+            Ok(command) => Ok(command),
+            Err(fault) => Err(Reply::Fault(fault)),
+        },
+        Err(error) => Err(reply_to(alloc, &error, words)),
+    }
+}
