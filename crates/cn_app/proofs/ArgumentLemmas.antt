@@ -3,5 +3,4 @@ pub mod Calls
 pub mod Events
 pub mod Files
 pub mod Numbers
-pub mod Pairs
 pub mod ShortEvents

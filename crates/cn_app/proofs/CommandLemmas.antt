@@ -1,6 +1,5 @@
--- How commands fail.
-pub mod FailingRuns
-pub mod Limits
-pub mod Numbers
-pub mod Serving
+-- Commands.
+pub mod Calls
+pub mod Lists
 pub mod SeveralTables
+pub mod Silence

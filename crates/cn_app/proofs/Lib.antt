@@ -2,6 +2,6 @@ pub mod ArgumentLemmas
 pub mod CommandLemmas
 pub mod LawLemmas
 pub mod LineLemmas
+pub mod ReportLemmas
 pub mod StreamLemmas
-pub mod TextLemmas
 pub mod ThreadLemmas

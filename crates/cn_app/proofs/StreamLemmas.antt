@@ -1,5 +1,5 @@
--- Texts that are read and outputs that are written.
-pub mod Handing
+-- Readers and writers that keep their bytes.
 pub mod KnownBytes
-pub mod Reading
-pub mod Running
+pub mod Reads
+pub mod Texts
+pub mod Unread

@@ -1,9 +1,12 @@
 -- What each command writes.
 pub mod Agree
+pub mod Check
 pub mod Classify
 pub mod ClassifyEach
+pub mod Draw
 pub mod Explain
 pub mod Find
 pub mod Lint
 pub mod Replay
 pub mod Serve
+pub mod Show

@@ -1,3 +1,3 @@
 -- Readers and writers that keep their bytes.
-pub mod SourceBytes
+pub mod Reading
 pub mod Writing

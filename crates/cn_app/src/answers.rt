@@ -9,6 +9,7 @@ ghost use Rattle.cn_log.specs.declared.fault.ReplayFault.TheVariants.{OutOfMemor
 ghost use Rattle.cn_lines.specs.Log.{HaveResponses};
 ghost use Rattle.cn_app.specs.Answers.{ends_after, ends_by};
 
+use cn_log::laws::logs_are_linearized;
 use cn_log::{CallEnd, Event, LogCore, Opening, ReplayFault};
 use std::alloc::Global;
 
@@ -55,6 +56,6 @@ pub(crate) fn answers_of(
     for event in events {
         come(&mut core, *event, &mut ends)?;
     }
-    cn_log::laws::logs_are_linearized(&core);
+    logs_are_linearized(&core);
     Ok(Replayed { core, ends })
 }

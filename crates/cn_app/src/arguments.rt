@@ -3,6 +3,6 @@
 pub mod calls;
 pub mod events;
 pub mod files;
-pub mod listed;
+pub mod list_text;
 pub mod lists;
 pub mod short;

@@ -2,6 +2,7 @@
 ghost use Rattle.std.specs.Prelude.{◌≡◌, Some};
 ghost use Rattle.cn_app.specs.declared.fault.AppFault.TheVariants.{OutOfMemory};
 
+use crate::limits::{MOST_ARGUMENT_BYTES, MOST_CERTIFICATE_BYTES, MOST_TABLE_BYTES};
 use crate::threads::serving::ServeFault;
 use cn_agree::ScheduleFault;
 use cn_cert::CertFault;
@@ -184,6 +185,18 @@ impl From<ServeFault> for AppFault {
 
 impl Source {
     ghost use Rattle.cn_app.specs.FaultText.{source_text};
+    ghost use Rattle.cn_app.specs.Streams.Reading.{most_of};
+
+    /// How many bytes the text may have.
+    pub fn most_bytes(&self) -> usize
+        ensures { result ≡ most_of self.now }
+    {
+        match self {
+            Source::Table | Source::Object => MOST_TABLE_BYTES,
+            Source::Certificate => MOST_CERTIFICATE_BYTES,
+            Source::Argument(_) => MOST_ARGUMENT_BYTES,
+        }
+    }
 
     /// The word for it in the text of a fault.
     pub fn name(&self) -> &'static str

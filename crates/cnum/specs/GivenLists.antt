@@ -1,33 +1,31 @@
 -- The lists that the command line gives, as a word or in a file.
-use Rattle.std.specs.Prelude.{◌≡◌, ◌⊎◌, ◌++◌, ℕ, List, Ok, Err, codes, string_bytes}
+use Rattle.std.specs.Prelude.{◌≡◌, ◌⊎◌, List, ℕ, Result, Ok, Err, string_bytes}
+use Rattle.cn_words.specs.declared.commands.ListSource.{ListSource}
+use Rattle.cn_words.specs.declared.commands.ListSource.TheVariants as source
 use Rattle.cn_app.specs.Arguments.Files.{argument_in}
-use Rattle.cn_app.specs.Streams.SourceBytes.{MayFail}
+use Rattle.cn_app.specs.declared.arguments.list_text.ListText.{ListText}
+use Rattle.cn_app.specs.declared.arguments.list_text.ListText.TheVariants as text
 use Rattle.cn_app.specs.declared.fault.AppFault.{AppFault}
+use Rattle.cn_app.specs.declared.fault.AppFault.TheVariants.{OutOfMemory, Read}
 use Rattle.cn_app.specs.declared.fault.Part.{Part}
-use Rattle.cn_app.specs.declared.fault.Source.TheVariants as source
-use Rattle.cn_app.specs.declared.limits.TheConstants.{MOST_FILE_ITEMS, MOST_ITEMS}
+use Rattle.cn_app.specs.declared.fault.Source.TheVariants.{Argument}
 use Rattle.cnum.specs.declared.given_list.GivenList.{GivenList}
 use Rattle.cnum.specs.declared.given_list.GivenList.TheVariants.{File, Word}
 
--- the text of a list
-abbrev pub text_of : GivenList → List ℕ
-text_of (Word text) = text.now
-text_of (File text) = string_bytes text
+-- the text of the list is this, and it stands where the list does
+abbrev pub HasText : GivenList → ListText → Type 0
+HasText (Word word) (text.Word t) = t.now ≡ word.now
+HasText (Word word) (text.File t) = ⊥
+HasText (File held) (text.Word t) = ⊥
+HasText (File held) (text.File t) = t.now ≡ string_bytes held
 
--- how many items it may have
-abbrev pub most_of : GivenList → ℕ
-most_of (Word text) = MOST_ITEMS
-most_of (File text) = MOST_FILE_ITEMS
+-- a file that holds an argument could not be read, or this is the first fault of what it holds
+abbrev pub IsFileFault : Part → AppFault → Type 0
+IsFileFault part e = (e ≡ OutOfMemory) ⊎ ((e ≡ Read (Argument part)) ⊎ ((bytes : List ℕ) × (argument_in part bytes ≡ Err e)))
 
--- a word with an @ at its front names a file
-abbrev pub NamesFile : List ℕ → Type 0
-NamesFile word = (path : List ℕ) × (word ≡ codes "@" ++ path)
-
--- the text in a file of some bytes
-abbrev pub IsInFile : Part → GivenList → Type 0
-IsInFile part (Word text) = ⊥
-IsInFile part (File text) = (bytes : List ℕ) × (argument_in part bytes ≡ Ok (string_bytes text))
-
--- a fault of reading that file, or of some bytes that it holds
-abbrev pub RefusesFile : Part → AppFault → Type 0
-RefusesFile part e = MayFail (source.Argument part) e ⊎ ((bytes : List ℕ) × (argument_in part bytes ≡ Err e))
+-- reading a list from its source ends so: a word is the list itself; a file holds its text, or has a fault
+abbrev pub GivesList : ListSource → Part → Result GivenList AppFault → Type 0
+GivesList (source.Word word) part r = r ≡ Ok (Word word)
+GivesList (source.File path) part (Ok (Word word)) = ⊥
+GivesList (source.File path) part (Ok (File held)) = (bytes : List ℕ) × (argument_in part bytes ≡ Ok (string_bytes held))
+GivesList (source.File path) part (Err e) = IsFileFault part e

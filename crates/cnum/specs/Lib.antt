@@ -1,1 +1,2 @@
 pub mod GivenLists
+pub mod Openings

@@ -1,5 +1,6 @@
 //! Faults on standard error.
-use cn_app::{AppFault, Tell};
+use cn_app::AppFault;
+use cn_app::commands::Tell;
 
 /// Tells each fault in a line on standard error. The status of the program tells of it too, so that
 /// it is not lost where that stream is closed.

@@ -1,10 +1,9 @@
 //! The lists that the command line gives.
-ghost use Rattle.std.specs.Prelude.{◌≡◌, Ok, MatchResult};
-ghost use Rattle.cnum.specs.GivenLists.{IsInFile, NamesFile, RefusesFile, most_of, text_of};
-ghost use Rattle.cnum.specs.declared.given_list.GivenList.TheVariants.{Word};
+ghost use Rattle.cnum.specs.GivenLists.{GivesList, HasText};
 
-use crate::lazy_file::LazyFile;
-use cn_app::{AppFault, Listed, MOST_FILE_ITEMS, MOST_ITEMS, Part, Text, read_argument};
+use crate::lazy_file::file_text;
+use cn_app::{AppFault, ListText, Part, read_argument};
+use cn_words::ListSource;
 use std::alloc::Global;
 use std::rt::Files;
 
@@ -16,38 +15,31 @@ pub enum GivenList<'a> {
 }
 
 impl<'a> GivenList<'a> {
-    /// The list that a word gives: the word, or behind an `@` what the file of this name holds.
+    /// The list from its source: the word itself, or what the file of this name holds.
     pub fn read<R: Files>(
         rt: &R,
         alloc: Global,
-        word: &'a str,
+        source: ListSource<'a>,
         part: Part,
     ) -> Result<GivenList<'a>, AppFault>
-        ensures word { ¬ (NamesFile word.entry.now) → result ≡ Ok (Word word.entry) }
-        ensures file { NamesFile word.entry.now → MatchResult result (IsInFile part) (RefusesFile part) }
+        ensures { GivesList source.entry part result }
     {
-        let Some(path) = word.strip_prefix('@') else {
-            return Ok(GivenList::Word(word));
-        };
-        let mut file = LazyFile::new(rt, path);
-        let mut text = Text::new(alloc, &mut file);
-        Ok(GivenList::File(read_argument(alloc, &mut text, part)?))
+        match source {
+            ListSource::Word(word) => Ok(GivenList::Word(word)),
+            ListSource::File(path) => {
+                let mut text = file_text(rt, alloc, path);
+                Ok(GivenList::File(read_argument(alloc, &mut text, part)?))
+            }
+        }
     }
 
-    /// The list with its greatest number of items.
-    pub fn listed(&self) -> Listed<'_>
-        ensures text { result.text.now ≡ text_of self.now }
-        ensures most { result.most ≡ most_of self.now }
+    /// The text, with where it stands.
+    pub fn text(&self) -> ListText<'_>
+        ensures { HasText self.now result }
     {
         match self {
-            GivenList::Word(text) => Listed {
-                text,
-                most: MOST_ITEMS,
-            },
-            GivenList::File(text) => Listed {
-                text,
-                most: MOST_FILE_ITEMS,
-            },
+            GivenList::Word(text) => ListText::Word(text),
+            GivenList::File(text) => ListText::File(text),
         }
     }
 }

@@ -1,6 +1,9 @@
 //! Files that are opened late.
 ghost use Rattle.std.specs.Prelude.{◌≡◌, None};
+ghost use Rattle.cn_app.specs.Streams.Reading.{IsUnread};
 
+use cn_app::Text;
+use std::alloc::Global;
 use std::fs::File;
 use std::io;
 use std::io::Read;
@@ -42,4 +45,12 @@ impl<'a, R: Files> Read for LazyFile<'a, R> {
             None => Ok(0),
         }
     }
+}
+
+/// The text of the file of this name, of which nothing was read.
+pub fn file_text<'a, R: Files>(rt: &'a R, alloc: Global, path: &'a str) -> Text<LazyFile<'a, R>>
+    ensures path { result.reader.path ≡ path.entry }
+    ensures unread { IsUnread result }
+{
+    Text::new(alloc, LazyFile::new(rt, path))
 }

@@ -1,11 +1,18 @@
 -- Several tables, one after the other.
-use Rattle.std.proofs.Common.{◌≡◌, ◌∙◌, ℕ, List, [], ◌∷◌, length, true, false, Option, Some, None, Result, Ok, Err, ap, arith, refl, sym, subst}
+use Rattle.std.proofs.Common.{◌≡◌, ◌<◌, ◌∙◌, ◌+◌, ℕ, List, [], ◌∷◌, ◌++◌, length, get_or, set, take, drop, true, false, inl, inr, Option, Some, None, Result, Ok, Err, ap, arith, refl, sym, subst}
 use Rattle.std.specs.Option.{option_or}
-use Rattle.cn_app.specs.Commands.ClassifyEach.{AreClassified, EndsAll, HasClassified, HasFault, HasLine, NoneLeft}
+use Rattle.std.proofs.lemmas.List.{append-nil, append_assoc, drop-drop, drop-set, drop-set-lt, drop_more, length-drop, take-append-drop, take-set, take_more_set}
+use Rattle.cn_app.specs.Commands.ClassifyEach.{AreClassified, AreUnread, EndsAll, HasClassified, HasFault, HasLine, NoneLeft}
 use Rattle.cn_app.specs.FaultText.{is_of_every_table}
-use Rattle.cn_app.specs.declared.several.Named.{Named}
+use Rattle.cn_app.specs.Streams.Reading.{IsUnread}
+use Rattle.cn_app.specs.Streams.Writing.{IsWritable, Reports}
+use Rattle.cn_app.specs.declared.commands.of_several_tables.NamedTable.{NamedTable}
 use Rattle.cn_app.specs.declared.fault.AppFault.{AppFault}
-use Rattle.cn_app.specs.declared.streams.output.Outcome.{Outcome}
+use Rattle.cn_app.specs.declared.fault.AppFault.TheVariants.{Write}
+use Rattle.cn_app.specs.declared.report.Outcome.{Outcome}
+use Rattle.cn_app.specs.declared.report.Report.{Report}
+use Rattle.cn_app.specs.declared.streams.progress.Progress.TheVariants.{Done, Failed}
+use Rattle.cn_app.specs.declared.streams.output.Output.{Output}
 
 -- the first fault stays
 first_stays : (so_far later : Option AppFault) (fault : AppFault) → option_or so_far (Some fault) ≡ option_or (option_or so_far (Some fault)) later
@@ -16,41 +23,103 @@ or_none : (so_far : Option AppFault) → option_or so_far None ≡ so_far
 or_none None = refl
 or_none (Some e) = refl
 
-empty : {X : Type 0} (xs : List X) → length xs ≡ 0 → xs ≡ []
-empty [] e = refl
-empty (x ∷ xs) e = absurd (omega arith)
+no_fault : (outcome : Outcome) (e : AppFault) (r : Result Outcome AppFault) → r ≡ Ok outcome → r ≡ Err e → ⊥
+no_fault outcome e r line fault = cc
 
-module _ {R W D : Type 0} (remaining : R → Option (List ℕ)) (contents : W → Option (List ℕ)) (tells : D → Option (List ℕ) → AppFault → D → Type 0) (limit : ℕ) (tables : List (Named R)) (u : W) (c : D) where
-  -- with what becomes of the rest it is known what becomes of all
-  abbrev pub Leads : Option AppFault → List (Named R) → W → D → Type 0
-  Leads so_far rest v d = (first : Option AppFault) (w : W) (e : D) → AreClassified remaining contents tells limit rest v d first w e → AreClassified remaining contents tells limit tables u c (option_or so_far first) w e
+not_own : (e fault : AppFault) (r : Result Outcome AppFault) → r ≡ Err e → r ≡ Err fault → is_of_every_table fault ≡ false → e ≡ Write → ⊥
+not_own e fault r this that own write = let w : fault ≡ Write = cc in let t : is_of_every_table Write ≡ false = sym (ap is_of_every_table w) ∙ own in cc
 
-  -- the next table has its line
-  pub leads_by_line : (so_far : Option AppFault) (rest more : List (Named R)) (table : Named R) (v w : W) (d : D) (r : Result Outcome AppFault) (outcome : Outcome)
-      → Leads so_far rest v d → rest ≡ table ∷ more → r ≡ Ok outcome → HasClassified remaining contents limit table.reader r v w → Leads so_far more w d
-  leads_by_line so_far rest more table v w d r outcome leads next is step = λ first x e h.
-      leads first x e (subst (λ l. AreClassified remaining contents tells limit l v d first x e) (sym next)
-      (HasLine (subst (λ q. HasClassified remaining contents limit table.reader q v w) is step) h))
+module _ {R W D : Type 0} (remaining : R → Option (List ℕ)) (contents : W → Option (List ℕ)) (tells : D → Option (List ℕ) → AppFault → D → Type 0) (limit : ℕ)
+    (tables : List (NamedTable R)) (u : Output W) (c : D) where
+  -- some tables came to be these; with what becomes of the rest it is known what becomes of all
+  abbrev pub Leads : Option AppFault → List (NamedTable R) → List (NamedTable R) → Output W → D → Type 0
+  Leads so_far before rest v d = (first : Option AppFault) (after : List (NamedTable R)) (w : Output W) (e : D)
+      → AreClassified remaining contents tells limit rest after v d first w e
+      → AreClassified remaining contents tells limit tables (before ++ after) u c (option_or so_far first) w e
 
-  -- its fault is told
-  pub leads_by_fault : (so_far : Option AppFault) (rest more : List (Named R)) (table : Named R) (v w : W) (d e : D) (r : Result Outcome AppFault) (fault : AppFault) (later : Option AppFault)
-      → Leads so_far rest v d → rest ≡ table ∷ more → r ≡ Err fault → HasClassified remaining contents limit table.reader r v w → is_of_every_table fault ≡ false → tells d (Some table.name.now) fault e
-      → later ≡ option_or so_far (Some fault) → Leads later more w e
-  leads_by_fault so_far rest more table v w d e r fault later leads next is step own told later_is = λ first x f h.
-      subst (λ o. AreClassified remaining contents tells limit tables u c o x f) (first_stays so_far first fault ∙ ap (λ o. option_or o first) (sym later_is))
-      (leads (Some fault) x f (subst (λ l. AreClassified remaining contents tells limit l v d (Some fault) x f) (sym next)
-      (HasFault (subst (λ q. HasClassified remaining contents limit table.reader q v w) is step) own told h)))
+  -- one more came to be this: that is known of the tables behind it
+  behind : (before after : List (NamedTable R)) (new : NamedTable R) (first : Option AppFault) (w : Output W) (e : D)
+      → AreClassified remaining contents tells limit tables (before ++ new ∷ after) u c first w e
+      → AreClassified remaining contents tells limit tables ((before ++ new ∷ []) ++ after) u c first w e
+  behind before after new first w e h =
+      subst (λ (l : List (NamedTable R)). AreClassified remaining contents tells limit tables l u c first w e) (sym (append_assoc before (new ∷ []) after)) h
 
-  -- its fault would be that of every table
-  pub ends_all : (so_far : Option AppFault) (rest more : List (Named R)) (table : Named R) (v w : W) (d e : D) (r : Result Outcome AppFault) (fault : AppFault) (later : Option AppFault)
-      → Leads so_far rest v d → rest ≡ table ∷ more → r ≡ Err fault → HasClassified remaining contents limit table.reader r v w → is_of_every_table fault ≡ true → tells d None fault e
-      → later ≡ option_or so_far (Some fault) → AreClassified remaining contents tells limit tables u c later w e
-  ends_all so_far rest more table v w d e r fault later leads next is step all told later_is = subst (λ o. AreClassified remaining contents tells limit tables u c o w e) (sym later_is)
-      (leads (Some fault) w e (subst (λ l. AreClassified remaining contents tells limit l v d (Some fault) w e) (sym next)
-      (EndsAll (subst (λ q. HasClassified remaining contents limit table.reader q v w) is step) all told)))
+  module _ (so_far : Option AppFault) (before rest more : List (NamedTable R)) (old new : NamedTable R) (v w : Output W) (d : D) (leads : Leads so_far before rest v d)
+      (next : rest ≡ old ∷ more) where
+    -- the next table has its line
+    pub leads_by_line : (r : Result Outcome AppFault) (outcome : Outcome) → r ≡ Ok outcome → HasClassified remaining contents limit old new r v w → Leads so_far (before ++ new ∷ []) more w d
+    leads_by_line r outcome is step = λ first after x e h.
+        behind before after new (option_or so_far first) x e (leads first (new ∷ after) x e
+        (subst (λ (l : List (NamedTable R)). AreClassified remaining contents tells limit l (new ∷ after) v d first x e) (sym next)
+        (HasLine (subst (λ (q : Result Outcome AppFault). HasClassified remaining contents limit old new q v w) is step) h)))
+
+    -- its fault is told
+    pub leads_by_fault : (e : D) (r : Result Outcome AppFault) (fault : AppFault) (later : Option AppFault) → r ≡ Err fault → HasClassified remaining contents limit old new r v w
+        → is_of_every_table fault ≡ false → tells d (Some old.name.now) fault e → later ≡ option_or so_far (Some fault) → Leads later (before ++ new ∷ []) more w e
+    leads_by_fault e r fault later is step own told later_is = λ first after x f h.
+        subst (λ (o : Option AppFault). AreClassified remaining contents tells limit tables ((before ++ new ∷ []) ++ after) u c o x f)
+        (first_stays so_far first fault ∙ ap (λ (o : Option AppFault). option_or o first) (sym later_is))
+        (behind before after new (option_or so_far (Some fault)) x f (leads (Some fault) (new ∷ after) x f
+        (subst (λ (l : List (NamedTable R)). AreClassified remaining contents tells limit l (new ∷ after) v d (Some fault) x f) (sym next)
+        (HasFault (subst (λ (q : Result Outcome AppFault). HasClassified remaining contents limit old new q v w) is step) own told h))))
+
+    -- its fault would be that of every table
+    pub ends_all : (e : D) (r : Result Outcome AppFault) (fault : AppFault) (later : Option AppFault) → r ≡ Err fault → HasClassified remaining contents limit old new r v w
+        → is_of_every_table fault ≡ true → tells d None fault e → later ≡ option_or so_far (Some fault)
+        → AreClassified remaining contents tells limit tables (before ++ new ∷ more) u c later w e
+    ends_all e r fault later is step all told later_is =
+        subst (λ (o : Option AppFault). AreClassified remaining contents tells limit tables (before ++ new ∷ more) u c o w e) (sym later_is)
+        (leads (Some fault) (new ∷ more) w e (subst (λ (l : List (NamedTable R)). AreClassified remaining contents tells limit l (new ∷ more) v d (Some fault) w e) (sym next)
+        (EndsAll (subst (λ (q : Result Outcome AppFault). HasClassified remaining contents limit old new q v w) is step) all told)))
+
+  -- the table at a place came to be this
+  pub one_place_on : (so_far : Option AppFault) (now : List (NamedTable R)) (i : ℕ) (new : NamedTable R) (v : Output W) (d : D) → i < length now
+      → Leads so_far (take i now ++ new ∷ []) (drop (i + 1) now) v d → Leads so_far (take (i + 1) (set now i new)) (drop (i + 1) (set now i new)) v d
+  one_place_on so_far now i new v d less leads =
+      subst (λ (l : List (NamedTable R)). Leads so_far l (drop (i + 1) (set now i new)) v d) (sym (take_more_set now i new less))
+      (subst (λ (l : List (NamedTable R)). Leads so_far (take i now ++ new ∷ []) l v d) (sym (drop-set-lt (i + 1) now i new (omega arith))) leads)
 
   -- no table is left
-  pub all_classified : (so_far : Option AppFault) (rest : List (Named R)) (v : W) (d : D) → Leads so_far rest v d → length rest ≡ 0 → AreClassified remaining contents tells limit tables u c so_far v d
-  all_classified so_far rest v d leads none =
-      subst (λ o. AreClassified remaining contents tells limit tables u c o v d) (or_none so_far)
-      (leads None v d (subst (λ l. AreClassified remaining contents tells limit l v d None v d) (sym (empty rest none)) NoneLeft))
+  pub all_classified : (so_far : Option AppFault) (before rest : List (NamedTable R)) (v : Output W) (d : D) → Leads so_far before rest v d → rest ≡ []
+      → AreClassified remaining contents tells limit tables before u c so_far v d
+  all_classified so_far before rest v d leads none =
+      subst (λ (l : List (NamedTable R)). AreClassified remaining contents tells limit tables l u c so_far v d) (append-nil before)
+      (subst (λ (o : Option AppFault). AreClassified remaining contents tells limit tables (before ++ []) u c o v d) (or_none so_far)
+      (leads None [] v d (subst (λ (l : List (NamedTable R)). AreClassified remaining contents tells limit l [] v d None v d) (sym none) NoneLeft)))
+
+-- the writer has not failed, where what was reported is not that it did
+module _ {W : Type 0} (contents : W → Option (List ℕ)) (work : Result Report AppFault → Type 0) (u v : Output W) where
+  pub writable_after_line : (r : Result Outcome AppFault) (outcome : Outcome) → r ≡ Ok outcome → Reports contents work u v r → IsWritable v
+  writable_after_line (Ok o) outcome is (inl (e, _, not, _)) = absurd (no_fault o e (Ok o) refl not)
+  writable_after_line (Ok o) outcome is (inr (report, _, (_, taken))) = λ failed. let e : Done ≡ Failed = sym taken.progress ∙ failed in cc
+  writable_after_line (Err e) outcome is h = absurd (no_fault outcome e (Err e) is refl)
+
+  pub writable_after_fault : (r : Result Outcome AppFault) (fault : AppFault) → r ≡ Err fault → is_of_every_table fault ≡ false → Reports contents work u v r → IsWritable u → IsWritable v
+  writable_after_fault r fault is own (inl (_, _, _, silent)) before = λ failed. before (sym silent.progress ∙ failed)
+  writable_after_fault (Ok o) fault is own (inr _) before = absurd (no_fault o fault (Ok o) refl is)
+  writable_after_fault (Err e) fault is own (inr (_, _, inl (write, _))) before = absurd (not_own e fault (Err e) refl is own write)
+  writable_after_fault (Err e) fault is own (inr (_, _, inr (_, silent))) before = λ failed. before (sym silent.progress ∙ failed)
+
+-- the tables from a place on are as they were
+module _ {R : Type 0} (now first : List (NamedTable R)) (i : ℕ) (d : NamedTable R) (less : i < length now) (same : drop i now ≡ drop i first) where
+  there : i < length first
+  there = omega (arith, less, ap length same, length-drop i now, length-drop i first)
+
+  same_table : get_or now i d ≡ get_or first i d
+  same_table = ap (λ (l : List (NamedTable R)). get_or l 0 d) (sym (drop_more now i d less) ∙ same ∙ drop_more first i d there)
+
+  -- so the one there is unread, as all were
+  pub still_unread : AreUnread first → IsUnread (get_or now i d).text
+  still_unread unread =
+      subst (λ (table : NamedTable R). IsUnread table.text) (sym same_table)
+      (unread i d there)
+
+  -- and those behind it are as they were
+  pub still_behind : (new : NamedTable R) → drop (i + 1) (set now i new) ≡ drop (i + 1) first
+  still_behind new =
+      drop-set-lt (i + 1) now i new (omega arith) ∙ sym (drop-drop 1 i now) ∙ ap (drop 1) same ∙ drop-drop 1 i first
+
+-- what is written at a place stands between the others
+pub placed : {X : Type 0} (xs : List X) (i : ℕ) (y : X) → i < length xs → set xs i y ≡ take i xs ++ y ∷ drop (i + 1) xs
+placed {X} xs i y less =
+    sym (take-append-drop i (set xs i y)) ∙ ap (λ (l : List X). l ++ drop i (set xs i y)) (take-set xs i y) ∙ ap (λ (l : List X). take i xs ++ l) (drop-set xs i y less)

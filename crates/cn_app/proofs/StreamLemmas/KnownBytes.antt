@@ -1,14 +1,15 @@
--- What a reader has given, read by read.
-use Rattle.std.proofs.Common.{◌≡◌, ◌⊎◌, inl, inr, ℕ, ◌<◌, List, ◌++◌, length, Option, Some, None, Result, Ok, Err, MatchResult, arith, refl, sym, ap, ◌∙◌}
+-- What a reader has given of bytes that are known.
+use Rattle.std.proofs.Common.{◌≡◌, ◌⊎◌, inl, inr, ℕ, ◌<◌, List, ◌++◌, length, Option, Some, None, Result, Ok, Err, arith, refl, sym, ap, subst, ◌∙◌}
 use Rattle.std.specs.Io.KnownBytes.{Consumes, IsAtEnd}
 use Rattle.std.proofs.lemmas.Bool.{lt-ltb}
 use Rattle.std.proofs.lemmas.List.{append-nil, length-append}
-use Rattle.cn_app.specs.Streams.SourceBytes.{most_of, HasGiven, MayFail}
+use Rattle.cn_app.specs.Streams.Reading.{Gives, HasRead, IsKnown, ReadsKnownBytes, most_of}
 use Rattle.cn_app.specs.Texts.Contents.{value_in}
 use Rattle.cn_app.specs.declared.fault.AppFault.{AppFault}
 use Rattle.cn_app.specs.declared.fault.Source.{Source}
+use Rattle.cn_app.specs.declared.streams.text.Text.{Text}
 
--- of known bytes, those that were given are a front, and all where they are few
+-- of known bytes, those that were given are a front, and all where none are left
 front : (known bytes : List ℕ) (new : Option (List ℕ)) → Consumes (Some known) new bytes → (rest : List ℕ) × (known ≡ bytes ++ rest)
 front known bytes None h = absurd h
 front known bytes (Some rest) h = (rest, h)
@@ -17,20 +18,25 @@ all_where_ended : (known bytes : List ℕ) (new : Option (List ℕ)) → Consume
 all_where_ended known bytes None h ended = absurd h
 all_where_ended known bytes (Some rest) h ended = h ∙ ap (λ z. bytes ++ z) ended ∙ append-nil bytes
 
--- more known bytes than a text may have are too many, as the front of them is
-read_as_long : {X F : Type 0} (source : Source) (fault_of : F → AppFault) (reads : List ℕ → Result X F) (known bytes : List ℕ) (new : Option (List ℕ)) → Consumes (Some known) new bytes
-    → most_of source < length bytes → value_in source fault_of reads bytes ≡ value_in source fault_of reads known
-read_as_long source fault_of reads known bytes new consumed long =
-    let p = front known bytes new consumed in
-    rw (lt-ltb (most_of source) (length bytes) long, lt-ltb (most_of source) (length known) (omega (arith, long, length-append bytes p.0, ap length p.1))) refl
+module _ {R X F : Type 0} (source : Source) (fault_of : F → AppFault) (reads : List ℕ → Result X F) (remaining : R → Option (List ℕ)) where
+  -- more known bytes than a text may have are too many, as the front of them is
+  read_as_long : (known bytes : List ℕ) (new : Option (List ℕ)) → Consumes (Some known) new bytes
+      → most_of source < length bytes → value_in source fault_of reads known ≡ value_in source fault_of reads bytes
+  read_as_long known bytes new consumed long =
+      let p = front known bytes new consumed in
+      rw (lt-ltb (most_of source) (length bytes) long, lt-ltb (most_of source) (length known) (omega (arith, long, length-append bytes p.0, ap length p.1))) refl
 
--- what was given of known bytes is all of them, or is read as all of them
-pub read_as_known : {T X F : Type 0} (source : Source) (fault_of : F → AppFault) (reads : List ℕ → Result X F) (r : Result T AppFault) (known bytes : List ℕ) (new : Option (List ℕ))
-    → HasGiven source r (Some known) new bytes → MatchResult r (λ _. known ≡ bytes) (λ e. MayFail source e ⊎ (value_in source fault_of reads bytes ≡ value_in source fault_of reads known))
-read_as_known source fault_of reads (Ok x) known bytes new given = all_where_ended known bytes new given.consumed given.ended
-read_as_known source fault_of reads (Err e) known bytes new given =
-    elim given.ended [
-      | inl may ↦ inl may
-      | inr (inl long) ↦ inr (read_as_long source fault_of reads known bytes new given.consumed long)
-      | inr (inr ended) ↦ inr (ap (λ (z : List ℕ). value_in source fault_of reads z) (sym (all_where_ended known bytes new given.consumed ended)))
-    ]
+  -- what is known of the text does not change with more bytes
+  read_as_all : (old new : Text R) (known : List ℕ) → remaining old.reader ≡ Some known → HasRead source remaining old new → IsKnown source new
+      → value_in source fault_of reads known ≡ value_in source fault_of reads new.bytes.items
+  read_as_all old new known had read is =
+      let consumed = subst (λ (o : Option (List ℕ)). Consumes o (remaining new.reader) new.bytes.items) had read.given in
+      elim is [
+        | inl whole ↦ ap (λ (z : List ℕ). value_in source fault_of reads z) (all_where_ended known new.bytes.items (remaining new.reader) consumed (read.ended whole.0))
+        | inr long ↦ read_as_long known new.bytes.items (remaining new.reader) consumed long
+      ]
+
+  pub reads_known_bytes : ReadsKnownBytes source (value_in source fault_of reads) remaining
+  reads_known_bytes old new known (Ok x) had read gives = read_as_all old new known had read (inl gives.0) ∙ gives.1
+  reads_known_bytes old new known (Err e) had read (inl fails) = inl fails
+  reads_known_bytes old new known (Err e) had read (inr gives) = inr (read_as_all old new known had read gives.0 ∙ gives.1)

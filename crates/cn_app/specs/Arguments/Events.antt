@@ -1,14 +1,14 @@
 -- Arguments that are events of a log, and how many slots it has.
-use Rattle.std.specs.Prelude.{codes, ℕ, List, Option, option_map, option_and_then, ◌==◌, [], ◌∷◌, None, if◌then◌else◌, nat_le, Some, IsSomeAnd, ◌≡◌, MatchOption}
+use Rattle.std.specs.Prelude.{codes, ℕ, List, Option, option_map, option_and_then, ◌==◌, [], ◌∷◌, None, if◌then◌else◌, nat_le, Some, Result, Vec}
+use Rattle.std.specs.Global.{Global}
 use Rattle.std.specs.List.{before_first, after_first}
 use Rattle.cn_log.specs.declared.event.Event.{Event}
 use Rattle.cn_log.specs.declared.event.Event.TheVariants.{Step, Invoke}
 use Rattle.cn_log.specs.declared.limits.TheConstants.{MOST_SLOTS}
-use Rattle.cn_app.specs.Arguments.Lists.{number_up_to, list_of, list_in}
+use Rattle.cn_app.specs.Arguments.Lists.{GivesList, Spells, number_up_to, list_of}
 use Rattle.cn_table.specs.Texts.{code_of}
-use Rattle.cn_app.specs.declared.arguments.listed.Listed.{Listed}
+use Rattle.cn_app.specs.declared.arguments.list_text.ListText.{ListText}
 use Rattle.cn_app.specs.declared.fault.AppFault.{AppFault}
-use Rattle.cn_app.specs.declared.fault.AppFault.TheVariants.{Argument}
 use Rattle.cn_app.specs.declared.fault.Part.TheVariants.{Capacity, Events}
 
 -- a process that takes a step: its number, behind an s
@@ -27,21 +27,17 @@ event_of [] = None
 event_of (letter ∷ rest) = if letter == code_of (codes "s") then step_of rest else (if letter == code_of (codes "i") then invoke_of rest else None)
 
 -- a list of events
-abbrev pub events_of : List ℕ → Option (List Event)
-events_of text = list_of event_of text
-
-abbrev pub listed_events : Listed → Option (List Event)
-listed_events list = list_in event_of list
+abbrev pub events_of : ListText → Option (List Event)
+events_of list = list_of event_of list
 
 -- the number of slots, which is at least 1
 abbrev pub capacity_of : List ℕ → Option ℕ
 capacity_of text = option_and_then (λ n. if nat_le 1 n then Some n else None) (number_up_to MOST_SLOTS text)
 
--- the arguments spell a number of slots and a list of events, of which this holds
-abbrev pub EventsGive : List ℕ → Option (List Event) → (ℕ → List Event → Type 0) → Type 0
-EventsGive capacity events P = IsSomeAnd (capacity_of capacity) (λ k. IsSomeAnd events (P k))
+-- reading the number of slots ends so
+abbrev pub GivesCapacity : List ℕ → Result ℕ AppFault → Type 0
+GivesCapacity text r = Spells Capacity (capacity_of text) r
 
--- a command that reads both fails with e: the first that is not spelled as it should be, or both are and what comes later fails with e
-abbrev pub EventsFail : List ℕ → Option (List Event) → AppFault → (ℕ → List Event → Type 0) → Type 0
-EventsFail capacity events e later = MatchOption (capacity_of capacity) (e ≡ Argument Capacity)
-    (λ k. MatchOption events (e ≡ Argument Events) (later k))
+-- reading the events ends so
+abbrev pub GivesEvents : ListText → Result (Vec Event Global) AppFault → Type 0
+GivesEvents list r = GivesList Events (events_of list) r

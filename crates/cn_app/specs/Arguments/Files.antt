@@ -1,8 +1,11 @@
 -- Arguments whose text stands in a file.
-use Rattle.std.specs.Prelude.{codes, ℕ, List, length, nat_lt, if◌then◌else◌, Result, Ok, Err}
+use Rattle.std.specs.Prelude.{codes, ℕ, List, length, nat_lt, if◌then◌else◌, Result, Ok, Err, String, string_bytes, ◌≡◌, ◌⊎◌}
 use Rattle.std.specs.Io.BufRead.{strip_last}
+use Rattle.std.specs.Global.{Global}
 use Rattle.std.specs.Str.{is_utf8}
 use Rattle.cn_table.specs.Texts.{code_of}
+use Rattle.cn_app.specs.Streams.Reading.{FailsReading, IsKnown, IsWhole}
+use Rattle.cn_app.specs.declared.streams.text.Text.{Text}
 use Rattle.cn_app.specs.declared.limits.TheConstants.{MOST_ARGUMENT_BYTES}
 use Rattle.cn_app.specs.declared.fault.AppFault.{AppFault}
 use Rattle.cn_app.specs.declared.fault.AppFault.TheVariants as fault
@@ -17,3 +20,9 @@ without_line_feed bytes = strip_last (code_of (codes "\n")) bytes
 abbrev pub argument_in : Part → List ℕ → Result (List ℕ) AppFault
 argument_in part bytes = if nat_lt MOST_ARGUMENT_BYTES (length bytes) then Err (fault.TooLong (source.Argument part))
     else (if is_utf8 (without_line_feed bytes) then Ok (without_line_feed bytes) else Err (fault.Argument part))
+
+-- reading the text of an argument ends so: the file is whole and holds this text; or reading fails; or this is the first fault of what it holds
+abbrev pub GivesArgument : {R : Type 0} → Part → Text R → Result (String Global) AppFault → Type 0
+GivesArgument part text (Ok s) = IsWhole (source.Argument part) text × (argument_in part text.bytes.items ≡ Ok (string_bytes s))
+GivesArgument part text (Err e) = FailsReading (source.Argument part) text e
+    ⊎ (IsKnown (source.Argument part) text × (argument_in part text.bytes.items ≡ Err e))

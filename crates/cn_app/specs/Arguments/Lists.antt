@@ -1,15 +1,19 @@
 -- Arguments that are lists.
-use Rattle.std.specs.Prelude.{ℕ, List, length, Option, Some, None, nat_le, ◌&&◌, if◌then◌else◌, option_and_then, map, [], codes, ◌==◌, IsSomeAnd, ◌≡◌, MatchOption}
+use Rattle.std.specs.Prelude.{ℕ, List, length, Option, Some, None, nat_le, ◌&&◌, if◌then◌else◌, option_and_then, map, [], codes, ◌==◌, ◌≡◌, ◌⊎◌, Result, Ok, Err, Vec}
+use Rattle.std.specs.Global.{Global}
 use Rattle.std.specs.Char.{is_ascii_digit}
 use Rattle.std.specs.List.{list_all, slice_split}
 use Rattle.std.specs.Str.Parse.{digits_value}
 use Rattle.std.specs.Str.{bytes_eq}
 use Rattle.cn_table.specs.Draft.{all_some}
 use Rattle.cn_table.specs.Texts.{code_of}
-use Rattle.cn_app.specs.declared.arguments.listed.Listed.{Listed}
-use Rattle.cn_app.specs.declared.limits.TheConstants.{MOST_DIGITS, MOST_ITEMS}
+use Rattle.cn_app.specs.declared.arguments.list_text.ListText.{ListText}
+use Rattle.cn_app.specs.declared.arguments.list_text.ListText.TheVariants.{File, Word}
+use Rattle.cn_app.specs.declared.arguments.lists.RunLists.{RunLists}
+use Rattle.cn_app.specs.declared.limits.TheConstants.{MOST_DIGITS, MOST_FILE_ITEMS, MOST_ITEMS}
 use Rattle.cn_app.specs.declared.fault.AppFault.{AppFault}
-use Rattle.cn_app.specs.declared.fault.AppFault.TheVariants.{Argument}
+use Rattle.cn_app.specs.declared.fault.AppFault.TheVariants.{Argument, OutOfMemory}
+use Rattle.cn_app.specs.declared.fault.Part.{Part}
 use Rattle.cn_app.specs.declared.fault.Part.TheVariants.{Inputs, Schedule}
 
 -- the number that decimal digits write, of which there may be so many; there is no sign, and zeros may stand first
@@ -28,31 +32,38 @@ items_of most item pieces = if nat_le (length pieces) most then all_some (map it
 abbrev pub list_up_to : {X : Type 0} → ℕ → (List ℕ → Option X) → List ℕ → Option (List X)
 list_up_to most item text = if bytes_eq text (codes "none") then Some [] else items_of most item (slice_split (λ byte. byte == code_of (codes ",")) text)
 
--- the same with as many items as a list on the command line may have
-abbrev pub list_of : {X : Type 0} → (List ℕ → Option X) → List ℕ → Option (List X)
-list_of item text = list_up_to MOST_ITEMS item text
+-- the text of a list, and how many items the list may have
+abbrev pub text_of : ListText → List ℕ
+text_of (Word text) = text.now
+text_of (File text) = text.now
 
--- the same with as many items as are said beside the text
-abbrev pub list_in : {X : Type 0} → (List ℕ → Option X) → Listed → Option (List X)
-list_in item list = list_up_to list.most item list.text.now
+abbrev pub most_items : ListText → ℕ
+most_items (Word text) = MOST_ITEMS
+most_items (File text) = MOST_FILE_ITEMS
+
+-- the items of a list, where its text spells one of so many
+abbrev pub list_of : {X : Type 0} → (List ℕ → Option X) → ListText → Option (List X)
+list_of item list = list_up_to (most_items list) item (text_of list)
 
 -- the numbers that the processes begin with, and a schedule, process by process
-abbrev pub inputs_of : List ℕ → Option (List ℕ)
-inputs_of text = list_of (number_up_to 18446744073709551615) text
+abbrev pub inputs_of : ListText → Option (List ℕ)
+inputs_of list = list_of (number_up_to 18446744073709551615) list
 
-abbrev pub schedule_of : List ℕ → Option (List ℕ)
-schedule_of text = list_of (number_up_to 255) text
+abbrev pub schedule_of : ListText → Option (List ℕ)
+schedule_of list = list_of (number_up_to 255) list
 
-abbrev pub listed_inputs : Listed → Option (List ℕ)
-listed_inputs list = list_in (number_up_to 18446744073709551615) list
+-- reading an argument ends so: it spells a value; or it spells none
+abbrev pub Spells : {X : Type 0} → Part → Option X → Result X AppFault → Type 0
+Spells part spelled (Ok x) = spelled ≡ Some x
+Spells part spelled (Err e) = (e ≡ Argument part) × (spelled ≡ None)
 
-abbrev pub listed_schedule : Listed → Option (List ℕ)
-listed_schedule list = list_in (number_up_to 255) list
+-- the same of a list, for which memory may run out
+abbrev pub GivesList : {X : Type 0} → Part → Option (List X) → Result (Vec X Global) AppFault → Type 0
+GivesList part spelled (Ok items) = spelled ≡ Some items.items
+GivesList part spelled (Err e) = (e ≡ OutOfMemory) ⊎ ((e ≡ Argument part) × (spelled ≡ None))
 
--- both arguments spell lists, of which this holds
-abbrev pub ListsGive : Option (List ℕ) → Option (List ℕ) → (List ℕ → List ℕ → Type 0) → Type 0
-ListsGive inputs schedule P = IsSomeAnd inputs (λ xs. IsSomeAnd schedule (P xs))
-
--- a command that reads both lists fails with e: the first argument that spells none, or both do and what comes later fails with e
-abbrev pub ListsFail : Option (List ℕ) → Option (List ℕ) → AppFault → (List ℕ → List ℕ → Type 0) → Type 0
-ListsFail inputs schedule e later = MatchOption inputs (e ≡ Argument Inputs) (λ xs. MatchOption schedule (e ≡ Argument Schedule) (later xs))
+-- reading the inputs and then the schedule ends so
+abbrev pub GivesLists : ListText → ListText → Result RunLists AppFault → Type 0
+GivesLists inputs schedule (Ok lists) = (inputs_of inputs ≡ Some lists.inputs.items) × (schedule_of schedule ≡ Some lists.schedule.items)
+GivesLists inputs schedule (Err e) = (e ≡ OutOfMemory) ⊎ (((e ≡ Argument Inputs) × (inputs_of inputs ≡ None))
+    ⊎ ((e ≡ Argument Schedule) × (schedule_of schedule ≡ None) × ((xs : List ℕ) × (inputs_of inputs ≡ Some xs))))

@@ -1,12 +1,21 @@
 -- What `agree` writes, by the plan, the inputs and the schedule.
-use Rattle.std.specs.Prelude.{◌≡◌, ℕ, List, None, IsSomeAnd, MatchOption}
+use Rattle.std.specs.Prelude.{◌≡◌, ◌⊎◌, ℕ, List, None, Option, Some, Result, Ok, Err, IsSome, IsSomeAnd, string_bytes}
 use Rattle.cn_proto.specs.Plan.{Plan, processes_of, protocol_of}
 use Rattle.cn_agree.specs.Consensus.{IsConsensus}
 use Rattle.cn_agree.specs.Schedules.{decisions_after, schedule_fault}
 use Rattle.cn_lines.specs.Decisions.{decision_lines}
+use Rattle.cn_app.specs.Arguments.Lists.{GivesLists, inputs_of, schedule_of}
 use Rattle.cn_app.specs.FaultText.{of_schedule}
+use Rattle.cn_app.specs.Steps.{Then}
+use Rattle.cn_app.specs.Texts.Checked.{GivesChecked}
+use Rattle.cn_app.specs.Texts.Plans.{GivesPlan}
+use Rattle.cn_app.specs.declared.arguments.list_text.ListText.{ListText}
+use Rattle.cn_app.specs.declared.readers.checked.Checked.{Checked}
+use Rattle.cn_app.specs.declared.report.Outcome.TheVariants.{Whole}
+use Rattle.cn_app.specs.declared.report.Report.{Report}
+use Rattle.cn_app.specs.declared.streams.text.Text.{Text}
 use Rattle.cn_app.specs.declared.fault.AppFault.{AppFault}
-use Rattle.cn_app.specs.declared.fault.AppFault.TheVariants.{Write}
+use Rattle.cn_app.specs.declared.fault.AppFault.TheVariants.{OutOfMemory}
 
 -- the inputs and the schedule have no fault, what the schedule decides is consensus, and these are its lines
 pub record IsAgreed (plan : Plan) (inputs schedule lines : List ℕ) : Type 0 where
@@ -14,10 +23,21 @@ pub record IsAgreed (plan : Plan) (inputs schedule lines : List ℕ) : Type 0 wh
   pub consensus : IsConsensus (protocol_of plan) (processes_of plan) inputs schedule (decisions_after plan inputs schedule)
   pub written : lines ≡ decision_lines 0 (decisions_after plan inputs schedule)
 
--- e is for the first fault of the inputs and the schedule
-abbrev pub IsRunFault : Plan → List ℕ → List ℕ → AppFault → Type 0
-IsRunFault plan inputs schedule e = IsSomeAnd (schedule_fault (processes_of plan) inputs schedule) (λ fault. e ≡ of_schedule fault)
+-- running a plan ends so: with the lines of its decisions; or this is the first fault of the inputs and the schedule
+abbrev pub IsRunReport : Plan → List ℕ → List ℕ → Result Report AppFault → Type 0
+IsRunReport plan inputs schedule (Ok report) = IsAgreed plan inputs schedule (string_bytes report.text) × (report.outcome ≡ Whole)
+IsRunReport plan inputs schedule (Err e) = (e ≡ OutOfMemory)
+    ⊎ IsSomeAnd (schedule_fault (processes_of plan) inputs schedule) (λ fault. e ≡ of_schedule fault)
 
--- the run fails with e: the first fault of the inputs and the schedule, or, where they have none, that writing failed
-abbrev pub RunFails : Plan → List ℕ → List ℕ → AppFault → Type 0
-RunFails plan inputs schedule e = MatchOption (schedule_fault (processes_of plan) inputs schedule) (e ≡ Write) (λ fault. e ≡ of_schedule fault)
+-- with the plan of the certificate's witness
+abbrev pub IsAgreeReport : Checked → List ℕ → List ℕ → Result Report AppFault → Type 0
+IsAgreeReport checked inputs schedule r = Then (GivesPlan checked) (λ plan. IsRunReport plan inputs schedule) r
+
+-- what `agree` has to say of two texts and two lists: the lists are read first
+abbrev pub HasAgreeReport : {R C : Type 0} → Text R → Text C → ListText → ListText → Result Report AppFault → Type 0
+HasAgreeReport table certificate inputs schedule r = Then (GivesLists inputs schedule)
+    (λ lists. Then (GivesChecked table certificate) (λ checked. IsAgreeReport checked lists.inputs.items lists.schedule.items)) r
+
+-- the words spell the inputs and a schedule
+abbrev pub SpellLists : ListText → ListText → Type 0
+SpellLists inputs schedule = IsSome (inputs_of inputs) × IsSome (schedule_of schedule)

@@ -1,11 +1,22 @@
 -- What `explain` writes, by the table and the certificate that it reads.
-use Rattle.std.specs.Prelude.{◌≡◌, ℕ, List, Bool}
-use Rattle.cn_table.specs.TypeTable.{TypeTable}
-use Rattle.cn_choice.specs.Discerning.{IsNumberUpTo}
-use Rattle.cn_cert.specs.Certificate.{Certificate}
+use Rattle.std.specs.Prelude.{◌≡◌, Bool, Result, Ok, Err, string_bytes}
 use Rattle.cn_forms.specs.Explained.{explain_text}
+use Rattle.cn_app.specs.Commands.Check.{HasItsNumber}
+use Rattle.cn_app.specs.Steps.{Then}
+use Rattle.cn_app.specs.Texts.Checked.{GivesChecked}
+use Rattle.cn_app.specs.declared.readers.checked.Checked.{Checked}
+use Rattle.cn_app.specs.declared.report.Outcome.TheVariants.{Whole}
+use Rattle.cn_app.specs.declared.report.Report.{Report}
+use Rattle.cn_app.specs.declared.streams.text.Text.{Text}
+use Rattle.cn_app.specs.declared.fault.AppFault.{AppFault}
+use Rattle.cn_app.specs.declared.fault.AppFault.TheVariants.{OutOfMemory}
 
--- the number of the certificate is that of the table up to its limit, and this is the text that tells why
-pub record IsExplained (t : TypeTable) (c : Certificate) (all : Bool) (text : List ℕ) : Type 0 where
-  pub number : IsNumberUpTo t c.limit c.number
-  pub written : text ≡ explain_text t c all
+-- explaining a certificate ends so, unless memory ran out: its number is right, and the text tells why
+abbrev pub IsExplainReport : Checked → Bool → Result Report AppFault → Type 0
+IsExplainReport checked all (Ok report) = HasItsNumber checked
+    × (string_bytes report.text ≡ explain_text checked.table checked.certificate all) × (report.outcome ≡ Whole)
+IsExplainReport checked all (Err e) = e ≡ OutOfMemory
+
+-- what `explain` has to say of two texts
+abbrev pub HasExplainReport : {R C : Type 0} → Text R → Text C → Bool → Result Report AppFault → Type 0
+HasExplainReport table certificate all r = Then (GivesChecked table certificate) (λ checked. IsExplainReport checked all) r

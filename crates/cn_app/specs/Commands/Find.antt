@@ -1,5 +1,5 @@
 -- What `find` writes, by the table that it reads and the limit.
-use Rattle.std.specs.Prelude.{ℕ, length, Option, ◌≡◌, List, ◌++◌, codes, None, MatchOption}
+use Rattle.std.specs.Prelude.{ℕ, length, Option, ◌≡◌, ◌⊎◌, List, ◌++◌, codes, None, IsSomeAnd, Result, Ok, Err, string_bytes}
 use Rattle.cn_table.specs.TypeTable.{TypeTable}
 use Rattle.cn_search.specs.Faults.{find_fault}
 use Rattle.cn_search.specs.Evidence.{IsFindingFor}
@@ -8,8 +8,13 @@ use Rattle.cn_search.specs.declared.fault.FindFault.{FindFault}
 use Rattle.cn_cert.specs.Certificate.{certificate_of}
 use Rattle.cn_cert.specs.CertificateText.{certificate_text}
 use Rattle.cn_app.specs.FaultText.{of_find}
+use Rattle.cn_app.specs.Steps.{Then}
+use Rattle.cn_app.specs.Texts.Contents.{GivesTable}
+use Rattle.cn_app.specs.declared.report.Outcome.TheVariants.{Whole}
+use Rattle.cn_app.specs.declared.report.Report.{Report}
+use Rattle.cn_app.specs.declared.streams.text.Text.{Text}
 use Rattle.cn_app.specs.declared.fault.AppFault.{AppFault}
-use Rattle.cn_app.specs.declared.fault.AppFault.TheVariants.{Write}
+use Rattle.cn_app.specs.declared.fault.AppFault.TheVariants.{OutOfMemory}
 
 -- the first fault of the limit for the table
 abbrev pub limit_fault : TypeTable → ℕ → Option FindFault
@@ -22,6 +27,11 @@ pub record IsFound (t : TypeTable) (limit : ℕ) (text : List ℕ) : Type 0 wher
   pub found : IsFindingFor t limit finding
   pub written : text ≡ certificate_text (certificate_of t.name finding) ++ codes "\n"
 
--- the search fails with e: the first fault of the limit, or, where it has none, that writing failed
-abbrev pub SearchFails : TypeTable → ℕ → AppFault → Type 0
-SearchFails t limit e = MatchOption (limit_fault t limit) (e ≡ Write) (λ fault. e ≡ of_find fault)
+-- the search ends so: with the text of what it found; or memory ran out, or this is the first fault of the limit
+abbrev pub IsFindReport : TypeTable → ℕ → Result Report AppFault → Type 0
+IsFindReport t limit (Ok report) = IsFound t limit (string_bytes report.text) × (report.outcome ≡ Whole)
+IsFindReport t limit (Err e) = (e ≡ OutOfMemory) ⊎ IsSomeAnd (limit_fault t limit) (λ fault. e ≡ of_find fault)
+
+-- what `find` has to say of a text
+abbrev pub HasFindReport : {R : Type 0} → Text R → ℕ → Result Report AppFault → Type 0
+HasFindReport text limit r = Then (GivesTable text) (λ t. IsFindReport t limit) r

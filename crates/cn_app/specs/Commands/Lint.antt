@@ -1,31 +1,41 @@
 -- What `lint` writes, by the bytes that it reads.
-use Rattle.std.specs.Prelude.{◌≡◌, ◌⊎◌, ◌≤◌, ◌<◌, ℕ, List, ◌++◌, codes, flat_map, length, IsOk, Err, MatchResult}
+use Rattle.std.specs.Prelude.{◌≡◌, ◌≤◌, ℕ, List, ◌++◌, codes, flat_map, length, IsOk, Err, Ok, Result, MatchResult, string_bytes}
 use Rattle.cn_table.specs.Faults.{reading}
 use Rattle.cn_forms.specs.Grid.{IsGrid}
 use Rattle.cn_flaws.specs.Flaws.{Flaw, flaws_at}
-use Rattle.cn_app.specs.declared.commands.lint_table.Linted.{Linted}
-use Rattle.cn_app.specs.declared.commands.lint_table.Linted.TheVariants.{Accepted, Refused}
+use Rattle.cn_app.specs.Steps.{Then}
+use Rattle.cn_app.specs.Streams.Reading.{EndsText}
+use Rattle.cn_app.specs.declared.report.Outcome.{Outcome}
+use Rattle.cn_app.specs.declared.report.Outcome.TheVariants.{Cut, Refused, Whole}
+use Rattle.cn_app.specs.declared.report.Report.{Report}
+use Rattle.cn_app.specs.declared.streams.text.Text.{Text}
 use Rattle.cn_app.specs.declared.fault.AppFault.{AppFault}
-use Rattle.cn_app.specs.declared.fault.AppFault.TheVariants.{OutOfMemory, Read, TooLong, Write}
+use Rattle.cn_app.specs.declared.fault.AppFault.TheVariants.{OutOfMemory}
 use Rattle.cn_app.specs.declared.fault.Source.TheVariants.{Table}
-use Rattle.cn_app.specs.declared.limits.TheConstants.{MOST_TABLE_BYTES}
 
 -- a line for each flaw
 abbrev pub flaw_lines : List Flaw → List ℕ
 flaw_lines flaws = flat_map (λ f. f.text ++ codes "\n") flaws
 
--- the grid of the table that the bytes spell, or else the lines of their flaws; bytes that are no TOML have one, at some place in them; and the bytes are not
--- too many
-abbrev pub IsReport : List ℕ → List ℕ → Type 0
-IsReport bytes text = (length bytes ≤ MOST_TABLE_BYTES)
-    × MatchResult (reading bytes) (λ t. IsGrid t text) (λ _. (place : ℕ) × (place ≤ length bytes) × (text ≡ flaw_lines (flaws_at place bytes)))
+-- the lines of the flaws of bytes that spell no table; those that are no TOML have one, at some place in them
+abbrev pub HasFlawLines : List ℕ → List ℕ → Type 0
+HasFlawLines bytes text = (place : ℕ) × (place ≤ length bytes) × (text ≡ flaw_lines (flaws_at place bytes))
+
+-- the grid of the table that the bytes spell, or else the lines of their flaws
+abbrev pub IsLinted : List ℕ → List ℕ → Type 0
+IsLinted bytes text = MatchResult (reading bytes) (λ t. IsGrid t text) (λ _. HasFlawLines bytes text)
 
 -- the bytes spell a table, or this is their fault
-abbrev pub Tells : Linted → List ℕ → Type 0
-Tells Accepted bytes = IsOk (reading bytes)
+abbrev pub Tells : Outcome → List ℕ → Type 0
+Tells Whole bytes = IsOk (reading bytes)
 Tells (Refused fault) bytes = reading bytes ≡ Err fault
+Tells Cut bytes = ⊥
 
--- the command fails with e: memory ran out, the reader failed, the bytes are too many, or they are not and the writer failed
-abbrev pub LintFails : List ℕ → AppFault → Type 0
-LintFails bytes e = (e ≡ OutOfMemory) ⊎ ((e ≡ Read Table) ⊎ (((e ≡ TooLong Table) × (MOST_TABLE_BYTES < length bytes))
-    ⊎ ((e ≡ Write) × (length bytes ≤ MOST_TABLE_BYTES))))
+-- going over bytes ends so, unless memory ran out
+abbrev pub IsLintReport : List ℕ → Result Report AppFault → Type 0
+IsLintReport bytes (Ok report) = IsLinted bytes (string_bytes report.text) × Tells report.outcome bytes
+IsLintReport bytes (Err e) = e ≡ OutOfMemory
+
+-- what `lint` has to say of a text
+abbrev pub HasLintReport : {R : Type 0} → Text R → Result Report AppFault → Type 0
+HasLintReport text r = Then (EndsText Table text) (λ _. IsLintReport text.bytes.items) r

@@ -1,5 +1,5 @@
 -- What `replay` writes, by the opening of the log and the events.
-use Rattle.std.specs.Prelude.{List, if◌then◌else◌, ◌≡◌, ℕ, [], ◌++◌, ◌⊎◌}
+use Rattle.std.specs.Prelude.{List, if◌then◌else◌, ◌≡◌, ◌⊎◌, ℕ, [], ◌++◌, Result, Ok, Err, IsSome, string_bytes}
 use Rattle.std.specs.List.{list_any}
 use Rattle.cn_log.specs.Log.{IsEventList, entries}
 use Rattle.cn_log.specs.Linearized.{IsLinearized, entry_slots}
@@ -8,12 +8,18 @@ use Rattle.cn_log.specs.Faults.{IsFirstEventFault}
 use Rattle.cn_log.specs.declared.event.CallEnd.{CallEnd}
 use Rattle.cn_log.specs.declared.event.Event.{Event}
 use Rattle.cn_log.specs.declared.fault.ReplayFault.{ReplayFault}
-use Rattle.cn_app.specs.Answers.{is_full, ends_after}
 use Rattle.cn_lines.specs.Log.{answer_lines, entry_lines}
-use Rattle.cn_app.specs.declared.streams.output.Outcome.{Outcome}
-use Rattle.cn_app.specs.declared.streams.output.Outcome.TheVariants.{Cut, Whole}
+use Rattle.cn_app.specs.Answers.{is_full, ends_after}
+use Rattle.cn_app.specs.Arguments.Events.{GivesCapacity, GivesEvents, capacity_of, events_of}
+use Rattle.cn_app.specs.Steps.{Then}
+use Rattle.cn_app.specs.Texts.Openings.{GivesOpening}
+use Rattle.cn_app.specs.declared.arguments.list_text.ListText.{ListText}
+use Rattle.cn_app.specs.declared.readers.opening.OpeningArguments.{OpeningArguments}
+use Rattle.cn_app.specs.declared.report.Outcome.{Outcome}
+use Rattle.cn_app.specs.declared.report.Outcome.TheVariants.{Cut, Whole}
+use Rattle.cn_app.specs.declared.report.Report.{Report}
 use Rattle.cn_app.specs.declared.fault.AppFault.{AppFault}
-use Rattle.cn_app.specs.declared.fault.AppFault.TheVariants.{Replay, Write}
+use Rattle.cn_app.specs.declared.fault.AppFault.TheVariants.{OutOfMemory, Replay}
 
 -- cut where some call found no slot
 abbrev pub outcome_of_answers : List CallEnd → Outcome
@@ -32,6 +38,16 @@ pub record IsServed (o : Opening) (events : List Event) (lines : List ℕ) (outc
 abbrev pub IsEventFault : Opening → List Event → AppFault → Type 0
 IsEventFault o events e = (fault : ReplayFault) × IsFirstEventFault (setting_of o) events fault × (e ≡ Replay fault)
 
--- serving fails with e: an event cannot come, or, where each can, that writing failed
-abbrev pub ServingFails : Opening → List Event → AppFault → Type 0
-ServingFails o events e = IsEventFault o events e ⊎ (IsEventList (setting_of o) events × (e ≡ Write))
+-- serving an object by events ends so
+abbrev pub IsReplayReport : Opening → List Event → Result Report AppFault → Type 0
+IsReplayReport o events (Ok report) = IsServed o events (string_bytes report.text) report.outcome
+IsReplayReport o events (Err e) = (e ≡ OutOfMemory) ⊎ IsEventFault o events e
+
+-- what `replay` has to say of its arguments: the number of slots and then the events are read before the texts
+abbrev pub HasReplayReport : {R C O : Type 0} → OpeningArguments R C O → ListText → Result Report AppFault → Type 0
+HasReplayReport given events r = Then (GivesCapacity given.capacity.now) (λ slots. Then (GivesEvents events)
+    (λ list. Then (GivesOpening given slots) (λ o. IsReplayReport o list.items))) r
+
+-- the words spell a number of slots and events
+abbrev pub SpellEvents : List ℕ → ListText → Type 0
+SpellEvents capacity events = IsSome (capacity_of capacity) × IsSome (events_of events)

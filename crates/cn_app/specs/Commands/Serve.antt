@@ -1,21 +1,27 @@
 -- What `serve` writes, by the opening of the log and the calls, and by what the threads did.
-use Rattle.std.specs.Prelude.{Bool, true, false, List, if◌then◌else◌, ℕ, ◌≡◌, length, slice_get, Some, ◌⊎◌}
+use Rattle.std.specs.Prelude.{Bool, true, false, List, if◌then◌else◌, ℕ, ◌≡◌, length, slice_get, Some, ◌⊎◌, map, Result, Ok, Err, IsSome, string_bytes}
 use Rattle.std.specs.List.{list_all}
 use Rattle.cn_log.specs.Opening.{Log, Opening, setting}
 use Rattle.cn_log.specs.Bypass.{IsBypassBounded}
 use Rattle.cn_log.specs.Linearized.{IsLinearized}
 use Rattle.cn_log.specs.Log.{IsEventList}
 use Rattle.cn_log.specs.OwnSteps.{IsWaitFree}
-use Rattle.cn_app.specs.Arguments.Calls.{calls_fit}
+use Rattle.cn_app.specs.Arguments.Calls.{GivesCalls, calls_fit, calls_of}
+use Rattle.cn_app.specs.Arguments.Events.{GivesCapacity, capacity_of}
+use Rattle.cn_app.specs.Steps.{Then}
+use Rattle.cn_app.specs.Texts.Openings.{GivesOpening}
+use Rattle.cn_app.specs.declared.arguments.list_text.ListText.{ListText}
+use Rattle.cn_app.specs.declared.readers.opening.OpeningArguments.{OpeningArguments}
+use Rattle.cn_app.specs.declared.report.Report.{Report}
 use Rattle.cn_app.specs.Threads.Serving.{HasServed}
 use Rattle.cn_app.specs.Lines.Threads.{left_lines}
 use Rattle.cn_app.specs.declared.threads.workers.End.{End}
 use Rattle.cn_app.specs.declared.threads.workers.End.TheVariants.{Full, Stopped, Whole}
-use Rattle.cn_app.specs.declared.streams.output.Outcome.{Outcome}
-use Rattle.cn_app.specs.declared.streams.output.Outcome.TheVariants.{Cut, Whole as AllDone}
+use Rattle.cn_app.specs.declared.report.Outcome.{Outcome}
+use Rattle.cn_app.specs.declared.report.Outcome.TheVariants.{Cut, Whole as AllDone}
 use Rattle.cn_app.specs.declared.threads.workers.Worked.{Worked}
 use Rattle.cn_app.specs.declared.fault.AppFault.{AppFault}
-use Rattle.cn_app.specs.declared.fault.AppFault.TheVariants.{Argument, Thread, Write}
+use Rattle.cn_app.specs.declared.fault.AppFault.TheVariants.{Argument, OutOfMemory, Thread}
 use Rattle.cn_app.specs.declared.fault.Part.TheVariants.{Calls}
 
 abbrev pub is_whole : End → Bool
@@ -45,11 +51,17 @@ pub record IsServedByThreads (gates : Log → Type 0) (o : Opening) (calls : Lis
   pub written : lines ≡ left_lines o.object o.start worked log
   pub ended : outcome ≡ outcome_of_calls worked
 
--- serving by threads does not come to an end with e: the calls are not ones of the plan's processes and the object's operations, or they are, and a thread
--- could not be started
-abbrev pub AreNotServed : Opening → List (List ℕ) → AppFault → Type 0
-AreNotServed o calls e = ((calls_fit o calls ≡ false) × (e ≡ Argument Calls)) ⊎ ((calls_fit o calls ≡ true) × (e ≡ Thread))
+-- serving an object by threads ends so: served; or memory ran out, or the calls are not ones of the plan's processes and the object's operations, or they are,
+-- and a thread could not be started
+abbrev pub IsServeReport : (Log → Type 0) → Opening → List (List ℕ) → Result Report AppFault → Type 0
+IsServeReport gates o calls (Ok report) = IsServedByThreads gates o calls (string_bytes report.text) report.outcome
+IsServeReport gates o calls (Err e) = (e ≡ OutOfMemory) ⊎ (((calls_fit o calls ≡ false) × (e ≡ Argument Calls)) ⊎ ((calls_fit o calls ≡ true) × (e ≡ Thread)))
 
--- serving by threads fails with e: so, or in writing what it came to
-abbrev pub ThreadsFail : Opening → List (List ℕ) → AppFault → Type 0
-ThreadsFail o calls e = AreNotServed o calls e ⊎ ((calls_fit o calls ≡ true) × (e ≡ Write))
+-- what `serve` has to say of its arguments: the number of slots and then the calls are read before the texts
+abbrev pub HasServeReport : {R C O : Type 0} → (Log → Type 0) → OpeningArguments R C O → ListText → Result Report AppFault → Type 0
+HasServeReport gates given calls r = Then (GivesCapacity given.capacity.now) (λ slots. Then (GivesCalls calls)
+    (λ lists. Then (GivesOpening given slots) (λ o. IsServeReport gates o (map (λ list. list.items) lists.items)))) r
+
+-- the words spell a number of slots and lists of calls
+abbrev pub SpellCalls : List ℕ → ListText → Type 0
+SpellCalls capacity calls = IsSome (capacity_of capacity) × IsSome (calls_of calls)

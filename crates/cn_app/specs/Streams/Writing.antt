@@ -1,34 +1,45 @@
 -- What writing an output says of its bytes, whether or not the writer's are known.
-use Rattle.std.specs.Prelude.{◌≡◌, [], ◌⊎◌, List, ℕ, Option, Result, IfErr, OnOk, MatchResult}
+use Rattle.std.specs.Prelude.{◌≡◌, ◌≢◌, [], ◌⊎◌, ◌++◌, List, ℕ, Option, Result, Ok, Err, string_bytes}
 use Rattle.std.specs.Io.KnownBytes.{Appends}
 use Rattle.cn_app.specs.declared.streams.output.Output.{Output}
 use Rattle.cn_app.specs.declared.streams.progress.Progress.TheVariants.{Open, Done, Failed}
 use Rattle.cn_app.specs.declared.fault.AppFault.{AppFault}
-use Rattle.cn_app.specs.declared.fault.AppFault.TheVariants.{Write}
-use Rattle.cn_app.specs.declared.streams.output.Outcome.{Outcome}
+use Rattle.cn_app.specs.declared.fault.AppFault.TheVariants.{OutOfMemory, Write}
+use Rattle.cn_app.specs.declared.report.Outcome.{Outcome}
+use Rattle.cn_app.specs.declared.report.Report.{Report}
 
 -- nothing was handed to the writer
 pub record IsUnwritten {W : Type 0} (output : Output W) : Type 0 where
   pub empty : output.bytes.items ≡ []
   pub idle : output.progress ≡ Open
 
--- on success the writer took the bytes of the output, all of them; a fault of the writer is told only where it had one; and on another fault nothing was
--- handed to it
-pub record HasWritten {T W : Type 0} (result : Result T AppFault) (contents : W → Option (List ℕ)) (old new : Output W) : Type 0 where
-  pub same : new.writer.ghost_name ≡ old.writer.ghost_name
-  pub done : OnOk result (new.progress ≡ Done)
-  pub taken : OnOk result (Appends (contents old.writer.now) (contents new.writer.now) new.bytes.items)
-  pub failed : IfErr result (λ e. e ≡ Write → new.progress ≡ Failed)
-  pub silent : IfErr result (λ e. (e ≡ Write) ⊎ (new ≡ old))
+-- the writer has not failed
+abbrev pub IsWritable : {W : Type 0} → Output W → Type 0
+IsWritable output = output.progress ≢ Failed
 
--- the output was handed to the writer, since the command succeeded or only the writer failed, and this holds
-abbrev pub OnHandedOver : {T : Type 0} → Result T AppFault → Type 0 → Type 0
-OnHandedOver result P = MatchResult result (λ _. P) (λ e. e ≡ Write → P)
+-- nothing more was handed to the writer
+pub record IsSilent {W : Type 0} (old new : Output W) : Type 0 where
+  pub writer : new.writer ≡ old.writer
+  pub bytes : new.bytes.items ≡ old.bytes.items
+  pub progress : new.progress ≡ old.progress
 
--- so too of how the command ends
-abbrev pub IfHandedOver : Result Outcome AppFault → (Outcome → Type 0) → Type 0
-IfHandedOver result P = MatchResult result P (λ e. e ≡ Write → (outcome : Outcome) × P outcome)
+-- a text was handed to the writer, and it took it all
+pub record HasTaken {W : Type 0} (contents : W → Option (List ℕ)) (text : List ℕ) (old new : Output W) : Type 0 where
+  pub bytes : new.bytes.items ≡ old.bytes.items ++ text
+  pub taken : Appends (contents old.writer) (contents new.writer) text
+  pub progress : new.progress ≡ Done
 
--- the writer took bytes, of which this holds
-abbrev pub WasWritten : {W : Type 0} → (W → Option (List ℕ)) → W → W → (List ℕ → Type 0) → Type 0
-WasWritten contents old new P = (bytes : List ℕ) × Appends (contents old) (contents new) bytes × P bytes
+-- a text was handed to the writer, and it failed
+pub record HasFailed {W : Type 0} (text : List ℕ) (old new : Output W) : Type 0 where
+  pub bytes : new.bytes.items ≡ old.bytes.items ++ text
+  pub progress : new.progress ≡ Failed
+
+-- writing a report ends so: with its outcome once the writer took its text; or the writer failed, or memory ran out before
+abbrev pub HandsOver : {W : Type 0} → (W → Option (List ℕ)) → Report → Output W → Output W → Result Outcome AppFault → Type 0
+HandsOver contents report old new (Ok outcome) = (outcome ≡ report.outcome) × HasTaken contents (string_bytes report.text) old new
+HandsOver contents report old new (Err e) = ((e ≡ Write) × HasFailed (string_bytes report.text) old new) ⊎ ((e ≡ OutOfMemory) × IsSilent old new)
+
+-- a command whose work ends so ends like this: with the fault of the work, and silent; or as the writing of its report does
+abbrev pub Reports : {W : Type 0} → (W → Option (List ℕ)) → (Result Report AppFault → Type 0) → Output W → Output W → Result Outcome AppFault → Type 0
+Reports contents work old new r = ((e : AppFault) × work (Err e) × (r ≡ Err e) × IsSilent old new)
+    ⊎ ((report : Report) × work (Ok report) × HandsOver contents report old new r)

@@ -1,28 +1,38 @@
 -- A table and a certificate, and the check of the one against the other.
-use Rattle.std.specs.Prelude.{ℕ, List, ◌≡◌, ◌⊎◌}
+use Rattle.std.specs.Prelude.{ℕ, List, Option, Result, Ok, Err, ◌≡◌, ◌⊎◌}
 use Rattle.cn_table.specs.TypeTable.{TypeTable}
 use Rattle.cn_cert.specs.Certificate.{Certificate}
 use Rattle.cn_check.specs.Verdict.{IsAccepted}
 use Rattle.cn_check.specs.Faults.{IsFirstFault}
 use Rattle.cn_check.specs.declared.fault.CheckFault.{CheckFault}
-use Rattle.cn_app.specs.Texts.Contents.{table_in, certificate_in, Gives, Fails}
+use Rattle.cn_app.specs.Steps.{Then}
+use Rattle.cn_app.specs.Streams.Reading.{HasRead}
+use Rattle.cn_app.specs.Texts.Contents.{GivesCertificate, GivesTable, SpellsTable}
+use Rattle.cn_app.specs.declared.readers.checked.Checked.{Checked}
 use Rattle.cn_app.specs.declared.fault.AppFault.{AppFault}
 use Rattle.cn_app.specs.declared.fault.AppFault.TheVariants.{Check}
 use Rattle.cn_app.specs.declared.fault.Source.TheVariants as source
+use Rattle.cn_app.specs.declared.streams.text.Text.{Text}
 
--- the bytes of both texts spell a table and a certificate of which this holds
-abbrev pub BothGive : List ℕ → List ℕ → (TypeTable → Certificate → Type 0) → Type 0
-BothGive table certificate P = Gives table table_in (λ t. Gives certificate certificate_in (P t))
+-- the certificate is one that the check accepts for the table
+abbrev pub IsChecked : Checked → Type 0
+IsChecked checked = IsAccepted checked.table checked.certificate
 
--- they spell a table and a certificate that the check accepts, and of which this holds
-abbrev pub GivesChecked : List ℕ → List ℕ → (TypeTable → Certificate → Type 0) → Type 0
-GivesChecked table certificate P = BothGive table certificate (λ t c. IsAccepted t c × P t c)
+-- the check of a certificate against a table ends so: it accepts the certificate, and both are kept; or this is its first fault
+abbrev pub GivesCheck : TypeTable → Certificate → Result Checked AppFault → Type 0
+GivesCheck t c (Ok checked) = IsAccepted t c × (checked.table ≡ t) × (checked.certificate ≡ c)
+GivesCheck t c (Err e) = (fault : CheckFault) × IsFirstFault t c fault × (e ≡ Check fault)
 
--- the check fails with e: it refuses the certificate, or it accepts it and what comes later fails with e
-abbrev pub CheckFails : TypeTable → Certificate → AppFault → Type 0 → Type 0
-CheckFails t c e later = ((fault : CheckFault) × IsFirstFault t c fault × (e ≡ Check fault)) ⊎ (IsAccepted t c × later)
+-- a table is read, then a certificate, and then the one is checked against the other
+abbrev pub GivesChecked : {R C : Type 0} → Text R → Text C → Result Checked AppFault → Type 0
+GivesChecked table certificate r = Then (GivesTable table) (λ t. Then (GivesCertificate certificate) (λ c. GivesCheck t c)) r
 
--- a command that reads a table, then a certificate, and checks it, fails with e: in one of these, in this order, or in what comes later
-abbrev pub FailsChecked : List ℕ → List ℕ → AppFault → (TypeTable → Certificate → Type 0) → Type 0
-FailsChecked table certificate e later =
-    Fails source.Table table table_in e (λ t. Fails source.Certificate certificate certificate_in e (λ c. CheckFails t c e (later t c)))
+-- what became of a text t and then of a text c: the second is as it was, where the first spells no table
+pub record HaveReadBoth {R C : Type 0} (remaining : R → Option (List ℕ)) (left : C → Option (List ℕ)) (t u : Text R) (c d : Text C) : Type 0 where
+  pub table : HasRead source.Table remaining t u
+  pub certificate : HasRead source.Certificate left c d
+  pub order : (d ≡ c) ⊎ SpellsTable u
+
+-- both are as they were
+abbrev pub AreUntouched : {R C : Type 0} → Text R → Text R → Text C → Text C → Type 0
+AreUntouched t u c d = (u ≡ t) × (d ≡ c)

@@ -1,10 +1,11 @@
 -- The plan that a certificate stands for.
-use Rattle.std.specs.Prelude.{◌≡◌, Some, MatchOption}
+use Rattle.std.specs.Prelude.{◌≡◌, ◌⊎◌, Some, None, Result, Ok, Err}
 use Rattle.cn_table.specs.TypeTable.{TypeTable}
 use Rattle.cn_cert.specs.Certificate.{Certificate}
 use Rattle.cn_proto.specs.Plan.{Plan, IsPlan}
+use Rattle.cn_app.specs.declared.readers.checked.Checked.{Checked}
 use Rattle.cn_app.specs.declared.fault.AppFault.{AppFault}
-use Rattle.cn_app.specs.declared.fault.AppFault.TheVariants.{NoWitness}
+use Rattle.cn_app.specs.declared.fault.AppFault.TheVariants.{NoWitness, OutOfMemory}
 
 -- the plan for the table of the certificate's witness
 pub record IsPlanOf (t : TypeTable) (c : Certificate) (plan : Plan) : Type 0 where
@@ -12,6 +13,7 @@ pub record IsPlanOf (t : TypeTable) (c : Certificate) (plan : Plan) : Type 0 whe
   pub table : plan.table ≡ t
   pub witness : c.witness ≡ Some plan.choice
 
--- a command that needs the plan fails with e: there is no witness, or what comes later, with the plan, fails with e
-abbrev pub PlanFails : TypeTable → Certificate → AppFault → (Plan → Type 0) → Type 0
-PlanFails t c e later = MatchOption c.witness (e ≡ NoWitness) (λ _. (plan : Plan) × IsPlanOf t c plan × later plan)
+-- making the plan of a certificate ends so: with its plan; or it has no witness, or memory ran out
+abbrev pub GivesPlan : Checked → Result Plan AppFault → Type 0
+GivesPlan checked (Ok plan) = IsPlanOf checked.table checked.certificate plan
+GivesPlan checked (Err e) = (e ≡ OutOfMemory) ⊎ ((e ≡ NoWitness) × (checked.certificate.witness ≡ None))

@@ -2,35 +2,24 @@
 ghost use Rattle.std.specs.Prelude.{◌≡◌, ◌⊎◌, ◌≤◌, length, map, nat_lt, true, IfOk, IfErr, Some, None};
 ghost use Rattle.std.specs.List.{list_all};
 ghost use Rattle.cn_table.specs.Draft.{all_some};
-ghost use Rattle.cn_app.specs.Arguments.Calls.{calls_fit, calls_of, process_calls};
+ghost use Rattle.cn_app.specs.Arguments.Calls.{calls_fit, GivesCalls, GivesEach};
 ghost use Rattle.cn_app.specs.declared.fault.AppFault.TheVariants.{Argument, OutOfMemory};
 ghost use Rattle.cn_app.specs.declared.fault.Part.TheVariants.{Calls};
 
-use crate::arguments::lists::{pieces_of, read_list};
+use crate::arguments::list_text::ListText;
+use crate::arguments::lists::{pieces_of, read_up_to};
 use crate::fault::{AppFault, Part};
 use crate::limits::MOST_CALLS;
 use cn_log::Opening;
 use std::alloc::Global;
 
-fn read_process(alloc: Global, text: &str) -> Result<Vec<u8>, AppFault>
-    ensures calls { IfOk result (λ calls. process_calls text.now ≡ Some calls.items) }
-    ensures refused { IfErr result (λ e. (e ≡ OutOfMemory) ⊎ ((e ≡ Argument Calls) × (process_calls text.now ≡ None))) }
-{
-    let calls = read_list::<u8>(alloc, text, Part::Calls)?;
-    if calls.len() > MOST_CALLS {
-        return Err(AppFault::Argument(Part::Calls));
-    }
-    Ok(calls)
-}
-
 fn read_each(alloc: Global, pieces: &[&str]) -> Result<Vec<Vec<u8>>, AppFault>
-    ensures calls { IfOk result (λ calls. all_some (map process_calls (map (λ piece. piece.now) pieces.now)) ≡ Some (map (λ list. list.items) calls.items)) }
-    ensures refused { IfErr result (λ e. (e ≡ OutOfMemory)
-        ⊎ ((e ≡ Argument Calls) × (all_some (map process_calls (map (λ piece. piece.now) pieces.now)) ≡ None))) }
+    ensures { GivesEach (map (λ piece. piece.now) pieces.now) result }
 {
     let mut calls = Vec::new(alloc);
     for piece in pieces {
-        calls.push(read_process(alloc, piece)?)?;
+        let list = read_up_to::<u8>(alloc, piece, MOST_CALLS, Part::Calls)?;
+        calls.push(list)?;
     }
     Ok(calls)
 }
@@ -44,11 +33,10 @@ fn read_each(alloc: Global, pieces: &[&str]) -> Result<Vec<Vec<u8>>, AppFault>
 /// # Errors
 ///
 /// `Argument(Calls)` where the text is no such lists, or `OutOfMemory`.
-pub fn read_calls(alloc: Global, text: &str) -> Result<Vec<Vec<u8>>, AppFault>
-    ensures calls { IfOk result (λ calls. calls_of text.now ≡ Some (map (λ list. list.items) calls.items)) }
-    ensures refused { IfErr result (λ e. (e ≡ OutOfMemory) ⊎ ((e ≡ Argument Calls) × (calls_of text.now ≡ None))) }
+pub fn read_calls(alloc: Global, list: ListText<'_>) -> Result<Vec<Vec<u8>>, AppFault>
+    ensures { GivesCalls list.entry result }
 {
-    let pieces = pieces_of(alloc, text, '/')?;
+    let pieces = pieces_of(alloc, list.text(), '/')?;
     read_each(alloc, &pieces)
 }
 

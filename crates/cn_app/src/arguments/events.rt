@@ -1,15 +1,14 @@
 //! Arguments for a log: its events, and how many slots it has.
 ghost use Rattle.std.specs.Prelude.{◌≡◌, ◌⊎◌, ◌≤◌, IfOk, IfErr, Some, None};
 ghost use Rattle.cn_log.specs.declared.limits.TheConstants.{MOST_SLOTS};
-ghost use Rattle.cn_app.specs.Arguments.Events.{capacity_of, event_of, events_of, invoke_of, listed_events};
+ghost use Rattle.cn_app.specs.Arguments.Events.{capacity_of, event_of, invoke_of, GivesCapacity, GivesEvents};
 ghost use Rattle.cn_app.specs.declared.fault.AppFault.TheVariants.{Argument, OutOfMemory};
 ghost use Rattle.cn_app.specs.declared.fault.Part.TheVariants.{Capacity, Events};
 
-use crate::arguments::listed::Listed;
-use crate::arguments::lists::{Item, read_listed, read_number};
+use crate::arguments::list_text::ListText;
+use crate::arguments::lists::{Item, read_number, read_up_to};
 use crate::arguments::short::read_short;
 use crate::fault::{AppFault, Part};
-use crate::limits::MOST_ITEMS;
 use cn_log::{Event, MOST_SLOTS};
 use std::alloc::Global;
 
@@ -50,22 +49,10 @@ fn slots_of(text: &str) -> Option<u16>
 ///
 /// `Argument(Capacity)` where the text is no such number.
 pub(crate) fn read_capacity(text: &str) -> Result<u16, AppFault>
-    ensures capacity { IfOk result (λ capacity. capacity_of text.now ≡ Some capacity) }
+    ensures capacity { GivesCapacity text.now result }
     ensures range { IfOk result (λ capacity. (1 ≤ capacity) × (capacity ≤ MOST_SLOTS)) }
-    ensures refused { IfErr result (λ e. (e ≡ Argument Capacity) × (capacity_of text.now ≡ None)) }
 {
     slots_of(text).ok_or(AppFault::Argument(Part::Capacity))
-}
-
-/// Reads a list of at most as many events as it may have.
-pub(crate) fn read_listed_events(alloc: Global, list: Listed<'_>) -> Result<Vec<Event>, AppFault>
-    ensures events { IfOk result (λ events. listed_events list.entry ≡ Some events.items) }
-    ensures refused { IfErr result (λ e. (e ≡ OutOfMemory) ⊎ ((e ≡ Argument Events) × (listed_events list.entry ≡ None))) }
-{
-    if let Some(events) = read_short(alloc, list.text, list.most)? {
-        return Ok(events);
-    }
-    read_listed::<Event>(alloc, list, Part::Events)
 }
 
 /// Reads events of a log: `iP:O`, process P invokes operation number O, and `sP`, process P takes a
@@ -76,10 +63,12 @@ pub(crate) fn read_listed_events(alloc: Global, list: Listed<'_>) -> Result<Vec<
 /// # Errors
 ///
 /// `Argument(Events)` where the text is no such list, or `OutOfMemory`.
-pub fn read_events(alloc: Global, text: &str) -> Result<Vec<Event>, AppFault>
-    ensures events { IfOk result (λ events. events_of text.now ≡ Some events.items) }
-    ensures refused { IfErr result (λ e. (e ≡ OutOfMemory) ⊎ ((e ≡ Argument Events) × (events_of text.now ≡ None))) }
+pub fn read_events(alloc: Global, list: ListText<'_>) -> Result<Vec<Event>, AppFault>
+    ensures { GivesEvents list.entry result }
 {
-    let most = MOST_ITEMS;
-    read_listed_events(alloc, Listed { text, most })
+    let (text, most) = (list.text(), list.most_items());
+    if let Some(events) = read_short(alloc, text, most)? {
+        return Ok(events);
+    }
+    read_up_to::<Event>(alloc, text, most, Part::Events)
 }

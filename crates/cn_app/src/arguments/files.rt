@@ -1,10 +1,9 @@
 //! Arguments whose text stands in a file.
-ghost use Rattle.std.specs.Prelude.{◌≡◌, ◌⊎◌, Ok, Err, IfOk, IfErr, string_bytes};
-ghost use Rattle.cn_app.specs.Arguments.Files.{argument_in, without_line_feed};
-ghost use Rattle.cn_app.specs.Streams.SourceBytes.{HasRead, IsUnread, MayFail};
+ghost use Rattle.std.specs.Prelude.{◌≡◌};
+ghost use Rattle.cn_app.specs.Arguments.Files.{without_line_feed, GivesArgument};
+ghost use Rattle.cn_app.specs.Streams.Reading.{HasRead, IsUnread};
 
 use crate::fault::{AppFault, Part, Source};
-use crate::limits::MOST_ARGUMENT_BYTES;
 use crate::streams::text::Text;
 use std::alloc::Global;
 use std::io::Read;
@@ -20,7 +19,7 @@ fn without_line_feed(bytes: &[u8]) -> &[u8]
 }
 
 /// Reads the text of an argument from a reader, as that of the file which the word `@FILE` names:
-/// at most [`MOST_ARGUMENT_BYTES`] bytes of UTF-8, with one line feed at the end or none, which is
+/// at most [`MOST_ARGUMENT_BYTES`](crate::MOST_ARGUMENT_BYTES) bytes of UTF-8, with one line feed at the end or none, which is
 /// left out.
 ///
 /// # Errors
@@ -29,15 +28,14 @@ fn without_line_feed(bytes: &[u8]) -> &[u8]
 /// `Argument(part)`. Want of memory can stand in place of any answer.
 pub fn read_argument<R: Read>(
     alloc: Global,
-    text: &mut Text<'_, R>,
+    text: &mut Text<R>,
     part: Part,
 ) -> Result<String, AppFault>
     requires { IsUnread text.old }
-    ensures text { IfOk result (λ s. argument_in part text.new.bytes.items ≡ Ok (string_bytes s)) }
-    ensures fault { IfErr result (λ e. MayFail (Source.Argument part) e ⊎ (argument_in part text.new.bytes.items ≡ Err e)) }
-    ensures read { HasRead (Source.Argument part) result R.remaining text.old text.new }
+    ensures read { HasRead (Source.Argument part) R.remaining text.old text.new }
+    ensures text { GivesArgument part text.new result }
 {
-    text.fill(Source::Argument(part), MOST_ARGUMENT_BYTES)?;
+    text.fill(Source::Argument(part))?;
     match str::from_utf8(without_line_feed(&text.bytes)) {
         Ok(written) => Ok(String::from_str(alloc, written)?),
         Err(_) => Err(AppFault::Argument(part)),

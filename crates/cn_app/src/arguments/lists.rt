@@ -3,13 +3,13 @@ ghost use Rattle.std.specs.Prelude.{◌≡◌, ◌⊎◌, ◌<◌, ℕ, map, IfO
 ghost use Rattle.std.specs.List.{list_all, slice_split};
 ghost use Rattle.std.specs.Char.{is_ascii_digit};
 ghost use Rattle.cn_table.specs.Draft.{all_some};
-ghost use Rattle.cn_app.specs.Arguments.Lists.{number_up_to, list_of, list_in, inputs_of, schedule_of};
+ghost use Rattle.cn_app.specs.Arguments.Lists.{number_up_to, list_of, list_up_to, inputs_of, schedule_of, GivesList, GivesLists};
 ghost use Rattle.cn_app.specs.declared.fault.AppFault.TheVariants.{Argument, OutOfMemory};
 ghost use Rattle.cn_app.specs.declared.fault.Part.TheVariants.{Inputs, Schedule};
 
-use crate::arguments::listed::Listed;
+use crate::arguments::list_text::ListText;
 use crate::fault::{AppFault, Part};
-use crate::limits::{MOST_DIGITS, MOST_ITEMS};
+use crate::limits::MOST_DIGITS;
 use std::alloc::{AllocError, Global};
 
 /// What a list may be of.
@@ -68,9 +68,7 @@ fn read_items<T: Item + Drop>(
     pieces: &[&str],
     argument: Part,
 ) -> Result<Vec<T>, AppFault>
-    ensures items { IfOk result (λ items. all_some (map T.item_of (map (λ piece. piece.now) pieces.now)) ≡ Some items.items) }
-    ensures refused { IfErr result (λ e. (e ≡ OutOfMemory)
-        ⊎ ((e ≡ Argument argument) × (all_some (map T.item_of (map (λ piece. piece.now) pieces.now)) ≡ None))) }
+    ensures { GivesList argument (all_some (map T.item_of (map (λ piece. piece.now) pieces.now))) result }
 {
     let mut items = Vec::new(alloc);
     for piece in pieces {
@@ -82,53 +80,49 @@ fn read_items<T: Item + Drop>(
     Ok(items)
 }
 
-/// Reads a list of at most as many items as it may have.
-pub(crate) fn read_listed<T: Item + Drop>(
+/// Reads the list of at most so many items that a text spells.
+pub(crate) fn read_up_to<T: Item + Drop>(
     alloc: Global,
-    list: Listed<'_>,
+    text: &str,
+    most: usize,
     argument: Part,
 ) -> Result<Vec<T>, AppFault>
-    ensures list { IfOk result (λ items. list_in T.item_of list.entry ≡ Some items.items) }
-    ensures refused { IfErr result (λ e. (e ≡ OutOfMemory) ⊎ ((e ≡ Argument argument) × (list_in T.item_of list.entry ≡ None))) }
+    ensures { GivesList argument (list_up_to most T.item_of text.now) result }
 {
-    if list.text == "none" {
+    if text == "none" {
         return Ok(Vec::new(alloc));
     }
-    let pieces = pieces_of(alloc, list.text, ',')?;
-    if pieces.len() > list.most {
+    let pieces = pieces_of(alloc, text, ',')?;
+    if pieces.len() > most {
         return Err(AppFault::Argument(argument));
     }
     read_items(alloc, &pieces, argument)
 }
 
-/// Reads a list of at most as many items as one on the command line may have.
-pub(crate) fn read_list<T: Item + Drop>(
+/// Reads a list of at most as many items as it may have where it stands.
+fn read_list<T: Item + Drop>(
     alloc: Global,
-    text: &str,
+    list: ListText<'_>,
     argument: Part,
 ) -> Result<Vec<T>, AppFault>
-    ensures list { IfOk result (λ items. list_of T.item_of text.now ≡ Some items.items) }
-    ensures refused { IfErr result (λ e. (e ≡ OutOfMemory) ⊎ ((e ≡ Argument argument) × (list_of T.item_of text.now ≡ None))) }
+    ensures { GivesList argument (list_of T.item_of list.entry) result }
 {
-    let most = MOST_ITEMS;
-    read_listed(alloc, Listed { text, most }, argument)
+    read_up_to(alloc, list.text(), list.most_items(), argument)
 }
 
 /// Reads the numbers that the processes begin with, from 0 to 18446744073709551615.
 ///
-/// A list is its items in order with a comma and no space between two, at most
-/// [`MOST_ITEMS`](crate::MOST_ITEMS) of them, or for the empty list the word `none`. A number is at
-/// least one and at most [`MOST_DIGITS`](crate::MOST_DIGITS) decimal digits without a sign; zeros
-/// may stand first.
+/// A list is its items in order with a comma and no space between two, at most as many as its
+/// [`ListText`] may have, or for the empty list the word `none`. A number is at least one and at
+/// most [`MOST_DIGITS`](crate::MOST_DIGITS) decimal digits without a sign; zeros may stand first.
 ///
 /// # Errors
 ///
 /// `Argument(Inputs)` where the text is no such list, or `OutOfMemory`.
-pub fn read_inputs(alloc: Global, text: &str) -> Result<Vec<u64>, AppFault>
-    ensures inputs { IfOk result (λ inputs. inputs_of text.now ≡ Some inputs.items) }
-    ensures refused { IfErr result (λ e. (e ≡ OutOfMemory) ⊎ ((e ≡ Argument Inputs) × (inputs_of text.now ≡ None))) }
+pub fn read_inputs(alloc: Global, list: ListText<'_>) -> Result<Vec<u64>, AppFault>
+    ensures { GivesList Inputs (inputs_of list.entry) result }
 {
-    read_list::<u64>(alloc, text, Part::Inputs)
+    read_list::<u64>(alloc, list, Part::Inputs)
 }
 
 /// Reads a schedule: the processes, from 0 to 255, in the order in which they take their steps.
@@ -138,9 +132,28 @@ pub fn read_inputs(alloc: Global, text: &str) -> Result<Vec<u64>, AppFault>
 /// # Errors
 ///
 /// `Argument(Schedule)` where the text is no such list, or `OutOfMemory`.
-pub fn read_schedule(alloc: Global, text: &str) -> Result<Vec<u8>, AppFault>
-    ensures schedule { IfOk result (λ schedule. schedule_of text.now ≡ Some schedule.items) }
-    ensures refused { IfErr result (λ e. (e ≡ OutOfMemory) ⊎ ((e ≡ Argument Schedule) × (schedule_of text.now ≡ None))) }
+pub fn read_schedule(alloc: Global, list: ListText<'_>) -> Result<Vec<u8>, AppFault>
+    ensures { GivesList Schedule (schedule_of list.entry) result }
 {
-    read_list::<u8>(alloc, text, Part::Schedule)
+    read_list::<u8>(alloc, list, Part::Schedule)
+}
+
+/// What the processes begin with, and the order of their steps.
+#[derive(Drop)]
+pub(crate) struct RunLists {
+    pub inputs: Vec<u64>,
+    pub schedule: Vec<u8>,
+}
+
+/// Reads the inputs, and then the schedule.
+pub(crate) fn read_run_lists(
+    alloc: Global,
+    inputs: ListText<'_>,
+    schedule: ListText<'_>,
+) -> Result<RunLists, AppFault>
+    ensures { GivesLists inputs.entry schedule.entry result }
+{
+    let inputs = read_inputs(alloc, inputs)?;
+    let schedule = read_schedule(alloc, schedule)?;
+    Ok(RunLists { inputs, schedule })
 }

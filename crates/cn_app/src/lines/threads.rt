@@ -7,6 +7,7 @@ use crate::threads::serving::Left;
 use crate::threads::workers::{End, Worked};
 use cn_hall::Reply;
 use cn_lines::{entry_lines, events_line, put_answer_line, put_number};
+use cn_log::laws::logs_are_linearized;
 use cn_log::CallEnd;
 use cn_table::{State, Table};
 use std::alloc::{AllocError, Global};
@@ -93,7 +94,7 @@ pub(crate) fn left_lines(
     requires range { EachHasResponses object.now left.now.worked.items }
     ensures { IfOk result (λ lines. string_bytes lines ≡ left_lines object.now start.0 left.now.worked.items left.now.core) }
 {
-    cn_log::laws::logs_are_linearized(&left.core);
+    logs_are_linearized(&left.core);
     let mut lines = worked_lines(alloc, object, &left.worked)?;
     let entries = entry_lines(alloc, object, start, &left.core)?;
     lines.push_str(&entries)?;

@@ -1,47 +1,28 @@
-//! Writing what a command built, and how it ended.
-ghost use Rattle.std.specs.Prelude.{◌≡◌, IfOk, IfErr, string_bytes};
-ghost use Rattle.cn_app.specs.Streams.Writing.{HasWritten, IsUnwritten};
+//! Writing what a command built.
+ghost use Rattle.std.specs.Prelude.{◌≡◌};
+ghost use Rattle.cn_app.specs.Streams.Writing.{HandsOver, IsUnwritten, IsWritable};
 
 use crate::fault::AppFault;
+use crate::report::{Outcome, Report};
 use crate::streams::progress::Progress;
 use std::alloc::Global;
 use std::io::Write;
 
-/// How a command that wrote its output ended.
-#[derive(Clone, Copy, Debug, PartialEq, Eq)]
-pub enum Outcome {
-    /// All was done.
-    Whole,
-    /// All was done, but some call found the log full or was stopped, and has no reply: the output says
-    /// which.
-    Cut,
-}
-
-/// What serving comes to: the lines, and how the command ends that writes them.
-#[derive(Drop)]
-pub(crate) struct Served {
-    /// The text of the output.
-    pub lines: String,
-    /// Whether each call has its reply.
-    pub outcome: Outcome,
-}
-
 /// A writer, the bytes that were handed to it, and whether it took them.
 #[derive(Drop)]
-pub struct Output<'a, W> {
+pub struct Output<W> {
     /// Where the bytes go.
-    pub writer: &'a mut W,
-    /// The bytes that were handed to the writer, all at once.
+    pub writer: W,
+    /// All bytes that were handed to the writer, in order.
     pub bytes: Vec<u8>,
-    /// `Open` until bytes were handed over, `Done` once the writer took them all.
+    /// `Open` until bytes were handed over, `Done` where the writer took them all.
     pub progress: Progress,
 }
 
-impl<'a, W: Write> Output<'a, W> {
+impl<W: Write> Output<W> {
     /// A writer that was handed nothing yet.
-    pub fn new(alloc: Global, writer: &'a mut W) -> Output<'a, W>
-        ensures same { result.writer.ghost_name ≡ writer.entry.ghost_name }
-        ensures writer { result.writer.now ≡ writer.old }
+    pub fn new(alloc: Global, writer: W) -> Output<W>
+        ensures writer { result.writer ≡ writer }
         ensures unwritten { IsUnwritten result }
     {
         Output {
@@ -51,29 +32,23 @@ impl<'a, W: Write> Output<'a, W> {
         }
     }
 
-    /// Gives the writer back.
-    pub fn into_writer(self) -> &'a mut W
-        ensures same { result.ghost_name ≡ self.entry.writer.ghost_name }
-        ensures writer { result.now ≡ self.entry.writer.now }
+    /// Hands the text of a report to the writer, at once, and keeps it; the answer is how the
+    /// report says that the command ends.
+    ///
+    /// # Errors
+    ///
+    /// `OutOfMemory`, and then nothing is handed over, or `Write` where the writer failed.
+    pub fn write(&mut self, report: Report) -> Result<Outcome, AppFault>
+        requires { IsWritable self.old }
+        ensures { HandsOver W.contents report self.old self.new result }
     {
-        let Output { writer, .. } = self;
-        writer
-    }
-
-    /// Hands the text to the writer, at once, and keeps it.
-    pub(crate) fn write(&mut self, text: String) -> Result<Outcome, AppFault>
-        requires { IsUnwritten self.old }
-        ensures whole { IfOk result (λ outcome. outcome ≡ Outcome.Whole) }
-        ensures kept { self.new.bytes.items ≡ string_bytes text }
-        ensures written { HasWritten result W.contents self.old self.new }
-        ensures fault { IfErr result (λ e. e ≡ AppFault.Write) }
-    {
-        self.bytes = text.into_bytes();
-        let answer = self.writer.write_all(&self.bytes);
-        match answer {
+        let Report { text, outcome } = report;
+        self.bytes.reserve(text.len())?;
+        self.bytes.extend_from_slice(text.as_bytes())?;
+        match self.writer.write_all(text.as_bytes()) {
             Ok(()) => {
                 self.progress = Progress::Done;
-                Ok(Outcome::Whole)
+                Ok(outcome)
             }
             Err(_) => {
                 self.progress = Progress::Failed;

@@ -1,0 +1,3 @@
+-- What the commands have to say.
+pub mod AcceptedWitnesses
+pub mod Numbers

@@ -1,0 +1,27 @@
+-- What `show` writes, by the table and the certificate that it reads.
+use Rattle.std.specs.Prelude.{◌≡◌, Result, Ok, Err, string_bytes}
+use Rattle.cn_proto.specs.Plan.{Plan}
+use Rattle.cn_forms.specs.PlanForms.{form_text}
+use Rattle.cn_forms.specs.declared.plan_forms.Form.{Form}
+use Rattle.cn_app.specs.Steps.{Then}
+use Rattle.cn_app.specs.Texts.Checked.{GivesChecked}
+use Rattle.cn_app.specs.Texts.Plans.{GivesPlan}
+use Rattle.cn_app.specs.declared.readers.checked.Checked.{Checked}
+use Rattle.cn_app.specs.declared.report.Outcome.TheVariants.{Whole}
+use Rattle.cn_app.specs.declared.report.Report.{Report}
+use Rattle.cn_app.specs.declared.streams.text.Text.{Text}
+use Rattle.cn_app.specs.declared.fault.AppFault.{AppFault}
+use Rattle.cn_app.specs.declared.fault.AppFault.TheVariants.{OutOfMemory}
+
+-- writing a plan in a form ends so, unless memory ran out
+abbrev pub IsFormReport : Plan → Form → Result Report AppFault → Type 0
+IsFormReport plan form (Ok report) = (string_bytes report.text ≡ form_text form plan) × (report.outcome ≡ Whole)
+IsFormReport plan form (Err e) = e ≡ OutOfMemory
+
+-- with the plan of the certificate's witness
+abbrev pub IsShowReport : Checked → Form → Result Report AppFault → Type 0
+IsShowReport checked form r = Then (GivesPlan checked) (λ plan. IsFormReport plan form) r
+
+-- what `show` has to say of two texts
+abbrev pub HasShowReport : {R C : Type 0} → Text R → Text C → Form → Result Report AppFault → Type 0
+HasShowReport table certificate form r = Then (GivesChecked table certificate) (λ checked. IsShowReport checked form) r

@@ -1,0 +1,136 @@
+//! The commands that read a type table and a certificate, and check the one against the other.
+ghost use Rattle.std.specs.Prelude.{◌⊎◌};
+ghost use Rattle.cn_app.specs.Commands.Agree.{HasAgreeReport, SpellLists};
+ghost use Rattle.cn_app.specs.Commands.Check.{HasCheckReport};
+ghost use Rattle.cn_app.specs.Commands.Explain.{HasExplainReport};
+ghost use Rattle.cn_app.specs.Commands.Show.{HasShowReport};
+ghost use Rattle.cn_app.specs.Texts.Checked.{AreUntouched, HaveReadBoth};
+ghost use Rattle.cn_app.specs.Streams.Reading.{IsUnread};
+ghost use Rattle.cn_app.specs.Streams.Writing.{IsWritable, Reports};
+
+use crate::arguments::list_text::ListText;
+use crate::arguments::lists::read_run_lists;
+use crate::fault::AppFault;
+use crate::readers::checked::read_checked;
+use crate::report::Outcome;
+use crate::reports::{agree_report, check_report, explain_report, show_report};
+use crate::streams::output::Output;
+use crate::streams::text::Text;
+use cn_forms::Form;
+use std::alloc::Global;
+use std::io::{Read, Write};
+
+/// Reads a type table and a certificate, and writes `ok` and a line feed where the check accepts
+/// the certificate for the table.
+///
+/// # Errors
+///
+/// The first of these: those of [`read_checked`]; the writer fails. Want of memory can stand in
+/// place of any answer.
+pub fn check<R: Read, C: Read, W: Write>(
+    alloc: Global,
+    table: &mut Text<R>,
+    certificate: &mut Text<C>,
+    output: &mut Output<W>,
+) -> Result<Outcome, AppFault>
+    requires table { IsUnread table.old }
+    requires certificate { IsUnread certificate.old }
+    requires output { IsWritable output.old }
+
+    ensures read { HaveReadBoth R.remaining C.remaining table.old table.new certificate.old certificate.new }
+    ensures checked { Reports W.contents (HasCheckReport table.new certificate.new)
+        output.old output.new result }
+{
+    let checked = read_checked(alloc, table, certificate)?;
+    let report = check_report(alloc, &checked)?;
+    output.write(report)
+}
+
+/// Reads a type table and a certificate, checks the one against the other, and writes for people
+/// why the number is what it is ([`explain_report`]).
+///
+/// # Errors
+///
+/// Those of [`check`].
+pub fn explain<R: Read, C: Read, W: Write>(
+    alloc: Global,
+    table: &mut Text<R>,
+    certificate: &mut Text<C>,
+    output: &mut Output<W>,
+    all: bool,
+) -> Result<Outcome, AppFault>
+    requires table { IsUnread table.old }
+    requires certificate { IsUnread certificate.old }
+    requires output { IsWritable output.old }
+
+    ensures read { HaveReadBoth R.remaining C.remaining table.old table.new certificate.old certificate.new }
+    ensures explained { Reports W.contents (HasExplainReport table.new certificate.new all)
+        output.old output.new result }
+{
+    let checked = read_checked(alloc, table, certificate)?;
+    let report = explain_report(alloc, &checked, all)?;
+    output.write(report)
+}
+
+/// Reads a type table and a certificate, checks the one against the other, and writes the plan of
+/// the certificate's witness in a form ([`show_report`]).
+///
+/// # Errors
+///
+/// The first of these: those of [`read_checked`]; those of [`show_report`]; the writer fails.
+pub fn show<R: Read, C: Read, W: Write>(
+    alloc: Global,
+    table: &mut Text<R>,
+    certificate: &mut Text<C>,
+    output: &mut Output<W>,
+    form: Form,
+) -> Result<Outcome, AppFault>
+    requires table { IsUnread table.old }
+    requires certificate { IsUnread certificate.old }
+    requires output { IsWritable output.old }
+
+    ensures read { HaveReadBoth R.remaining C.remaining table.old table.new certificate.old certificate.new }
+    ensures shown { Reports W.contents (HasShowReport table.new certificate.new form)
+        output.old output.new result }
+{
+    let checked = read_checked(alloc, table, certificate)?;
+    let report = show_report(alloc, &checked, form)?;
+    output.write(report)
+}
+
+/// Reads a type table and a certificate, checks the one against the other, runs the plan of the
+/// certificate's witness by a schedule, and writes for each process a line with what it has decided,
+/// or that it has not ([`agree_report`]).
+///
+/// `inputs` are the numbers that the processes begin with, and `schedule` the processes in the order
+/// of their steps, written as for [`read_inputs`](crate::read_inputs) and
+/// [`read_schedule`](crate::read_schedule).
+///
+/// # Errors
+///
+/// The first of these: `inputs`, then `schedule`, is not spelled as it should be or has too many
+/// items, and then no text is touched; those of [`read_checked`]; those of [`agree_report`]; the
+/// writer fails. Want of memory can stand in place of any answer.
+pub fn agree<R: Read, C: Read, W: Write>(
+    alloc: Global,
+    table: &mut Text<R>,
+    certificate: &mut Text<C>,
+    output: &mut Output<W>,
+    inputs: ListText<'_>,
+    schedule: ListText<'_>,
+) -> Result<Outcome, AppFault>
+    requires table { IsUnread table.old }
+    requires certificate { IsUnread certificate.old }
+    requires output { IsWritable output.old }
+
+    ensures read { HaveReadBoth R.remaining C.remaining table.old table.new certificate.old certificate.new }
+    ensures order { AreUntouched table.old table.new certificate.old certificate.new
+        ⊎ SpellLists inputs.entry schedule.entry }
+    ensures agreed { Reports W.contents
+        (HasAgreeReport table.new certificate.new inputs.entry schedule.entry) output.old output.new result }
+{
+    let lists = read_run_lists(alloc, inputs, schedule)?;
+    let checked = read_checked(alloc, table, certificate)?;
+    let report = agree_report(alloc, &checked, &lists.inputs, &lists.schedule)?;
+    output.write(report)
+}

@@ -1,0 +1,94 @@
+//! The commands that serve an object.
+ghost use Rattle.std.specs.Prelude.{◌≡◌, ◌⊎◌, ℕ};
+ghost use Rattle.cn_hall.specs.declared.call.Go.TheVariants.{On};
+ghost use Rattle.cn_app.specs.Commands.Replay.{HasReplayReport, SpellEvents};
+ghost use Rattle.cn_app.specs.Commands.Serve.{HasServeReport, SpellCalls};
+ghost use Rattle.cn_app.specs.Texts.Openings.{AreUnread, HaveReadAll};
+ghost use Rattle.cn_app.specs.Threads.Workers.{EachHasOneGate};
+ghost use Rattle.cn_app.specs.Streams.Writing.{IsWritable, Reports};
+
+use crate::arguments::calls::read_calls;
+use crate::arguments::events::{read_capacity, read_events};
+use crate::arguments::list_text::ListText;
+use crate::fault::AppFault;
+use crate::readers::opening::{OpeningArguments, read_opening};
+use crate::report::Outcome;
+use crate::reports::{replay_report, serve_report};
+use crate::streams::output::Output;
+use cn_hall::Gate;
+use std::alloc::Global;
+use std::io::{Read, Write};
+use std::sync::Wait;
+use std::thread::Threads;
+
+/// Opens a log for an object, serves the object by the events, and writes a line for each call that
+/// is answered or that finds no slot, and then a line for each entry of the log ([`replay_report`]).
+///
+/// `events` are written as for [`read_events`].
+///
+/// # Errors
+///
+/// The first of these: the capacity, then `events`, is not spelled as it should be or has too many
+/// items, and then no text is touched; those of [`read_opening`]; an event cannot come; the writer
+/// fails. Want of memory can stand in place of any answer but that for the capacity.
+pub fn replay<R: Read, C: Read, O: Read, W: Write>(
+    alloc: Global,
+    given: &mut OpeningArguments<'_, R, C, O>,
+    output: &mut Output<W>,
+    events: ListText<'_>,
+) -> Result<Outcome, AppFault>
+    requires given { AreUnread given.old }
+    requires output { IsWritable output.old }
+
+    ensures read { HaveReadAll R.remaining C.remaining O.remaining given.old given.new }
+    ensures order { (given.new ≡ given.old) ⊎ SpellEvents given.old.capacity.now events.entry }
+    ensures served { Reports W.contents (HasReplayReport given.new events.entry)
+        output.old output.new result }
+{
+    let slots = read_capacity(given.capacity)?;
+    let events = read_events(alloc, events)?;
+    let opening = read_opening(alloc, given, slots)?;
+    let report = replay_report(alloc, opening, &events)?;
+    output.write(report)
+}
+
+/// Opens a log for an object, serves the object by threads that make the calls, and writes for each
+/// process a line for each of its calls, then a line for each entry of the log, and last a line with
+/// the events ([`serve_report`]).
+///
+/// `calls` are written as for [`read_calls`].
+///
+/// # Errors
+///
+/// The first of these: the capacity, then `calls`, is not spelled as it should be, and then no text
+/// is touched; those of [`read_opening`]; those of [`serve_report`]; the writer fails. Want of memory
+/// can stand in place of any answer but that for the capacity.
+pub fn serve<T, R: Read, C: Read, O: Read, W: Write, G, F>(
+    rt: &T,
+    alloc: Global,
+    given: &mut OpeningArguments<'_, R, C, O>,
+    output: &mut Output<W>,
+    calls: ListText<'_>,
+    make_gate: F,
+) -> Result<Outcome, AppFault>
+where
+    T: Threads + Wait + Sync,
+    G: Gate + Send + Drop,
+    F: Fn(u8) -> G,
+    requires gates { F.IsAlwaysCallable make_gate }
+    requires on { (p : ℕ) (g : _) → F.post make_gate p g → G.says g ≡ On }
+    requires given { AreUnread given.old }
+    requires output { IsWritable output.old }
+
+    ensures read { HaveReadAll R.remaining C.remaining O.remaining given.old given.new }
+    ensures order { (given.new ≡ given.old) ⊎ SpellCalls given.old.capacity.now calls.entry }
+    ensures served { Reports W.contents
+        (HasServeReport (EachHasOneGate G.asks G.says (λ p g. F.post make_gate p g)) given.new calls.entry)
+        output.old output.new result }
+{
+    let slots = read_capacity(given.capacity)?;
+    let calls = read_calls(alloc, calls)?;
+    let opening = read_opening(alloc, given, slots)?;
+    let report = serve_report(rt, alloc, opening, &calls, make_gate)?;
+    output.write(report)
+}

@@ -1,0 +1,115 @@
+//! The commands that read a type table.
+ghost use Rattle.std.specs.Prelude.{◌≡◌, ◌⊎◌, None};
+ghost use Rattle.cn_search.specs.Faults.{number_fault};
+ghost use Rattle.cn_app.specs.Commands.Classify.{HasClassReport};
+ghost use Rattle.cn_app.specs.Commands.Draw.{HasDrawReport};
+ghost use Rattle.cn_app.specs.Commands.Find.{HasFindReport};
+ghost use Rattle.cn_app.specs.Commands.Lint.{HasLintReport};
+ghost use Rattle.cn_app.specs.Streams.Reading.{HasRead, IsUnread};
+ghost use Rattle.cn_app.specs.Streams.Writing.{IsWritable, Reports};
+
+use crate::fault::{AppFault, Source};
+use crate::readers::table::read_table;
+use crate::report::Outcome;
+use crate::reports::{check_limit, class_report, draw_report, find_report, lint_report};
+use crate::streams::output::Output;
+use crate::streams::text::Text;
+use std::alloc::Global;
+use std::io::{Read, Write};
+use std::thread::Threads;
+
+/// Reads a type table and writes the certificate of its consensus number up to the limit
+/// ([`find_report`]).
+///
+/// # Errors
+///
+/// The first of these: those of [`read_table`]; those of [`find_report`]; the writer fails.
+pub fn find<T: Threads + Sync, R: Read, W: Write>(
+    rt: &T,
+    alloc: Global,
+    table: &mut Text<R>,
+    output: &mut Output<W>,
+    limit: u8,
+) -> Result<Outcome, AppFault>
+    requires table { IsUnread table.old }
+    requires output { IsWritable output.old }
+
+    ensures read { HasRead Source.Table R.remaining table.old table.new }
+    ensures found { Reports W.contents (HasFindReport table.new limit) output.old output.new result }
+{
+    let table = read_table(alloc, table)?;
+    let report = find_report(rt, alloc, &table, limit)?;
+    output.write(report)
+}
+
+/// Reads a type table and writes a line with its consensus number up to the limit
+/// ([`class_report`]).
+///
+/// # Errors
+///
+/// The first of these: that of [`check_limit`], and then the text is not touched; those of
+/// [`read_table`]; the writer fails.
+pub fn classify<T: Threads + Sync, R: Read, W: Write>(
+    rt: &T,
+    alloc: Global,
+    table: &mut Text<R>,
+    output: &mut Output<W>,
+    limit: u8,
+) -> Result<Outcome, AppFault>
+    requires table { IsUnread table.old }
+    requires output { IsWritable output.old }
+
+    ensures read { HasRead Source.Table R.remaining table.old table.new }
+    ensures order { (table.new ≡ table.old) ⊎ (number_fault limit ≡ None) }
+    ensures classified { Reports W.contents (HasClassReport table.new limit) output.old output.new result }
+{
+    check_limit(limit)?;
+    let table = read_table(alloc, table)?;
+    let report = class_report(rt, alloc, &table, limit)?;
+    output.write(report)
+}
+
+/// Reads a type table and writes what is to be said of it ([`lint_report`]). A refused table is no
+/// error: its flaws are written, and the outcome has its fault.
+///
+/// # Errors
+///
+/// The first of these: the reader fails, or gives more than
+/// [`MOST_TABLE_BYTES`](crate::MOST_TABLE_BYTES); the writer fails. Want of memory can stand in
+/// place of any answer.
+pub fn lint<R: Read, W: Write>(
+    alloc: Global,
+    table: &mut Text<R>,
+    output: &mut Output<W>,
+) -> Result<Outcome, AppFault>
+    requires table { IsUnread table.old }
+    requires output { IsWritable output.old }
+
+    ensures read { HasRead Source.Table R.remaining table.old table.new }
+    ensures linted { Reports W.contents (HasLintReport table.new) output.old output.new result }
+{
+    table.fill(Source::Table)?;
+    let report = lint_report(alloc, &table.bytes)?;
+    output.write(report)
+}
+
+/// Reads a type table and writes a picture of it for Graphviz ([`draw_report`]).
+///
+/// # Errors
+///
+/// The first of these: those of [`read_table`]; the writer fails.
+pub fn draw<R: Read, W: Write>(
+    alloc: Global,
+    table: &mut Text<R>,
+    output: &mut Output<W>,
+) -> Result<Outcome, AppFault>
+    requires table { IsUnread table.old }
+    requires output { IsWritable output.old }
+
+    ensures read { HasRead Source.Table R.remaining table.old table.new }
+    ensures drawn { Reports W.contents (HasDrawReport table.new) output.old output.new result }
+{
+    let table = read_table(alloc, table)?;
+    let report = draw_report(alloc, &table)?;
+    output.write(report)
+}

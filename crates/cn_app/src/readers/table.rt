@@ -1,0 +1,62 @@
+//! The texts that commands read, each whole and up to its limit.
+ghost use Rattle.cn_app.specs.Texts.Contents.{GivesCertificate, GivesObject, GivesTable};
+ghost use Rattle.cn_app.specs.Streams.Reading.{HasRead, IsUnread};
+
+use crate::fault::{AppFault, Source};
+use crate::streams::text::Text;
+use cn_cert::Certificate;
+use cn_table::{Table, TableFault};
+use std::alloc::Global;
+use std::io::Read;
+
+/// Reads a type table: at most [`MOST_TABLE_BYTES`](crate::MOST_TABLE_BYTES).
+///
+/// # Errors
+///
+/// The first of these: the reader fails, or gives more; the table is refused. Want of memory can
+/// stand in place of any answer.
+pub fn read_table<R: Read>(alloc: Global, text: &mut Text<R>) -> Result<Table, AppFault>
+    requires { IsUnread text.old }
+    ensures read { HasRead Source.Table R.remaining text.old text.new }
+    ensures table { GivesTable text.new result }
+{
+    text.fill(Source::Table)?;
+    Ok(cn_table::read_table(alloc, &text.bytes)?)
+}
+
+/// Reads a certificate: at most [`MOST_CERTIFICATE_BYTES`](crate::MOST_CERTIFICATE_BYTES). It is not
+/// checked.
+///
+/// # Errors
+///
+/// The first of these: the reader fails, or gives more; the text is refused. Want of memory can
+/// stand in place of any answer.
+pub fn read_certificate<R: Read>(
+    alloc: Global,
+    text: &mut Text<R>,
+) -> Result<Certificate, AppFault>
+    requires { IsUnread text.old }
+    ensures read { HasRead Source.Certificate R.remaining text.old text.new }
+    ensures certificate { GivesCertificate text.new result }
+{
+    text.fill(Source::Certificate)?;
+    Ok(cn_cert::read_certificate(alloc, &text.bytes)?)
+}
+
+/// Reads the table of an object: at most [`MOST_TABLE_BYTES`](crate::MOST_TABLE_BYTES).
+///
+/// # Errors
+///
+/// Those of [`read_table`], told of the object.
+pub fn read_object<R: Read>(alloc: Global, text: &mut Text<R>) -> Result<Table, AppFault>
+    requires { IsUnread text.old }
+    ensures read { HasRead Source.Object R.remaining text.old text.new }
+    ensures object { GivesObject text.new result }
+{
+    text.fill(Source::Object)?;
+    match cn_table::read_table(alloc, &text.bytes) {
+        Ok(object) => Ok(object),
+        Err(TableFault::OutOfMemory) => Err(AppFault::OutOfMemory),
+        Err(fault) => Err(AppFault::Object(fault)),
+    }
+}

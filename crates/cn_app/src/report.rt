@@ -1,0 +1,38 @@
+//! What a command has to say.
+ghost use Rattle.std.specs.Prelude.{◌≡◌};
+
+use cn_table::TableFault;
+
+/// How a command that wrote its output ended.
+#[derive(Clone, Copy, Debug, PartialEq, Eq)]
+pub enum Outcome {
+    /// All was done.
+    Whole,
+    /// All was done, but some call found the log full or was stopped, and has no reply: the output
+    /// says which.
+    Cut,
+    /// The table is refused for this fault: its flaws were written.
+    Refused(TableFault),
+}
+
+/// What a command writes, and how it ends.
+#[derive(Drop)]
+pub struct Report {
+    /// The text of the output.
+    pub text: String,
+    /// How the command ends once the text is written.
+    pub outcome: Outcome,
+}
+
+impl Report {
+    /// A report of all that was to be done.
+    pub(crate) fn whole(text: String) -> Report
+        ensures text { result.text ≡ text }
+        ensures outcome { result.outcome ≡ Outcome.Whole }
+    {
+        Report {
+            text,
+            outcome: Outcome::Whole,
+        }
+    }
+}

@@ -1,0 +1,26 @@
+//! The work of each command: a function of values, with no stream.
+//!
+//! What a command has to say is a [`Report`](crate::Report). The commands themselves
+//! ([`commands`](crate::commands)) read the values and write the reports.
+
+mod agree;
+mod check;
+mod classify;
+mod draw;
+mod explain;
+mod find;
+mod lint;
+mod replay;
+mod serve;
+mod show;
+
+pub use agree::agree_report;
+pub use check::check_report;
+pub use classify::{check_limit, class_report};
+pub use draw::draw_report;
+pub use explain::explain_report;
+pub use find::find_report;
+pub use lint::lint_report;
+pub use replay::replay_report;
+pub use serve::serve_report;
+pub use show::show_report;

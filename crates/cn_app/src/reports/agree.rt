@@ -1,0 +1,48 @@
+//! What `agree` has to say.
+ghost use Rattle.cn_app.specs.Commands.Agree.{IsAgreeReport, IsRunReport};
+ghost use Rattle.cn_app.specs.Texts.Checked.{IsChecked};
+
+use crate::fault::AppFault;
+use crate::readers::checked::Checked;
+use crate::report::Report;
+use cn_agree::run_schedule;
+use cn_lines::decision_lines;
+use cn_proto::Plan;
+use std::alloc::Global;
+
+/// Runs a plan by a schedule: a line for each process.
+fn run_report(
+    alloc: Global,
+    plan: &Plan,
+    inputs: &[u64],
+    schedule: &[u8],
+) -> Result<Report, AppFault>
+    ensures { IsRunReport plan.now inputs.now schedule.now result }
+{
+    let run = run_schedule(alloc, plan, inputs, schedule)?;
+    Ok(Report::whole(decision_lines(alloc, &run.decisions)?))
+}
+
+/// Runs the plan of the certificate's witness by a schedule: for each process a line with what it
+/// has decided, or that it has not.
+///
+/// Whatever the schedule, the decisions are equal, they are the input of a process that it names,
+/// and a process has decided exactly when it is named at least four times for each place of its
+/// path.
+///
+/// # Errors
+///
+/// The first of these: those of [`Checked::plan`]; there are not as many inputs as processes, or the
+/// schedule names a process that there is not. Want of memory can stand in place of any answer.
+pub fn agree_report(
+    alloc: Global,
+    checked: &Checked,
+    inputs: &[u64],
+    schedule: &[u8],
+) -> Result<Report, AppFault>
+    requires { IsChecked checked.now }
+    ensures { IsAgreeReport checked.now inputs.now schedule.now result }
+{
+    let plan = checked.plan(alloc)?;
+    run_report(alloc, &plan, inputs, schedule)
+}

@@ -1,0 +1,22 @@
+//! What `check` has to say.
+ghost use Rattle.cn_app.specs.Commands.Check.{IsCheckReport};
+ghost use Rattle.cn_app.specs.Texts.Checked.{IsChecked};
+
+use crate::fault::AppFault;
+use crate::readers::checked::Checked;
+use crate::report::Report;
+use cn_check::laws::accepted_is_right;
+use std::alloc::Global;
+
+/// `ok` and a line feed, for a certificate that is accepted.
+///
+/// # Errors
+///
+/// `OutOfMemory`.
+pub fn check_report(alloc: Global, checked: &Checked) -> Result<Report, AppFault>
+    requires { IsChecked checked.now }
+    ensures { IsCheckReport checked.now result }
+{
+    accepted_is_right();
+    Ok(Report::whole(String::from_str(alloc, "ok\n")?))
+}

@@ -1,0 +1,35 @@
+//! What `find` has to say.
+ghost use Rattle.std.specs.Prelude.{◌≡◌, ◌⊎◌};
+ghost use Rattle.cn_app.specs.Commands.Find.{IsFindReport};
+
+use crate::fault::AppFault;
+use crate::report::{Outcome, Report};
+use cn_cert::{Certificate, write_certificate};
+use cn_table::Table;
+use std::alloc::Global;
+use std::thread::Threads;
+
+/// The certificate of the table's consensus number up to the limit, and a line feed.
+///
+/// The number is the greatest n from 2 to the limit for which the type is n-discerning. `rt` starts
+/// the threads of the search.
+///
+/// # Errors
+///
+/// [`cn_search::find`] refuses the limit. Want of memory can stand in place of any answer.
+pub fn find_report<T: Threads + Sync>(
+    rt: &T,
+    alloc: Global,
+    table: &Table,
+    limit: u8,
+) -> Result<Report, AppFault>
+    ensures { IsFindReport table.now limit result }
+{
+    let finding = cn_search::find(rt, alloc, table, limit)?;
+    let Ok(certificate) = Certificate::of_finding(alloc, table, finding) else {
+        return Err(AppFault::OutOfMemory);
+    };
+    let mut text = write_certificate(alloc, &certificate)?;
+    text.push_str("\n")?;
+    Ok(Report::whole(text))
+}

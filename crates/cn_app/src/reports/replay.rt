@@ -1,0 +1,62 @@
+//! What `replay` has to say.
+ghost use Rattle.std.specs.Prelude.{◌≡◌};
+ghost use Rattle.std.specs.List.{list_any};
+ghost use Rattle.cn_app.specs.Answers.{is_full};
+ghost use Rattle.cn_app.specs.Commands.Replay.{IsReplayReport, outcome_of_answers};
+
+use crate::answers::answers_of;
+use crate::fault::AppFault;
+use crate::report::{Outcome, Report};
+use cn_lines::{answer_lines, entry_lines};
+use cn_log::{CallEnd, Event, Opening};
+use std::alloc::Global;
+
+/// Whether the call found no slot.
+fn is_full(end: CallEnd) -> bool
+    ensures { result ≡ is_full end }
+{
+    matches!(end, CallEnd::Full { .. })
+}
+
+/// Whether some call found no slot.
+fn has_full(ends: &[CallEnd]) -> bool
+    ensures { result ≡ list_any is_full ends.now }
+{
+    ends.iter().any(|end| is_full(*end))
+}
+
+/// Cut where some call found no slot.
+fn outcome_of_answers(ends: &[CallEnd]) -> Outcome
+    ensures { result ≡ outcome_of_answers ends.now }
+{
+    if has_full(ends) {
+        Outcome::Cut
+    } else {
+        Outcome::Whole
+    }
+}
+
+/// Serves the object of this opening by the events: a line for each call that is answered or that
+/// finds no slot, in the order of the events, and then a line for each entry of the log.
+///
+/// Whatever the events are, the answers are those of one sequential run of the calls, in the order
+/// of the log. `Cut` tells that some call found no slot.
+///
+/// # Errors
+///
+/// An event cannot come. Want of memory can stand in place of any answer.
+pub fn replay_report(
+    alloc: Global,
+    opening: Opening,
+    events: &[Event],
+) -> Result<Report, AppFault>
+    ensures { IsReplayReport opening events.now result }
+{
+    let replayed = answers_of(alloc, opening, events)?;
+    let opening = replayed.core.opening();
+    let mut text = answer_lines(alloc, opening.object(), &replayed.ends)?;
+    let entries = entry_lines(alloc, opening.object(), opening.start(), &replayed.core)?;
+    text.push_str(&entries)?;
+    let outcome = outcome_of_answers(&replayed.ends);
+    Ok(Report { text, outcome })
+}
