@@ -1,5 +1,5 @@
 -- The text of each fault, as it stands behind `cnum: ` on standard error, and its exit status.
-use Rattle.std.specs.Prelude.{ℕ, List, codes, ◌++◌, [], Bool, true, false, Option, Some, None, ◌≡◌, ◌≢◌}
+use Rattle.std.specs.Prelude.{ℕ, List, codes, ◌++◌, [], Bool, true, false}
 use Rattle.cn_table.specs.FaultText.{table_fault_text}
 use Rattle.cn_table.specs.declared.fault.TableFault.TheVariants as table
 use Rattle.cn_table.specs.declared.fault.TableFault.{TableFault}
@@ -122,15 +122,6 @@ status_of fault.Write = 4
 status_of fault.Thread = 4
 status_of fault.OutOfMemory = 5
 
--- the text that a fault is of: its reader failed, or it is too long, or it was refused
-abbrev pub text_of : AppFault → Option Source
-text_of (fault.Read s) = Some s
-text_of (fault.TooLong s) = Some s
-text_of (fault.Table f) = Some source.Table
-text_of (fault.Certificate f) = Some source.Certificate
-text_of (fault.Object f) = Some source.Object
-text_of f = None
-
 -- the fault of the command for a fault of the table, of the object's table, of the certificate's text, of the search, of the schedule, and of the events
 abbrev pub of_table : TableFault → AppFault
 of_table table.OutOfMemory = fault.OutOfMemory
@@ -155,10 +146,6 @@ of_schedule f = fault.Schedule f
 abbrev pub of_replay : ReplayFault → AppFault
 of_replay replay.OutOfMemory = fault.OutOfMemory
 of_replay f = fault.Replay f
-
--- a fault of the work between reading and writing: of no text that is read, and not of the writer
-abbrev pub IsOfWork : AppFault → Type 0
-IsOfWork e = (text_of e ≡ None) × (e ≢ fault.Write)
 
 -- the fault of the command for a fault of serving
 abbrev pub of_serving : ServeFault → AppFault

@@ -49,10 +49,6 @@ abbrev pub Gives : {R X : Type 0} → Source → (List ℕ → Result X AppFault
 Gives source reads text (Ok x) = IsWhole source text × (reads text.bytes.items ≡ Ok x)
 Gives source reads text (Err e) = FailsReading source text e ⊎ (IsKnown source text × (reads text.bytes.items ≡ Err e))
 
--- the text is as it was, or it was read
-abbrev pub MayHaveRead : {R : Type 0} → Source → (R → Option (List ℕ)) → Text R → Text R → Type 0
-MayHaveRead source remaining old new = (new ≡ old) ⊎ HasRead source remaining old new
-
 -- where the bytes that a reader has are known, what is read of them is what all of them spell, unless reading fails
 abbrev pub ReadsKnownBytes : {R X : Type 0} → Source → (List ℕ → Result X AppFault) → (R → Option (List ℕ)) → Type 0
 ReadsKnownBytes {R} {X} source reads remaining =

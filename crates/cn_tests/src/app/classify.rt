@@ -1,10 +1,12 @@
 //! Several tables, the second of which cannot be read to its end, and a writer with so much room.
+ghost use Rattle.cn_app.specs.Streams.Reading.{IsUnread};
+
 use super::streams::{Drip, Page};
 use crate::types::*;
-use cn_app::{AppFault, Named, Source, Tell, classify_each};
-use std::alloc::{AllocError, Global};
+use cn_app::commands::{NamedTable, Tell, classify_each};
+use cn_app::{AppFault, Output, Source, Text};
+use std::alloc::Global;
 use std::process::Abort;
-use std::test::Fail;
 use std::thread::Threads;
 
 /// Keeps what it is told: whether it was of one table, and the fault.
@@ -21,39 +23,44 @@ impl Tell for Kept {
     }
 }
 
-/// The tables.
-fn tables(alloc: Global) -> Result<Vec<Named<'static, Drip<'static>>>, AllocError> {
-    let mut tables = Vec::new(alloc);
-    for (text, left) in [(test_and_set(), 1000), (idle(), 7), (sticky_bit(), 1000)] {
-        let bytes = text.as_bytes();
-        let reader = Drip { bytes, left };
-        tables.push(Named { name: "t", reader })?;
+/// A table of this text, whose reader fails once it gave so many bytes.
+fn table_of(alloc: Global, text: &'static str, left: usize) -> NamedTable<'static, Drip<'static>>
+    ensures { IsUnread result.text }
+{
+    let bytes = text.as_bytes();
+    NamedTable {
+        name: "t",
+        text: Text::new(alloc, Drip { bytes, left }),
     }
-    Ok(tables)
 }
 
 /// Whether these faults are told where the writer has so much room, and this is the answer.
+#[tactic(auto, using(crate::proofs::Unread::three_unread))]
 fn is_told<T: Threads + Sync>(
     rt: &T,
     alloc: Global,
     room: usize,
     told: &[(bool, AppFault)],
     first: AppFault,
-) -> Result<bool, AllocError> {
-    let tables = tables(alloc)?;
-    let mut page = Page::new(room);
+) -> bool {
+    let mut tables = [
+        table_of(alloc, test_and_set(), 1000),
+        table_of(alloc, idle(), 7),
+        table_of(alloc, sticky_bit(), 1000),
+    ];
+    let mut output = Output::new(alloc, Page::new(room));
     let mut kept = Kept {
         told: Vec::new(alloc),
     };
-    let fault = classify_each(rt, alloc, tables, &mut page, &mut kept, 8);
+    let fault = classify_each(rt, alloc, &mut tables, &mut output, &mut kept, 8);
     let whole = "test_and_set: 2\nsticky_bit: at least 8\n".as_bytes();
-    let is_written = page.written.len() == room.min(whole.len());
-    let is_right = is_written && whole.starts_with(page.written.as_slice());
-    Ok(is_right && fault == Some(first) && kept.told.as_slice() == told)
+    let written = output.writer.written.as_slice();
+    let is_right = written.len() == room.min(whole.len()) && whole.starts_with(written);
+    is_right && fault == Some(first) && kept.told.as_slice() == told
 }
 
 #[test]
-fn faults_of_tables_and_of_the_writer_are_told(rt: HostRuntime) -> Result<(), Fail> {
+fn faults_of_tables_and_of_the_writer_are_told(rt: HostRuntime) {
     let read = (true, AppFault::Read(Source::Table));
     let write = (false, AppFault::Write);
     for (room, told, first) in [
@@ -61,7 +68,6 @@ fn faults_of_tables_and_of_the_writer_are_told(rt: HostRuntime) -> Result<(), Fa
         (16, &[read, write], read),
         (512, &[read], read),
     ] {
-        assert!(rt; is_told(&rt, rt.alloc(), room, told, first.1)?);
+        assert!(rt; is_told(&rt, rt.alloc(), room, told, first.1));
     }
-    Ok(())
 }

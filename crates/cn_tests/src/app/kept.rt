@@ -16,10 +16,8 @@ fn kept<T: Threads + Sync>(
     room: usize,
 ) -> Option<(usize, Progress, usize, Progress)> {
     let bytes = test_and_set().as_bytes();
-    let mut reader = Drip { bytes, left };
-    let mut page = Page::new(room);
-    let mut table = Text::new(alloc, &mut reader);
-    let mut output = Output::new(alloc, &mut page);
+    let mut table = Text::new(alloc, Drip { bytes, left });
+    let mut output = Output::new(alloc, Page::new(room));
     let _ = commands::find(rt, alloc, &mut table, &mut output, 3);
     let (read, handed) = (table.bytes.as_slice(), output.bytes.as_slice());
     let is_found = match handed.split_last() {

@@ -1,5 +1,5 @@
 //! A list of as many items as one may have, which is more than the words of a program may be long.
-use cn_app::{AppFault, Part, read_schedule};
+use cn_app::{AppFault, ListText, Part, read_schedule};
 use std::alloc::Global;
 use std::process::Abort;
 
@@ -7,7 +7,7 @@ use std::process::Abort;
 fn steps_of(alloc: Global, items: usize) -> Result<usize, AppFault> {
     let text = "0,".repeat(alloc, items)?;
     match text.as_str().strip_suffix(",") {
-        Some(list) => Ok(read_schedule(alloc, list)?.len()),
+        Some(list) => Ok(read_schedule(alloc, ListText::Word(list))?.len()),
         None => Ok(0),
     }
 }

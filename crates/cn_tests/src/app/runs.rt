@@ -1,11 +1,12 @@
 //! Each command over a caller's readers, which give a byte at a time, and writer.
+ghost use Rattle.cn_app.specs.Streams.Writing.{IsWritable};
+ghost use Rattle.cn_app.specs.Texts.Openings.{AreUnread};
+
 use super::streams::{Drip, Page};
 use crate::certificates::*;
 use crate::types::*;
-use cn_app::{
-    AppFault, Outcome, Source, run_agree, run_check, run_classify, run_find, run_replay, run_serve,
-    run_show,
-};
+use cn_app::readers::OpeningArguments;
+use cn_app::{AppFault, Form, ListText, Outcome, Output, Source, Text, commands};
 use cn_hall::AlwaysOn;
 use std::alloc::Global;
 use std::process::Abort;
@@ -57,113 +58,87 @@ pub(crate) fn all_commands() -> [Command; 7] {
     ]
 }
 
-/// The readers of a command and its writer.
-#[derive(Drop)]
-pub(crate) struct Streams {
-    table: Drip<'static>,
-    certificate: Drip<'static>,
-    object: Drip<'static>,
-    page: Page,
-}
+/// How a command ended, and the page on which it wrote.
+pub(crate) type Ran = (Result<Outcome, AppFault>, Page);
 
-/// A reader that gives the text a byte at a time, to its end.
-fn whole(text: &'static str) -> Drip<'static> {
+/// A reader that gives the text a byte at a time: to its end, or 40 bytes where it is to fail.
+fn reader_of(text: &'static str, fails: bool) -> Drip<'static> {
     Drip {
         bytes: text.as_bytes(),
-        left: usize::MAX,
+        left: if fails { 40 } else { usize::MAX },
     }
 }
 
-/// Test-and-set, its certificate and the counter, and a page with so much room.
-fn streams_to(room: usize) -> Streams {
-    Streams {
-        table: whole(test_and_set()),
-        certificate: whole(test_and_set_at_3()),
-        object: whole(counter_3()),
-        page: Page::new(room),
-    }
-}
+/// What the commands read of test-and-set, its certificate and the counter.
+type Given = OpeningArguments<'static, Drip<'static>, Drip<'static>, Drip<'static>>;
 
-/// The same with room for all.
-pub(crate) fn whole_streams() -> Streams {
-    streams_to(512)
-}
-
-impl Streams {
-    /// The reader fails once it gave 40 bytes.
-    fn cut(&mut self, source: Source) {
-        match source {
-            Source::Table => self.table.left = 40,
-            Source::Certificate => self.certificate.left = 40,
-            Source::Object => self.object.left = 40,
-            Source::Argument(_) => {}
-        }
-    }
-
-    pub(crate) fn is_unwritten(&self) -> bool {
-        self.page.written.is_empty()
-    }
-
-    /// Whether these lines were written, and a line feed.
-    pub(crate) fn has(&self, lines: &str) -> bool {
-        match self.page.written.as_slice().split_last() {
-            Some((last, before)) => *last == b'\n' && before == lines.as_bytes(),
-            None => false,
-        }
+/// The same, where one reader is to fail.
+fn given_of(alloc: Global, failing: Option<Source>) -> Given
+    ensures { AreUnread result }
+{
+    let table = reader_of(test_and_set(), failing == Some(Source::Table));
+    let certificate = reader_of(test_and_set_at_3(), failing == Some(Source::Certificate));
+    let object = reader_of(counter_3(), failing == Some(Source::Object));
+    OpeningArguments {
+        table: Text::new(alloc, table),
+        certificate: Text::new(alloc, certificate),
+        object: Text::new(alloc, object),
+        start: "0",
+        capacity: "4",
     }
 }
 
 impl Command {
-    /// How the command ends.
+    /// Does the command, where one reader is to fail and the writer has so much room.
     pub(crate) fn run<T: Threads + Wait + Sync>(
         self,
         rt: &T,
         alloc: Global,
-        streams: &mut Streams,
-    ) -> Result<Outcome, AppFault> {
-        let table = &mut streams.table;
-        let certificate = &mut streams.certificate;
-        let object = &mut streams.object;
-        let page = &mut streams.page;
+        failing: Option<Source>,
+        room: usize,
+    ) -> Ran {
+        let mut given = given_of(alloc, failing);
+        let mut output = Output::new(alloc, Page::new(room));
+        let ended = self.run_to(rt, alloc, &mut given, &mut output);
+        let Output { writer, .. } = output;
+        (ended, writer)
+    }
+
+    fn run_to<T: Threads + Wait + Sync>(
+        self,
+        rt: &T,
+        alloc: Global,
+        given: &mut Given,
+        output: &mut Output<Page>,
+    ) -> Result<Outcome, AppFault>
+        requires given { AreUnread given.old }
+        requires output { IsWritable output.old }
+    {
+        let (inputs, schedule) = (ListText::Word("10,20"), ListText::Word("1,1,0,0,0,0"));
+        let (events, calls) = (ListText::Word(HELPED), ListText::Word("0,0/none"));
         match self {
-            Command::Find => run_find(rt, alloc, table, page, 3),
-            Command::Classify => run_classify(rt, alloc, table, page, 8),
-            Command::Check => run_check(rt, alloc, table, certificate, page),
-            Command::Show => run_show(rt, alloc, table, certificate, page),
-            Command::Agree => run_agree(
-                rt,
-                alloc,
-                table,
-                certificate,
-                page,
-                "10,20",
-                "1,1,0,0,0,0",
-            ),
-            Command::Replay => {
-                run_replay(
-                    rt,
-                    alloc,
-                    table,
-                    certificate,
-                    object,
-                    page,
-                    "0",
-                    "4",
-                    HELPED,
-                )
+            Command::Find => commands::find(rt, alloc, &mut given.table, output, 3),
+            Command::Classify => commands::classify(rt, alloc, &mut given.table, output, 8),
+            Command::Check => {
+                commands::check(alloc, &mut given.table, &mut given.certificate, output)
             }
-            Command::Serve => run_serve(
-                rt,
+            Command::Show => commands::show(
                 alloc,
-                table,
-                certificate,
-                object,
-                page,
-                "0",
-                "4",
-                "0,0/none",
-                |_| AlwaysOn,
+                &mut given.table,
+                &mut given.certificate,
+                output,
+                Form::Text,
             ),
+            Command::Agree => commands::agree(
+                alloc,
+                &mut given.table,
+                &mut given.certificate,
+                output,
+                inputs,
+                schedule,
+            ),
+            Command::Replay => commands::replay(alloc, given, output, events),
+            Command::Serve => commands::serve(rt, alloc, given, output, calls, |_| AlwaysOn),
         }
     }
 
@@ -195,13 +170,11 @@ impl Command {
 /// does not read.
 fn tells_readers<R: Threads + Wait + Sync>(rt: &R, alloc: Global, command: Command) -> bool {
     for source in [Source::Table, Source::Certificate, Source::Object] {
-        let mut streams = whole_streams();
-        streams.cut(source);
-        let ended = command.run(rt, alloc, &mut streams);
+        let (ended, page) = command.run(rt, alloc, Some(source), 512);
         let is_told = if command.reads(source) {
-            ended == Err(AppFault::Read(source)) && streams.is_unwritten()
+            ended == Err(AppFault::Read(source)) && page.written.is_empty()
         } else {
-            ended == Ok(Outcome::Whole) && streams.has(command.lines())
+            ended == Ok(Outcome::Whole) && page.has(command.lines())
         };
         if !is_told {
             return false;
@@ -212,9 +185,8 @@ fn tells_readers<R: Threads + Wait + Sync>(rt: &R, alloc: Global, command: Comma
 
 /// Whether it tells of a writer that takes one byte and then fails.
 fn tells_a_writer<R: Threads + Wait + Sync>(rt: &R, alloc: Global, command: Command) -> bool {
-    let mut streams = streams_to(1);
-    let ended = command.run(rt, alloc, &mut streams);
-    ended == Err(AppFault::Write) && streams.page.written.len() == 1
+    let (ended, page) = command.run(rt, alloc, None, 1);
+    ended == Err(AppFault::Write) && page.written.len() == 1
 }
 
 #[test]

@@ -5,7 +5,8 @@ ghost use Rattle.cn_hall.specs.declared.call.Go.TheVariants.{On};
 use crate::certificates::*;
 use crate::gates::{Holds, StopsAt};
 use crate::types::*;
-use cn_app::{AppFault, Outcome, run_serve};
+use cn_app::readers::OpeningArguments;
+use cn_app::{AppFault, ListText, Outcome, Output, Text, commands};
 use cn_hall::{Gate, Go};
 use std::alloc::Global;
 use std::process::Abort;
@@ -25,20 +26,18 @@ where
     requires gates { F.IsAlwaysCallable make_gate }
     requires on { (p : ℕ) (g : _) → F.post make_gate p g → G.says g ≡ On }
 {
-    let mut written = Vec::new(alloc);
-    let ended = run_serve(
-        rt,
-        alloc,
-        &mut texts.0.as_bytes(),
-        &mut texts.1.as_bytes(),
-        &mut counter_3().as_bytes(),
-        &mut written,
-        "0",
-        "4",
-        calls,
-        make_gate,
-    );
-    (ended, written)
+    let mut given = OpeningArguments {
+        table: Text::new(alloc, texts.0.as_bytes()),
+        certificate: Text::new(alloc, texts.1.as_bytes()),
+        object: Text::new(alloc, counter_3().as_bytes()),
+        start: "0",
+        capacity: "4",
+    };
+    let mut output = Output::new(alloc, Vec::new(alloc));
+    let calls = ListText::Word(calls);
+    let ended = commands::serve(rt, alloc, &mut given, &mut output, calls, make_gate);
+    let Output { writer, .. } = output;
+    (ended, writer)
 }
 
 /// Two processes, the second of which is stopped before its third step.

@@ -41,6 +41,14 @@ impl Page {
             room,
         }
     }
+
+    /// Whether these lines were written, and a line feed.
+    pub(crate) fn has(&self, lines: &str) -> bool {
+        match self.written.as_slice().split_last() {
+            Some((last, before)) => *last == b'\n' && before == lines.as_bytes(),
+            None => false,
+        }
+    }
 }
 
 impl Write for Page {

@@ -1,8 +1,8 @@
 //! Arguments that are lists, and the commands over a caller's readers and writer.
 use super::protocol::helped;
 use super::*;
-use crate::app::runs::{Command, HELPED, Streams, all_commands, whole_streams};
-use cn_app::{AppFault, Outcome, read_calls, read_events, read_inputs, read_schedule};
+use crate::app::runs::{Command, HELPED, Ran, all_commands};
+use cn_app::{AppFault, ListText, Outcome, read_calls, read_events, read_inputs, read_schedule};
 use cn_log::Event;
 use std::sync::Wait;
 use std::thread::Threads;
@@ -16,19 +16,20 @@ fn list_ended(list: Result<bool, AppFault>) -> Ended {
 }
 
 fn are_inputs(alloc: Global) -> Result<bool, AppFault> {
-    Ok(read_inputs(alloc, "10,20")?.as_slice() == [10, 20].as_slice())
+    Ok(read_inputs(alloc, ListText::Word("10,20"))?.as_slice() == [10, 20].as_slice())
 }
 
 fn is_schedule(alloc: Global) -> Result<bool, AppFault> {
-    Ok(read_schedule(alloc, "1,1,0,0")?.as_slice() == [1, 1, 0, 0].as_slice())
+    let schedule = read_schedule(alloc, ListText::Word("1,1,0,0"))?;
+    Ok(schedule.as_slice() == [1, 1, 0, 0].as_slice())
 }
 
 fn are_events(alloc: Global, wanted: &[Event]) -> Result<bool, AppFault> {
-    Ok(read_events(alloc, HELPED)?.as_slice() == wanted)
+    Ok(read_events(alloc, ListText::Word(HELPED))?.as_slice() == wanted)
 }
 
 fn are_calls(alloc: Global) -> Result<bool, AppFault> {
-    let calls = read_calls(alloc, "0,0/none")?;
+    let calls = read_calls(alloc, ListText::Word("0,0/none"))?;
     Ok(calls.len() == 2 && calls[0].as_slice() == [0, 0].as_slice() && calls[1].is_empty())
 }
 
@@ -63,26 +64,15 @@ fn calls(rt: HostRuntime) {
     sweep!(&rt, alloc, list = are_calls(alloc), list_ended(list));
 }
 
-/// What a command comes to, and its streams.
-fn run_of<R: Threads + Wait + Sync>(
-    rt: &R,
-    alloc: Global,
-    command: Command,
-) -> (Result<Outcome, AppFault>, Streams) {
-    let mut streams = whole_streams();
-    let outcome = command.run(rt, alloc, &mut streams);
-    (outcome, streams)
-}
-
 /// How a command ended. Where a thread could not be started for want of memory, `serve` says so.
-fn run_ended(command: Command, run: (Result<Outcome, AppFault>, Streams)) -> Ended {
-    let (outcome, streams) = run;
+fn run_ended(command: Command, run: Ran) -> Ended {
+    let (outcome, page) = run;
     match outcome {
-        Ok(outcome) => Ended::whole_if(outcome == Outcome::Whole && streams.has(command.lines())),
+        Ok(outcome) => Ended::whole_if(outcome == Outcome::Whole && page.has(command.lines())),
         Err(fault) => {
             let is_thread = matches!(command, Command::Serve) && fault == AppFault::Thread;
             let is_out_of_memory = is_thread || fault == AppFault::OutOfMemory;
-            Ended::out_of_memory_if(is_out_of_memory && streams.is_unwritten())
+            Ended::out_of_memory_if(is_out_of_memory && page.written.is_empty())
         }
     }
 }
@@ -94,7 +84,7 @@ where
     sweep!(
         rt,
         alloc,
-        run = run_of(rt, alloc, command),
+        run = command.run(rt, alloc, None, 512),
         run_ended(command, run)
     );
 }
