@@ -1,9 +1,8 @@
 //! What `find` has to say.
-ghost use Rattle.std.specs.Prelude.{◌≡◌, ◌⊎◌};
 ghost use Rattle.cn_app.specs.Commands.Find.{IsFindReport};
 
 use crate::fault::AppFault;
-use crate::report::{Outcome, Report};
+use crate::report::Report;
 use cn_cert::{Certificate, write_certificate};
 use cn_table::Table;
 use std::alloc::Global;
