@@ -65,7 +65,9 @@ fn entry(process: u8, call: u16) -> Entry {
 /// Whether process p has replayed so many slots and seen so many entries there, and is in no call.
 fn rests(rt: &impl Abort, core: &LogCore, p: u8, replayed: u16, seen: u16) -> bool {
     assert!(rt; p < core.processes());
-    core.is_idle(p) && !core.at_end(p) && (core.applied_slots(p), core.applied_entries(p)) == (replayed, seen)
+    core.is_idle(p)
+        && !core.at_end(p)
+        && (core.applied_slots(p), core.applied_entries(p)) == (replayed, seen)
 }
 
 /// Whether the log of two processes and four slots has three entries, in the slots 0, 0 and 1.

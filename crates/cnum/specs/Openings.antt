@@ -5,7 +5,7 @@ use Rattle.cn_app.specs.declared.readers.opening.OpeningArguments.{OpeningArgume
 use Rattle.cnum.specs.declared.lazy_file.LazyFile.{LazyFile}
 
 -- each text is of the file that its word names, and the start and the number of slots are their words
-pub record HasArguments {I R S : Type 0} (words : OpeningWords) (given : OpeningArguments I (LazyFile R) (LazyFile S)) : Type 0 where
+pub record HasArguments {I R F D : Type 0} (words : OpeningWords) (given : OpeningArguments I (LazyFile R F D) (LazyFile R F D)) : Type 0 where
   pub certificate : given.certificate.reader.path ≡ words.certificate
   pub object : given.object.reader.path ≡ words.object
   pub start : given.start ≡ words.start

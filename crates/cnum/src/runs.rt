@@ -1,5 +1,7 @@
 //! What the program does with a command: it opens the files, and calls the library.
+ghost use Rattle.std.specs.Prelude.{IfOk};
 ghost use Rattle.cnum.specs.Openings.{HasArguments};
+ghost use Rattle.cn_app.specs.Commands.ClassifyEach.{AreUnread as AllUnread};
 ghost use Rattle.cn_app.specs.Streams.Reading.{IsUnread};
 ghost use Rattle.cn_app.specs.Streams.Writing.{IsWritable};
 ghost use Rattle.cn_app.specs.Texts.Openings.{AreUnread};
@@ -19,21 +21,35 @@ use std::rt::Files;
 use std::sync::Wait;
 use std::thread::Threads;
 
-// The tables that are named, of which nothing was read.
+// The table of this source, of which nothing was read; a minus sign is the name of standard input.
+fn named_table<'a, T: Files>(
+    rt: &'a T,
+    alloc: Global,
+    stdin: &'a Stdin,
+    source: TableSource<'a>,
+) -> NamedTable<'a, Given<'a, T>>
+    ensures { IsUnread result.text }
+{
+    let (name, reader) = match source {
+        TableSource::StandardInput => ("-", Given::Standard(stdin)),
+        TableSource::File(path) => (path, Given::File(LazyFile::new(rt, path))),
+    };
+    let text = Text::new(alloc, reader);
+    NamedTable { name, text }
+}
+
+// The tables of these sources, in order.
 fn named_tables<'a, T: Files>(
     rt: &'a T,
     alloc: Global,
     stdin: &'a Stdin,
     sources: &[TableSource<'a>],
-) -> Result<Vec<NamedTable<'a, Given<'a, T>>>, AllocError> {
+) -> Result<Vec<NamedTable<'a, Given<'a, T>>>, AllocError>
+    ensures { IfOk result (λ tables. AllUnread tables.items) }
+{
     let mut tables = Vec::with_capacity(alloc, sources.len())?;
     for source in sources {
-        let (name, reader) = match *source {
-            TableSource::StandardInput => ("-", Given::Standard(stdin)),
-            TableSource::File(path) => (path, Given::File(LazyFile::new(rt, path))),
-        };
-        let text = Text::new(alloc, reader);
-        tables.push_reserved(NamedTable { name, text });
+        tables.push(named_table(rt, alloc, stdin, *source))?;
     }
     Ok(tables)
 }
@@ -91,7 +107,14 @@ fn agree<T: Files, I: Read, O: Write>(
     let inputs = GivenList::read(rt, alloc, inputs, Part::Inputs)?;
     let schedule = GivenList::read(rt, alloc, schedule, Part::Schedule)?;
     let certificate = &mut file_text(rt, alloc, certificate);
-    commands::agree(alloc, table, certificate, output, inputs.text(), schedule.text())
+    commands::agree(
+        alloc,
+        table,
+        certificate,
+        output,
+        inputs.text(),
+        schedule.text(),
+    )
 }
 
 // Reads the events, and serves an object by them.
@@ -150,10 +173,22 @@ pub fn run<T: Threads + Wait + Sync + Files, I: Read + Drop, O: Write>(
             commands::check(alloc, text, &mut file_text(rt, alloc, certificate), output)
         }
         Command::Explain { certificate, all } => {
-            commands::explain(alloc, text, &mut file_text(rt, alloc, certificate), output, all)
+            commands::explain(
+                alloc,
+                text,
+                &mut file_text(rt, alloc, certificate),
+                output,
+                all,
+            )
         }
         Command::Show { certificate, form } => {
-            commands::show(alloc, text, &mut file_text(rt, alloc, certificate), output, form)
+            commands::show(
+                alloc,
+                text,
+                &mut file_text(rt, alloc, certificate),
+                output,
+                form,
+            )
         }
         Command::Agree {
             certificate,

@@ -1,9 +1,9 @@
 -- What a reader has given of bytes that are known.
-use Rattle.std.proofs.Common.{◌≡◌, ◌⊎◌, inl, inr, ℕ, ◌<◌, List, ◌++◌, length, Option, Some, None, Result, Ok, Err, arith, refl, sym, ap, subst, ◌∙◌}
+use Rattle.std.proofs.Common.{◌≡◌, inl, inr, ℕ, ◌<◌, List, ◌++◌, length, Option, Some, None, Result, Ok, Err, arith, refl, ap, subst, ◌∙◌}
 use Rattle.std.specs.Io.KnownBytes.{Consumes, IsAtEnd}
 use Rattle.std.proofs.lemmas.Bool.{lt-ltb}
 use Rattle.std.proofs.lemmas.List.{append-nil, length-append}
-use Rattle.cn_app.specs.Streams.Reading.{Gives, HasRead, IsKnown, ReadsKnownBytes, most_of}
+use Rattle.cn_app.specs.Streams.Reading.{HasRead, IsKnown, ReadsKnownBytes, most_of}
 use Rattle.cn_app.specs.Texts.Contents.{value_in}
 use Rattle.cn_app.specs.declared.fault.AppFault.{AppFault}
 use Rattle.cn_app.specs.declared.fault.Source.{Source}

@@ -1,10 +1,9 @@
 -- What a text that was read spells.
-use Rattle.std.proofs.Common.{◌≡◌, ◌≤◌, ◌<◌, inl, inr, ℕ, List, length, Result, Ok, Err, refl}
+use Rattle.std.proofs.Common.{◌≡◌, inl, inr, ℕ, List, length, Result, Ok, Err, refl}
 use Rattle.std.proofs.lemmas.Bool.{le-ltb, lt-ltb}
-use Rattle.cn_app.specs.Streams.Reading.{EndsText, FailsReading, Gives, IsWhole, most_of}
+use Rattle.cn_app.specs.Streams.Reading.{EndsText, Gives, IsWhole, most_of}
 use Rattle.cn_app.specs.Texts.Contents.{value_in}
 use Rattle.cn_app.specs.declared.fault.AppFault.{AppFault}
-use Rattle.cn_app.specs.declared.fault.AppFault.TheVariants.{TooLong}
 use Rattle.cn_app.specs.declared.fault.Source.{Source}
 use Rattle.cn_app.specs.declared.streams.text.Text.{Text}
 

@@ -1,10 +1,9 @@
 -- Texts that were not touched.
-use Rattle.std.proofs.Common.{◌≡◌, ◌≤◌, ◌+◌, ℕ, List, [], length, Option, Some, None, arith, ap, refl, sym, subst, ◌∙◌}
+use Rattle.std.proofs.Common.{◌≡◌, ℕ, List, length, Option, arith, ap, sym, subst, ◌∙◌}
 use Rattle.std.specs.Io.KnownBytes.{Consumes}
 use Rattle.std.proofs.KnownBytes.{Consumes-nil}
-use Rattle.cn_app.specs.Streams.Reading.{HasRead, IsUnread, most_of}
+use Rattle.cn_app.specs.Streams.Reading.{HasRead, IsUnread}
 use Rattle.cn_app.specs.declared.fault.Source.{Source}
-use Rattle.cn_app.specs.declared.streams.progress.Progress.{Progress}
 use Rattle.cn_app.specs.declared.streams.progress.Progress.TheVariants.{Open, Done}
 use Rattle.cn_app.specs.declared.streams.text.Text.{Text}
 

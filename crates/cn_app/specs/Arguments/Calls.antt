@@ -38,4 +38,3 @@ GivesCalls list r = GivesEach (process_texts list) r
 abbrev pub calls_fit : Opening → List (List ℕ) → Bool
 calls_fit o calls =
     (length calls == processes_of o.plan) && list_all (λ list. list_all (λ operation. nat_lt operation (length o.object.operations)) list) calls
-

@@ -1,5 +1,5 @@
 -- What `agree` writes, by the plan, the inputs and the schedule.
-use Rattle.std.specs.Prelude.{◌≡◌, ◌⊎◌, ℕ, List, None, Option, Some, Result, Ok, Err, IsSome, IsSomeAnd, string_bytes}
+use Rattle.std.specs.Prelude.{◌≡◌, ◌⊎◌, ℕ, List, None, Result, Ok, Err, IsSome, IsSomeAnd, string_bytes}
 use Rattle.cn_proto.specs.Plan.{Plan, processes_of, protocol_of}
 use Rattle.cn_agree.specs.Consensus.{IsConsensus}
 use Rattle.cn_agree.specs.Schedules.{decisions_after, schedule_fault}

@@ -7,8 +7,8 @@ use crate::threads::serving::Left;
 use crate::threads::workers::{End, Worked};
 use cn_hall::Reply;
 use cn_lines::{entry_lines, events_line, put_answer_line, put_number};
-use cn_log::laws::logs_are_linearized;
 use cn_log::CallEnd;
+use cn_log::laws::logs_are_linearized;
 use cn_table::{State, Table};
 use std::alloc::{AllocError, Global};
 

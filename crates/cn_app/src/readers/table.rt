@@ -31,10 +31,7 @@ pub fn read_table<R: Read>(alloc: Global, text: &mut Text<R>) -> Result<Table, A
 ///
 /// The first of these: the reader fails, or gives more; the text is refused. Want of memory can
 /// stand in place of any answer.
-pub fn read_certificate<R: Read>(
-    alloc: Global,
-    text: &mut Text<R>,
-) -> Result<Certificate, AppFault>
+pub fn read_certificate<R: Read>(alloc: Global, text: &mut Text<R>) -> Result<Certificate, AppFault>
     requires { IsUnread text.old }
     ensures read { HasRead Source.Certificate R.remaining text.old text.new }
     ensures certificate { GivesCertificate text.new result }

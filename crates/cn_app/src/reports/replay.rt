@@ -45,11 +45,7 @@ fn outcome_of_answers(ends: &[CallEnd]) -> Outcome
 /// # Errors
 ///
 /// An event cannot come. Want of memory can stand in place of any answer.
-pub fn replay_report(
-    alloc: Global,
-    opening: Opening,
-    events: &[Event],
-) -> Result<Report, AppFault>
+pub fn replay_report(alloc: Global, opening: Opening, events: &[Event]) -> Result<Report, AppFault>
     ensures { IsReplayReport opening events.now result }
 {
     let replayed = answers_of(alloc, opening, events)?;

@@ -7,9 +7,8 @@ ghost use Rattle.cn_choice.specs.RawChoices.{IsRawChoice};
 ghost use Rattle.cn_forms.specs.Explained.{both_teams, cannot_tell, choice_text, member, members, run_line, run_lines, sight, step_text, steps_text, way, way_line, way_number, ways, IsRefuted};
 
 use crate::explained::pairs::push_got;
-use cn_choice::RawChoice;
 use cn_choice::reference::raw_pair;
-use cn_choice::{Choice, Collision, Team};
+use cn_choice::{Choice, Collision, RawChoice, Team};
 use cn_table::{Operation, State, Table};
 use std::alloc::AllocError;
 

@@ -1,4 +1,4 @@
-use Rattle.std.proofs.Common.{◌≡◌, ◌∙◌, ◌==◌, ℕ, List, ap, map, subst}
+use Rattle.std.proofs.Common.{◌∙◌, ◌==◌, ℕ, List, ap, map, subst}
 use Rattle.std.specs.List.{slice_split}
 use Rattle.cn_app.specs.Arguments.Calls.{GivesEach}
 use Rattle.cn_app.proofs.arguments.calls.read_calls.Goals as goal

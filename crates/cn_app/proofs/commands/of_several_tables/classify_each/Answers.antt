@@ -1,4 +1,4 @@
-use Rattle.std.proofs.Common.{◌≡◌, ◌<◌, ◌≤◌, ◌∷◌, ◌++◌, ◌+◌, ◌∙◌, List, length, slice_index_or, drop, take, arith, refl, sym, subst}
+use Rattle.std.proofs.Common.{◌<◌, ◌+◌, ◌∙◌, List, length, slice_index_or, drop, take, arith, refl, sym, subst}
 use Rattle.std.proofs.lemmas.List.{drop_all, drop_more, take_all}
 use Rattle.cn_app.specs.Commands.ClassifyEach.{AreClassified}
 use Rattle.cn_app.specs.Commands.Classify.{HasClassReport}
@@ -60,7 +60,7 @@ returns-then-is_of_every_table g c =
     let old = slice_index_or now i c.table-item.result in
     let new : NamedTable g.row.R.Denot = record { name = old.name; text = c.classify.new.table } in
     subst (λ (l : List (NamedTable g.row.R.Denot)). AreClassified g.R.Read.remaining g.W.Write.contents g.F.Tell.tells c.args.limit c.args.tables.now l
-        c.args.output.now c.args.faults.now c.or-first.result c.classify.new.output c.tell.new.self)
+    c.args.output.now c.args.faults.now c.or-first.result c.classify.new.output c.tell.new.self)
     (sym (placed now i new less))
     (ends_all g.R.Read.remaining g.W.Write.contents g.F.Tell.tells c.args.limit c.args.tables.now c.args.output.now c.args.faults.now
     c.loop-table.first (take i now) (drop i now) (drop (i + 1) now) old new c.loop-table.output c.classify.new.output c.loop-table.faults c.loop-table.invariant.leads
@@ -72,7 +72,7 @@ returns g c =
     let i = c.loop-table.table-index in
     let now = c.loop-table.tables in
     subst (λ (l : List (NamedTable g.row.R.Denot)). AreClassified g.R.Read.remaining g.W.Write.contents g.F.Tell.tells c.args.limit c.args.tables.now l
-        c.args.output.now c.args.faults.now c.loop-table.first c.loop-table.output c.loop-table.faults)
+    c.args.output.now c.args.faults.now c.loop-table.first c.loop-table.output c.loop-table.faults)
     (take_all i now (omega (arith, c.loop-table-test.false, c.loop-table.auto.tables)))
     (all_classified g.R.Read.remaining g.W.Write.contents g.F.Tell.tells c.args.limit c.args.tables.now c.args.output.now c.args.faults.now
     c.loop-table.first (take i now) (drop i now) c.loop-table.output c.loop-table.faults c.loop-table.invariant.leads (drop_all i now (omega (arith, c.loop-table-test.false, c.loop-table.auto.tables))))

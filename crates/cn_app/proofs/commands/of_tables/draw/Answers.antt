@@ -1,6 +1,4 @@
-use Rattle.std.proofs.Common.{inl, inr, refl}
-use Rattle.std.proofs.lemmas.Result.{err_from_is_err_and}
-use Rattle.cn_app.proofs.CommandLemmas.Silence.{silent}
+use Rattle.std.proofs.Common.{inr}
 use Rattle.cn_app.proofs.commands.of_tables.draw.Goals as goal
 
 pub returns-clause-drawn : goal.returns-clause-drawn

@@ -1,7 +1,5 @@
-use Rattle.std.proofs.Common.{inl, inr, refl, subst, List, ℕ, Ok}
-use Rattle.std.proofs.lemmas.Result.{err_from_is_err_and}
+use Rattle.std.proofs.Common.{inr, subst, List, ℕ, Ok}
 use Rattle.cn_app.specs.Commands.Lint.{IsLintReport}
-use Rattle.cn_app.proofs.CommandLemmas.Silence.{silent}
 use Rattle.cn_app.proofs.commands.of_tables.lint.Goals as goal
 
 pub returns-clause-linted : goal.returns-clause-linted
