@@ -15,7 +15,7 @@ ghost use Rattle.cn_agree.specs.declared.local.Local.TheVariants.{NotBegun};
 
 use crate::round::Round;
 use cn_proto::Plan;
-use cn_proto::laws::every_plan;
+use cn_proto::laws::{every_plan, plans_are_sound};
 
 /// A step is atomic: one action touches one object or one register, and all else stays, but the
 /// local state of the process and the record of the first application at the root; and what the
@@ -31,7 +31,7 @@ pub fn every_schedule<V>(plan: &Plan)
     ensures { (inputs : List V) (schedule : List ℕ) → length inputs ≡ processes_of plan.now → IsSchedule (processes_of plan.now) schedule
         → IsConsensus (protocol_of plan.now) (processes_of plan.now) inputs schedule (decisions_after plan.now inputs schedule) }
 {
-    plan.is_sound();
+    plans_are_sound(plan);
 }
 
 /// The same, said of each plan as data.

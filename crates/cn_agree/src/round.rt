@@ -13,6 +13,7 @@ use crate::local::{Local, Stage};
 use crate::node::Node;
 use cn_choice::Team;
 use cn_proto::Plan;
+use cn_proto::laws::plans_are_sound;
 use std::alloc::{AllocError, Global};
 use std::marker::Model;
 
@@ -65,7 +66,7 @@ impl<V: Copy> Round<V> {
         ensures world { IfOk result (λ round. round ≡ first_world (protocol_of plan.now) (processes_of plan.now) (nodes_of plan.now)) }
         ensures of_plan { IfOk result (IsRoundOf plan.now []) }
     {
-        plan.is_sound();
+        plans_are_sound(plan);
         let fresh_node = Node {
             state: plan.start(),
             register_a: None,
@@ -108,7 +109,7 @@ impl<V: Copy> Round<V> {
         ensures of_plan { (schedule : List ℕ) → IsRoundOf plan.now schedule self.old → IsRoundOf plan.now (schedule ++ p ∷ []) self.new }
         ensures fixed { (x : V) → fixed_value self.old ≡ Some x → fixed_value self.new ≡ Some x }
     {
-        plan.is_sound();
+        plans_are_sound(plan);
         match self.locals[usize::from(p)].turn() {
             Some((place, stage)) => {
                 let path = plan.path(p);

@@ -11,6 +11,7 @@ ghost use Rattle.cn_agree.specs.declared.fault.ScheduleFault.TheVariants.{OutOfM
 
 use crate::{Round, ScheduleFault, laws};
 use cn_proto::Plan;
+use cn_proto::laws::plans_are_sound;
 use std::alloc::{AllocError, Global};
 use std::marker::Model;
 
@@ -54,7 +55,7 @@ fn begin_all<V: Copy>(plan: &Plan, round: &mut Round<V>, inputs: &[V])
     requires fresh { HaveBegun plan.now inputs.now 0 round.old }
     ensures { HaveBegun plan.now inputs.now (processes_of plan.now) round.new }
 {
-    plan.is_sound();
+    plans_are_sound(plan);
     for p in 0..inputs.len() {
         round.begin(p as u8, inputs[p]);
     }
@@ -69,7 +70,7 @@ fn step_all<V: Copy>(plan: &Plan, round: &mut Round<V>, schedule: &[u8])
     ensures of_plan { RunsBy plan.now round.new }
     ensures begun { AllHaveBegun (processes_of plan.now) round.new }
 {
-    plan.is_sound();
+    plans_are_sound(plan);
     for p in schedule {
         if round.decision(*p).is_none() {
             round.step(plan, *p);

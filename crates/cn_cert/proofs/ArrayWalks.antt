@@ -13,7 +13,7 @@ use Rattle.cn_cert.specs.Document.{list_of}
 use Rattle.cn_cert.specs.Draft.{choice_from, choice_of, collision_from, collision_of}
 use Rattle.cn_cert.specs.Reads.{Reads, Refuses}
 use Rattle.cn_cert.specs.Values.{items_of_len, natural_of, naturals_of}
-use Rattle.cn_cert.specs.Tokens.{data_at, items_at, rest_at, with_value, nothing, next_item, next_choice, first_item, later_items, choice_parts, next_collision, whole, in_array, collision_parts, is_over, all_items}
+use Rattle.cn_cert.specs.Tokens.{data_at, items_at, rest_at, with_value, nothing, next_item, next_choice, first_item, later_items, choice_parts, next_collision, sole_thing, in_array, collision_parts, is_over, all_items}
 use Rattle.cn_cert.specs.declared.fault.CertFault.{CertFault}
 use Rattle.cn_cert.specs.declared.fault.CertFault.TheVariants.{NotJson}
 use Rattle.std.proofs.lemmas.Bool.{eqb-true}
@@ -207,7 +207,7 @@ all_parts (Some c) (Some p) None b = refl
 all_parts (Some c) (Some p) (Some a) None = refl
 all_parts (Some c) (Some p) (Some a) (Some b) = refl
 
-choice_is : (ds : Items) → choice_of (array ds) ≡ whole next_choice ds
+choice_is : (ds : Items) → choice_of (array ds) ≡ sole_thing next_choice ds
 unfolding choice_from
 choice_is no_items = refl
 choice_is (item d no_items) = sym (parts_short (natural_of d) None)
@@ -215,7 +215,7 @@ choice_is (item d (item e no_items)) = sym (parts_short (natural_of d) (naturals
 choice_is (item d (item e (item f no_items))) = refl
 choice_is (item d (item e (item f (item g ds)))) = rw (not_so_many (length (d ∷ e ∷ f ∷ g ∷ list_of ds)) 3 (omega arith)) refl
 
-collision_is : (ds : Items) → collision_of (array ds) ≡ whole next_collision ds
+collision_is : (ds : Items) → collision_of (array ds) ≡ sole_thing next_collision ds
 unfolding collision_from choice_from
 collision_is no_items = refl
 collision_is (item d no_items) = ap (λ c. collision_parts c None) (sym (parts_short (natural_of d) None))
@@ -236,11 +236,11 @@ in_array_of len from parts are (string s) = refl
 in_array_of len from parts are (array ds) = sym (are ds)
 in_array_of len from parts are (object ms) = refl
 
-pub choice_in_array : (d : Data) → in_array (whole next_choice) d ≡ choice_of d
-choice_in_array = in_array_of 3 choice_from (whole next_choice) choice_is
+pub choice_in_array : (d : Data) → in_array (sole_thing next_choice) d ≡ choice_of d
+choice_in_array = in_array_of 3 choice_from (sole_thing next_choice) choice_is
 
-pub collision_in_array : (d : Data) → in_array (whole next_collision) d ≡ collision_of d
-collision_in_array = in_array_of 6 collision_from (whole next_collision) collision_is
+pub collision_in_array : (d : Data) → in_array (sole_thing next_collision) d ≡ collision_of d
+collision_in_array = in_array_of 6 collision_from (sole_thing next_collision) collision_is
 
 -- ---- steps within such an array
 

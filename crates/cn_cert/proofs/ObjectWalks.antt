@@ -10,7 +10,7 @@ use Rattle.serde_json.proofs.Views.{get_member-put, get_member-put_other}
 use Rattle.cn_cert.specs.Document.{members_len}
 use Rattle.cn_cert.specs.Draft.{choice_of, collisions_of, draft_from, draft_of}
 use Rattle.cn_cert.specs.Values.{natural_of, nullable, at_key}
-use Rattle.cn_cert.specs.Tokens.{data_at, with_value, Slots, slots_of, with_member, draft_parts, keys_of}
+use Rattle.cn_cert.specs.Tokens.{data_at, with_value, MemberSlots, slots_of, with_member, draft_parts, keys_of}
 use Rattle.cn_cert.proofs.Walks.{told_of}
 use Rattle.cn_cert.proofs.ArrayWalks.{sort, token_sort, sorted}
 
@@ -83,6 +83,6 @@ keys_len no_members = refl
 keys_len (member k d ms) = ap (λ n. n + 1) (keys_len ms)
 
 -- the draft of an object, by its slots and how many keys it has
-pub draft_is : (ms : Members) (six : Bool) (s : Slots) → (members_len (keys_of ms) == 6) ≡ six → slots_of ms ≡ s → draft_of (object ms) ≡ (if six then draft_parts s else None)
+pub draft_is : (ms : Members) (six : Bool) (s : MemberSlots) → (members_len (keys_of ms) == 6) ≡ six → slots_of ms ≡ s → draft_of (object ms) ≡ (if six then draft_parts s else None)
 unfolding draft_from
 draft_is ms six s e f = ap (λ n. if n == 6 then draft_from ms else None) (sym (keys_len ms)) ∙ ap (λ b. if b then draft_parts (slots_of ms) else None) e ∙ ap (λ x. if six then draft_parts x else None) f

@@ -73,8 +73,8 @@ only_if true o = o
 only_if false o = None
 
 -- such a thing and nothing behind it
-abbrev pub whole : {X : Type 0} → (Items → Option X × Items) → Items → Option X
-whole parts ds = only_if (is_over (parts ds).1) (parts ds).0
+abbrev pub sole_thing : {X : Type 0} → (Items → Option X × Items) → Items → Option X
+sole_thing parts ds = only_if (is_over (parts ds).1) (parts ds).0
 
 -- what an array is by its items
 abbrev pub in_array : {X : Type 0} → (Items → Option X) → Data → Option X
@@ -106,16 +106,16 @@ abbrev pub IsLast : Bool → List Token → List Token → Type 0
 IsLast more old new = (depth : ℕ) → rest_at more depth old ≡ Some (no_items, new)
 
 -- from the front of what is left of an array this was taken, and that is left
-abbrev pub Takes : {X : Type 0} → (Items → Option X × Items) → ℕ → Option X → Bool → List Token → Bool → List Token → Type 0
-Takes parts depth o more old more_after new = with_value parts (rest_at more depth old) ≡ with_value (λ ds. (o, ds)) (rest_at more_after depth new)
+abbrev pub TakesThing : {X : Type 0} → (Items → Option X × Items) → ℕ → Option X → Bool → List Token → Bool → List Token → Type 0
+TakesThing parts depth o more old more_after new = with_value parts (rest_at more depth old) ≡ with_value (λ ds. (o, ds)) (rest_at more_after depth new)
 
 -- an array was opened, or another value passed over
-abbrev pub Opens : Bool → ℕ → List Token → List Token → Type 0
-Opens true depth old new = (0 < depth) × (data_at depth old ≡ with_value array (items_at (depth - 1) new))
-Opens false depth old new = with_value as_array (data_at depth old) ≡ Some (None, new)
+abbrev pub OpensArray : Bool → ℕ → List Token → List Token → Type 0
+OpensArray true depth old new = (0 < depth) × (data_at depth old ≡ with_value array (items_at (depth - 1) new))
+OpensArray false depth old new = with_value as_array (data_at depth old) ≡ Some (None, new)
 
 -- what stands at the six keys
-pub record Slots : Type 0 where
+pub record MemberSlots : Type 0 where
   pub collisions : Option (List Collision)
   pub limit : Option ℕ
   pub number : Option (Option ℕ)
@@ -123,7 +123,7 @@ pub record Slots : Type 0 where
   pub version : Option ℕ
   pub witness : Option (Option Choice)
 
-abbrev pub slots_of : Members → Slots
+abbrev pub slots_of : Members → MemberSlots
 slots_of ms = record {
   collisions = at_key (codes "collisions") collisions_of ms;
   limit = at_key (codes "limit") natural_of ms;
@@ -134,7 +134,7 @@ slots_of ms = record {
 }
 
 -- the same with one more member
-abbrev pub with_member : List ℕ → Slots → Data → Slots
+abbrev pub with_member : List ℕ → MemberSlots → Data → MemberSlots
 with_member key s d = record {
   collisions = if bytes_eq key (codes "collisions") then collisions_of d else s.collisions;
   limit = if bytes_eq key (codes "limit") then natural_of d else s.limit;
@@ -145,7 +145,7 @@ with_member key s d = record {
 }
 
 -- the certificate, where something stands at each key
-abbrev pub draft_parts : Slots → Option Certificate
+abbrev pub draft_parts : MemberSlots → Option Certificate
 draft_parts s = do
   collisions ← s.collisions
   limit ← s.limit

@@ -3,8 +3,8 @@ ghost use Rattle.std.specs.Prelude.{◌≡◌, ◌∷◌, true, IfOk, IfErr, Som
 ghost use Rattle.std.specs.Bool.{MatchBool};
 ghost use Rattle.json.specs.Reads.{token_of};
 ghost use Rattle.cn_cert.specs.Reads.{Refuses};
-ghost use Rattle.cn_cert.specs.Tokens.{IsLast, IsNext, Opens, Takes, data_at, items_at, rest_at, with_value};
-ghost use Rattle.cn_cert.specs.Tokens.{next_item, choice_parts, collision_parts, is_over, all_items, in_array, whole};
+ghost use Rattle.cn_cert.specs.Tokens.{IsLast, IsNext, OpensArray, TakesThing, data_at, items_at, rest_at, with_value};
+ghost use Rattle.cn_cert.specs.Tokens.{next_item, choice_parts, collision_parts, is_over, all_items, in_array, sole_thing};
 ghost use Rattle.cn_cert.specs.Values.{natural_of, naturals_of, each_of};
 
 use crate::draft::{DraftChoice, DraftCollision};
@@ -17,7 +17,7 @@ use std::alloc::Global;
 /// Opens the array that begins with this token, or passes over the rest of another value.
 #[inline(always)]
 fn opens(reader: &mut Reader<'_>, depth: usize, token: Token<'_>) -> Result<bool, CertFault>
-    ensures ok { IfOk result (λ opened. Opens opened depth (token_of token.entry ∷ reader.old) reader.new) }
+    ensures ok { IfOk result (λ opened. OpensArray opened depth (token_of token.entry ∷ reader.old) reader.new) }
     ensures err { IfErr result (λ e. Refuses e (data_at depth (token_of token.entry ∷ reader.old))) }
 {
     if let Token::BeginArray = token {
@@ -88,7 +88,7 @@ fn next_natural(
     depth: usize,
     more: &mut bool,
 ) -> Result<Option<u64>, CertFault>
-    ensures ok { IfOk result (λ o. Takes (next_item natural_of) depth o more.old reader.old more.new reader.new) }
+    ensures ok { IfOk result (λ o. TakesThing (next_item natural_of) depth o more.old reader.old more.new reader.new) }
     ensures err { IfErr result (λ e. Refuses e (with_value (next_item natural_of) (rest_at more.old depth reader.old))) }
 {
     if has_next(reader, more) {
@@ -104,7 +104,7 @@ fn next_naturals(
     depth: usize,
     more: &mut bool,
 ) -> Result<Option<Vec<u64>>, CertFault>
-    ensures ok { IfOk result (λ o. Takes (next_item naturals_of) depth (option_map (λ v. v.items) o) more.old reader.old more.new reader.new) }
+    ensures ok { IfOk result (λ o. TakesThing (next_item naturals_of) depth (option_map (λ v. v.items) o) more.old reader.old more.new reader.new) }
     ensures err { IfErr result (λ e. Refuses e (with_value (next_item naturals_of) (rest_at more.old depth reader.old))) }
 {
     if has_next(reader, more) {
@@ -132,7 +132,7 @@ trait Parts: Sized + Drop {
     ghost use Rattle.std.specs.Prelude.{◌≡◌, Option, IfOk, IfErr};
     ghost use Rattle.serde_json.specs.Data.{Items};
     ghost use Rattle.cn_cert.specs.Reads.{Refuses};
-    ghost use Rattle.cn_cert.specs.Tokens.{Takes, rest_at, with_value};
+    ghost use Rattle.cn_cert.specs.Tokens.{TakesThing, rest_at, with_value};
 
     ghost parts: { Items → Option Self × Items };
 
@@ -143,7 +143,7 @@ trait Parts: Sized + Drop {
         depth: usize,
         more: &mut bool,
     ) -> Result<Option<Self>, CertFault>
-        ensures ok { IfOk result (λ o. Takes parts depth o more.old reader.old more.new reader.new) }
+        ensures ok { IfOk result (λ o. TakesThing parts depth o more.old reader.old more.new reader.new) }
         ensures err { IfErr result (λ e. Refuses e (with_value parts (rest_at more.old depth reader.old))) };
 }
 
@@ -153,8 +153,8 @@ fn rest_as<T: Parts>(
     reader: &mut Reader<'_>,
     depth: usize,
 ) -> Result<Option<T>, CertFault>
-    ensures ok { IfOk result (λ o. with_value (whole T.parts) (items_at depth reader.old) ≡ Some (o, reader.new)) }
-    ensures err { IfErr result (λ e. Refuses e (with_value (whole T.parts) (items_at depth reader.old))) }
+    ensures ok { IfOk result (λ o. with_value (sole_thing T.parts) (items_at depth reader.old) ≡ Some (o, reader.new)) }
+    ensures err { IfErr result (λ e. Refuses e (with_value (sole_thing T.parts) (items_at depth reader.old))) }
 {
     let mut more = true;
     let value = T::next(alloc, reader, depth, &mut more)?;
@@ -172,8 +172,8 @@ fn array_as<T: Parts>(
     depth: usize,
     token: Token<'_>,
 ) -> Result<Option<T>, CertFault>
-    ensures ok { IfOk result (λ o. with_value (in_array (whole T.parts)) (data_at depth (token_of token.entry ∷ reader.old)) ≡ Some (o, reader.new)) }
-    ensures err { IfErr result (λ e. Refuses e (with_value (in_array (whole T.parts)) (data_at depth (token_of token.entry ∷ reader.old)))) }
+    ensures ok { IfOk result (λ o. with_value (in_array (sole_thing T.parts)) (data_at depth (token_of token.entry ∷ reader.old)) ≡ Some (o, reader.new)) }
+    ensures err { IfErr result (λ e. Refuses e (with_value (in_array (sole_thing T.parts)) (data_at depth (token_of token.entry ∷ reader.old)))) }
 {
     if opens(reader, depth, token)? {
         rest_as::<T>(alloc, reader, depth - 1)

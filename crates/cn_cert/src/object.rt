@@ -20,7 +20,7 @@ use std::marker::Model;
 
 /// What stands at the six keys, as far as it is of the kind that belongs there.
 #[derive(Drop)]
-struct Slots {
+struct MemberSlots {
     collisions: Option<Vec<DraftCollision>>,
     limit: Option<u64>,
     number: Option<Option<u64>>,
@@ -29,11 +29,11 @@ struct Slots {
     witness: Option<Option<DraftChoice>>,
 }
 
-impl Model for Slots {
+impl Model for MemberSlots {
     ghost use Rattle.std.specs.Prelude.{option_map, string_bytes};
-    ghost use Rattle.cn_cert.specs.Tokens.{Slots};
+    ghost use Rattle.cn_cert.specs.Tokens.{MemberSlots};
 
-    ghost Value = { Slots };
+    ghost Value = { MemberSlots };
 
     ghost view = { λ s. record {
       collisions = option_map (λ v. v.items) s.collisions;
@@ -45,10 +45,10 @@ impl Model for Slots {
     } };
 }
 
-fn no_slots() -> Slots
+fn no_slots() -> MemberSlots
     ensures { result ≡ slots_of no_members }
 {
-    Slots {
+    MemberSlots {
         collisions: None,
         limit: None,
         number: None,
@@ -58,10 +58,10 @@ fn no_slots() -> Slots
     }
 }
 
-fn draft_of_slots(slots: Slots) -> Option<Draft>
+fn draft_of_slots(slots: MemberSlots) -> Option<Draft>
     ensures { result ≡ draft_parts slots }
 {
-    let Slots {
+    let MemberSlots {
         collisions,
         limit,
         number,
@@ -98,7 +98,7 @@ fn read_member(
     reader: &mut Reader<'_>,
     depth: usize,
     key: &str,
-    slots: &mut Slots,
+    slots: &mut MemberSlots,
 ) -> Result<(), CertFault>
     ensures ok { IfOk result (λ _. with_value (with_member key.now slots.old) (data_at depth reader.old) ≡ Some (slots.new, reader.new)) }
     ensures err { IfErr result (λ e. Refuses e (with_value nothing (data_at depth reader.old))) }

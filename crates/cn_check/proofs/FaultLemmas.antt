@@ -11,7 +11,7 @@ use Rattle.cn_choice.specs.FirstMeeting.{IsFirstMeeting}
 use Rattle.cn_cert.specs.Certificate.{Certificate}
 use Rattle.cn_check.specs.Conditions.{HasWitnessFor, HoldsCollision, IsInRange}
 use Rattle.cn_check.specs.Faults.{ComesSooner, HasFault, IsFirstFault}
-use Rattle.cn_check.specs.PartFaults.{IsEvidenceFault, IsWitnessFault}
+use Rattle.cn_check.specs.EvidenceFaults.{IsEvidenceFault, IsWitnessFault}
 use Rattle.cn_check.specs.Refutations.{AreRefuted, IsOfChoice}
 use Rattle.cn_check.specs.Versions.{choices_to_refute_in}
 use Rattle.cn_check.specs.declared.fault.CheckFault.{CheckFault}

@@ -21,7 +21,7 @@ use Rattle.cn_search.specs.Finding.{Finding}
 use Rattle.cn_cert.specs.Certificate.{Certificate, certificate_of}
 use Rattle.cn_check.specs.Conditions.{HasWitnessFor, HoldsCollision, IsInRange, Refutes}
 use Rattle.cn_check.specs.Faults.{HasFault, IsFirstFault}
-use Rattle.cn_check.specs.PartFaults.{IsEvidenceFault, IsWitnessFault}
+use Rattle.cn_check.specs.EvidenceFaults.{IsEvidenceFault, IsWitnessFault}
 use Rattle.cn_check.specs.Verdict.{IsAccepted}
 use Rattle.cn_check.specs.Versions.{choices_in_version, choices_to_refute_in}
 use Rattle.cn_check.proofs.FaultLemmas.{first_of_evidence, first_of_witness, not_some_if}

@@ -1,7 +1,7 @@
 pub mod Conditions
 pub mod Faults
 pub mod FaultText
-pub mod PartFaults
+pub mod EvidenceFaults
 pub mod Refutations
 pub mod Runs
 pub mod ShownPairs

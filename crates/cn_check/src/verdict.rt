@@ -10,7 +10,7 @@ ghost use Rattle.cn_search.specs.Finding.{Finding};
 ghost use Rattle.cn_cert.specs.Certificate.{certificate_of};
 ghost use Rattle.cn_check.specs.Conditions.{HasWitnessFor, IsInRange, Refutes};
 ghost use Rattle.cn_check.specs.Faults.{IsFirstFault};
-ghost use Rattle.cn_check.specs.PartFaults.{IsEvidenceFault, IsWitnessFault};
+ghost use Rattle.cn_check.specs.EvidenceFaults.{IsEvidenceFault, IsWitnessFault};
 ghost use Rattle.cn_check.specs.Verdict.{IsAccepted};
 ghost use Rattle.cn_check.specs.Versions.{choices_to_refute_in, greatest_limit};
 

@@ -19,7 +19,7 @@ use Rattle.cn_choice.proofs.Ascending.{canonical_ascend}
 use Rattle.cn_choice.proofs.BlockLemmas.{blocks_are, blocks_cover, blocks_listed}
 use Rattle.cn_choice.proofs.CanonicalForms.{canonical_listed, coverage}
 use Rattle.cn_choice.proofs.EarlyLists.{alone_gets, second_gets}
-use Rattle.cn_choice.proofs.Kept.{kept, pairs_kept, was_in}
+use Rattle.cn_choice.proofs.FilterLemmas.{kept, pairs_kept, was_in}
 use Rattle.cn_choice.proofs.Members.{AllPairs-from_Pairs, Contains-from_IsIn, IsIn, IsIn-from_Contains, each_at}
 
 -- ---- the test

@@ -20,7 +20,7 @@ use Rattle.cn_table.specs.declared.fault.TableFault.TheVariants.{NotToml, Unknow
 use Rattle.cn_flaws.specs.declared.flaw.Flaw as code_flaw
 use Rattle.cn_flaws.specs.declared.document_flaws.Kind.{Kind}
 use Rattle.cn_flaws.specs.declared.document_flaws.Kind.TheVariants.{Text, Texts, Tables}
-use Rattle.cn_flaws.specs.declared.document_flaws.Look.TheVariants.{OtherKeys, MissingKeys, Kinds}
+use Rattle.cn_flaws.specs.declared.document_flaws.FlawClass.TheVariants.{OtherKeys, MissingKeys, Kinds}
 use Rattle.cn_table.specs.declared.limits.TheConstants.{MOST_OPERATIONS, MOST_RESPONSES, MOST_STATES}
 use Rattle.cn_table.proofs.Lists.{none_skipped}
 
@@ -47,22 +47,22 @@ told_if k text true = refl
 told_if k text false = refl
 
 -- what is found in each thing of a list is of one fault
-told_flat : {X : Type 0} (k : TableFault) (look : X → List Flaw) (test : X → Bool) → ((x : X) → first_fault (look x) ≡ told k (test x)) → (xs : List X)
-    → first_fault (flat_map look xs) ≡ told k (list_any test xs)
-told_flat k look test same [] = refl
-told_flat k look test same (x ∷ xs) = told_append k (look x) (flat_map look xs) (test x) (list_any test xs) (same x) (told_flat k look test same xs)
+told_flat : {X : Type 0} (k : TableFault) (flaw_class : X → List Flaw) (test : X → Bool) → ((x : X) → first_fault (flaw_class x) ≡ told k (test x)) → (xs : List X)
+    → first_fault (flat_map flaw_class xs) ≡ told k (list_any test xs)
+told_flat k flaw_class test same [] = refl
+told_flat k flaw_class test same (x ∷ xs) = told_append k (flaw_class x) (flat_map flaw_class xs) (test x) (list_any test xs) (same x) (told_flat k flaw_class test same xs)
 
-told_each : {X : Type 0} (k : TableFault) (look : ℕ → X → List Flaw) (test skips : X → Bool)
-    → ((i : ℕ) (x : X) → skips x ≡ false → first_fault (look i x) ≡ told k (test x)) → (i : ℕ) (xs : List X) → list_any skips xs ≡ false
-    → first_fault (each look i xs) ≡ told k (list_any test xs)
-told_each k look test skips same i [] none = refl
-told_each k look test skips same i (x ∷ xs) none =
+told_each : {X : Type 0} (k : TableFault) (flaw_class : ℕ → X → List Flaw) (test skips : X → Bool)
+    → ((i : ℕ) (x : X) → skips x ≡ false → first_fault (flaw_class i x) ≡ told k (test x)) → (i : ℕ) (xs : List X) → list_any skips xs ≡ false
+    → first_fault (each flaw_class i xs) ≡ told k (list_any test xs)
+told_each k flaw_class test skips same i [] none = refl
+told_each k flaw_class test skips same i (x ∷ xs) none =
     let (here, later) = or_parts (skips x) (list_any skips xs) none in
-    told_append k (look i x) (each look (i + 1) xs) (test x) (list_any test xs) (same i x here) (told_each k look test skips same (i + 1) xs later)
+    told_append k (flaw_class i x) (each flaw_class (i + 1) xs) (test x) (list_any test xs) (same i x here) (told_each k flaw_class test skips same (i + 1) xs later)
 
-told_each_all : {X : Type 0} (k : TableFault) (look : ℕ → X → List Flaw) (test : X → Bool)
-    → ((i : ℕ) (x : X) → first_fault (look i x) ≡ told k (test x)) → (i : ℕ) (xs : List X) → first_fault (each look i xs) ≡ told k (list_any test xs)
-told_each_all k look test same i xs = told_each k look test (λ _. false) (λ i x _. same i x) i xs (none_skipped xs)
+told_each_all : {X : Type 0} (k : TableFault) (flaw_class : ℕ → X → List Flaw) (test : X → Bool)
+    → ((i : ℕ) (x : X) → first_fault (flaw_class i x) ≡ told k (test x)) → (i : ℕ) (xs : List X) → first_fault (each flaw_class i xs) ≡ told k (list_any test xs)
+told_each_all k flaw_class test same i xs = told_each k flaw_class test (λ _. false) (λ i x _. same i x) i xs (none_skipped xs)
 
 -- ---- tests
 

@@ -15,8 +15,8 @@ use Rattle.cn_table.specs.declared.fault.TableFault.{TableFault}
 use Rattle.cn_table.specs.declared.fault.TableFault.TheVariants.{NotToml, UnknownKey, MissingKey, WrongKind, BadName, Count, Repeated, RowLength, UnknownName}
 use Rattle.cn_flaws.specs.declared.document_flaws.Kind.{Kind}
 use Rattle.cn_flaws.specs.declared.document_flaws.Kind.TheVariants.{Text, Texts, Tables}
-use Rattle.cn_flaws.specs.declared.document_flaws.Look.{Look}
-use Rattle.cn_flaws.specs.declared.document_flaws.Look.TheVariants.{OtherKeys, MissingKeys, Kinds}
+use Rattle.cn_flaws.specs.declared.document_flaws.FlawClass.{FlawClass}
+use Rattle.cn_flaws.specs.declared.document_flaws.FlawClass.TheVariants.{OtherKeys, MissingKeys, Kinds}
 use Rattle.cn_flaws.specs.declared.flaw.Flaw as code_flaw
 use Rattle.cn_table.specs.declared.limits.TheConstants.{MOST_OPERATIONS, MOST_RESPONSES, MOST_STATES}
 
@@ -75,7 +75,7 @@ abbrev pub table_text : ℕ → Members → List ℕ
 table_text i table = operation_text i (unwrap_or (text_at (codes "name") table) [])
 
 -- what is looked for in the table of an operation: keys that are not its three, those of the three that are not there, values that are not of their kind
-abbrev pub table_flaws : Look → ℕ → Members → List Flaw
+abbrev pub table_flaws : FlawClass → ℕ → Members → List Flaw
 table_flaws OtherKeys i table = other_keys (table_text i table ++ codes ", ") (codes ": an operation has name, response, next") operation_keys (keys_in table)
 table_flaws MissingKeys i table = missing_keys (table_text i table) operation_keys table
 table_flaws Kinds i table =
@@ -84,21 +84,21 @@ table_flaws Kinds i table =
     ++ wrong_kind Texts (table_text i table ++ codes ", ") (codes "next") table)
 
 -- and in what is no table
-abbrev pub no_table_flaws : Look → ℕ → List Flaw
+abbrev pub no_table_flaws : FlawClass → ℕ → List Flaw
 no_table_flaws OtherKeys i = []
 no_table_flaws MissingKeys i = []
 no_table_flaws Kinds i = flaw WrongKind (no_operation_text i)
 
 -- in an item of the array `operation`
-abbrev pub item_flaws : Look → ℕ → Data → List Flaw
-item_flaws look i d = option_map_or (table_flaws look i) (as_table d) (no_table_flaws look i)
+abbrev pub item_flaws : FlawClass → ℕ → Data → List Flaw
+item_flaws flaw_class i d = option_map_or (table_flaws flaw_class i) (as_table d) (no_table_flaws flaw_class i)
 
 -- in each item, where it is an array
-abbrev pub operation_flaws : Look → Members → List Flaw
-operation_flaws look document = option_map_or (each (item_flaws look) 0) (array_at (codes "operation") document) []
+abbrev pub operation_flaws : FlawClass → Members → List Flaw
+operation_flaws flaw_class document = option_map_or (each (item_flaws flaw_class) 0) (array_at (codes "operation") document) []
 
 -- in the root
-abbrev pub root_flaws : Look → Members → List Flaw
+abbrev pub root_flaws : FlawClass → Members → List Flaw
 root_flaws OtherKeys document = other_keys [] (codes ": the root has name, states, responses, operation") root_keys (keys_in document)
 root_flaws MissingKeys document = missing_keys (codes "the root") root_keys document
 root_flaws Kinds document =
@@ -107,8 +107,8 @@ root_flaws Kinds document =
     ++ (wrong_kind Texts [] (codes "responses") document ++ wrong_kind Tables [] (codes "operation") document))
 
 -- in the whole document
-abbrev pub flaws_by : Look → Members → List Flaw
-flaws_by look document = root_flaws look document ++ operation_flaws look document
+abbrev pub flaws_by : FlawClass → Members → List Flaw
+flaws_by flaw_class document = root_flaws flaw_class document ++ operation_flaws flaw_class document
 
 -- ---- of a draft
 

@@ -7,7 +7,7 @@ ghost use Rattle.cn_table.specs.Faults.{fault_of};
 ghost use Rattle.cn_flaws.specs.Flaws.{flaw, flaws_view, draft_flaws, document_flaws, text_flaws, flaws_at, first_fault};
 ghost use Rattle.cn_flaws.specs.FlawText.{not_toml_text, place_after};
 
-use crate::document_flaws::{Look, push_flaws_by};
+use crate::document_flaws::{FlawClass, push_flaws_by};
 use crate::draft_flaws::push_draft_flaws;
 use crate::flaw::{Flaw, push_flaw};
 use crate::flaw_text::place_after;
@@ -48,9 +48,9 @@ fn push_document_flaws(
 ) -> Result<(), AllocError>
     ensures { OnOk result (flaws_view flaws.new ≡ flaws_view flaws.old ++ document_flaws (table_view document.now)) }
 {
-    push_flaws_by(alloc, flaws, Look::OtherKeys, document)?;
-    push_flaws_by(alloc, flaws, Look::MissingKeys, document)?;
-    push_flaws_by(alloc, flaws, Look::Kinds, document)?;
+    push_flaws_by(alloc, flaws, FlawClass::OtherKeys, document)?;
+    push_flaws_by(alloc, flaws, FlawClass::MissingKeys, document)?;
+    push_flaws_by(alloc, flaws, FlawClass::Kinds, document)?;
     push_flaws_of_draft(alloc, flaws, document)
 }
 

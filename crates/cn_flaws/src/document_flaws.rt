@@ -18,7 +18,7 @@ use toml::{Table, Value};
 
 /// What is looked for in a document.
 #[derive(Clone, Copy)]
-pub(crate) enum Look {
+pub(crate) enum FlawClass {
     OtherKeys,
     MissingKeys,
     Kinds,
@@ -180,23 +180,23 @@ fn push_table_kinds(
 fn push_table_flaws(
     alloc: Global,
     flaws: &mut Vec<Flaw>,
-    look: Look,
+    flaw_class: FlawClass,
     i: usize,
     table: &Table,
 ) -> Result<(), AllocError>
-    ensures { OnOk result (flaws_view flaws.new ≡ flaws_view flaws.old ++ table_flaws look i (table_view table.now)) }
+    ensures { OnOk result (flaws_view flaws.new ≡ flaws_view flaws.old ++ table_flaws flaw_class i (table_view table.now)) }
 {
     let place = table_text(alloc, i, table)?;
     let before = format!(in alloc; "{place}, ")?;
-    match look {
-        Look::OtherKeys => {
+    match flaw_class {
+        FlawClass::OtherKeys => {
             let after = ": an operation has name, response, next";
             push_other_keys(alloc, flaws, before.as_str(), after, &OPERATION_KEYS, table)
         }
-        Look::MissingKeys => {
+        FlawClass::MissingKeys => {
             push_missing_keys(alloc, flaws, place.as_str(), &OPERATION_KEYS, table)
         }
-        Look::Kinds => push_table_kinds(alloc, flaws, before.as_str(), table),
+        FlawClass::Kinds => push_table_kinds(alloc, flaws, before.as_str(), table),
     }
 }
 
@@ -207,7 +207,7 @@ fn no_operation_text(alloc: Global, i: usize) -> Result<String, AllocError>
 }
 
 fn push_no_table(alloc: Global, flaws: &mut Vec<Flaw>, i: usize) -> Result<(), AllocError>
-    ensures { OnOk result (flaws_view flaws.new ≡ flaws_view flaws.old ++ no_table_flaws Look.Kinds i) }
+    ensures { OnOk result (flaws_view flaws.new ≡ flaws_view flaws.old ++ no_table_flaws FlawClass.Kinds i) }
 {
     let text = no_operation_text(alloc, i)?;
     push_flaw(flaws, TableFault::WrongKind, text)
@@ -216,15 +216,15 @@ fn push_no_table(alloc: Global, flaws: &mut Vec<Flaw>, i: usize) -> Result<(), A
 fn push_item_flaws(
     alloc: Global,
     flaws: &mut Vec<Flaw>,
-    look: Look,
+    flaw_class: FlawClass,
     i: usize,
     value: &Value,
 ) -> Result<(), AllocError>
-    ensures { OnOk result (flaws_view flaws.new ≡ flaws_view flaws.old ++ item_flaws look i (view value.now)) }
+    ensures { OnOk result (flaws_view flaws.new ≡ flaws_view flaws.old ++ item_flaws flaw_class i (view value.now)) }
 {
-    match (value.as_table(), look) {
-        (Some(table), _) => push_table_flaws(alloc, flaws, look, i, table),
-        (None, Look::Kinds) => push_no_table(alloc, flaws, i),
+    match (value.as_table(), flaw_class) {
+        (Some(table), _) => push_table_flaws(alloc, flaws, flaw_class, i, table),
+        (None, FlawClass::Kinds) => push_no_table(alloc, flaws, i),
         (None, _) => Ok(()),
     }
 }
@@ -232,19 +232,19 @@ fn push_item_flaws(
 fn push_items_flaws(
     alloc: Global,
     flaws: &mut Vec<Flaw>,
-    look: Look,
+    flaw_class: FlawClass,
     values: &[Value],
 ) -> Result<(), AllocError>
-    ensures { OnOk result (flaws_view flaws.new ≡ flaws_view flaws.old ++ each (item_flaws look) 0 (map view values.now)) }
+    ensures { OnOk result (flaws_view flaws.new ≡ flaws_view flaws.old ++ each (item_flaws flaw_class) 0 (map view values.now)) }
 {
     for (i, value) in values.iter().enumerate() {
-        push_item_flaws(alloc, flaws, look, i, value)?;
+        push_item_flaws(alloc, flaws, flaw_class, i, value)?;
     }
     Ok(())
 }
 
 fn push_root_kinds(alloc: Global, flaws: &mut Vec<Flaw>, document: &Table) -> Result<(), AllocError>
-    ensures { OnOk result (flaws_view flaws.new ≡ flaws_view flaws.old ++ root_flaws Look.Kinds (table_view document.now)) }
+    ensures { OnOk result (flaws_view flaws.new ≡ flaws_view flaws.old ++ root_flaws FlawClass.Kinds (table_view document.now)) }
 {
     push_wrong_kind(alloc, flaws, Kind::Text, "", "name", document)?;
     push_wrong_kind(alloc, flaws, Kind::Texts, "", "states", document)?;
@@ -255,18 +255,18 @@ fn push_root_kinds(alloc: Global, flaws: &mut Vec<Flaw>, document: &Table) -> Re
 fn push_root_flaws(
     alloc: Global,
     flaws: &mut Vec<Flaw>,
-    look: Look,
+    flaw_class: FlawClass,
     document: &Table,
 ) -> Result<(), AllocError>
-    ensures { OnOk result (flaws_view flaws.new ≡ flaws_view flaws.old ++ root_flaws look (table_view document.now)) }
+    ensures { OnOk result (flaws_view flaws.new ≡ flaws_view flaws.old ++ root_flaws flaw_class (table_view document.now)) }
 {
-    match look {
-        Look::OtherKeys => {
+    match flaw_class {
+        FlawClass::OtherKeys => {
             let after = ": the root has name, states, responses, operation";
             push_other_keys(alloc, flaws, "", after, &ROOT_KEYS, document)
         }
-        Look::MissingKeys => push_missing_keys(alloc, flaws, "the root", &ROOT_KEYS, document),
-        Look::Kinds => push_root_kinds(alloc, flaws, document),
+        FlawClass::MissingKeys => push_missing_keys(alloc, flaws, "the root", &ROOT_KEYS, document),
+        FlawClass::Kinds => push_root_kinds(alloc, flaws, document),
     }
 }
 
@@ -274,14 +274,14 @@ fn push_root_flaws(
 pub(crate) fn push_flaws_by(
     alloc: Global,
     flaws: &mut Vec<Flaw>,
-    look: Look,
+    flaw_class: FlawClass,
     document: &Table,
 ) -> Result<(), AllocError>
-    ensures { OnOk result (flaws_view flaws.new ≡ flaws_view flaws.old ++ flaws_by look (table_view document.now)) }
+    ensures { OnOk result (flaws_view flaws.new ≡ flaws_view flaws.old ++ flaws_by flaw_class (table_view document.now)) }
 {
-    push_root_flaws(alloc, flaws, look, document)?;
+    push_root_flaws(alloc, flaws, flaw_class, document)?;
     if let Some(values) = array_at(document, "operation") {
-        push_items_flaws(alloc, flaws, look, values)?;
+        push_items_flaws(alloc, flaws, flaw_class, values)?;
     }
     Ok(())
 }

@@ -3,7 +3,7 @@ ghost use Rattle.std.specs.Prelude.{codes, ◌≡◌, ◌<◌, ◌^◌, ◌++◌
 ghost use Rattle.cn_flaws.specs.FlawText.{shown_byte, in_quotes, operation_text, goes_on, place_after, entries_text, states_text, names_in_brackets};
 ghost use Rattle.cn_table.specs.Texts.{joined_texts};
 
-use cn_table::names::are_named;
+use cn_table::names::have_names;
 use cn_table::{MOST_STATES, is_name};
 use std::alloc::{AllocError, Global};
 
@@ -109,7 +109,7 @@ pub(crate) fn names_in_brackets(alloc: Global, names: &[String]) -> Result<Strin
     ensures { IfOk result (λ s. string_bytes s ≡ names_in_brackets (map (λ s. string_bytes s) names.now)) }
 {
     let mut text = String::new(alloc);
-    if names.len() <= MOST_STATES && are_named(names) {
+    if names.len() <= MOST_STATES && have_names(names) {
         text.push_str(" (")?;
         push_names(&mut text, names)?;
         text.push_str(")")?;

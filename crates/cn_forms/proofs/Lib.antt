@@ -1,5 +1,5 @@
 pub mod AcceptedEntries
 pub mod PairLemmas
 pub mod Pieces
-pub mod Told
+pub mod WayLemmas
 pub mod Widths

@@ -6,7 +6,7 @@ use Rattle.cn_proto.specs.Plan.{Plan, processes_of, nodes_of}
 use Rattle.cn_choice.specs.TeamNames.{team_name}
 use Rattle.cn_table.specs.Names.{name_at}
 use Rattle.cn_proto.specs.declared.place.Place.{Place}
-use Rattle.cn_forms.specs.Parts.{operation_of, place_at, places_of}
+use Rattle.cn_forms.specs.Common.{operation_of, place_at, places_of}
 
 -- the first lines, with the names of the type and of a state
 unfoldable pub head_lines : List ℕ → List ℕ → List ℕ
@@ -25,30 +25,30 @@ origin_dot plan p zero = codes "process_" ++ decimal p
 origin_dot plan p (suc i) = codes "node_" ++ decimal (place_at plan p i).node
 
 -- an arrow to a node, and whose way it is
-unfoldable pub way_head : ℕ → ℕ → List ℕ
-way_head node p = codes " -> node_" ++ decimal node ++ codes " [label=\"process " ++ decimal p ++ codes ": "
+unfoldable pub edge_head : ℕ → ℕ → List ℕ
+edge_head node p = codes " -> node_" ++ decimal node ++ codes " [label=\"process " ++ decimal p ++ codes ": "
 
 -- the team, the role and the operation that an arrow tells
-unfoldable pub way_end : List ℕ → ℕ → List ℕ → List ℕ
-way_end team role operation = team ++ codes " role " ++ decimal role ++ codes " " ++ operation ++ codes "\"];\n"
+unfoldable pub edge_end : List ℕ → ℕ → List ℕ → List ℕ
+edge_end team role operation = team ++ codes " role " ++ decimal role ++ codes " " ++ operation ++ codes "\"];\n"
 
 -- how process p comes to a place: its team there, its role and the operation of the role
 abbrev pub arrival_dot : Plan → ℕ → Place → List ℕ
-arrival_dot plan p place = way_head place.node p ++ way_end (team_name place.team) place.role (operation_of plan place.role)
+arrival_dot plan p place = edge_head place.node p ++ edge_end (team_name place.team) place.role (operation_of plan place.role)
 
 -- the way of process p to place i of its path
-abbrev pub way_dot : Plan → ℕ → ℕ → List ℕ
-way_dot plan p i = codes "  " ++ origin_dot plan p i ++ arrival_dot plan p (place_at plan p i)
+abbrev pub edge_dot : Plan → ℕ → ℕ → List ℕ
+edge_dot plan p i = codes "  " ++ origin_dot plan p i ++ arrival_dot plan p (place_at plan p i)
 
-abbrev pub ways_dot : Plan → ℕ → List ℕ
-ways_dot plan p = flat_map (way_dot plan p) (range_with_len 0 (places_of plan p))
+abbrev pub edges_dot : Plan → ℕ → List ℕ
+edges_dot plan p = flat_map (edge_dot plan p) (range_with_len 0 (places_of plan p))
 
 unfoldable pub process_line : ℕ → List ℕ
 process_line p = codes "  process_" ++ decimal p ++ codes " [shape=box,label=\"process " ++ decimal p ++ codes "\"];\n"
 
 -- a process, and its way up to the root
 abbrev pub process_dot : Plan → ℕ → List ℕ
-process_dot plan p = process_line p ++ ways_dot plan p
+process_dot plan p = process_line p ++ edges_dot plan p
 
 unfoldable pub plan_dot : Plan → List ℕ
 plan_dot plan =

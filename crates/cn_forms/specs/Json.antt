@@ -8,7 +8,7 @@ use Rattle.cn_table.specs.Texts.{joined_texts}
 use Rattle.cn_table.specs.Names.{name_at}
 use Rattle.cn_proto.specs.Tournament.{team_of}
 use Rattle.cn_proto.specs.declared.place.Place.{Place}
-use Rattle.cn_forms.specs.Parts.{comma, operation_of}
+use Rattle.cn_forms.specs.Common.{comma, operation_of}
 
 abbrev pub place_json : Place → List ℕ
 place_json place =
@@ -31,7 +31,7 @@ role_head = codes "{\"judges\":["
 
 -- the front of a role: the pairs that it judges to be team A's
 abbrev pub judged_json : Plan → ℕ → List ℕ
-judged_json plan role = role_head ++ joined_texts (codes ",") (map (pair_json plan.table) (slice_index_or plan.judged role []))
+judged_json plan role = role_head ++ joined_texts (codes ",") (map (pair_json plan.table) (slice_index_or plan.judged_pairs role []))
 
 -- what stands behind the pairs of a role: its operation and its team
 unfoldable pub role_end : List ℕ → List ℕ → List ℕ

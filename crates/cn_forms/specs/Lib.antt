@@ -4,7 +4,7 @@ pub mod Explained
 pub mod Grid
 pub mod Json
 pub mod Pairs
-pub mod Parts
+pub mod Common
 pub mod PlanForms
 pub mod PlanText
 pub mod Promela

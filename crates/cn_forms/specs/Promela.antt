@@ -6,7 +6,7 @@ use Rattle.cn_table.specs.Names.{name_at}
 use Rattle.cn_choice.specs.TeamNames.{team_name}
 use Rattle.cn_proto.specs.Plan.{Plan, processes_of, nodes_of, protocol_of}
 use Rattle.cn_proto.specs.declared.place.Place.{Place}
-use Rattle.cn_forms.specs.Parts.{operation_of, place_at, places_of}
+use Rattle.cn_forms.specs.Common.{operation_of, place_at, places_of}
 
 -- ---- what all processes share
 
@@ -91,7 +91,7 @@ other_option node = codes " :: else -> value = written_B[" ++ decimal node ++ co
 
 -- the fourth action: to take the register of the team that the role judges to have been first
 abbrev pub take_statement : Plan → Place → List ℕ
-take_statement plan place = selection (flat_map (pair_promela place) (slice_index_or plan.judged place.role []) ++ other_option place.node)
+take_statement plan place = selection (flat_map (pair_promela place) (slice_index_or plan.judged_pairs place.role []) ++ other_option place.node)
 
 -- the decision of process p, whose path has so many places
 unfoldable pub decide_statement : ℕ → ℕ → List ℕ

@@ -10,7 +10,7 @@ ghost use Rattle.cn_forms.specs.Pairs.{seen_rows};
 mod pairs;
 mod ways;
 
-use crate::explained::pairs::push_seen;
+use crate::explained::pairs::push_pair_rows;
 use crate::explained::ways::{push_both_teams, push_ways};
 use crate::grid::push_cells;
 use crate::limits::MOST_TOLD;
@@ -46,7 +46,7 @@ fn push_head(
 }
 
 /// What each process of a witness can get.
-fn push_all_seen(
+fn push_all_pair_rows(
     alloc: Global,
     text: &mut String,
     table: &Table,
@@ -57,7 +57,7 @@ fn push_all_seen(
         ++ flat_map (seen_rows table.now witness.now) (range_with_len 0 (length witness.now.a + length witness.now.b))) }
 {
     for process in 0..(witness.a.len() + witness.b.len()) as u8 {
-        push_seen(alloc, text, table, witness, process)?;
+        push_pair_rows(alloc, text, table, witness, process)?;
     }
     Ok(())
 }
@@ -102,7 +102,7 @@ fn push_witness_line(
 }
 
 #[tactic(auto, unfolding(crate::specs::Explained::apart_line))]
-fn push_apart(text: &mut String) -> Result<(), AllocError>
+fn push_apart_line(text: &mut String) -> Result<(), AllocError>
     ensures { OnOk result (string_bytes text.new ≡ string_bytes text.old ++ apart_line) }
 {
     text.push_str("  No process has a pair on both sides, so each can tell which team was first.\n")
@@ -120,8 +120,8 @@ fn push_witness(
     ensures { OnOk result (string_bytes text.new ≡ string_bytes text.old ++ witness_text table.now number witness.now) }
 {
     push_witness_line(text, table, number, witness)?;
-    push_all_seen(alloc, text, table, witness)?;
-    push_apart(text)
+    push_all_pair_rows(alloc, text, table, witness)?;
+    push_apart_line(text)
 }
 
 /// Why the number is so much.
@@ -177,7 +177,7 @@ fn push_more(text: &mut String, more: usize) -> Result<(), AllocError>
 }
 
 /// The entries that are told, and how many more there are.
-fn push_told(
+fn push_entries(
     text: &mut String,
     table: &Table,
     entries: &[Collision],
@@ -246,7 +246,7 @@ fn push_refutation(
 {
     write!(text, "Why not {n}: ")?;
     push_count(text, entries.len())?;
-    push_told(text, table, entries, all)?;
+    push_entries(text, table, entries, all)?;
     push_notes(text, version, n)
 }
 

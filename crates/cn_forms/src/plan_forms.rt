@@ -6,7 +6,7 @@ mod as_dot;
 mod as_json;
 mod as_promela;
 mod as_text;
-mod parts;
+mod common;
 
 use crate::plan_forms::as_dot::plan_dot;
 use crate::plan_forms::as_json::plan_json;

@@ -2,7 +2,7 @@
 use Rattle.std.proofs.Common.{◌≡◌, ℕ, zero, suc, Bool, true, false, ◌+◌, ◌*◌, ◌-◌, ◌<◌, ◌≤◌, ◌==◌, List, [], ◌∷◌, ◌++◌, drop, length, Some, refl, sym, ap, ◌∙◌, subst, arith, cond, append_assoc, append-nil, length-append}
 use Rattle.std.proofs.lemmas.Bool.Decides.{nat_tests}
 use Rattle.std.proofs.Math.Nat.{mul-le-mul_left}
-use Rattle.cn_log.specs.Callers.{BeginsWith, Without}
+use Rattle.cn_log.specs.Callers.{BeginsWith, HasNoEventOf}
 use Rattle.cn_log.specs.Opening.{IsOpening, Log, Opening, setting_of}
 use Rattle.cn_log.specs.Log.{IsEventList}
 use Rattle.cn_log.specs.OwnSteps.{event_room, is_step_of, steps_of}
@@ -36,7 +36,7 @@ steps_few p (e ∷ events) = go (is_step_of p e) (steps_cons p e events) (steps_
     go true c few = omega (arith, c, few)
     go false c few = omega (arith, c, few)
 
-steps_none : (p : ℕ) (events : List Event) → Without p events → steps_of p events ≡ 0
+steps_none : (p : ℕ) (events : List Event) → HasNoEventOf p events → steps_of p events ≡ 0
 steps_none p [] h = refl
 steps_none p (Invoke q operation ∷ events) h = let c : steps_of p (Invoke q operation ∷ events) ≡ 0 + steps_of p events = steps_cons p (Invoke q operation) events in let r = steps_none p events h.1 in omega (arith, c, r)
 steps_none p (Step q ∷ events) h =

@@ -7,7 +7,7 @@ use Rattle.cn_log.specs.Opening.{Log, setting}
 use Rattle.cn_log.specs.declared.entry.Entry.{Entry}
 use Rattle.cn_log.specs.declared.event.Event.{Event}
 use Rattle.cn_log.specs.declared.event.Event.TheVariants.{Invoke, Step}
-use Rattle.cn_log.specs.Callers.{BeginsWith, Without, entries_by, call_of}
+use Rattle.cn_log.specs.Callers.{BeginsWith, HasNoEventOf, entries_by, call_of}
 use Rattle.cn_log.specs.Callers.{IsUnseen as IsInNone}
 use Rattle.cn_hall.specs.Seats.{SeatState, IsInvoke, caller, calls_made, pending, own_entries_seen, entries_seen, slots_seen}
 use Rattle.cn_hall.specs.declared.call.CallFault.{CallFault}
@@ -83,8 +83,8 @@ go_after (Err Stopped) = Stop
 
 -- one core is the other, or has come further, with no event since of the process of the seat that saw less
 abbrev pub HaveMet : SeatState → SeatState → Type 0
-HaveMet a b = ((rest : List Event) × (b.core.schedule ≡ a.core.schedule ++ rest) × Without a.process rest) ⊎ ((rest : List Event)
-    × (a.core.schedule ≡ b.core.schedule ++ rest) × Without b.process rest)
+HaveMet a b = ((rest : List Event) × (b.core.schedule ≡ a.core.schedule ++ rest) × HasNoEventOf a.process rest) ⊎ ((rest : List Event)
+    × (a.core.schedule ≡ b.core.schedule ++ rest) × HasNoEventOf b.process rest)
 
 -- of the process of the second seat, the first has seen only calls that it has made, the first of them, in order
 abbrev pub HasOnlyMade : SeatState → SeatState → Type 0

@@ -80,7 +80,7 @@ abbrev pub no_table : TypeTable
 no_table = record { name = []; states = []; responses = []; operations = [] }
 
 abbrev pub no_plan : Plan
-no_plan = record { table = no_table; choice = record { state = 0; a = []; b = [] }; judged = [] }
+no_plan = record { table = no_table; choice = record { state = 0; a = []; b = [] }; judged_pairs = [] }
 
 abbrev pub no_log : Log
 no_log = record { opening = opening_of no_plan no_table 0 0; schedule = [] }

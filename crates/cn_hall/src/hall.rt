@@ -1,7 +1,7 @@
 //! The hall: threads hand one core on.
 ghost use Rattle.std.specs.Prelude.{◌≡◌, ◌≢◌, ◌<◌, ◌⊎◌, [], false, Some, None, All, Err, IfErr, IfOk, length};
 ghost use Rattle.cn_log.specs.declared.entry.Entry.{Entry};
-ghost use Rattle.cn_hall.specs.Answers.{Adds, own, replies_from};
+ghost use Rattle.cn_hall.specs.Answers.{AddsReply, own, replies_from};
 ghost use Rattle.cn_hall.specs.Calls.{CallFails, MakesCall, EndsBy, GoesOn, HasOnlyMade, HasPlaced, HaveMet, IsReply, IsSameSeat, next_call, go_after};
 ghost use Rattle.cn_log.specs.Callers.{BeginsWith, HasResponse};
 ghost use Rattle.cn_hall.specs.Gates.{IsAsked, asked_times, steps_since};
@@ -94,7 +94,7 @@ impl Hall {
         ensures seen { BeginsWith (entries_seen seat.new) (entries_seen seat.old) }
         ensures reply { IfOk result (λ r. (mine : Entry) → pending seat.old ≡ Some mine → IsReply mine seat.new r) }
         ensures fault { IfErr result (λ e. (mine : Entry) → pending seat.old ≡ Some mine → EndsBy mine e seat.new) }
-        ensures own { Adds (own seat.old) (own seat.new) result }
+        ensures own { AddsReply (own seat.old) (own seat.new) result }
         ensures calls { HasPlaced seat.new result }
         ensures range { IfOk result (λ r. r.response.0 < length seat.old.core.opening.object.responses) }
         ensures said { G.says gate.new ≡ go_after result }
@@ -145,7 +145,7 @@ impl Hall {
             × IsReply (next_call seat.old operation.0) seat.new r) }
         ensures fault { IfErr result (λ e. CallFails operation.0 e seat.old seat.new) }
         ensures told { length (slots_seen seat.old) ≡ seat.old.core.opening.capacity → (result ≡ Err LogFull) × (seat.new ≡ seat.old) × (gate.new ≡ gate.old) }
-        ensures own { Adds (own seat.old) (own seat.new) result }
+        ensures own { AddsReply (own seat.old) (own seat.new) result }
         ensures calls { HasPlaced seat.new result }
         ensures range { IfOk result (λ r. r.response.0 < length seat.old.core.opening.object.responses) }
         ensures said { G.says gate.new ≡ go_after result }

@@ -4,7 +4,7 @@ use Rattle.cn_log.specs.declared.batch.Batch.{Batch}
 use Rattle.cn_log.specs.declared.entry.Entry.{Entry}
 use Rattle.cn_log.specs.Log.{Setting, World, Note, Called, Replied, FoundFull, first_world}
 use Rattle.cn_log.specs.Agreement.{RoundsAgree}
-use Rattle.cn_log.specs.Batches.{Has}
+use Rattle.cn_log.specs.Batches.{HoldsEntry}
 use Rattle.cn_log.proofs.Invariant.{IsNoted, IsPending, Holds, Facts, Stands, StandsBy, in_order, stands_once, fixed_begun}
 use Rattle.cn_log.proofs.ListLemmas.{there_is}
 
@@ -68,7 +68,7 @@ module _ {R : Type 0} (L : Setting R) (Good : R → Type 0) (agrees : RoundsAgre
           let fixed = holds.seen p s.slot x.0 x.1 in
           let there = s.stands.fixed in
           let same : s.stands.batch ≡ x.0 = cc (fixed, there) in
-          absurd (pend.unseen s.slot x.0 x.1 (subst (λ (z : Batch). Has z mine) same s.stands.has))
+          absurd (pend.unseen s.slot x.0 x.1 (subst (λ (z : Batch). HoldsEntry z mine) same s.stands.has))
 
 -- what holds before any event
 module _ {R : Type 0} (L : Setting R) (Good : R → Type 0) (agrees : RoundsAgree L Good) where

@@ -2,7 +2,7 @@
 use Rattle.std.proofs.Common.{◌≡◌, true, false, Option, Some, None, ap}
 use Rattle.cn_log.specs.declared.batch.Batch.{Batch}
 use Rattle.cn_log.specs.declared.entry.Entry.{Entry}
-use Rattle.cn_log.specs.Batches.{Has, has, entry_at, is_entry}
+use Rattle.cn_log.specs.Batches.{HoldsEntry, has, entry_at, is_entry}
 use Rattle.cn_log.proofs.ListLemmas.{same_is, same_not}
 
 is_it : (o : Option Entry) (e : Entry) → is_entry o e ≡ true → o ≡ Some e
@@ -13,8 +13,8 @@ isnt_it : (o : Option Entry) (e : Entry) → is_entry o e ≡ false → o ≡ So
 isnt_it None e h s = absurd cc
 isnt_it (Some f) e h s = same_not f e h cc
 
-pub has_is : (b : Batch) (e : Entry) → has b e ≡ true → Has b e
+pub has_is : (b : Batch) (e : Entry) → has b e ≡ true → HoldsEntry b e
 has_is b e h = is_it (entry_at b e.process) e h
 
-pub has_isnt : (b : Batch) (e : Entry) → has b e ≡ false → Has b e → ⊥
+pub has_isnt : (b : Batch) (e : Entry) → has b e ≡ false → HoldsEntry b e → ⊥
 has_isnt b e h s = isnt_it (entry_at b e.process) e h s

@@ -5,7 +5,7 @@ use Rattle.cn_log.specs.declared.entry.Entry.{Entry}
 use Rattle.cn_log.specs.declared.caller_state.Phase.{Phase}
 use Rattle.cn_log.specs.declared.caller_state.Phase.TheVariants.{Idle, Looks, Runs}
 use Rattle.cn_log.specs.Agreement.{RoundsAgree}
-use Rattle.cn_log.specs.Batches.{Has, entry_at}
+use Rattle.cn_log.specs.Batches.{HoldsEntry, entry_at}
 use Rattle.cn_log.specs.Callers.{IsUnseen}
 use Rattle.cn_log.specs.Log.{Setting, World, Note, Called, Replied, FoundFull, response_in}
 
@@ -40,8 +40,8 @@ IsShaped b = (q : ℕ) (e : Entry) → entry_at b q ≡ Some e → e.process ≡
 pub record IsGathered (seen : List Batch) (history : List Note) (batch : Batch) : Type 0 where
   pub places : length batch.entries ≡ 8
   pub shaped : IsShaped batch
-  pub called : (e : Entry) → Has batch e → IsCalled e history
-  pub unseen : (e : Entry) → Has batch e → IsUnseen seen e
+  pub called : (e : Entry) → HoldsEntry batch e → IsCalled e history
+  pub unseen : (e : Entry) → HoldsEntry batch e → IsUnseen seen e
 
 pub record IsLooking {R : Type 0} (L : Setting R) (w : World R) (p : ℕ) (mine : Entry) (q : ℕ) (batch : Batch) : Type 0 where
   pub pending : IsPending L w p mine
@@ -57,13 +57,13 @@ PhaseHolds L w p (Runs mine) = IsPending L w p mine
 pub record IsOther {R : Type 0} (L : Setting R) (r : R) (v : Entry) : Type 0 where
   pub batch : Batch
   pub fixed : L.consensus.fixed r ≡ Some batch
-  pub other : Has batch v → ⊥
+  pub other : HoldsEntry batch v → ⊥
 
 -- what a process begins with in slot k: every slot before is fixed, its entries were called and stand in none of these
 pub record IsBegun {R : Type 0} (L : Setting R) (w : World R) (k : ℕ) (v : Batch) : Type 0 where
   pub shaped : IsShaped v
-  pub called : (e : Entry) → Has v e → IsCalled e w.history
-  pub other : (e : Entry) → Has v e → (j : ℕ) → j < k → IsOther L (w.round j) e
+  pub called : (e : Entry) → HoldsEntry v e → IsCalled e w.history
+  pub other : (e : Entry) → HoldsEntry v e → (j : ℕ) → j < k → IsOther L (w.round j) e
   pub turn : (j : ℕ) → j < k → (x : Batch) × (L.consensus.fixed (w.round j) ≡ Some x)
 
 pub record Holds {R : Type 0} (L : Setting R) (Good : R → Type 0) (w : World R) : Type 0 where
@@ -83,7 +83,7 @@ pub record Holds {R : Type 0} (L : Setting R) (Good : R → Type 0) (w : World R
 pub record Stands {R : Type 0} (L : Setting R) (w : World R) (e : Entry) (k : ℕ) : Type 0 where
   pub batch : Batch
   pub fixed : L.consensus.fixed (w.round k) ≡ Some batch
-  pub has : Has batch e
+  pub has : HoldsEntry batch e
 
 module _ {R : Type 0} (L : Setting R) (Good : R → Type 0) (agrees : RoundsAgree L Good) (w : World R) (holds : Holds L Good w) where
   -- what is fixed was begun
@@ -103,7 +103,7 @@ module _ {R : Type 0} (L : Setting R) (Good : R → Type 0) (agrees : RoundsAgre
           let f = o.fixed in
           let g = ha.fixed in
           let same : ha.batch ≡ o.batch = cc (f, g) in
-          o.other (subst (λ (z : Batch). Has z e) same ha.has)
+          o.other (subst (λ (z : Batch). HoldsEntry z e) same ha.has)
 
       go : (j < k) ⊎ ((k < j) ⊎ (j ≡ k)) → j ≡ k
       go (inl lt) = absurd (apart j k lt hj hk)
@@ -124,7 +124,7 @@ pub record IsSeen (seen : List Batch) (e : Entry) : Type 0 where
   pub slot : ℕ
   pub batch : Batch
   pub there : slice_get seen slot ≡ Some batch
-  pub has : Has batch e
+  pub has : HoldsEntry batch e
 
 -- what was answered is the reply of the slot: of one sequential run of the entries before
 pub record IsReply {R : Type 0} (L : Setting R) (w : World R) (e : Entry) (k : ℕ) (response : ℕ) : Type 0 where
@@ -151,7 +151,7 @@ pub record StandsBy {R : Type 0} (L : Setting R) (w : World R) (e : Entry) (k : 
 -- who looks has gathered each call of the processes that it has looked at, made before its slot was the next one, unless that stands by now
 abbrev pub HasGathered : {R : Type 0} → Setting R → World R → List Batch → Phase → Type 0
 HasGathered L w seen Idle = Unit {0}
-HasGathered L w seen (Looks mine q batch) = (e : Entry) (since : ℕ) → IsNoted (Called e since) w.history → since < length seen → e.process < q → Has batch e ⊎ StandsBy L w e (length seen)
+HasGathered L w seen (Looks mine q batch) = (e : Entry) (since : ℕ) → IsNoted (Called e since) w.history → since < length seen → e.process < q → HoldsEntry batch e ⊎ StandsBy L w e (length seen)
 HasGathered L w seen (Runs mine) = Unit {0}
 
 pub record Facts {R : Type 0} (L : Setting R) (w : World R) : Type 0 where
@@ -167,7 +167,7 @@ pub record Facts {R : Type 0} (L : Setting R) (w : World R) : Type 0 where
   pub done : (e : Entry) → IsCalled e w.history → IsMine (w.caller e.process).phase e ⊎ (IsSeen (w.caller e.process).seen e ⊎ (L.capacity ≤ length (w.caller e.process).seen))
   pub gathers : (p : ℕ) → HasGathered L w (w.caller p).seen (w.caller p).phase
   -- in a slot behind the next one, all begin with e, once it is called, or e stands by then
-  pub helps : (e : Entry) (since : ℕ) → IsNoted (Called e since) w.history → e.process < L.processes → (k q : ℕ) (v : Batch) → since < k → k < L.capacity → L.consensus.input (w.round k) q ≡ Some v → Has v e ⊎ StandsBy L w e k
+  pub helps : (e : Entry) (since : ℕ) → IsNoted (Called e since) w.history → e.process < L.processes → (k q : ℕ) (v : Batch) → since < k → k < L.capacity → L.consensus.input (w.round k) q ≡ Some v → HoldsEntry v e ⊎ StandsBy L w e k
   -- when a call is made, every call of the process before it stands
   pub earlier : (e : Entry) (since : ℕ) → IsNoted (Called e since) w.history → (f : Entry) → IsCalled f w.history → f.process ≡ e.process → f.call < e.call → (j : ℕ) × (j < since) × Stands L w f j
   -- calls are numbered with no gap

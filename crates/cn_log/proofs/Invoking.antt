@@ -4,7 +4,7 @@ use Rattle.std.proofs.lemmas.Bool.{cases_eq}
 use Rattle.std.proofs.lemmas.Option.{slice_get_within}
 use Rattle.cn_log.specs.declared.batch.Batch.{Batch}
 use Rattle.cn_log.specs.declared.entry.Entry.{Entry}
-use Rattle.cn_log.specs.Batches.{Has, no_entries}
+use Rattle.cn_log.specs.Batches.{HoldsEntry, no_entries}
 use Rattle.cn_log.specs.Log.{Setting, World, Caller, Note, Called, Replied, FoundFull, batches_of, fixed_from, first_look, after_invoke, after_step, after_event, after_events, MayCome, MayAllCome}
 use Rattle.cn_log.specs.declared.caller_state.Phase.{Phase}
 use Rattle.cn_log.specs.declared.caller_state.Phase.TheVariants.{Idle, Looks, Runs}
@@ -209,7 +209,7 @@ module _ {R : Type 0} (L : Setting R) (Good : R → Type 0) (agrees : RoundsAgre
         | inr was ↦ facts.since_low f since was k room h
       ];
       stood = λ f since k noted h. elim (noted_cases f since noted) [
-        | inl new ↦ absurd (new_entry ((fixed_begun L Good agrees w holds k h.batch h.fixed).called e (subst (λ (z : Entry). Has h.batch z) (sym new.0) h.has)))
+        | inl new ↦ absurd (new_entry ((fixed_begun L Good agrees w holds k h.batch h.fixed).called e (subst (λ (z : Entry). HoldsEntry h.batch z) (sym new.0) h.has)))
         | inr was ↦ facts.stood f since k was (stands_was f k h)
       ];
       answered = λ f k r noted. reply_same f k r (facts.answered f k r (answered_before (Replied f k r) (λ since h. cc) noted));

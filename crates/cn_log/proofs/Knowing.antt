@@ -4,7 +4,7 @@ use Rattle.std.proofs.lemmas.List.{take-append-drop}
 use Rattle.std.proofs.lemmas.Bool.Decides.{nat_tests}
 use Rattle.cn_log.specs.declared.batch.Batch.{Batch}
 use Rattle.cn_log.specs.declared.entry.Entry.{Entry}
-use Rattle.cn_log.specs.Batches.{Has, has, entry_at, members, entries_in}
+use Rattle.cn_log.specs.Batches.{HoldsEntry, has, entry_at, members, entries_in}
 use Rattle.cn_log.specs.declared.event.Event.{Event}
 use Rattle.cn_log.specs.declared.event.Event.TheVariants.{Invoke, Step}
 use Rattle.cn_log.specs.declared.event.StepAnswer.{StepAnswer}
@@ -12,7 +12,7 @@ use Rattle.cn_log.specs.declared.event.StepAnswer.TheVariants.{Working}
 use Rattle.cn_log.specs.declared.caller_state.Phase.{Phase}
 use Rattle.cn_log.specs.declared.caller_state.Phase.TheVariants.{Idle, Looks, Runs}
 use Rattle.cn_log.specs.Agreement.{RoundsAgree}
-use Rattle.cn_log.specs.Callers.{BeginsWith, IsUnseen, process_of, Without, pending_in, call_of, caller_of, entries_by, seen_of, IsPendingCall, IsStepped, SeesOther}
+use Rattle.cn_log.specs.Callers.{BeginsWith, IsUnseen, process_of, HasNoEventOf, pending_in, call_of, caller_of, entries_by, seen_of, IsPendingCall, IsStepped, SeesOther}
 use Rattle.cn_log.specs.Linearized.{calls_of}
 use Rattle.cn_log.specs.Log.{Setting, World, Caller, Called, put, IsEventList, batches, entries, batch_with, first_look, after_gathering, after_decision, after_step, after_event, after_events, first_world, state_of, phase_after, answer, answer_from, answer_with}
 use Rattle.cn_log.proofs.EventLists.{run_append, may_right}
@@ -46,11 +46,11 @@ module _ {R : Type 0} (L : Setting R) where
   other_event w (Invoke q operation) p ne = put_other w.caller q _ p (λ i. ne (sym i))
   other_event w (Step q) p ne = other_step w q p (w.caller q) (w.caller q).phase (λ i. ne (sym i))
 
-  other_events : (events : List Event) (w : World R) (p : ℕ) → Without p events → (after_events L events w).caller p ≡ w.caller p
+  other_events : (events : List Event) (w : World R) (p : ℕ) → HasNoEventOf p events → (after_events L events w).caller p ≡ w.caller p
   other_events [] w p h = refl
   other_events (e ∷ events) w p h = other_events events (after_event L w e) p h.1 ∙ other_event w e p h.0
 
-  pub stays : (before rest : List Event) (p : ℕ) → Without p rest → caller_of L (before ++ rest) p ≡ caller_of L before p
+  pub stays : (before rest : List Event) (p : ℕ) → HasNoEventOf p rest → caller_of L (before ++ rest) p ≡ caller_of L before p
   stays before rest p h = ap (λ (w : World R). w.caller p) (run_append L before rest (first_world L)) ∙ other_events rest (state_of L before) p h
 
   pub invoked : (events : List Event) (p operation : ℕ)
@@ -163,11 +163,11 @@ module _ {R : Type 0} (L : Setting R) (Good : R → Type 0) (agrees : RoundsAgre
         let fixed = holds'.seen p (length here.seen) x there in
         let begun = fixed_begun L Good agrees next holds' (length here.seen) x fixed in (
           begun.shaped,
-          λ e at. (let own : e.process ≡ p = begun.shaped p e at in let has : Has x e = subst (λ q. entry_at x q ≡ Some e) (sym own) at in
+          λ e at. (let own : e.process ≡ p = begun.shaped p e at in let has : HoldsEntry x e = subst (λ q. entry_at x q ≡ Some e) (sym own) at in
               go e own has holds' fixed ((facts_after L Good agrees events may_before).done e (called_before e (begun.called e has)))),
         )
       where
-        go : (e : Entry) → e.process ≡ p → Has x e → Holds L Good next → L.consensus.fixed (next.round (length here.seen)) ≡ Some x
+        go : (e : Entry) → e.process ≡ p → HoldsEntry x e → Holds L Good next → L.consensus.fixed (next.round (length here.seen)) ≡ Some x
             → IsMine (w.caller e.process).phase e ⊎ (IsSeen (w.caller e.process).seen e ⊎ (L.capacity ≤ length (w.caller e.process).seen)) → e ≡ mine
         go e own has holds' fixed (inl mine_is) = is_mine here.phase e is (subst (λ q. IsMine (w.caller q).phase e) own mine_is)
         go e own has holds' fixed (inr (inl s)) =
@@ -179,24 +179,24 @@ module _ {R : Type 0} (L : Setting R) (Good : R → Type 0) (agrees : RoundsAgre
             absurd (omega (arith, same, low))
         go e own has holds' fixed (inr (inr full)) = let room = call.room in let whole : L.capacity ≤ length here.seen = subst (λ q. L.capacity ≤ length (w.caller q).seen) own full in absurd (omega (arith, room, whole))
 
-    not_there : (x : Batch) → (Has x mine → ⊥) → IsUnseen (here.seen ++ x ∷ []) mine
-    not_there x other k b at has = elim (get_push_cases here.seen x k b at) [ inl old ↦ call.unseen k b old has | inr new ↦ other (subst (λ (z : Batch). Has z mine) (sym new.1) has) ]
+    not_there : (x : Batch) → (HoldsEntry x mine → ⊥) → IsUnseen (here.seen ++ x ∷ []) mine
+    not_there x other k b at has = elim (get_push_cases here.seen x k b at) [ inl old ↦ call.unseen k b old has | inr new ↦ other (subst (λ (z : Batch). HoldsEntry z mine) (sym new.1) has) ]
 
-    mine_at : (x : Batch) → Has x mine → entry_at x p ≡ Some mine
+    mine_at : (x : Batch) → HoldsEntry x mine → entry_at x p ≡ Some mine
     mine_at x has = subst (λ q. entry_at x q ≡ Some mine) call.process has
 
     -- none of its own where the pending one is not there
-    none_there : (x : Batch) → ((e : Entry) → entry_at x p ≡ Some e → e ≡ mine) → (Has x mine → ⊥) → entry_at x p ≡ None
+    none_there : (x : Batch) → ((e : Entry) → entry_at x p ≡ Some e → e ≡ mine) → (HoldsEntry x mine → ⊥) → entry_at x p ≡ None
     none_there x own other = go (entry_at x p) refl
       where
         go : (o : Option Entry) → entry_at x p ≡ o → o ≡ None
         go None h = refl
         go (Some e) h = absurd (other (let same = own e h in subst (λ q. entry_at x q ≡ Some mine) (sym call.process) (h ∙ ap Some same)))
 
-    sees_other : (x : Batch) → IsShaped x × ((e : Entry) → entry_at x p ≡ Some e → e ≡ mine) → (Has x mine → ⊥) → (now : Caller) → now.seen ≡ here.seen ++ x ∷ [] → SeesOther L p here now
+    sees_other : (x : Batch) → IsShaped x × ((e : Entry) → entry_at x p ≡ Some e → e ≡ mine) → (HoldsEntry x mine → ⊥) → (now : Caller) → now.seen ≡ here.seen ++ x ∷ [] → SeesOther L p here now
     sees_other x own other now seen = let none = none_there x own.1 other in record { batch = x; seen = seen; none = none; own = own_none L.processes 0 p x own.0 none }
 
-    one_own : (x : Batch) → IsShaped x → p < L.processes → Has x mine → entries_by p (members L.processes 0 x) ≡ mine ∷ []
+    one_own : (x : Batch) → IsShaped x → p < L.processes → HoldsEntry x mine → entries_by p (members L.processes 0 x) ≡ mine ∷ []
     one_own x shaped lt has = own_one L.processes 0 p x mine shaped (omega (arith, lt)) (omega (arith, lt)) (mine_at x has)
 
     process_low : p < L.processes

@@ -4,7 +4,7 @@ use Rattle.std.proofs.lemmas.Bool.{cases_eq}
 use Rattle.cn_table.specs.declared.elements.Response.{Response}
 use Rattle.cn_log.specs.declared.batch.Batch.{Batch}
 use Rattle.cn_log.specs.declared.entry.Entry.{Entry}
-use Rattle.cn_log.specs.Batches.{Has, has, entry_at, members, entries_in}
+use Rattle.cn_log.specs.Batches.{HoldsEntry, has, entry_at, members, entries_in}
 use Rattle.cn_log.specs.declared.event.Event.{Event}
 use Rattle.cn_log.specs.declared.event.Event.TheVariants.{Invoke, Step}
 use Rattle.cn_log.specs.declared.event.StepAnswer.TheVariants.{Working, Answered, Full}
@@ -421,7 +421,7 @@ module _ {R : Type 0} (L : Setting R) (Good : R → Type 0) (agrees : RoundsAgre
         let all = facts_now.ended e (ended_note events may i e a) in (
           all_fixed L w.round L.capacity 0 (λ k less. (let z : 0 + k ≡ k = omega arith in rw z ((all k less).batch, (all k less).fixed))),
           λ k h. (let t = there_of k e h in let o = all t.slot (room_of t.slot t.batch t.there) in let f = o.fixed in let g = fixed_of t.slot t.batch t.there in let same : t.batch ≡ o.batch = cc (f, g) in
-              o.other (subst (λ (z : Batch). Has z e) same t.at)),
+              o.other (subst (λ (z : Batch). HoldsEntry z e) same t.at)),
         )
 
     ordered_calls : (k : ℕ) (e : Entry) (call : ℕ) → StandsAt L events k e → call < e.call → (j : ℕ) × (f : Entry) × (j < k) × (f.process ≡ e.process) × (f.call ≡ call) × StandsAt L events j f

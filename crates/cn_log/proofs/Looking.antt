@@ -7,7 +7,7 @@ use Rattle.cn_log.specs.declared.entry.Entry.{Entry}
 use Rattle.cn_log.specs.declared.caller_state.Phase.{Phase}
 use Rattle.cn_log.specs.declared.caller_state.Phase.TheVariants.{Idle, Looks, Runs}
 use Rattle.cn_log.specs.Agreement.{RoundsAgree}
-use Rattle.cn_log.specs.Batches.{Has, entry_at, with_entry, entries_in}
+use Rattle.cn_log.specs.Batches.{HoldsEntry, entry_at, with_entry, entries_in}
 use Rattle.cn_log.specs.Callers.{IsUnseen}
 use Rattle.cn_log.specs.Log.{Setting, World, Caller, Called, put, has_entry, batch_with, after_gathering, after_step}
 use Rattle.cn_log.proofs.ListLemmas.{put_same, put_other, has_not, has_yes, there_is, get_low}
@@ -101,7 +101,7 @@ module _ {R : Type 0} (L : Setting R) (Good : R → Type 0) (agrees : RoundsAgre
         ]
 
     -- a call of process q, made before the slot was the next one
-    gathers_one : (e : Entry) (since : ℕ) → IsNoted (Called e since) w.history → since < k0 → e.process ≡ q → Has v e ⊎ StandsBy L w e k0
+    gathers_one : (e : Entry) (since : ℕ) → IsNoted (Called e since) w.history → since < k0 → e.process ≡ q → HoldsEntry v e ⊎ StandsBy L w e k0
     gathers_one e since noted less whose =
         go (w.caller e.process).phase refl (facts.done e (record { since = since; noted = noted }))
       where
@@ -115,15 +115,15 @@ module _ {R : Type 0} (L : Setting R) (Good : R → Type 0) (agrees : RoundsAgre
         seen_by s (inl le) = record { slot = s.slot; low = le; stands = record { batch = s.batch; fixed = holds.seen e.process s.slot s.batch s.there; has = s.has } }
         seen_by s (inr gt) = let o = in_order L Good agrees w holds k0 s.slot s.batch gt (holds.seen e.process s.slot s.batch s.there) in helped e since noted low o.0 less o.1
 
-        look : (b : Bool) → has_entry known e ≡ b → w.announced q ≡ Some e → Has v e ⊎ StandsBy L w e k0
+        look : (b : Bool) → has_entry known e ≡ b → w.announced q ≡ Some e → HoldsEntry v e ⊎ StandsBy L w e k0
         look true h a = let f = entry_seen e h in let l = get_low here.seen f.slot f.batch f.there in
             inr (record { slot = f.slot; low = omega (arith, l); stands = record { batch = f.batch; fixed = holds.seen p f.slot f.batch f.there; has = f.has } })
         look false h a = inl (rw (a, h) (subst (λ z. entry_at (with_entry batch q e) z ≡ Some e) (sym whose) (with_new batch q e low_place)))
 
-        announces : (mine' : Entry) → IsPending L w e.process mine' → mine' ≡ e → Has v e ⊎ StandsBy L w e k0
+        announces : (mine' : Entry) → IsPending L w e.process mine' → mine' ≡ e → HoldsEntry v e ⊎ StandsBy L w e k0
         announces mine' pend same = look (has_entry known e) refl (ap w.announced (sym whose) ∙ pend.announced ∙ ap Some same)
 
-        go : (ph : Phase) → (w.caller e.process).phase ≡ ph → IsMine (w.caller e.process).phase e ⊎ (IsSeen (w.caller e.process).seen e ⊎ (L.capacity ≤ length (w.caller e.process).seen)) → Has v e ⊎ StandsBy L w e k0
+        go : (ph : Phase) → (w.caller e.process).phase ≡ ph → IsMine (w.caller e.process).phase e ⊎ (IsSeen (w.caller e.process).seen e ⊎ (L.capacity ≤ length (w.caller e.process).seen)) → HoldsEntry v e ⊎ StandsBy L w e k0
         go Idle is' (inl m) = let m' : IsMine Idle e = subst (λ z. IsMine z e) is' m in elim m' [ ]
         go (Looks mine' i b) is' (inl m) = let h : IsLooking L w e.process mine' i b = subst (PhaseHolds L w e.process) is' (holds.phases e.process) in announces mine' h.pending (subst (λ z. IsMine z e) is' m)
         go (Runs mine') is' (inl m) = let h : IsPending L w e.process mine' = subst (PhaseHolds L w e.process) is' (holds.phases e.process) in announces mine' h (subst (λ z. IsMine z e) is' m)
@@ -140,7 +140,7 @@ module _ {R : Type 0} (L : Setting R) (Good : R → Type 0) (agrees : RoundsAgre
         go false = with_old batch q other i ne
 
     -- each call of the processes looked at
-    pub gathers_now : (e : Entry) (since : ℕ) → IsNoted (Called e since) w.history → since < k0 → e.process < q + 1 → Has v e ⊎ StandsBy L w e k0
+    pub gathers_now : (e : Entry) (since : ℕ) → IsNoted (Called e since) w.history → since < k0 → e.process < q + 1 → HoldsEntry v e ⊎ StandsBy L w e k0
     gathers_now e since noted less low = elim (cases_eq e.process q) [
       | inl whose ↦ gathers_one e since noted less whose
       | inr ne ↦ (let old : HasGathered L w here.seen (Looks mine q batch) = subst (HasGathered L w here.seen) is (facts.gathers p) in elim (old e since noted less (grind arith)) [
@@ -430,7 +430,7 @@ module _ {R : Type 0} (L : Setting R) (Good : R → Type 0) (agrees : RoundsAgre
       gathers_same2 s (Looks m i b) h = λ e since noted less low. elim (h e since noted less low) [ inl has ↦ inl has | inr by ↦ inr (by2 e (length s) by) ]
       gathers_same2 s (Runs m) h = tt
 
-      begins_with : (e : Entry) (since : ℕ) → IsNoted (Called e since) w.history → e.process < L.processes → since < k0 → Has v e ⊎ StandsBy L w2 e k0
+      begins_with : (e : Entry) (since : ℕ) → IsNoted (Called e since) w.history → e.process < L.processes → since < k0 → HoldsEntry v e ⊎ StandsBy L w2 e k0
       begins_with e since noted low less =
           let all : q + 1 ≡ L.processes = grind (arith, nat_tests) in
           elim (gathers_now facts e since noted less (omega (arith, all, low))) [ inl has ↦ inl has | inr by ↦ inr (by2 e k0 by) ]
@@ -452,7 +452,7 @@ module _ {R : Type 0} (L : Setting R) (Good : R → Type 0) (agrees : RoundsAgre
         ];
         helps = λ e since noted low k i u less room h. elim (input_cases k i u h) [
           | inl was ↦ elim (facts.helps e since noted low k i u less room was) [ inl has ↦ inl has | inr by ↦ inr (by2 e k by) ]
-          | inr new ↦ subst (λ z. Has z e ⊎ StandsBy L w2 e k) new.2 (subst (λ z. Has v e ⊎ StandsBy L w2 e z) (sym new.0) (begins_with e since noted low (subst (λ z. since < z) new.0 less)))
+          | inr new ↦ subst (λ z. HoldsEntry z e ⊎ StandsBy L w2 e k) new.2 (subst (λ z. HoldsEntry v e ⊎ StandsBy L w2 e z) (sym new.0) (begins_with e since noted low (subst (λ z. since < z) new.0 less)))
         ];
         earlier = λ e since noted f c whose less. (let g = facts.earlier e since noted f c whose less in (g.0, g.1, stands2_back f g.0 g.2));
         dense = λ i c less. facts.dense i c (rw (calls_put runs refl i) at less);

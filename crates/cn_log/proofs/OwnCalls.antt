@@ -5,7 +5,7 @@ use Rattle.std.proofs.lemmas.Bool.Decides.{nat_tests}
 use Rattle.std.proofs.lemmas.List.Elements.{filter-append}
 use Rattle.cn_log.specs.declared.batch.Batch.{Batch}
 use Rattle.cn_log.specs.declared.entry.Entry.{Entry}
-use Rattle.cn_log.specs.Batches.{Has, members, entries_in}
+use Rattle.cn_log.specs.Batches.{HoldsEntry, members, entries_in}
 use Rattle.cn_log.specs.declared.event.Event.{Event}
 use Rattle.cn_log.specs.declared.event.Event.TheVariants.{Invoke, Step}
 use Rattle.cn_log.specs.declared.event.StepAnswer.{StepAnswer}
@@ -13,7 +13,7 @@ use Rattle.cn_log.specs.declared.event.StepAnswer.TheVariants.{Working, Answered
 use Rattle.cn_log.specs.declared.caller_state.Phase.{Phase}
 use Rattle.cn_log.specs.declared.caller_state.Phase.TheVariants.{Idle, Looks, Runs}
 use Rattle.cn_log.specs.Agreement.{RoundsAgree}
-use Rattle.cn_log.specs.Callers.{BeginsWith, seen_of, Without, pending_in, call_of, calls_from, calls_by, entries_by, caller_of, SeesOther, IsStepped, IsUnanswered, HasAppliedItsOwn, HasAppliedBy}
+use Rattle.cn_log.specs.Callers.{BeginsWith, seen_of, HasNoEventOf, pending_in, call_of, calls_from, calls_by, entries_by, caller_of, SeesOther, IsStepped, IsUnanswered, HasAppliedItsOwn, HasAppliedBy}
 use Rattle.cn_log.specs.Linearized.{calls_of}
 use Rattle.cn_log.specs.Log.{Setting, World, Caller, IsEventList, MayInvoke, MayStep, MayAllCome, batches, entries, answer, first_world, state_of}
 use Rattle.cn_log.proofs.EntryLists.{entries_few}
@@ -46,12 +46,12 @@ calls_join p k (Invoke q operation ∷ before) rest = go (k + calls_of p (Invoke
 pub calls_grow : (p : ℕ) (before rest : List Event) → BeginsWith (calls_by p (before ++ rest)) (calls_by p before)
 calls_grow p before rest = (calls_from p (0 + calls_of p before) rest, calls_join p 0 before rest)
 
-no_calls : (p k : ℕ) (events : List Event) → Without p events → calls_from p k events ≡ []
+no_calls : (p k : ℕ) (events : List Event) → HasNoEventOf p events → calls_from p k events ≡ []
 no_calls p k [] h = refl
 no_calls p k (Step q ∷ events) h = no_calls p k events h.1
 no_calls p k (Invoke q operation ∷ events) h = let ne = h.0 in let t : (q == p) ≡ false = grind (arith, nat_tests) in rw t (no_calls p k events h.1)
 
-pub calls_stay : (p : ℕ) (before rest : List Event) → Without p rest → calls_by p (before ++ rest) ≡ calls_by p before
+pub calls_stay : (p : ℕ) (before rest : List Event) → HasNoEventOf p rest → calls_by p (before ++ rest) ≡ calls_by p before
 calls_stay p before rest h = calls_join p 0 before rest ∙ ap (λ l. calls_by p before ++ l) (no_calls p (0 + calls_of p before) rest h) ∙ append-nil (calls_by p before)
 
 step_calls : (p : ℕ) (events : List Event) → calls_by p (events ++ Step p ∷ []) ≡ calls_by p events
@@ -121,7 +121,7 @@ module _ {R : Type 0} (L : Setting R) (Good : R → Type 0) (agrees : RoundsAgre
   abbrev Own : List Event → Type 0
   Own events = HasAppliedItsOwn L events p
 
-  own_other : (events rest : List Event) → Without p rest → Own events → Own (events ++ rest)
+  own_other : (events rest : List Event) → HasNoEventOf p rest → Own events → Own (events ++ rest)
   own_other events rest h own =
       let same = stays L events rest p h in
       let calls = calls_stay p events rest h in
@@ -234,7 +234,7 @@ module _ {R : Type 0} (L : Setting R) (Good : R → Type 0) (agrees : RoundsAgre
         nothing [] k x none h = cc h
         nothing (b ∷ bs) k x none h = omega (arith, none)
 
-        go : x.process < L.processes → (b : Batch) → IsBegun L w (there_of L Good agrees events may (length known + k) x (there k x at)).slot b → Has b x → IsMine here.phase x
+        go : x.process < L.processes → (b : Batch) → IsBegun L w (there_of L Good agrees events may (length known + k) x (there k x at)).slot b → HoldsEntry b x → IsMine here.phase x
         go lt b begun has = elim ((facts_after L Good agrees events may).done x (begun.called x has)) [
           | inl mine ↦ subst (λ q. IsMine (w.caller q).phase x) own mine
           | inr (inl s) ↦ (

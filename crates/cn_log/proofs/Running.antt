@@ -4,7 +4,7 @@ use Rattle.std.proofs.lemmas.Bool.{cases_eq}
 use Rattle.std.proofs.lemmas.Bool.Decides.{nat_tests}
 use Rattle.cn_log.specs.declared.batch.Batch.{Batch}
 use Rattle.cn_log.specs.declared.entry.Entry.{Entry}
-use Rattle.cn_log.specs.Batches.{Has, has}
+use Rattle.cn_log.specs.Batches.{HoldsEntry, has}
 use Rattle.cn_log.specs.Log.{Setting, World, Caller, Note, Called, Replied, FoundFull, put, phase_after, after_decision, after_step, first_look, response_in}
 use Rattle.cn_log.specs.declared.caller_state.Phase.{Phase}
 use Rattle.cn_log.specs.declared.caller_state.Phase.TheVariants.{Idle, Looks, Runs}
@@ -165,7 +165,7 @@ module _ {R : Type 0} (L : Setting R) (Good : R → Type 0) (agrees : RoundsAgre
             let room = pending.room in
             record {
               pending = record {
-                unseen = λ k b g. elim (get_push_cases here.seen x k b (rw s at g)) [ inl was ↦ pending.unseen k b was | inr new ↦ subst (λ (z : Batch). Has z mine → ⊥) new.1 (has_isnt x mine e) ];
+                unseen = λ k b g. elim (get_push_cases here.seen x k b (rw s at g)) [ inl was ↦ pending.unseen k b was | inr new ↦ subst (λ (z : Batch). HoldsEntry z mine → ⊥) new.1 (has_isnt x mine e) ];
                 called = called_kept mine pending.called;
                 announced = pending.announced;
                 process = pending.process;
@@ -270,7 +270,7 @@ module _ {R : Type 0} (L : Setting R) (Good : R → Type 0) (agrees : RoundsAgre
     gathers_kept w'' same less seen (Runs m) h = tt
 
     helps_kept : (w'' : World R) → w''.round ≡ round' → (e : Entry) (since : ℕ) → IsNoted (Called e since) w.history → e.process < L.processes → (k q : ℕ) (v : Batch) → since < k → k < L.capacity
-        → L.consensus.input (round' k) q ≡ Some v → Has v e ⊎ StandsBy L w'' e k
+        → L.consensus.input (round' k) q ≡ Some v → HoldsEntry v e ⊎ StandsBy L w'' e k
     helps_kept w'' same e since noted low k q v less room h = elim (facts.helps e since noted low k q v less room (sym (input_same k q) ∙ h)) [ inl has ↦ inl has | inr s ↦ inr (by_kept w'' same e k s) ]
 
     none_facts : Facts L (record w { round = round' })
@@ -303,8 +303,8 @@ module _ {R : Type 0} (L : Setting R) (Good : R → Type 0) (agrees : RoundsAgre
       -- the notes afterwards are those before, or with an answer, or with an end
       data More : List Note → Type 0 where
         Same : More w.history
-        Answer : Has x mine → More (Replied mine k0 reply ∷ w.history)
-        End : (Has x mine → ⊥) → k0 + 1 ≡ L.capacity → More (FoundFull mine ∷ w.history)
+        Answer : HoldsEntry x mine → More (Replied mine k0 reply ∷ w.history)
+        End : (HoldsEntry x mine → ⊥) → k0 + 1 ≡ L.capacity → More (FoundFull mine ∷ w.history)
 
       more_now : More w2.history
       more_now = go (has x mine) (k0 + 1 == L.capacity) refl refl
@@ -376,7 +376,7 @@ module _ {R : Type 0} (L : Setting R) (Good : R → Type 0) (agrees : RoundsAgre
       done_mine e (inl m) = let m' : mine ≡ e = rw is at m in go (has x mine) (k0 + 1 == L.capacity) refl refl m'
         where
           go : (b d : Bool) → has x mine ≡ b → (k0 + 1 == L.capacity) ≡ d → mine ≡ e → IsMine (if b then Idle else (if d then Idle else first_look mine)) e ⊎ (IsSeen (here.seen ++ x ∷ []) e ⊎ (L.capacity ≤ length (here.seen ++ x ∷ [])))
-          go true d s f m' = inr (inl (record { slot = k0; batch = x; there = get_push_new here.seen x; has = subst (λ (z : Entry). Has x z) m' (has_is x mine s) }))
+          go true d s f m' = inr (inl (record { slot = k0; batch = x; there = get_push_new here.seen x; has = subst (λ (z : Entry). HoldsEntry x z) m' (has_is x mine s) }))
           go false true s f m' = inr (inr (let q : k0 + 1 ≡ L.capacity = grind (arith, nat_tests) in let l : length (here.seen ++ x ∷ []) ≡ k0 + 1 = length-append here.seen (x ∷ []) in omega arith))
           go false false s f m' = inl m'
       done_mine e (inr (inl s)) = inr (inl (record { slot = s.slot; batch = s.batch; there = get_push_old here.seen x s.slot s.batch s.there; has = s.has }))

@@ -19,8 +19,8 @@ abbrev pub with_entry : Batch → ℕ → Entry → Batch
 with_entry b p e = record { entries = slice_set b.entries p (Some e) }
 
 -- the entry is in the batch
-abbrev pub Has : Batch → Entry → Type 0
-Has b e = entry_at b e.process ≡ Some e
+abbrev pub HoldsEntry : Batch → Entry → Type 0
+HoldsEntry b e = entry_at b e.process ≡ Some e
 
 abbrev pub is_entry : Option Entry → Entry → Bool
 is_entry None e = false

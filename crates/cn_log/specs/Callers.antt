@@ -10,7 +10,7 @@ use Rattle.cn_log.specs.declared.event.StepAnswer.{StepAnswer}
 use Rattle.cn_log.specs.declared.event.StepAnswer.TheVariants.{Working, Answered, Full}
 use Rattle.cn_log.specs.declared.caller_state.Phase.{Phase}
 use Rattle.cn_log.specs.declared.caller_state.Phase.TheVariants.{Idle, Looks, Runs}
-use Rattle.cn_log.specs.Batches.{Has, entry_at, members}
+use Rattle.cn_log.specs.Batches.{HoldsEntry, entry_at, members}
 use Rattle.cn_log.specs.Linearized.{calls_of}
 use Rattle.cn_log.specs.Log.{Setting, Caller, state_of, response_in, entries_of_batches}
 
@@ -29,8 +29,8 @@ process_of (Invoke p operation) = p
 process_of (Step p) = p
 
 -- no event of the list is the process's
-abbrev pub Without : ℕ → List Event → Type 0
-Without p events = Every (λ e. process_of e ≢ p) events
+abbrev pub HasNoEventOf : ℕ → List Event → Type 0
+HasNoEventOf p events = Every (λ e. process_of e ≢ p) events
 
 -- the response of an answer is one of the object's
 abbrev pub HasResponse : TypeTable → StepAnswer → Type 0
@@ -64,7 +64,7 @@ entries_by p entries = filter (λ (e : Entry). e.process == p) entries
 
 -- the entry is in none of the batches
 abbrev pub IsUnseen : List Batch → Entry → Type 0
-IsUnseen batches e = (k : ℕ) (b : Batch) → slice_get batches k ≡ Some b → Has b e → ⊥
+IsUnseen batches e = (k : ℕ) (b : Batch) → slice_get batches k ≡ Some b → HoldsEntry b e → ⊥
 
 module _ {R : Type 0} (L : Setting R) where
   -- the process sees one batch more, with no entry of its own

@@ -7,7 +7,7 @@ ghost use Rattle.cn_agree.specs.declared.local.Local.TheVariants.{NotBegun};
 ghost use Rattle.cn_log.specs.Agreement.{RoundsAgree};
 ghost use Rattle.cn_log.specs.AtomicEvent.{IsAtomicEvent};
 ghost use Rattle.cn_log.specs.Bypass.{IsBypassBounded};
-ghost use Rattle.cn_log.specs.Callers.{BeginsWith, HasAppliedBy, HasAppliedItsOwn, IsPendingCall, IsStepped, Without, call_of, caller_of, calls_by, entries_by, pending_in, seen_of};
+ghost use Rattle.cn_log.specs.Callers.{BeginsWith, HasAppliedBy, HasAppliedItsOwn, IsPendingCall, IsStepped, HasNoEventOf, call_of, caller_of, calls_by, entries_by, pending_in, seen_of};
 ghost use Rattle.cn_log.specs.Linearized.{BeginsInTurn, Grows, IsLinearized};
 ghost use Rattle.cn_log.specs.Faults.{event_fault};
 ghost use Rattle.cn_log.specs.Log.{IsEventList, MayCome, answer, batches, entries, first_look, state_of};
@@ -22,7 +22,7 @@ use crate::batch::Batch;
 use crate::log_core::LogCore;
 use crate::opening::Opening;
 use cn_agree::laws::{atomic_steps, every_round};
-use cn_proto::laws::every_plan;
+use cn_proto::laws::{every_plan, plans_are_sound};
 
 /// The law of rounds: `agrees`, those of a plan are what a log needs; `begun` and `sizes`, what stands
 /// in them for each process.
@@ -48,7 +48,7 @@ pub(crate) fn openings_are_valid(opening: &Opening)
     ensures sizes { (w : RoundWorld BatchOf) → RunsBy opening.now.plan w → (length w.nodes ≡ nodes_of opening.now.plan)
         × (length w.locals ≡ processes_of opening.now.plan) × (length w.inputs ≡ processes_of opening.now.plan) }
 {
-    opening.plan.is_sound();
+    plans_are_sound(&opening.plan);
     rounds_agree();
 }
 
@@ -101,7 +101,7 @@ pub fn every_fault()
 /// `replayed`, the fixed slots begin with those that the process has applied.
 pub fn every_caller()
     ensures front { (o : OpeningOf) (before rest : List EventOf) → IsEventList (setting_of o) (before ++ rest) → IsEventList (setting_of o) before }
-    ensures stays { (o : OpeningOf) (before rest : List EventOf) (p : ℕ) → Without p rest
+    ensures stays { (o : OpeningOf) (before rest : List EventOf) (p : ℕ) → HasNoEventOf p rest
         → caller_of (setting_of o) (before ++ rest) p ≡ caller_of (setting_of o) before p }
     ensures invoked { (o : OpeningOf) (events : List EventOf) (p operation : ℕ) → let here = caller_of (setting_of o) events p in
         caller_of (setting_of o) (events ++ Invoke p operation ∷ []) p
@@ -125,7 +125,7 @@ pub fn every_caller()
 /// and among those that any process has applied, are the first of its calls, in order.
 pub fn every_call()
     ensures grow { (before rest : List EventOf) (p : ℕ) → BeginsWith (calls_by p (before ++ rest)) (calls_by p before) }
-    ensures stay { (before rest : List EventOf) (p : ℕ) → Without p rest → calls_by p (before ++ rest) ≡ calls_by p before }
+    ensures stay { (before rest : List EventOf) (p : ℕ) → HasNoEventOf p rest → calls_by p (before ++ rest) ≡ calls_by p before }
     ensures called { (o : OpeningOf) (events : List EventOf) (p operation : ℕ)
         → calls_by p (events ++ Invoke p operation ∷ []) ≡ calls_by p events ++ call_of p operation (caller_of (setting_of o) events p).calls ∷ [] }
     ensures own { (o : OpeningOf) (events : List EventOf) (p : ℕ) → IsOpening o → IsEventList (setting_of o) events

@@ -11,7 +11,7 @@ ghost use Rattle.cn_table.specs.DraftView.{texts_view, row_view, rows_view, draf
 
 use crate::fault::TableFault;
 use crate::keys::{array_at, text_at};
-use crate::names::Named;
+use crate::names::HasName;
 use std::alloc::Global;
 use toml::{Table, Value};
 
@@ -26,7 +26,7 @@ pub struct DraftRow {
     pub next: Vec<String>,
 }
 
-impl Named for DraftRow {
+impl HasName for DraftRow {
     ghost name_of = { λ r. string_bytes r.name };
 
     fn name(&self) -> &str {

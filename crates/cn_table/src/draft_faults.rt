@@ -6,16 +6,16 @@ ghost use Rattle.cn_table.specs.Faults.{has_bad_name, has_bad_count, has_repeate
 
 use crate::draft::{Draft, DraftRow};
 use crate::limits::{MOST_OPERATIONS, MOST_RESPONSES, MOST_STATES};
-use crate::names::{are_named, have_repeat, is_name};
+use crate::names::{have_names, have_repeat, is_name};
 
 /// Whether the type, a state, a response or an operation has no name.
 #[tactic(auto, using(crate::proofs::ListLemmas::map_twice))]
 pub(crate) fn has_bad_name(draft: &Draft) -> bool
     ensures { result ≡ has_bad_name (draft_view draft.now) }
 {
-    let states = are_named(&draft.states);
-    let responses = are_named(&draft.responses);
-    let operations = are_named(&draft.operations);
+    let states = have_names(&draft.states);
+    let responses = have_names(&draft.responses);
+    let operations = have_names(&draft.operations);
     !(is_name(draft.name.as_str()) && states && responses && operations)
 }
 

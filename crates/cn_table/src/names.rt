@@ -27,7 +27,7 @@ pub fn is_name(text: &str) -> bool
 }
 
 /// What goes by a name.
-pub trait Named {
+pub trait HasName {
     ghost name_of: { Self → List ℕ };
 
     /// The text that it goes by, which need not be a name.
@@ -35,7 +35,7 @@ pub trait Named {
         ensures { result.now ≡ name_of self.now };
 }
 
-impl Named for String {
+impl HasName for String {
     ghost name_of = { λ s. string_bytes s };
 
     fn name(&self) -> &str {
@@ -43,28 +43,28 @@ impl Named for String {
     }
 }
 
-fn all_go_by_names<T: Named>(things: &[T]) -> bool
+fn all_go_by_names<T: HasName>(things: &[T]) -> bool
     ensures { result ≡ list_all (λ x. is_name (T.name_of x)) things.now }
 {
     things.iter().all(|thing| is_name(thing.name()))
 }
 
 /// Whether each of the things goes by a name.
-pub fn are_named<T: Named>(things: &[T]) -> bool
+pub fn have_names<T: HasName>(things: &[T]) -> bool
     ensures { result ≡ list_all is_name (map T.name_of things.now) }
 {
     all_go_by_names(things)
 }
 
 /// Whether one of the things goes by this name.
-pub fn has_namesake<T: Named>(things: &[T], name: &str) -> bool
+pub fn has_namesake<T: HasName>(things: &[T], name: &str) -> bool
     ensures { result ≡ list_any (λ x. bytes_eq (T.name_of x) name.now) things.now }
 {
     things.iter().any(|thing| thing.name() == name)
 }
 
 /// Whether two of the things go by one name.
-pub(crate) fn have_repeat<T: Named>(things: &[T]) -> bool
+pub(crate) fn have_repeat<T: HasName>(things: &[T]) -> bool
     ensures { result ≡ has_repeat (map T.name_of things.now) }
 {
     for (i, thing) in things.iter().enumerate() {
@@ -75,16 +75,16 @@ pub(crate) fn have_repeat<T: Named>(things: &[T]) -> bool
     false
 }
 
-fn place_of<T: Named>(things: &[T], name: &str) -> Option<usize>
+fn position_of<T: HasName>(things: &[T], name: &str) -> Option<usize>
     ensures { result ≡ position (λ x. bytes_eq (T.name_of x) name.now) things.now }
 {
     things.iter().position(|thing| thing.name() == name)
 }
 
 /// The number of the thing that goes by a name, if there is one: its place among the things.
-pub fn number_of<T: Named>(things: &[T], name: &str) -> Option<usize>
+pub fn number_of<T: HasName>(things: &[T], name: &str) -> Option<usize>
     ensures number { result ≡ number_of (map T.name_of things.now) name.now }
     ensures range { IfSome result (λ i. i < length things.now) }
 {
-    place_of(things, name)
+    position_of(things, name)
 }

@@ -23,7 +23,7 @@ impl Table {
     }
 
     /// A state that is not marked, to which an operation leads from this one.
-    fn way_from(&self, marked: &[bool; MOST_STATES], from: State) -> Option<State>
+    fn next_unmarked_from(&self, marked: &[bool; MOST_STATES], from: State) -> Option<State>
         requires { from.0 < length self.now.states }
         ensures { MatchOption result
             ((o : ℕ) → o < length self.now.operations → get_or marked.now (transition self.now o from.0).1 false ≡ true)
@@ -40,7 +40,7 @@ impl Table {
     }
 
     /// A state that is not marked, to which an operation leads from a marked one.
-    fn way_out(&self, marked: &[bool; MOST_STATES]) -> Option<State>
+    fn next_unmarked(&self, marked: &[bool; MOST_STATES]) -> Option<State>
         ensures way { MatchOption result
             ((p : ℕ) → p < length self.now.states → get_or marked.now p false ≡ true
             → (o : ℕ) → o < length self.now.operations → get_or marked.now (transition self.now o p).1 false ≡ true)
@@ -51,7 +51,7 @@ impl Table {
     {
         for p in 0..self.states() {
             if marked[p as usize] {
-                if let Some(q) = self.way_from(marked, State(p)) {
+                if let Some(q) = self.next_unmarked_from(marked, State(p)) {
                     return Some(q);
                 }
             }
@@ -66,7 +66,7 @@ impl Table {
         let mut marked = [false; MOST_STATES];
         marked[0] = true;
         for _round in 0..MOST_STATES {
-            match self.way_out(&marked) {
+            match self.next_unmarked(&marked) {
                 Some(q) => marked[q.0 as usize] = true,
                 None => return marked,
             }

@@ -7,7 +7,7 @@ ghost use Rattle.cn_table.specs.Names.{is_name, number_of};
 ghost use Rattle.cn_table.specs.declared.limits.TheConstants.{MOST_OPERATIONS, MOST_RESPONSES, MOST_STATES};
 
 use crate::elements::{Operation, Response, State};
-use crate::names::{Named, number_of};
+use crate::names::{HasName, number_of};
 use std::alloc::{AllocError, Global};
 use std::marker::Model;
 
@@ -20,7 +20,7 @@ pub(crate) struct Transitions {
     pub next: Vec<u8>,
 }
 
-impl Named for Transitions {
+impl HasName for Transitions {
     ghost name_of = { λ r. string_bytes r.name };
 
     fn name(&self) -> &str {

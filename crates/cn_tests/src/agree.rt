@@ -8,6 +8,7 @@ use crate::fixtures::{plan_for_two, plan_of};
 use crate::types::*;
 use cn_agree::{Round, laws};
 use cn_proto::Plan;
+use cn_proto::laws::plans_are_sound;
 use std::alloc::{AllocError, Global};
 use std::collections::BTreeSet;
 use std::process::Abort;
@@ -36,7 +37,7 @@ fn take_step<V: Copy>(rt: &impl Abort, plan: &Plan, round: &mut Round<V>, p: u8)
     ensures begun { AllHaveBegun (processes_of plan.now) round.new }
 {
     laws::every_round::<V>();
-    plan.is_sound();
+    plans_are_sound(plan);
     assert!(rt; decision_of(plan, round, p).is_none());
     round.step(plan, p)
 }

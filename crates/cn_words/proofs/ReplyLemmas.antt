@@ -12,7 +12,7 @@ use Rattle.clap.specs.declared.error.Error.{Error}
 use Rattle.clap.specs.declared.error.kind.ErrorKind.TheVariants.{OutOfMemory}
 use Rattle.clap.specs.declared.parser.matches.ArgMatches.{ArgMatches}
 use Rattle.cn_words.specs.CommandLine.{HasCommands, HasCommandsFor, commands}
-use Rattle.cn_words.specs.GivenCommands.{IsCommandOf, IsNamed, Refuses}
+use Rattle.cn_words.specs.GivenCommands.{IsCommandOf, IsNamed, RefusesCommand}
 use Rattle.cn_words.specs.Replies.{GivesCommand, GivesReply, IsReplyOf, program}
 use Rattle.cn_words.specs.declared.commands.Command.{Command}
 use Rattle.cn_words.specs.declared.commands.CommandFault.{CommandFault}
@@ -48,7 +48,7 @@ command_given c m words command has matches fails is = (
 )
 
 pub fault_given : (c : ClapCommand) (m : ArgMatches) (words : List Text) (why : CommandFault) → HasCommandsFor commands c
-    → HasMatchesOf (app_of c) words m → Refuses (IsCommandOf m) why → GivesReply words (reply.Fault why)
+    → HasMatchesOf (app_of c) words m → RefusesCommand (IsCommandOf m) why → GivesReply words (reply.Fault why)
 fault_given c m words fault.OutOfMemory has matches refused = tt
 fault_given c m words fault.Words has matches refused = (
   has.0,

@@ -130,6 +130,6 @@ IsCommandOf matches command =
     MatchOption (subcommand_rows_of matches) ⊥ (λ met. IsNamed met.0 met.1 command)
 
 -- the words are refused where they give no such command
-abbrev pub Refuses : (Command → Type 0) → CommandFault → Type 0
-Refuses IsGiven fault.Words = (command : Command) → ¬ (IsGiven command)
-Refuses IsGiven fault.OutOfMemory = Unit {0}
+abbrev pub RefusesCommand : (Command → Type 0) → CommandFault → Type 0
+RefusesCommand IsGiven fault.Words = (command : Command) → ¬ (IsGiven command)
+RefusesCommand IsGiven fault.OutOfMemory = Unit {0}

@@ -2,7 +2,7 @@
 ghost use Rattle.std.specs.Prelude.{◌≡◌, IfOk, MatchResult, codes, map, option_map};
 ghost use Rattle.clap.specs.Simple.{subcommand_rows_of};
 ghost use Rattle.clap.specs.Walk.{first_of};
-ghost use Rattle.cn_words.specs.GivenCommands.{Finds, HasForm, HasList, HasNumber, HasOpening, HasTables, IsCommandOf, IsList, IsNamed, Refuses, path_in, path_of, rows_in};
+ghost use Rattle.cn_words.specs.GivenCommands.{Finds, HasForm, HasList, HasNumber, HasOpening, HasTables, IsCommandOf, IsList, IsNamed, RefusesCommand, path_in, path_of, rows_in};
 ghost use Rattle.cn_words.specs.declared.commands.CommandFault.TheVariants.{OutOfMemory};
 
 use clap::ArgMatches;
@@ -324,7 +324,7 @@ fn command_met<'m, 'a>(matches: &'m ArgMatches<'a>) -> Option<(&'a str, &'m ArgM
 /// `Words` where it met none of the commands, or a word is missing, the limit is no number of one
 /// byte or the form is none; `OutOfMemory` for want of memory.
 pub fn command_of<'a>(alloc: Global, matches: &ArgMatches<'a>) -> Result<Command<'a>, CommandFault>
-    ensures { MatchResult result (IsCommandOf matches.now) (Refuses (IsCommandOf matches.now)) }
+    ensures { MatchResult result (IsCommandOf matches.now) (RefusesCommand (IsCommandOf matches.now)) }
 {
     let Some((name, words)) = command_met(matches) else {
         return Err(CommandFault::Words);

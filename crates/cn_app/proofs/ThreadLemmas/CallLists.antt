@@ -1,7 +1,7 @@
 -- Which calls of a process stand among events.
 use Rattle.std.proofs.Common.{◌≡◌, ℕ, ◌+◌, ◌==◌, Bool, true, false, List, [], ◌∷◌, ◌++◌, if◌then◌else◌, refl, sym, ap, ◌∙◌, append-nil}
 use Rattle.std.proofs.lemmas.Bool.{ne_eqb, eq-eqb}
-use Rattle.cn_log.specs.Callers.{Without, call_of, calls_from}
+use Rattle.cn_log.specs.Callers.{HasNoEventOf, call_of, calls_from}
 use Rattle.cn_log.specs.Log.{operations_of}
 use Rattle.cn_log.specs.Opening.{Log}
 use Rattle.cn_log.specs.declared.entry.Entry.{Entry}
@@ -37,7 +37,7 @@ called-append p [] ys = refl
 called-append p (Invoke q operation ∷ xs) ys = called_if (q == p) operation (called p (xs ++ ys)) (called p xs) (called p ys) (called-append p xs ys)
 called-append p (Step q ∷ xs) ys = called-append p xs ys
 
-others_call : (p : ℕ) (events : List Event) → Without p events → called p events ≡ []
+others_call : (p : ℕ) (events : List Event) → HasNoEventOf p events → called p events ≡ []
 others_call p [] others = refl
 others_call p (Invoke q operation ∷ events) others = rw (ne_eqb q p others.0) (others_call p events others.1)
 others_call p (Step q ∷ events) others = others_call p events others.1

@@ -52,7 +52,7 @@ fn pairs_of(
 }
 
 /// What a process got and reads.
-pub(crate) fn push_got(text: &mut String, table: &Table, pair: (u8, u8)) -> Result<(), AllocError>
+pub(crate) fn push_pair_words(text: &mut String, table: &Table, pair: (u8, u8)) -> Result<(), AllocError>
     requires response { pair.0 < length table.now.responses }
     requires state { pair.1 < length table.now.states }
     ensures { OnOk result (string_bytes text.new ≡ string_bytes text.old ++ pair_words table.now pair) }
@@ -98,17 +98,17 @@ fn push_before_right(text: &mut String, row: usize) -> Result<(), AllocError>
     }
 }
 
-fn push_left(text: &mut String, table: &Table, pair: Option<(u8, u8)>) -> Result<(), AllocError>
+fn push_left_part(text: &mut String, table: &Table, pair: Option<(u8, u8)>) -> Result<(), AllocError>
     requires { IfSome pair (λ x. (x.0 < length table.now.responses) × (x.1 < length table.now.states)) }
     ensures { OnOk result (string_bytes text.new ≡ string_bytes text.old ++ left_part table.now pair) }
 {
     match pair {
         None => Ok(()),
-        Some(pair) => push_got(text, table, pair),
+        Some(pair) => push_pair_words(text, table, pair),
     }
 }
 
-fn push_right(
+fn push_right_part(
     text: &mut String,
     table: &Table,
     row: usize,
@@ -124,7 +124,7 @@ fn push_right(
     };
     push_left_gap(text, table, left)?;
     push_before_right(text, row)?;
-    push_got(text, table, pair)
+    push_pair_words(text, table, pair)
 }
 
 /// A row of a process: a pair of each side, if it has one more.
@@ -141,8 +141,8 @@ fn push_row(
     ensures { OnOk result (string_bytes text.new ≡ string_bytes text.old ++ pair_row table.now process row left right) }
 {
     push_before_left(text, process, row)?;
-    push_left(text, table, left)?;
-    push_right(text, table, row, left, right)?;
+    push_left_part(text, table, left)?;
+    push_right_part(text, table, row, left, right)?;
     text.push_str("\n")
 }
 
@@ -172,7 +172,7 @@ fn push_rows(
 }
 
 /// All that a process can get, by the team that is first.
-pub(crate) fn push_seen(
+pub(crate) fn push_pair_rows(
     alloc: Global,
     text: &mut String,
     table: &Table,

@@ -6,7 +6,7 @@ ghost use Rattle.cn_choice.specs.Canonical.{FitsTable};
 ghost use Rattle.cn_choice.specs.RawChoices.{IsRawChoice};
 ghost use Rattle.cn_forms.specs.Explained.{both_teams, cannot_tell, choice_text, member, members, run_line, run_lines, sight, step_text, steps_text, way, way_line, way_number, ways, IsRefuted};
 
-use crate::explained::pairs::push_got;
+use crate::explained::pairs::push_pair_words;
 use cn_choice::reference::raw_pair;
 use cn_choice::{Choice, Collision, RawChoice, Team};
 use cn_table::{Operation, State, Table};
@@ -108,7 +108,7 @@ fn push_sight(
         return Ok(());
     };
     write!(text, "     p{process} ")?;
-    push_got(text, table, pair)
+    push_pair_words(text, table, pair)
 }
 
 /// A run from the start state, and what a process sees of it.

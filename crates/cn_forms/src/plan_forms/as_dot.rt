@@ -4,9 +4,9 @@ ghost use Rattle.std.specs.List.{range_with_len};
 ghost use Rattle.cn_proto.specs.Plan.{nodes_of, processes_of, protocol_of};
 ghost use Rattle.cn_proto.specs.Sound.{IsPlace};
 ghost use Rattle.cn_forms.specs.Dot.{arrival_dot, head_dot, head_lines, node_dot, origin_dot, plan_dot};
-ghost use Rattle.cn_forms.specs.Dot.{process_dot, process_line, way_dot, way_end, way_head, ways_dot};
+ghost use Rattle.cn_forms.specs.Dot.{process_dot, process_line, edge_dot, edge_end, edge_head, edges_dot};
 
-use crate::plan_forms::parts::place_of;
+use crate::plan_forms::common::place_at;
 use cn_proto::{Place, Plan};
 use std::alloc::{AllocError, Global};
 
@@ -68,7 +68,7 @@ fn push_process(text: &mut String, plan: &Plan, process: u8) -> Result<(), Alloc
     ensures { OnOk result (string_bytes text.new ≡ string_bytes text.old ++ process_dot plan.now process) }
 {
     push_process_line(text, process)?;
-    push_ways(text, plan, process)
+    push_edges(text, plan, process)
 }
 
 #[tactic(auto, unfolding(crate::specs::Dot::process_line))]
@@ -81,22 +81,22 @@ fn push_process_line(text: &mut String, process: u8) -> Result<(), AllocError>
     )
 }
 
-fn push_ways(text: &mut String, plan: &Plan, process: u8) -> Result<(), AllocError>
+fn push_edges(text: &mut String, plan: &Plan, process: u8) -> Result<(), AllocError>
     requires { process < processes_of plan.now }
-    ensures { OnOk result (string_bytes text.new ≡ string_bytes text.old ++ ways_dot plan.now process) }
+    ensures { OnOk result (string_bytes text.new ≡ string_bytes text.old ++ edges_dot plan.now process) }
 {
     for place in 0..plan.path(process).len() {
-        push_way(text, plan, process, place)?;
+        push_edge(text, plan, process, place)?;
     }
     Ok(())
 }
 
 /// The way of a process to a place of its path.
-fn push_way(text: &mut String, plan: &Plan, process: u8, place: usize) -> Result<(), AllocError>
+fn push_edge(text: &mut String, plan: &Plan, process: u8, place: usize) -> Result<(), AllocError>
     requires { IsPlace (protocol_of plan.now) (processes_of plan.now) process place }
-    ensures { OnOk result (string_bytes text.new ≡ string_bytes text.old ++ way_dot plan.now process place) }
+    ensures { OnOk result (string_bytes text.new ≡ string_bytes text.old ++ edge_dot plan.now process place) }
 {
-    let here = place_of(plan, process, place);
+    let here = place_at(plan, process, place);
     text.push_str("  ")?;
     push_origin(text, plan, process, place)?;
     push_arrival(text, plan, process, here)
@@ -108,20 +108,20 @@ fn push_arrival(text: &mut String, plan: &Plan, process: u8, here: Place) -> Res
     ensures { OnOk result (string_bytes text.new ≡ string_bytes text.old ++ arrival_dot plan.now process here) }
 {
     let operation = plan.table().operation_name(plan.operation(here.role));
-    push_way_head(text, here.node, process)?;
-    push_way_end(text, here.team.name(), here.role, operation)
+    push_edge_head(text, here.node, process)?;
+    push_edge_end(text, here.team.name(), here.role, operation)
 }
 
-#[tactic(auto, unfolding(crate::specs::Dot::way_head))]
-fn push_way_head(text: &mut String, node: u8, process: u8) -> Result<(), AllocError>
-    ensures { OnOk result (string_bytes text.new ≡ string_bytes text.old ++ way_head node process) }
+#[tactic(auto, unfolding(crate::specs::Dot::edge_head))]
+fn push_edge_head(text: &mut String, node: u8, process: u8) -> Result<(), AllocError>
+    ensures { OnOk result (string_bytes text.new ≡ string_bytes text.old ++ edge_head node process) }
 {
     write!(text, " -> node_{node} [label=\"process {process}: ")
 }
 
-#[tactic(auto, unfolding(crate::specs::Dot::way_end))]
-fn push_way_end(text: &mut String, team: &str, role: u8, operation: &str) -> Result<(), AllocError>
-    ensures { OnOk result (string_bytes text.new ≡ string_bytes text.old ++ way_end team.now role operation.now) }
+#[tactic(auto, unfolding(crate::specs::Dot::edge_end))]
+fn push_edge_end(text: &mut String, team: &str, role: u8, operation: &str) -> Result<(), AllocError>
+    ensures { OnOk result (string_bytes text.new ≡ string_bytes text.old ++ edge_end team.now role operation.now) }
 {
     write!(text, "{team} role {role} {operation}\"];\n")
 }
@@ -134,6 +134,6 @@ fn push_origin(text: &mut String, plan: &Plan, process: u8, place: usize) -> Res
     if place == 0 {
         return write!(text, "process_{process}");
     }
-    let below = place_of(plan, process, place - 1);
+    let below = place_at(plan, process, place - 1);
     write!(text, "node_{}", below.node)
 }

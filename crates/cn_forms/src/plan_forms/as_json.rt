@@ -5,7 +5,7 @@ ghost use Rattle.cn_table.specs.Texts.{joined_texts};
 ghost use Rattle.cn_forms.specs.Json.{each_path_json, each_role_json, end_json, judged_json, named_pair, pair_json, path_json};
 ghost use Rattle.cn_forms.specs.Json.{paths_json, place_json, plan_json, role_end, role_head, role_json, roles_json, type_json};
 
-use crate::plan_forms::parts::push_comma;
+use crate::plan_forms::common::push_comma;
 use cn_proto::{Place, Plan};
 use cn_table::{Response, State, Table};
 use std::alloc::{AllocError, Global};
@@ -105,7 +105,7 @@ fn push_judged(text: &mut String, plan: &Plan, role: u8) -> Result<(), AllocErro
     ensures { OnOk result (string_bytes text.new ≡ string_bytes text.old ++ judged_json plan.now role) }
 {
     push_role_head(text)?;
-    push_pairs(text, plan.table(), plan.judged(role))
+    push_pairs(text, plan.table(), plan.judged_pairs(role))
 }
 
 #[tactic(auto, unfolding(crate::specs::Json::role_head))]

@@ -9,7 +9,7 @@ ghost use Rattle.cn_forms.specs.Promela.{object_lines, other_option, pair_option
 ghost use Rattle.cn_forms.specs.Promela.{process_promela, proctype, read_statement, register_lines, row_option, row_promela, rows_promela};
 ghost use Rattle.cn_forms.specs.Promela.{rules_promela, stand_line, stand_promela, stop_lines, take_statement, taken_lines, value_line, write_statement};
 
-use crate::plan_forms::parts::place_of;
+use crate::plan_forms::common::place_at;
 use cn_proto::{Place, Plan};
 use cn_table::State;
 use std::alloc::{AllocError, Global};
@@ -66,13 +66,13 @@ fn push_rules(text: &mut String, plan: &Plan) -> Result<(), AllocError>
     ensures { OnOk result (string_bytes text.new ≡ string_bytes text.old
         ++ rules_promela plan.now) }
 {
-    push_taken(text, plan.processes())?;
+    push_taken_lines(text, plan.processes())?;
     push_action_macro(text)?;
     push_decide(text, plan.processes())
 }
 
 #[tactic(auto, unfolding(crate::specs::Promela::taken_lines))]
-fn push_taken(text: &mut String, processes: u8) -> Result<(), AllocError>
+fn push_taken_lines(text: &mut String, processes: u8) -> Result<(), AllocError>
     ensures { OnOk result (string_bytes text.new ≡ string_bytes text.old ++ taken_lines processes) }
 {
     write!(text, "byte taken[{processes}];\nbyte agreed = 255;\n\n")
@@ -185,7 +185,7 @@ fn push_place(
     ensures { OnOk result (string_bytes text.new ≡ string_bytes text.old
         ++ place_promela plan.now process place) }
 {
-    let here = place_of(plan, process, place);
+    let here = place_at(plan, process, place);
     let write = write_of(alloc, here)?;
     let apply = apply_of(alloc, plan, here)?;
     let read = read_of(alloc, here.node)?;
@@ -305,7 +305,7 @@ fn end_of(alloc: Global, plan: &Plan, process: u8, place: usize) -> Result<Strin
     requires { IsPlace (protocol_of plan.now) (processes_of plan.now) process place }
     ensures { IfOk result (λ text. string_bytes text ≡ end_promela plan.now process place) }
 {
-    let (here, places) = (place_of(plan, process, place), plan.path(process).len());
+    let (here, places) = (place_at(plan, process, place), plan.path(process).len());
     let mut statements = String::new(alloc);
     push_take(&mut statements, plan, here)?;
     if place + 1 == places {
@@ -322,7 +322,7 @@ fn push_take(text: &mut String, plan: &Plan, here: Place) -> Result<(), AllocErr
         ++ take_statement plan.now here) }
 {
     text.push_str("if")?;
-    push_pairs(text, here, plan.judged(here.role))?;
+    push_pairs(text, here, plan.judged_pairs(here.role))?;
     push_other_option(text, here.node)?;
     text.push_str(" fi")
 }

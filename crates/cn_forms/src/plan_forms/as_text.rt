@@ -52,7 +52,7 @@ fn push_role(text: &mut String, plan: &Plan, role: u8) -> Result<(), AllocError>
     let team = plan.team(role).name();
     let operation = table.operation_name(plan.operation(role));
     write!(text, "role {role} {team} {operation} judges ")?;
-    push_pairs(text, table, plan.judged(role))?;
+    push_pairs(text, table, plan.judged_pairs(role))?;
     text.push_str("\n")
 }
 

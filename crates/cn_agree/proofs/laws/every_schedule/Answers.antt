@@ -6,4 +6,4 @@ use Rattle.cn_agree.proofs.laws.every_schedule.Goals as goal
 
 pub returns : goal.returns
 returns g c = λ inputs schedule many all.
-    every_schedule (protocol_of c.args.plan.now) (processes_of c.args.plan.now) (nodes_of c.args.plan.now) (team_of (length c.args.plan.now.choice.a)) c.is_sound.ensures.sound inputs schedule many all c.is_sound.ensures.short refl
+    every_schedule (protocol_of c.args.plan.now) (processes_of c.args.plan.now) (nodes_of c.args.plan.now) (team_of (length c.args.plan.now.choice.a)) c.plans_are_sound.ensures.sound inputs schedule many all c.plans_are_sound.ensures.short refl

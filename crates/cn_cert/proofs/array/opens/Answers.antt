@@ -1,7 +1,7 @@
 use Rattle.std.proofs.Common.{true, ◌∷◌, None, sym, ap₂, ◌∙◌, subst, arith, refl, inr}
 use Rattle.json.specs.Reads.{token_of}
 use Rattle.serde_json.specs.Find.{as_array}
-use Rattle.cn_cert.specs.Tokens.{Opens, data_at}
+use Rattle.cn_cert.specs.Tokens.{OpensArray, data_at}
 use Rattle.cn_cert.proofs.Walks.{array_at, too_deep_array}
 use Rattle.cn_cert.proofs.ArrayWalks.{else_told, not_array, array_token}
 use Rattle.cn_cert.proofs.array.opens.Goals as goal
@@ -12,7 +12,7 @@ returns-then-depth-eq0-clause-err c =
 
 pub returns-in-BeginArray-clause-ok : goal.returns-in-BeginArray-clause-ok
 returns-in-BeginArray-clause-ok c =
-    subst (λ k. Opens true c.args.depth (token_of k ∷ c.args.reader.now) c.args.reader.now) (sym c.in-BeginArray.is) (omega arith, array_at c.args.depth c.args.reader.now (omega arith))
+    subst (λ k. OpensArray true c.args.depth (token_of k ∷ c.args.reader.now) c.args.reader.now) (sym c.in-BeginArray.is) (omega arith, array_at c.args.depth c.args.reader.now (omega arith))
 
 pub returns : goal.returns
 returns c = record {

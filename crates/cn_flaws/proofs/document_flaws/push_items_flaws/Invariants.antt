@@ -6,4 +6,4 @@ use Rattle.cn_flaws.proofs.document_flaws.push_items_flaws.Given as goal
 -- what is found so far, and what is left
 abbrev pub invariant-loop-i : goal.invariant-loop-i
 invariant-loop-i l =
-    flaws_view l.flaws ++ each (item_flaws l.look) l.i (map view (drop l.i l.values)) ≡ flaws_view l.initial.flaws ++ each (item_flaws l.look) 0 (map view l.values)
+    flaws_view l.flaws ++ each (item_flaws l.flaw_class) l.i (map view (drop l.i l.values)) ≡ flaws_view l.initial.flaws ++ each (item_flaws l.flaw_class) 0 (map view l.values)

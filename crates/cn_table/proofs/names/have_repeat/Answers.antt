@@ -5,10 +5,10 @@ use Rattle.cn_table.proofs.names.have_repeat.Goals as goal
 
 pub returns-then-has_namesake : goal.returns-then-has_namesake
 returns-then-has_namesake g c =
-    let step = repeat_next g.T.Named.name_of c.args.things.now c.loop-i.i c.index-things-i.result (omega arith) in
+    let step = repeat_next g.T.HasName.name_of c.args.things.now c.loop-i.i c.index-things-i.result (omega arith) in
     grind (arith, common_steps, step, c.loop-i.invariant, c.index-things-i.is)
 
 pub loop-i-preserved : goal.loop-i-preserved
 loop-i-preserved g c =
-    let step = repeat_next g.T.Named.name_of c.args.things.now c.loop-i.i c.index-things-i.result (omega arith) in
+    let step = repeat_next g.T.HasName.name_of c.args.things.now c.loop-i.i c.index-things-i.result (omega arith) in
     grind (arith, common_steps, step, c.loop-i.invariant, c.index-things-i.is)

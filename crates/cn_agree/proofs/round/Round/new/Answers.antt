@@ -12,7 +12,7 @@ returns-clause-world g c =
 pub returns-clause-of_plan : goal.returns-clause-of_plan
 returns-clause-of_plan g c =
     let T : World g.row.V.Denot → Type 0 = IsRoundOf c.args.plan.now [] in
-    subst T (sym (returns-clause-world g c)) (opens c.args.plan.now c.is_sound.ensures.plan c.is_sound.ensures.sound)
+    subst T (sym (returns-clause-world g c)) (opens c.args.plan.now c.plans_are_sound.ensures.plan c.plans_are_sound.ensures.sound)
 
 pub invariant_of-result : goal.invariant_of-result
 invariant_of-result g c = (c.args.plan.now, ([], returns-clause-of_plan g c))

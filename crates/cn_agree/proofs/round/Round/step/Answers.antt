@@ -53,7 +53,7 @@ act-requires-clause-state g c =
     let active = at_turn c.index.result.now (c.in-Some.place, c.in-Some.stage) c.in-Some.ensures in
     let at = stands_at c.args.plan.now c.args.self.now c.requires.of_plan c.args.p c.requires.process w c.self.view_is c.from.result c.from.ensures c.index.result.now c.index.ensures c.in-Some.place active.0 c.in-Some.stage active.1
     c.path-path.result.now c.path-path.ensures in
-    state_below_of c.args.plan.now c.args.self.now c.requires.of_plan w c.self.view_is c.is_sound.ensures.reachable c.from-in-Some.result c.index_mut-node.result.now (rw c.from-in-Some.ensures at.node) c.index_mut-node.ensures.value
+    state_below_of c.args.plan.now c.args.self.now c.requires.of_plan w c.self.view_is c.plans_are_sound.ensures.reachable c.from-in-Some.result c.index_mut-node.result.now (rw c.from-in-Some.ensures at.node) c.index_mut-node.ensures.value
 
 pub act-requires-clause-local : goal.act-requires-clause-local
 act-requires-clause-local g c =

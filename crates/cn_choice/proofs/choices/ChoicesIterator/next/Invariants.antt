@@ -1,5 +1,5 @@
 use Rattle.std.proofs.Common.{◌≡◌, length, IfSome}
-use Rattle.cn_choice.specs.ChoicesLeft.{IsOnTheWay}
+use Rattle.cn_choice.specs.ChoicesLeft.{IsWellFormed}
 use Rattle.cn_choice.specs.LiveLeft.{all_left, live_left}
 use Rattle.cn_choice.proofs.choices.ChoicesIterator.next.Given as goal
 
@@ -9,7 +9,7 @@ invariant-loop-choice l = record {
   same_table : l.self-inside.table.now ≡ l.table;
   same_n : l.self-inside.n ≡ l.initial.self-inside.n;
   same_block : l.self-inside.in_block ≡ l.initial.self-inside.in_block;
-  on_the_way : IfSome l.self-inside.next (IsOnTheWay l.states l.operations l.self-inside.n);
+  on_the_way : IfSome l.self-inside.next (IsWellFormed l.states l.operations l.self-inside.n);
   left : live_left l.table l.self-inside.in_block l.self-inside.n l.initial.self-inside.next ≡ live_left l.table l.self-inside.in_block l.self-inside.n l.self-inside.next;
 }
 

@@ -1,7 +1,7 @@
 use Rattle.std.proofs.Common.{◌∙◌, ◌+◌, ◌++◌, ℕ, List, append_assoc, ap, drop, string_bytes, sym}
 use Rattle.cn_choice.specs.Collisions.{Collision}
 use Rattle.cn_forms.specs.Explained.{way, ways}
-use Rattle.cn_forms.proofs.Told.{ways_at}
+use Rattle.cn_forms.proofs.WayLemmas.{ways_at}
 use Rattle.cn_forms.proofs.explained.ways.push_ways.Goals as goal
 
 pub loop-place-preserved : goal.loop-place-preserved
