@@ -26,9 +26,12 @@ pub(crate) fn act<V: Copy>(plan: &Plan, turn: Turn, node: &mut Node<V>, local: &
     requires place { turn.place < turn.places }
     requires state { node.old.state.0 < length plan.now.table.states }
     requires local { (x : V) × (local.old ≡ Active turn.place x turn.stage) }
-    ensures node { (x : V) → local.old ≡ Active turn.place x turn.stage → node.new ≡ node_after (protocol_of plan.now) turn.here x turn.stage node.old }
+    ensures node { (x : V) → local.old ≡ Active turn.place x turn.stage
+        → node.new ≡ node_after (protocol_of plan.now) turn.here x turn.stage node.old }
     ensures local { (x : V) → local.old ≡ Active turn.place x turn.stage
-        → local.new ≡ local_after (protocol_of plan.now) turn.places turn.place turn.here x turn.stage node.old }
+        → local.new
+            ≡ local_after (protocol_of plan.now) turn.places turn.place turn.here x turn.stage
+                node.old }
 {
     let Turn {
         here,

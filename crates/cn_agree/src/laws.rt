@@ -28,16 +28,21 @@ pub fn atomic_steps<V>()
 /// Every schedule of a plan, with any inputs, ends in consensus: agreement, validity, and
 /// wait-freedom within 4(n-1) steps of a process.
 pub fn every_schedule<V>(plan: &Plan)
-    ensures { (inputs : List V) (schedule : List ℕ) → length inputs ≡ processes_of plan.now → IsSchedule (processes_of plan.now) schedule
-        → IsConsensus (protocol_of plan.now) (processes_of plan.now) inputs schedule (decisions_after plan.now inputs schedule) }
+    ensures { (inputs : List V) (schedule : List ℕ) → length inputs ≡ processes_of plan.now
+        → IsSchedule (processes_of plan.now) schedule
+        → IsConsensus (protocol_of plan.now) (processes_of plan.now) inputs schedule
+            (decisions_after plan.now inputs schedule) }
 {
     plans_are_sound(plan);
 }
 
 /// The same, said of each plan as data.
 pub fn plans_reach_consensus<V>()
-    ensures { (plan : PlanOf) → IsPlan plan → (inputs : List V) (schedule : List ℕ) → length inputs ≡ processes_of plan
-        → IsSchedule (processes_of plan) schedule → IsConsensus (protocol_of plan) (processes_of plan) inputs schedule (decisions_after plan inputs schedule) }
+    ensures { (plan : PlanOf) → IsPlan plan
+        → (inputs : List V) (schedule : List ℕ) → length inputs ≡ processes_of plan
+        → IsSchedule (processes_of plan) schedule
+        → IsConsensus (protocol_of plan) (processes_of plan) inputs schedule
+            (decisions_after plan inputs schedule) }
 {
     every_plan();
 }
@@ -50,15 +55,21 @@ pub fn plans_reach_consensus<V>()
 /// stays. `begun`: who has begun stays begun, and has a value on record. `sizes`: there is one of
 /// each for each node and process.
 pub fn every_round<V>()
-    ensures consensus { (P : Protocol) (n nodes : ℕ) (team : ℕ → TeamOf) (schedule : List ℕ) (w : World V) → IsSound P n nodes team
-        → IsReached P n nodes schedule w → KeepsConsensus P n schedule w }
-    ensures fixed { (P : Protocol) (n nodes : ℕ) (team : ℕ → TeamOf) (schedule : List ℕ) (w : World V) → IsSound P n nodes team → IsReached P n nodes schedule w
-        → (p : ℕ) (x : V) → p < n → fixed_value w ≡ Some x → fixed_value (after_step P p w) ≡ Some x }
-    ensures begun { (P : Protocol) (n nodes : ℕ) (team : ℕ → TeamOf) (schedule : List ℕ) (w : World V) → IsSound P n nodes team → IsReached P n nodes schedule w
+    ensures consensus { (P : Protocol) (n nodes : ℕ) (team : ℕ → TeamOf) (schedule : List ℕ)
+            (w : World V) → IsSound P n nodes team → IsReached P n nodes schedule w
+        → KeepsConsensus P n schedule w }
+    ensures fixed { (P : Protocol) (n nodes : ℕ) (team : ℕ → TeamOf) (schedule : List ℕ)
+            (w : World V) → IsSound P n nodes team → IsReached P n nodes schedule w
+        → (p : ℕ) (x : V) → p < n → fixed_value w ≡ Some x
+        → fixed_value (after_step P p w) ≡ Some x }
+    ensures begun { (P : Protocol) (n nodes : ℕ) (team : ℕ → TeamOf) (schedule : List ℕ)
+            (w : World V) → IsSound P n nodes team → IsReached P n nodes schedule w
         → (p : ℕ) → p < n → (local_at w p ≡ NotBegun) ↔ (input_at w p ≡ None) }
-    ensures stays_begun { (P : Protocol) (n nodes : ℕ) (team : ℕ → TeamOf) (schedule : List ℕ) (w : World V) → IsSound P n nodes team
-        → IsReached P n nodes schedule w → (p q : ℕ) → p < n → HasBegun w q → HasBegun (after_step P p w) q }
-    ensures sizes { (P : Protocol) (n nodes : ℕ) (team : ℕ → TeamOf) (schedule : List ℕ) (w : World V) → IsSound P n nodes team → IsReached P n nodes schedule w
+    ensures stays_begun { (P : Protocol) (n nodes : ℕ) (team : ℕ → TeamOf) (schedule : List ℕ)
+            (w : World V) → IsSound P n nodes team → IsReached P n nodes schedule w
+        → (p q : ℕ) → p < n → HasBegun w q → HasBegun (after_step P p w) q }
+    ensures sizes { (P : Protocol) (n nodes : ℕ) (team : ℕ → TeamOf) (schedule : List ℕ)
+            (w : World V) → IsSound P n nodes team → IsReached P n nodes schedule w
         → (length w.nodes ≡ nodes) × (length w.locals ≡ n) × (length w.inputs ≡ n) }
 {}
 

@@ -63,7 +63,8 @@ impl<V: Copy> Round<V> {
     ///
     /// Fails only for want of memory.
     pub fn new(alloc: Global, plan: &Plan) -> Result<Round<V>, AllocError>
-        ensures world { IfOk result (λ round. round ≡ first_world (protocol_of plan.now) (processes_of plan.now) (nodes_of plan.now)) }
+        ensures world { IfOk result (λ round. round
+            ≡ first_world (protocol_of plan.now) (processes_of plan.now) (nodes_of plan.now)) }
         ensures of_plan { IfOk result (IsRoundOf plan.now []) }
     {
         plans_are_sound(plan);
@@ -86,7 +87,8 @@ impl<V: Copy> Round<V> {
         requires process { p < length self.old.locals }
         requires not_begun { local_at self.old p ≡ NotBegun }
         ensures world { self.new ≡ after_begin p value self.old }
-        ensures of_plan { (plan : PlanOf) (schedule : List ℕ) → IsRoundOf plan schedule self.old → IsRoundOf plan schedule self.new }
+        ensures of_plan { (plan : PlanOf) (schedule : List ℕ) → IsRoundOf plan schedule self.old
+            → IsRoundOf plan schedule self.new }
         ensures fixed { fixed_value self.new ≡ fixed_value self.old }
     {
         self.locals[usize::from(p)] = Local::Active {
@@ -106,7 +108,8 @@ impl<V: Copy> Round<V> {
         requires undecided { decision_at self.old p ≡ None }
         ensures world { self.new ≡ after_step (protocol_of plan.now) p self.old }
         ensures decision { result ≡ decision_at self.new p }
-        ensures of_plan { (schedule : List ℕ) → IsRoundOf plan.now schedule self.old → IsRoundOf plan.now (schedule ++ p ∷ []) self.new }
+        ensures of_plan { (schedule : List ℕ) → IsRoundOf plan.now schedule self.old
+            → IsRoundOf plan.now (schedule ++ p ∷ []) self.new }
         ensures fixed { (x : V) → fixed_value self.old ≡ Some x → fixed_value self.new ≡ Some x }
     {
         plans_are_sound(plan);
@@ -147,7 +150,8 @@ impl<V: Copy> Round<V> {
     pub fn fixed_value(&self) -> Option<V>
         ensures value { result ≡ fixed_value self.now }
         ensures valid { (plan : PlanOf) (schedule : List ℕ) → IsRoundOf plan schedule self.now
-            → IfSome result (λ x. (q : ℕ) × IsParticipant schedule q × (input_at self.now q ≡ Some x)) }
+            → IfSome result (λ x. (q : ℕ) × IsParticipant schedule q
+                × (input_at self.now q ≡ Some x)) }
         ensures since { (plan : PlanOf) (schedule : List ℕ) → IsRoundOf plan schedule self.now
             → IsSome result ↔ IsAppliedAtRoot (protocol_of plan) (processes_of plan) self.now }
     {

@@ -136,11 +136,16 @@ pub fn run_schedule(
     inputs: &[u64],
     schedule: &[u8],
 ) -> Result<Decisions, ScheduleFault>
-    ensures decisions { IfOk result (λ d. d.decisions ≡ decisions_after plan.now inputs.now schedule.now) }
-    ensures consensus { IfOk result (λ d. IsConsensus (protocol_of plan.now) (processes_of plan.now) inputs.now schedule.now d.decisions) }
-    ensures run { OnOk result (schedule_fault (processes_of plan.now) inputs.now schedule.now ≡ None) }
-    ensures told { (e : FaultOf) → schedule_fault (processes_of plan.now) inputs.now schedule.now ≡ Some e → result ≡ Err e }
-    ensures refused { IfErr result (λ e. (e ≡ OutOfMemory) ⊎ (schedule_fault (processes_of plan.now) inputs.now schedule.now ≡ Some e)) }
+    ensures decisions { IfOk result (λ d. d.decisions
+        ≡ decisions_after plan.now inputs.now schedule.now) }
+    ensures consensus { IfOk result (λ d. IsConsensus (protocol_of plan.now) (processes_of plan.now)
+        inputs.now schedule.now d.decisions) }
+    ensures run { OnOk result (schedule_fault (processes_of plan.now) inputs.now schedule.now
+        ≡ None) }
+    ensures told { (e : FaultOf)
+        → schedule_fault (processes_of plan.now) inputs.now schedule.now ≡ Some e → result ≡ Err e }
+    ensures refused { IfErr result (λ e. (e ≡ OutOfMemory)
+        ⊎ (schedule_fault (processes_of plan.now) inputs.now schedule.now ≡ Some e)) }
 {
     if let Some(fault) = fault_of(plan, inputs, schedule) {
         return Err(fault);

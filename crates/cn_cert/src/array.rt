@@ -17,8 +17,10 @@ use std::alloc::Global;
 /// Opens the array that begins with this token, or passes over the rest of another value.
 #[inline(always)]
 fn opens(reader: &mut Reader<'_>, depth: usize, token: Token<'_>) -> Result<bool, CertFault>
-    ensures ok { IfOk result (λ opened. OpensArray opened depth (token_of token.entry ∷ reader.old) reader.new) }
-    ensures err { IfErr result (λ e. Refuses e (data_at depth (token_of token.entry ∷ reader.old))) }
+    ensures ok { IfOk result (λ opened. OpensArray opened depth (token_of token.entry ∷ reader.old)
+        reader.new) }
+    ensures err { IfErr result (λ e. Refuses e
+        (data_at depth (token_of token.entry ∷ reader.old))) }
 {
     if let Token::BeginArray = token {
         if depth == 0 {
@@ -36,8 +38,10 @@ fn items<T: Kind>(
     reader: &mut Reader<'_>,
     depth: usize,
 ) -> Result<Option<Vec<T>>, CertFault>
-    ensures ok { IfOk result (λ o. with_value (all_items T.kind) (items_at depth reader.old) ≡ Some (option_map (λ v. v.items) o, reader.new)) }
-    ensures err { IfErr result (λ e. Refuses e (with_value (all_items T.kind) (items_at depth reader.old))) }
+    ensures ok { IfOk result (λ o. with_value (all_items T.kind) (items_at depth reader.old)
+        ≡ Some (option_map (λ v. v.items) o, reader.new)) }
+    ensures err { IfErr result (λ e. Refuses e
+        (with_value (all_items T.kind) (items_at depth reader.old))) }
 {
     let mut values = Vec::new(alloc);
     'items: while !reader.take_end_array() {
@@ -58,8 +62,10 @@ pub(crate) fn list<T: Kind>(
     reader: &mut Reader<'_>,
     depth: usize,
 ) -> Result<Option<Vec<T>>, CertFault>
-    ensures ok { IfOk result (λ o. with_value (each_of T.kind) (data_at depth reader.old) ≡ Some (option_map (λ v. v.items) o, reader.new)) }
-    ensures err { IfErr result (λ e. Refuses e (with_value (each_of T.kind) (data_at depth reader.old))) }
+    ensures ok { IfOk result (λ o. with_value (each_of T.kind) (data_at depth reader.old)
+        ≡ Some (option_map (λ v. v.items) o, reader.new)) }
+    ensures err { IfErr result (λ e. Refuses e
+        (with_value (each_of T.kind) (data_at depth reader.old))) }
 {
     let token = first(reader)?;
     if opens(reader, depth, token)? {
@@ -73,7 +79,8 @@ pub(crate) fn list<T: Kind>(
 #[inline(always)]
 fn has_next(reader: &mut Reader<'_>, more: &mut bool) -> bool
     ensures value { result ≡ more.new }
-    ensures more { MatchBool result (IsNext more.old reader.old reader.new) (IsLast more.old reader.old reader.new) }
+    ensures more { MatchBool result (IsNext more.old reader.old reader.new)
+        (IsLast more.old reader.old reader.new) }
 {
     if *more && reader.take_end_array() {
         *more = false;
@@ -88,8 +95,10 @@ fn next_natural(
     depth: usize,
     more: &mut bool,
 ) -> Result<Option<u64>, CertFault>
-    ensures ok { IfOk result (λ o. TakesThing (next_item natural_of) depth o more.old reader.old more.new reader.new) }
-    ensures err { IfErr result (λ e. Refuses e (with_value (next_item natural_of) (rest_at more.old depth reader.old))) }
+    ensures ok { IfOk result (λ o. TakesThing (next_item natural_of) depth o more.old reader.old
+        more.new reader.new) }
+    ensures err { IfErr result (λ e. Refuses e
+        (with_value (next_item natural_of) (rest_at more.old depth reader.old))) }
 {
     if has_next(reader, more) {
         next::<u64>(alloc, reader, depth)
@@ -104,8 +113,10 @@ fn next_naturals(
     depth: usize,
     more: &mut bool,
 ) -> Result<Option<Vec<u64>>, CertFault>
-    ensures ok { IfOk result (λ o. TakesThing (next_item naturals_of) depth (option_map (λ v. v.items) o) more.old reader.old more.new reader.new) }
-    ensures err { IfErr result (λ e. Refuses e (with_value (next_item naturals_of) (rest_at more.old depth reader.old))) }
+    ensures ok { IfOk result (λ o. TakesThing (next_item naturals_of) depth
+        (option_map (λ v. v.items) o) more.old reader.old more.new reader.new) }
+    ensures err { IfErr result (λ e. Refuses e
+        (with_value (next_item naturals_of) (rest_at more.old depth reader.old))) }
 {
     if has_next(reader, more) {
         list::<u64>(alloc, reader, depth)
@@ -116,8 +127,10 @@ fn next_naturals(
 
 /// Goes to the end of the array, and says whether no item stood before it.
 fn is_over(reader: &mut Reader<'_>, depth: usize, more: &mut bool) -> Result<bool, CertFault>
-    ensures ok { IfOk result (λ over. with_value is_over (rest_at more.old depth reader.old) ≡ Some (over, reader.new)) }
-    ensures err { IfErr result (λ e. Refuses e (with_value is_over (rest_at more.old depth reader.old))) }
+    ensures ok { IfOk result (λ over. with_value is_over (rest_at more.old depth reader.old)
+        ≡ Some (over, reader.new)) }
+    ensures err { IfErr result (λ e. Refuses e
+        (with_value is_over (rest_at more.old depth reader.old))) }
 {
     if has_next(reader, more) {
         rest_of_items(reader, depth)?;
@@ -143,8 +156,10 @@ trait Parts: Sized + Drop {
         depth: usize,
         more: &mut bool,
     ) -> Result<Option<Self>, CertFault>
-        ensures ok { IfOk result (λ o. TakesThing parts depth o more.old reader.old more.new reader.new) }
-        ensures err { IfErr result (λ e. Refuses e (with_value parts (rest_at more.old depth reader.old))) };
+        ensures ok { IfOk result (λ o. TakesThing parts depth o more.old reader.old more.new
+            reader.new) }
+        ensures err { IfErr result (λ e. Refuses e
+            (with_value parts (rest_at more.old depth reader.old))) };
 }
 
 /// The rest of an array as one such thing, with nothing behind it.
@@ -153,8 +168,10 @@ fn rest_as<T: Parts>(
     reader: &mut Reader<'_>,
     depth: usize,
 ) -> Result<Option<T>, CertFault>
-    ensures ok { IfOk result (λ o. with_value (sole_thing T.parts) (items_at depth reader.old) ≡ Some (o, reader.new)) }
-    ensures err { IfErr result (λ e. Refuses e (with_value (sole_thing T.parts) (items_at depth reader.old))) }
+    ensures ok { IfOk result (λ o. with_value (sole_thing T.parts) (items_at depth reader.old)
+        ≡ Some (o, reader.new)) }
+    ensures err { IfErr result (λ e. Refuses e
+        (with_value (sole_thing T.parts) (items_at depth reader.old))) }
 {
     let mut more = true;
     let value = T::next(alloc, reader, depth, &mut more)?;
@@ -172,8 +189,11 @@ fn array_as<T: Parts>(
     depth: usize,
     token: Token<'_>,
 ) -> Result<Option<T>, CertFault>
-    ensures ok { IfOk result (λ o. with_value (in_array (sole_thing T.parts)) (data_at depth (token_of token.entry ∷ reader.old)) ≡ Some (o, reader.new)) }
-    ensures err { IfErr result (λ e. Refuses e (with_value (in_array (sole_thing T.parts)) (data_at depth (token_of token.entry ∷ reader.old)))) }
+    ensures ok { IfOk result (λ o. with_value (in_array (sole_thing T.parts))
+            (data_at depth (token_of token.entry ∷ reader.old)) ≡ Some (o, reader.new)) }
+    ensures err { IfErr result (λ e. Refuses e
+        (with_value (in_array (sole_thing T.parts))
+            (data_at depth (token_of token.entry ∷ reader.old)))) }
 {
     if opens(reader, depth, token)? {
         rest_as::<T>(alloc, reader, depth - 1)
@@ -187,7 +207,8 @@ fn choice_of_parts(
     a: Option<Vec<u64>>,
     b: Option<Vec<u64>>,
 ) -> Option<DraftChoice>
-    ensures { result ≡ choice_parts state (option_map (λ v. v.items) a) (option_map (λ v. v.items) b) }
+    ensures { result
+        ≡ choice_parts state (option_map (λ v. v.items) a) (option_map (λ v. v.items) b) }
 {
     Some(DraftChoice {
         state: state?,

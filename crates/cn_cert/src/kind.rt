@@ -28,8 +28,10 @@ pub(crate) trait Kind: Sized + Drop {
         depth: usize,
         token: Token<'_>,
     ) -> Result<Option<Self>, CertFault>
-        ensures ok { IfOk result (λ o. with_value kind (data_at depth (token_of token.entry ∷ reader.old)) ≡ Some (o, reader.new)) }
-        ensures err { IfErr result (λ e. Refuses e (with_value kind (data_at depth (token_of token.entry ∷ reader.old)))) };
+        ensures ok { IfOk result (λ o. with_value kind
+                (data_at depth (token_of token.entry ∷ reader.old)) ≡ Some (o, reader.new)) }
+        ensures err { IfErr result (λ e. Refuses e
+            (with_value kind (data_at depth (token_of token.entry ∷ reader.old)))) };
 }
 
 impl Kind for u64 {
@@ -57,7 +59,8 @@ pub(crate) fn next<T: Kind>(
     reader: &mut Reader<'_>,
     depth: usize,
 ) -> Result<Option<T>, CertFault>
-    ensures ok { IfOk result (λ o. with_value T.kind (data_at depth reader.old) ≡ Some (o, reader.new)) }
+    ensures ok { IfOk result (λ o. with_value T.kind (data_at depth reader.old)
+        ≡ Some (o, reader.new)) }
     ensures err { IfErr result (λ e. Refuses e (with_value T.kind (data_at depth reader.old))) }
 {
     let token = first(reader)?;
@@ -70,8 +73,10 @@ pub(crate) fn next_or_null<T: Kind>(
     reader: &mut Reader<'_>,
     depth: usize,
 ) -> Result<Option<Option<T>>, CertFault>
-    ensures ok { IfOk result (λ o. with_value (nullable T.kind) (data_at depth reader.old) ≡ Some (o, reader.new)) }
-    ensures err { IfErr result (λ e. Refuses e (with_value (nullable T.kind) (data_at depth reader.old))) }
+    ensures ok { IfOk result (λ o. with_value (nullable T.kind) (data_at depth reader.old)
+        ≡ Some (o, reader.new)) }
+    ensures err { IfErr result (λ e. Refuses e
+        (with_value (nullable T.kind) (data_at depth reader.old))) }
 {
     let token = first(reader)?;
     if let Token::Null = token {

@@ -12,7 +12,8 @@ use serde_json::Number;
 
 /// A number that is no unsigned integer: it has to be one that a float can come near.
 fn float(is_negative: bool, numeral: &Numeral<'_>) -> Result<Option<u64>, CertFault>
-    ensures { Reads CertFault.NotJson (λ o. o) result (option_map as_u64 (float_of is_negative numeral.now)) }
+    ensures { Reads CertFault.NotJson (λ o. o) result
+        (option_map as_u64 (float_of is_negative numeral.now)) }
 {
     match Number::from_f64(numeral.to_float::<f64>(is_negative)) {
         Some(_) => Ok(None),
@@ -21,7 +22,8 @@ fn float(is_negative: bool, numeral: &Numeral<'_>) -> Result<Option<u64>, CertFa
 }
 
 fn unsigned(numeral: &Numeral<'_>) -> Result<Option<u64>, CertFault>
-    ensures { Reads CertFault.NotJson (λ o. o) result (option_map as_u64 (number_from false numeral.now)) }
+    ensures { Reads CertFault.NotJson (λ o. o) result
+        (option_map as_u64 (number_from false numeral.now)) }
 {
     match numeral.to_u64() {
         Some(n) => Ok(Some(n)),
@@ -30,7 +32,8 @@ fn unsigned(numeral: &Numeral<'_>) -> Result<Option<u64>, CertFault>
 }
 
 fn negative(numeral: &Numeral<'_>) -> Result<Option<u64>, CertFault>
-    ensures { Reads CertFault.NotJson (λ o. o) result (option_map as_u64 (number_from true numeral.now)) }
+    ensures { Reads CertFault.NotJson (λ o. o) result
+        (option_map as_u64 (number_from true numeral.now)) }
 {
     if let Some(n) = numeral.to_i64(true) {
         if n < 0 {

@@ -81,7 +81,8 @@ fn draft_of_slots(slots: MemberSlots) -> Option<Draft>
 
 /// The text that a value is.
 fn text(alloc: Global, reader: &mut Reader<'_>, depth: usize) -> Result<Option<String>, CertFault>
-    ensures ok { IfOk result (λ o. with_value as_str (data_at depth reader.old) ≡ Some (option_map string_bytes o, reader.new)) }
+    ensures ok { IfOk result (λ o. with_value as_str (data_at depth reader.old)
+        ≡ Some (option_map string_bytes o, reader.new)) }
     ensures err { IfErr result (λ e. Refuses e (with_value as_str (data_at depth reader.old))) }
 {
     let token = first(reader)?;
@@ -100,7 +101,8 @@ fn read_member(
     key: &str,
     slots: &mut MemberSlots,
 ) -> Result<(), CertFault>
-    ensures ok { IfOk result (λ _. with_value (with_member key.now slots.old) (data_at depth reader.old) ≡ Some (slots.new, reader.new)) }
+    ensures ok { IfOk result (λ _. with_value (with_member key.now slots.old)
+            (data_at depth reader.old) ≡ Some (slots.new, reader.new)) }
     ensures err { IfErr result (λ e. Refuses e (with_value nothing (data_at depth reader.old))) }
 {
     if key == "collisions" {
@@ -135,8 +137,10 @@ fn draft_members(
     reader: &mut Reader<'_>,
     depth: usize,
 ) -> Result<Option<Draft>, CertFault>
-    ensures ok { IfOk result (λ o. with_value (λ ms. draft_of (object ms)) (members_at depth no_members reader.old) ≡ Some (o, reader.new)) }
-    ensures err { IfErr result (λ e. Refuses e (with_value (λ ms. draft_of (object ms)) (members_at depth no_members reader.old))) }
+    ensures ok { IfOk result (λ o. with_value (λ ms. draft_of (object ms))
+            (members_at depth no_members reader.old) ≡ Some (o, reader.new)) }
+    ensures err { IfErr result (λ e. Refuses e
+        (with_value (λ ms. draft_of (object ms)) (members_at depth no_members reader.old))) }
 {
     let mut slots = no_slots();
     let mut keys: Map<String, Value> = Map::new(alloc);
@@ -158,7 +162,8 @@ pub(crate) fn draft(
     reader: &mut Reader<'_>,
     depth: usize,
 ) -> Result<Option<Draft>, CertFault>
-    ensures ok { IfOk result (λ o. with_value draft_of (data_at depth reader.old) ≡ Some (o, reader.new)) }
+    ensures ok { IfOk result (λ o. with_value draft_of (data_at depth reader.old)
+        ≡ Some (o, reader.new)) }
     ensures err { IfErr result (λ e. Refuses e (with_value draft_of (data_at depth reader.old))) }
 {
     let token = first(reader)?;

@@ -20,7 +20,8 @@ pub(crate) fn first<'a>(reader: &mut Reader<'a>) -> Result<Token<'a>, CertFault>
 
 /// The next key of an object, or none at its end.
 pub(crate) fn key<'a>(reader: &mut Reader<'a>) -> Result<Option<&'a str>, CertFault>
-    ensures { MatchResult result (λ k. read_key reader.old ≡ Some (option_map (λ s. s.now) k, reader.new))
+    ensures { MatchResult result
+        (λ k. read_key reader.old ≡ Some (option_map (λ s. s.now) k, reader.new))
         (λ e. (e ≡ CertFault.NotJson) × (read_key reader.old ≡ None)) }
 {
     match reader.next_key() {
@@ -36,8 +37,10 @@ pub(crate) fn rest_of(
     depth: usize,
     token: Token<'_>,
 ) -> Result<(), CertFault>
-    ensures ok { IfOk result (λ u. with_value nothing (data_at depth (token_of token.entry ∷ reader.old)) ≡ Some (u, reader.new)) }
-    ensures err { IfErr result (λ e. Refuses e (with_value nothing (data_at depth (token_of token.entry ∷ reader.old)))) }
+    ensures ok { IfOk result (λ u. with_value nothing
+            (data_at depth (token_of token.entry ∷ reader.old)) ≡ Some (u, reader.new)) }
+    ensures err { IfErr result (λ e. Refuses e
+        (with_value nothing (data_at depth (token_of token.entry ∷ reader.old)))) }
 {
     match token {
         Token::String(_) | Token::Bool(_) | Token::Null => Ok(()),
@@ -63,7 +66,8 @@ pub(crate) fn rest_of(
 
 #[cycle(skip)]
 pub(crate) fn rest_of_items(reader: &mut Reader<'_>, depth: usize) -> Result<(), CertFault>
-    ensures ok { IfOk result (λ u. with_value nothing (items_at depth reader.old) ≡ Some (u, reader.new)) }
+    ensures ok { IfOk result (λ u. with_value nothing (items_at depth reader.old)
+        ≡ Some (u, reader.new)) }
     ensures err { IfErr result (λ e. Refuses e (with_value nothing (items_at depth reader.old))) }
 {
     'items: while !reader.take_end_array() {
@@ -75,8 +79,10 @@ pub(crate) fn rest_of_items(reader: &mut Reader<'_>, depth: usize) -> Result<(),
 
 #[cycle(skip)]
 fn rest_of_members(reader: &mut Reader<'_>, depth: usize) -> Result<(), CertFault>
-    ensures ok { IfOk result (λ u. with_value nothing (members_at depth no_members reader.old) ≡ Some (u, reader.new)) }
-    ensures err { IfErr result (λ e. Refuses e (with_value nothing (members_at depth no_members reader.old))) }
+    ensures ok { IfOk result (λ u. with_value nothing (members_at depth no_members reader.old)
+        ≡ Some (u, reader.new)) }
+    ensures err { IfErr result (λ e. Refuses e
+        (with_value nothing (members_at depth no_members reader.old))) }
 {
     'members: while let Some(_) = key(reader)? {
         let token = first(reader)?;

@@ -27,7 +27,8 @@ fn push_number(out: &mut String, n: u8) -> Result<(), AllocError>
 }
 
 fn push_numbers(out: &mut String, list: &[u8]) -> Result<(), AllocError>
-    ensures { OnOk result (string_bytes out.new ≡ string_bytes out.old ++ compact_text (numbers_data list.now)) }
+    ensures { OnOk result (string_bytes out.new
+        ≡ string_bytes out.old ++ compact_text (numbers_data list.now)) }
 {
     out.push('[')?;
     let mut later = false;
@@ -42,7 +43,8 @@ fn push_numbers(out: &mut String, list: &[u8]) -> Result<(), AllocError>
 }
 
 fn push_number_or_null(out: &mut String, number: Option<u8>) -> Result<(), AllocError>
-    ensures { OnOk result (string_bytes out.new ≡ string_bytes out.old ++ compact_text (number_or_null number)) }
+    ensures { OnOk result (string_bytes out.new
+        ≡ string_bytes out.old ++ compact_text (number_or_null number)) }
 {
     match number {
         Some(n) => push_number(out, n),
@@ -52,7 +54,8 @@ fn push_number_or_null(out: &mut String, number: Option<u8>) -> Result<(), Alloc
 
 /// A number and two lists: a state with its teams, or a process with its orders.
 fn push_triple(out: &mut String, n: u8, a: &[u8], b: &[u8]) -> Result<(), AllocError>
-    ensures { OnOk result (string_bytes out.new ≡ string_bytes out.old ++ triple_text n a.now b.now) }
+    ensures { OnOk result (string_bytes out.new
+        ≡ string_bytes out.old ++ triple_text n a.now b.now) }
 {
     push_number(out, n)?;
     out.push(',')?;
@@ -62,7 +65,8 @@ fn push_triple(out: &mut String, n: u8, a: &[u8], b: &[u8]) -> Result<(), AllocE
 }
 
 fn push_witness(out: &mut String, witness: &Option<Choice>) -> Result<(), AllocError>
-    ensures { OnOk result (string_bytes out.new ≡ string_bytes out.old ++ compact_text (witness_data witness.now)) }
+    ensures { OnOk result (string_bytes out.new
+        ≡ string_bytes out.old ++ compact_text (witness_data witness.now)) }
 {
     match witness {
         Some(choice) => {
@@ -80,7 +84,8 @@ fn push_witness(out: &mut String, witness: &Option<Choice>) -> Result<(), AllocE
 }
 
 fn push_collision(out: &mut String, collision: &Collision) -> Result<(), AllocError>
-    ensures { OnOk result (string_bytes out.new ≡ string_bytes out.old ++ compact_text (collision_data collision.now)) }
+    ensures { OnOk result (string_bytes out.new
+        ≡ string_bytes out.old ++ compact_text (collision_data collision.now)) }
 {
     let choice = &collision.choice;
     out.push('[')?;
@@ -101,7 +106,8 @@ fn push_collision(out: &mut String, collision: &Collision) -> Result<(), AllocEr
 }
 
 fn push_collisions(out: &mut String, list: &[Collision]) -> Result<(), AllocError>
-    ensures { OnOk result (string_bytes out.new ≡ string_bytes out.old ++ compact_text (collisions_data list.now)) }
+    ensures { OnOk result (string_bytes out.new
+        ≡ string_bytes out.old ++ compact_text (collisions_data list.now)) }
 {
     out.push('[')?;
     let mut later = false;
@@ -117,7 +123,8 @@ fn push_collisions(out: &mut String, list: &[Collision]) -> Result<(), AllocErro
 
 /// The name in quotes, with what JSON escapes.
 fn push_name(alloc: Global, out: &mut String, name: &str) -> Result<(), AllocError>
-    ensures { OnOk result (string_bytes out.new ≡ string_bytes out.old ++ compact_text (string name.now)) }
+    ensures { OnOk result (string_bytes out.new
+        ≡ string_bytes out.old ++ compact_text (string name.now)) }
 {
     let text = Value::try_from_str(alloc, name)?.to_string(alloc)?;
     out.push_str(text.as_str())
@@ -125,7 +132,8 @@ fn push_name(alloc: Global, out: &mut String, name: &str) -> Result<(), AllocErr
 
 /// The members behind the collisions, and the end of the object.
 fn push_rest(alloc: Global, out: &mut String, certificate: &Certificate) -> Result<(), AllocError>
-    ensures { OnOk result (string_bytes out.new ≡ string_bytes out.old ++ members_text true (other_members certificate.now)) }
+    ensures { OnOk result (string_bytes out.new
+        ≡ string_bytes out.old ++ members_text true (other_members certificate.now)) }
 {
     out.push_str(",\"limit\":")?;
     push_number(out, certificate.limit)?;
@@ -149,8 +157,8 @@ fn push_rest(alloc: Global, out: &mut String, certificate: &Certificate) -> Resu
 pub fn write_certificate(alloc: Global, certificate: &Certificate) -> Result<String, CertFault>
     ensures text { IfOk result (λ s. string_bytes s ≡ certificate_text certificate.now) }
     // A certificate of version 1 or 2 whose parts are in their ranges is read back from its text.
-    ensures read_back { IfOk result (λ s. is_version certificate.now.version ≡ true → is_in_range certificate.now ≡ true
-        → reading (string_bytes s) ≡ Ok certificate.now) }
+    ensures read_back { IfOk result (λ s. is_version certificate.now.version ≡ true
+        → is_in_range certificate.now ≡ true → reading (string_bytes s) ≡ Ok certificate.now) }
     ensures memory { IsOkUnless result CertFault.OutOfMemory }
 {
     laws::written_is_read_back();

@@ -47,7 +47,8 @@ impl EndSets {
     pub fn put(&mut self, used: u8, state: u8, set: u16)
         requires { state < MOST_STATES }
         ensures here { ends_at self.new used state ≡ set }
-        ensures others { (u s : ℕ) → s < MOST_STATES → (u ≢ used) ⊎ (s ≢ state) → ends_at self.new u s ≡ ends_at self.old u s }
+        ensures others { (u s : ℕ) → s < MOST_STATES → (u ≢ used) ⊎ (s ≢ state)
+            → ends_at self.new u s ≡ ends_at self.old u s }
     {
         self.sets[MOST_STATES * used as usize + state as usize] = set;
     }

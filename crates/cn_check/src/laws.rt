@@ -16,15 +16,19 @@ use cn_choice::laws;
 
 /// A certificate that is accepted has no fault, and of any other no two faults are the first.
 pub fn one_verdict()
-    ensures accepted { (t : TypeTable) (c : Certificate) (e : CheckFault) → IsAccepted t c → ¬ HasFault t c e }
-    ensures first { (t : TypeTable) (c : Certificate) (e f : CheckFault) → IsFirstFault t c e → IsFirstFault t c f → e ≡ f }
+    ensures accepted { (t : TypeTable) (c : Certificate) (e : CheckFault) → IsAccepted t c
+        → ¬ HasFault t c e }
+    ensures first { (t : TypeTable) (c : Certificate) (e f : CheckFault) → IsFirstFault t c e
+        → IsFirstFault t c f → e ≡ f }
 {}
 
 /// A certificate that is accepted has the number of the type up to its limit, and the certificate of
 /// each finding is accepted.
 pub fn accepted_is_right()
-    ensures number { (t : TypeTable) (c : Certificate) → IsAccepted t c → IsNumberUpTo t c.limit c.number }
-    ensures found { (t : TypeTable) (f : Finding) → IsFindingFor t f.limit f → find_fault (length t.states) (length t.operations) f.limit ≡ None
+    ensures number { (t : TypeTable) (c : Certificate) → IsAccepted t c
+        → IsNumberUpTo t c.limit c.number }
+    ensures found { (t : TypeTable) (f : Finding) → IsFindingFor t f.limit f
+        → find_fault (length t.states) (length t.operations) f.limit ≡ None
         → IsAccepted t (certificate_of t.name f) }
 {
     // What refutes a choice shows that it is no witness; where none of the choices is, of either

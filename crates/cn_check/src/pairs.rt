@@ -43,7 +43,9 @@ impl Pairs {
     pub fn add(&mut self, process: u8, response: u8, states: u16)
         requires process { process < MOST_PROCESSES }
         requires response { response < MOST_RESPONSES }
-        ensures { (j r q : ℕ) → HasPair self.new j r q ↔ (HasPair self.old j r q ⊎ ((j ≡ process) × (r ≡ response) × IsIn states q)) }
+        ensures { (j r q : ℕ)
+            → HasPair self.new j r q
+                ↔ (HasPair self.old j r q ⊎ ((j ≡ process) × (r ≡ response) × IsIn states q)) }
     {
         let place = MOST_RESPONSES * process as usize + response as usize;
         self.states[place] = union(self.states[place], states);

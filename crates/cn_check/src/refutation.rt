@@ -58,11 +58,15 @@ fn check_entry(
 ) -> Result<usize, CheckFault>
     requires some { 2 ≤ n }
     requires few { n ≤ MOST_PROCESSES }
-    requires here { slice_get (choices_in_version version table.now n) place ≡ Some (record { state = state.0; a = teams.0.now; b = teams.1.now }) }
-    requires refuted { AreRefuted table.now (choices_in_version version table.now n) entries.now place }
+    requires here { slice_get (choices_in_version version table.now n) place
+        ≡ Some (record { state = state.0; a = teams.0.now; b = teams.1.now }) }
+    requires refuted { AreRefuted table.now (choices_in_version version table.now n) entries.now
+        place }
     ensures next { IfOk result (λ next. next ≡ place + 1) }
-    ensures refuted { OnOk result (AreRefuted table.now (choices_in_version version table.now n) entries.now (place + 1)) }
-    ensures fault { IfErr result (IsFirstEntryFault table.now (choices_in_version version table.now n) entries.now) }
+    ensures refuted { OnOk result
+        (AreRefuted table.now (choices_in_version version table.now n) entries.now (place + 1)) }
+    ensures fault { IfErr result
+        (IsFirstEntryFault table.now (choices_in_version version table.now n) entries.now) }
 {
     // Each choice that is listed is one of the table for n processes.
     canonical_list();
@@ -115,13 +119,17 @@ fn check_team(
     requires half { length a.now + length a.now ≤ n }
     requires known { All (λ operation. operation < length table.now.operations) a.now }
     requires counts { all_count version table.now state.0 a.now ≡ true }
-    requires next { ComeNext (choices_in_version version table.now n) start (counting version table.now
-        (with_first (length table.now.operations) n state.0 a.now)) }
-    requires refuted { AreRefuted table.now (choices_in_version version table.now n) entries.now start }
+    requires next { ComeNext (choices_in_version version table.now n) start
+        (counting version table.now (with_first (length table.now.operations) n state.0 a.now)) }
+    requires refuted { AreRefuted table.now (choices_in_version version table.now n) entries.now
+        start }
     ensures passed { IfOk result (λ place. HasComeTo (choices_in_version version table.now n) start
-        (counting version table.now (with_first (length table.now.operations) n state.0 a.now)) place []) }
-    ensures refuted { IfOk result (AreRefuted table.now (choices_in_version version table.now n) entries.now) }
-    ensures fault { IfErr result (IsFirstEntryFault table.now (choices_in_version version table.now n) entries.now) }
+        (counting version table.now (with_first (length table.now.operations) n state.0 a.now))
+        place []) }
+    ensures refuted { IfOk result
+        (AreRefuted table.now (choices_in_version version table.now n) entries.now) }
+    ensures fault { IfErr result
+        (IsFirstEntryFault table.now (choices_in_version version table.now n) entries.now) }
 {
     let operations = table.operations();
     let mut b = first_beside(a, n);
@@ -151,13 +159,17 @@ fn check_size(
     requires few { n ≤ MOST_PROCESSES }
     requires state { state.0 < length table.now.states }
     requires half { size + size ≤ n }
-    requires next { ComeNext (choices_in_version version table.now n) start (counting version table.now
-        (with_size (length table.now.operations) n state.0 size)) }
-    requires refuted { AreRefuted table.now (choices_in_version version table.now n) entries.now start }
+    requires next { ComeNext (choices_in_version version table.now n) start
+        (counting version table.now (with_size (length table.now.operations) n state.0 size)) }
+    requires refuted { AreRefuted table.now (choices_in_version version table.now n) entries.now
+        start }
     ensures passed { IfOk result (λ place. HasComeTo (choices_in_version version table.now n) start
-        (counting version table.now (with_size (length table.now.operations) n state.0 size)) place []) }
-    ensures refuted { IfOk result (AreRefuted table.now (choices_in_version version table.now n) entries.now) }
-    ensures fault { IfErr result (IsFirstEntryFault table.now (choices_in_version version table.now n) entries.now) }
+        (counting version table.now (with_size (length table.now.operations) n state.0 size)) place
+        []) }
+    ensures refuted { IfOk result
+        (AreRefuted table.now (choices_in_version version table.now n) entries.now) }
+    ensures fault { IfErr result
+        (IsFirstEntryFault table.now (choices_in_version version table.now n) entries.now) }
 {
     let operations = table.operations();
     let mut a = zeros(size as usize);
@@ -185,12 +197,17 @@ fn check_state(
     requires some { 2 ≤ n }
     requires few { n ≤ MOST_PROCESSES }
     requires state { state.0 < length table.now.states }
-    requires next { ComeNext (choices_in_version version table.now n) start (counting version table.now (with_state (length table.now.operations) n state.0)) }
-    requires refuted { AreRefuted table.now (choices_in_version version table.now n) entries.now start }
+    requires next { ComeNext (choices_in_version version table.now n) start
+        (counting version table.now (with_state (length table.now.operations) n state.0)) }
+    requires refuted { AreRefuted table.now (choices_in_version version table.now n) entries.now
+        start }
     ensures passed { IfOk result (λ place. HasComeTo (choices_in_version version table.now n) start
-        (counting version table.now (with_state (length table.now.operations) n state.0)) place []) }
-    ensures refuted { IfOk result (AreRefuted table.now (choices_in_version version table.now n) entries.now) }
-    ensures fault { IfErr result (IsFirstEntryFault table.now (choices_in_version version table.now n) entries.now) }
+        (counting version table.now (with_state (length table.now.operations) n state.0)) place
+        []) }
+    ensures refuted { IfOk result
+        (AreRefuted table.now (choices_in_version version table.now n) entries.now) }
+    ensures fault { IfErr result
+        (IsFirstEntryFault table.now (choices_in_version version table.now n) entries.now) }
 {
     let mut place = start;
     for size in 1..n / 2 + 1 {
@@ -209,8 +226,10 @@ pub(crate) fn check_entries(
 ) -> Result<(), CheckFault>
     requires some { 2 ≤ n }
     requires few { n ≤ MOST_PROCESSES }
-    ensures refuted { OnOk result (AllZip (Refutes table.now) (choices_in_version version table.now n) entries.now) }
-    ensures fault { IfErr result (IsFirstEntryFault table.now (choices_in_version version table.now n) entries.now) }
+    ensures refuted { OnOk result
+        (AllZip (Refutes table.now) (choices_in_version version table.now n) entries.now) }
+    ensures fault { IfErr result
+        (IsFirstEntryFault table.now (choices_in_version version table.now n) entries.now) }
 {
     let mut place = 0;
     for state in 0..table.states() {

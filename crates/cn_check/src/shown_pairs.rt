@@ -54,7 +54,8 @@ fn pair_of(table: &Table, choice: &Choice, order: &[u8], process: u8) -> Option<
     requires fits { FitsTable table.now choice.now }
     requires known { All (λ p. p < length choice.now.a + length choice.now.b) order.now }
     ensures pair { result ≡ pair_of table.now (raw_choice_of choice.now) order.now process }
-    ensures range { IfSome result (λ pair. (pair.0 < length table.now.responses) × (pair.1 < length table.now.states)) }
+    ensures range { IfSome result (λ pair. (pair.0 < length table.now.responses)
+        × (pair.1 < length table.now.states)) }
 {
     // What a process sees is found by going along the order once.
     pair_along_order();
@@ -83,8 +84,11 @@ pub(crate) fn shown_pair(
     process: u8,
 ) -> Option<(u8, u8)>
     requires fits { FitsTable table.now choice.now }
-    ensures pair { (pair : ℕ × ℕ) → (result ≡ Some pair) ↔ Shows table.now (raw_choice_of choice.now) team process pair list.now }
-    ensures range { IfSome result (λ pair. (pair.0 < length table.now.responses) × (pair.1 < length table.now.states)) }
+    ensures pair { (pair : ℕ × ℕ)
+        → (result ≡ Some pair)
+            ↔ Shows table.now (raw_choice_of choice.now) team process pair list.now }
+    ensures range { IfSome result (λ pair. (pair.0 < length table.now.responses)
+        × (pair.1 < length table.now.states)) }
 {
     if is_order(list, processes(table, choice)) && begins_in(choice, team, list) {
         pair_of(table, choice, list, process)

@@ -23,8 +23,10 @@ pub(crate) fn zeros(count: usize) -> ArrayVec<u8, MOST_PROCESSES>
 pub(crate) fn first_beside(a: &[u8], n: u8) -> ArrayVec<u8, MOST_PROCESSES>
     requires half { length a.now + length a.now ≤ n }
     requires few { n ≤ MOST_PROCESSES }
-    ensures first { (limit : ℕ) → 1 ≤ limit → second_lists limit n a.now ≡ result.items ∷ rising_after limit result.items }
-    ensures known { (limit : ℕ) → 1 ≤ limit → All (λ x. x < limit) a.now → All (λ x. x < limit) result.items }
+    ensures first { (limit : ℕ) → 1 ≤ limit
+        → second_lists limit n a.now ≡ result.items ∷ rising_after limit result.items }
+    ensures known { (limit : ℕ) → 1 ≤ limit → All (λ x. x < limit) a.now
+        → All (λ x. x < limit) result.items }
 {
     if a.len() + a.len() < n as usize {
         zeros(n as usize - a.len())
@@ -39,7 +41,8 @@ pub(crate) fn first_beside(a: &[u8], n: u8) -> ArrayVec<u8, MOST_PROCESSES>
 fn raise_from(list: &mut [u8], place: usize)
     requires place { place < length list.old }
     requires small { get_or list.old place 0 < 255 }
-    ensures { list.new ≡ take place list.old ++ replicate (length list.old - place) (get_or list.old place 0 + 1) }
+    ensures { list.new
+        ≡ take place list.old ++ replicate (length list.old - place) (get_or list.old place 0 + 1) }
 {
     let value = list[place] + 1;
     for later in place..list.len() {
@@ -51,7 +54,8 @@ fn raise_from(list: &mut [u8], place: usize)
 /// and answers whether there is one; the last one stays as it is.
 pub(crate) fn step(list: &mut [u8], limit: u8) -> bool
     requires { 1 ≤ limit }
-    ensures more { IsTrue result → rising_after limit list.old ≡ list.new ∷ rising_after limit list.new }
+    ensures more { IsTrue result
+        → rising_after limit list.old ≡ list.new ∷ rising_after limit list.new }
     ensures last { result ≡ false → rising_after limit list.old ≡ [] }
     ensures known { All (λ x. x < limit) list.old → All (λ x. x < limit) list.new }
     ensures long { length list.new ≡ length list.old }

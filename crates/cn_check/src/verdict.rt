@@ -63,7 +63,8 @@ fn check_witness(
     requires some { IfSome number (λ n. 2 ≤ n) }
     requires few { IfSome number (λ n. n ≤ MOST_PROCESSES) }
     ensures fits { OnOk result (HasWitnessFor table.now number witness.now) }
-    ensures witness { OnOk result (IfSome witness.now (λ w. IsWitness table.now (raw_choice_of w))) }
+    ensures witness { OnOk result
+        (IfSome witness.now (λ w. IsWitness table.now (raw_choice_of w))) }
     ensures fault { IfErr result (IsWitnessFault table.now number witness.now) }
 {
     match (number, witness) {
@@ -89,7 +90,9 @@ fn check_evidence(
     entries: &[Collision],
 ) -> Result<(), CheckFault>
     requires { IsInRange version limit number }
-    ensures refuted { OnOk result (AllZip (Refutes table.now) (choices_to_refute_in version table.now limit number) entries.now) }
+    ensures refuted { OnOk result
+        (AllZip (Refutes table.now) (choices_to_refute_in version table.now limit number)
+            entries.now) }
     ensures fault { IfErr result (IsEvidenceFault table.now version limit number entries.now) }
 {
     match number {
@@ -112,8 +115,10 @@ pub fn check(table: &Table, certificate: &Certificate) -> Result<(), CheckFault>
     ensures accepted { OnOk result (IsAccepted table.now certificate.now) }
     ensures passes { IsAccepted table.now certificate.now → IsOk result }
     ensures refused { IfErr result (IsFirstFault table.now certificate.now) }
-    ensures number { OnOk result (IsNumberUpTo table.now certificate.now.limit certificate.now.number) }
-    ensures found { (f : Finding) → IsFindingFor table.now f.limit f → find_fault (length table.now.states) (length table.now.operations) f.limit ≡ None
+    ensures number { OnOk result
+        (IsNumberUpTo table.now certificate.now.limit certificate.now.number) }
+    ensures found { (f : Finding) → IsFindingFor table.now f.limit f
+        → find_fault (length table.now.states) (length table.now.operations) f.limit ≡ None
         → certificate.now ≡ certificate_of table.now.name f → IsOk result }
 {
     accepted_is_right();

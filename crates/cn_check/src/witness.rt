@@ -20,7 +20,8 @@ fn move_of(table: &Table, choice: &Choice, process: u8, state: State) -> (u8, St
     requires fits { FitsTable table.now choice.now }
     requires process { process < length choice.now.a + length choice.now.b }
     requires state { state.0 < length table.now.states }
-    ensures value { (result.0, result.1.0) ≡ move_of table.now (raw_choice_of choice.now) process state.0 }
+    ensures value { (result.0, result.1.0)
+        ≡ move_of table.now (raw_choice_of choice.now) process state.0 }
     ensures response { result.0 < 16 }
     ensures known { result.1.0 < length table.now.states }
 {
@@ -44,9 +45,12 @@ fn walk(
     requires fits { FitsTable table.now choice.now }
     requires state { state.0 < length table.now.states }
     requires walked { AreWalked table.now (raw_choice_of choice.now) end_sets.old pairs.old }
-    ensures ends { (q : ℕ) → IsIn result q ↔ EndsIn table.now (raw_choice_of choice.now) used state.0 q }
-    ensures shown { (j r q : ℕ) → HasPair pairs.new j r q
-        ↔ (HasPair pairs.old j r q ⊎ ShowsFrom table.now (raw_choice_of choice.now) used state.0 j r q) }
+    ensures ends { (q : ℕ)
+        → IsIn result q ↔ EndsIn table.now (raw_choice_of choice.now) used state.0 q }
+    ensures shown { (j r q : ℕ)
+        → HasPair pairs.new j r q
+            ↔ (HasPair pairs.old j r q
+                ⊎ ShowsFrom table.now (raw_choice_of choice.now) used state.0 j r q) }
     ensures walked { AreWalked table.now (raw_choice_of choice.now) end_sets.new pairs.new }
 {
     // A table has at most 16 states.
@@ -77,7 +81,8 @@ fn walk(
 
 fn outcome_sets(table: &Table, choice: &Choice, team: Team) -> Pairs
     requires { FitsTable table.now choice.now }
-    ensures { (j r q : ℕ) → HasPair result j r q ↔ InOutcomeSet table.now (raw_choice_of choice.now) team j (r, q) }
+    ensures { (j r q : ℕ)
+        → HasPair result j r q ↔ InOutcomeSet table.now (raw_choice_of choice.now) team j (r, q) }
 {
     // What a process sees is found by going along the order once.
     pair_along_order();
@@ -99,7 +104,8 @@ pub(crate) fn first_meeting(table: &Table, choice: &Choice) -> Option<u8>
     requires { FitsTable table.now choice.now }
     ensures none { IfNone result (IsWitness table.now (raw_choice_of choice.now)) }
     ensures meets { IfSome result (OutcomeSetsMeet table.now (raw_choice_of choice.now)) }
-    ensures least { IfSome result (λ j. (i : ℕ) → i < j → ¬ OutcomeSetsMeet table.now (raw_choice_of choice.now) i) }
+    ensures least { IfSome result (λ j. (i : ℕ) → i < j
+        → ¬ OutcomeSetsMeet table.now (raw_choice_of choice.now) i) }
 {
     // Who is no process of the choice has no pair in an outcome set.
     process_of_pair();

@@ -8,7 +8,8 @@ use cn_table::{Operation, State, Table};
 /// Whether each of the operations, applied in the state, leads to another one.
 pub(crate) fn all_move(table: &Table, state: State, operations: &[u8]) -> bool
     requires state { state.0 < length table.now.states }
-    requires operations { All (λ operation. operation < length table.now.operations) operations.now }
+    requires operations { All (λ operation. operation < length table.now.operations)
+        operations.now }
     ensures { result ≡ all_move table.now state.0 operations.now }
 {
     for operation in operations {

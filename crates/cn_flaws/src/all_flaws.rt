@@ -18,7 +18,9 @@ use toml::Table;
 
 fn push_not_toml(alloc: Global, flaws: &mut Vec<Flaw>, before: &[u8]) -> Result<(), AllocError>
     requires { length before.now < 2 ^ 63 }
-    ensures { OnOk result (flaws_view flaws.new ≡ flaws_view flaws.old ++ flaw TableFault.NotToml (not_toml_text (place_after 1 1 before.now))) }
+    ensures { OnOk result (flaws_view flaws.new
+        ≡ flaws_view flaws.old
+            ++ flaw TableFault.NotToml (not_toml_text (place_after 1 1 before.now))) }
 {
     let (line, column) = place_after(before);
     let text = format!(in alloc; "line {line}, column {column}: not TOML")?;
@@ -31,7 +33,9 @@ fn push_flaws_of_draft(
     flaws: &mut Vec<Flaw>,
     document: &Table,
 ) -> Result<(), AllocError>
-    ensures { OnOk result (flaws_view flaws.new ≡ flaws_view flaws.old ++ option_map_or draft_flaws (draft_of (table_view document.now)) []) }
+    ensures { OnOk result (flaws_view flaws.new
+        ≡ flaws_view flaws.old
+            ++ option_map_or draft_flaws (draft_of (table_view document.now)) []) }
 {
     match draft_from(alloc, document) {
         Ok(draft) => push_draft_flaws(alloc, flaws, &draft),
@@ -46,7 +50,8 @@ fn push_document_flaws(
     flaws: &mut Vec<Flaw>,
     document: &Table,
 ) -> Result<(), AllocError>
-    ensures { OnOk result (flaws_view flaws.new ≡ flaws_view flaws.old ++ document_flaws (table_view document.now)) }
+    ensures { OnOk result (flaws_view flaws.new
+        ≡ flaws_view flaws.old ++ document_flaws (table_view document.now)) }
 {
     push_flaws_by(alloc, flaws, FlawClass::OtherKeys, document)?;
     push_flaws_by(alloc, flaws, FlawClass::MissingKeys, document)?;
@@ -66,7 +71,8 @@ fn document_flaws(alloc: Global, document: &Table) -> Result<Vec<Flaw>, AllocErr
 fn refusal(alloc: Global, text: &str, place: usize) -> Result<Vec<Flaw>, AllocError>
     requires small { length text.now < 2 ^ 63 }
     requires within { place ≤ length text.now }
-    ensures { IfOk result (λ v. flaws_view v ≡ flaw TableFault.NotToml (not_toml_text (place_after 1 1 (take place text.now)))) }
+    ensures { IfOk result (λ v. flaws_view v
+        ≡ flaw TableFault.NotToml (not_toml_text (place_after 1 1 (take place text.now)))) }
 {
     let mut flaws = Vec::new(alloc);
     let bytes = text.as_bytes();
@@ -76,7 +82,8 @@ fn refusal(alloc: Global, text: &str, place: usize) -> Result<Vec<Flaw>, AllocEr
 
 fn text_flaws(alloc: Global, text: &str) -> Result<Vec<Flaw>, AllocError>
     requires { length text.now < 2 ^ 63 }
-    ensures { IfOk result (λ v. (place : ℕ) × (place ≤ length text.now) × (flaws_view v ≡ text_flaws place text.now)) }
+    ensures { IfOk result (λ v. (place : ℕ) × (place ≤ length text.now)
+        × (flaws_view v ≡ text_flaws place text.now)) }
 {
     match toml::table_from_str(alloc, text) {
         Ok(document) => document_flaws(alloc, &document),
@@ -100,8 +107,10 @@ fn text_flaws(alloc: Global, text: &str) -> Result<Vec<Flaw>, AllocError>
 /// Fails only for want of memory.
 pub fn flaws(alloc: Global, bytes: &[u8]) -> Result<Vec<Flaw>, AllocError>
     requires { length bytes.now < 2 ^ 63 }
-    ensures flaws { IfOk result (λ v. (place : ℕ) × (place ≤ length bytes.now) × (flaws_view v ≡ flaws_at place bytes.now)) }
-    ensures first { IfOk result (λ v. IsUtf8 bytes.now → first_fault (flaws_view v) ≡ fault_of bytes.now) }
+    ensures flaws { IfOk result (λ v. (place : ℕ) × (place ≤ length bytes.now)
+        × (flaws_view v ≡ flaws_at place bytes.now)) }
+    ensures first { IfOk result (λ v. IsUtf8 bytes.now
+        → first_fault (flaws_view v) ≡ fault_of bytes.now) }
 {
     match str::from_utf8(bytes) {
         Ok(text) => text_flaws(alloc, text),

@@ -72,8 +72,10 @@ fn push_other_keys(
     known: &[&str],
     table: &Table,
 ) -> Result<(), AllocError>
-    ensures { OnOk result (flaws_view flaws.new ≡ flaws_view flaws.old
-        ++ other_keys before.now after.now (map (λ k. k.now) known.now) (keys_in (table_view table.now))) }
+    ensures { OnOk result (flaws_view flaws.new
+        ≡ flaws_view flaws.old
+            ++ other_keys before.now after.now (map (λ k. k.now) known.now)
+                (keys_in (table_view table.now))) }
 {
     for key in table.keys() {
         if !is_one_of(known, key.as_str()) {
@@ -98,7 +100,9 @@ fn push_missing_keys(
     known: &[&str],
     table: &Table,
 ) -> Result<(), AllocError>
-    ensures { OnOk result (flaws_view flaws.new ≡ flaws_view flaws.old ++ missing_keys place.now (map (λ k. k.now) known.now) (table_view table.now)) }
+    ensures { OnOk result (flaws_view flaws.new
+        ≡ flaws_view flaws.old
+            ++ missing_keys place.now (map (λ k. k.now) known.now) (table_view table.now)) }
 {
     for key in known {
         if value_at(table, *key).is_none() {
@@ -145,7 +149,8 @@ fn push_wrong_kind(
     key: &str,
     table: &Table,
 ) -> Result<(), AllocError>
-    ensures { OnOk result (flaws_view flaws.new ≡ flaws_view flaws.old ++ wrong_kind kind before.now key.now (table_view table.now)) }
+    ensures { OnOk result (flaws_view flaws.new
+        ≡ flaws_view flaws.old ++ wrong_kind kind before.now key.now (table_view table.now)) }
 {
     if let Some(value) = value_at(table, key) {
         if !kind.is_of(value) {
@@ -168,9 +173,11 @@ fn push_table_kinds(
     before: &str,
     table: &Table,
 ) -> Result<(), AllocError>
-    ensures { OnOk result (flaws_view flaws.new ≡ flaws_view flaws.old ++ (wrong_kind Kind.Text before.now (codes "name") (table_view table.now)
-        ++ (wrong_kind Kind.Texts before.now (codes "response") (table_view table.now)
-        ++ wrong_kind Kind.Texts before.now (codes "next") (table_view table.now)))) }
+    ensures { OnOk result (flaws_view flaws.new
+        ≡ flaws_view flaws.old
+            ++ (wrong_kind Kind.Text before.now (codes "name") (table_view table.now)
+                ++ (wrong_kind Kind.Texts before.now (codes "response") (table_view table.now)
+                    ++ wrong_kind Kind.Texts before.now (codes "next") (table_view table.now)))) }
 {
     push_wrong_kind(alloc, flaws, Kind::Text, before, "name", table)?;
     push_wrong_kind(alloc, flaws, Kind::Texts, before, "response", table)?;
@@ -184,7 +191,8 @@ fn push_table_flaws(
     i: usize,
     table: &Table,
 ) -> Result<(), AllocError>
-    ensures { OnOk result (flaws_view flaws.new ≡ flaws_view flaws.old ++ table_flaws flaw_class i (table_view table.now)) }
+    ensures { OnOk result (flaws_view flaws.new
+        ≡ flaws_view flaws.old ++ table_flaws flaw_class i (table_view table.now)) }
 {
     let place = table_text(alloc, i, table)?;
     let before = format!(in alloc; "{place}, ")?;
@@ -207,7 +215,8 @@ fn no_operation_text(alloc: Global, i: usize) -> Result<String, AllocError>
 }
 
 fn push_no_table(alloc: Global, flaws: &mut Vec<Flaw>, i: usize) -> Result<(), AllocError>
-    ensures { OnOk result (flaws_view flaws.new ≡ flaws_view flaws.old ++ no_table_flaws FlawClass.Kinds i) }
+    ensures { OnOk result (flaws_view flaws.new
+        ≡ flaws_view flaws.old ++ no_table_flaws FlawClass.Kinds i) }
 {
     let text = no_operation_text(alloc, i)?;
     push_flaw(flaws, TableFault::WrongKind, text)
@@ -220,7 +229,8 @@ fn push_item_flaws(
     i: usize,
     value: &Value,
 ) -> Result<(), AllocError>
-    ensures { OnOk result (flaws_view flaws.new ≡ flaws_view flaws.old ++ item_flaws flaw_class i (view value.now)) }
+    ensures { OnOk result (flaws_view flaws.new
+        ≡ flaws_view flaws.old ++ item_flaws flaw_class i (view value.now)) }
 {
     match (value.as_table(), flaw_class) {
         (Some(table), _) => push_table_flaws(alloc, flaws, flaw_class, i, table),
@@ -235,7 +245,8 @@ fn push_items_flaws(
     flaw_class: FlawClass,
     values: &[Value],
 ) -> Result<(), AllocError>
-    ensures { OnOk result (flaws_view flaws.new ≡ flaws_view flaws.old ++ each (item_flaws flaw_class) 0 (map view values.now)) }
+    ensures { OnOk result (flaws_view flaws.new
+        ≡ flaws_view flaws.old ++ each (item_flaws flaw_class) 0 (map view values.now)) }
 {
     for (i, value) in values.iter().enumerate() {
         push_item_flaws(alloc, flaws, flaw_class, i, value)?;
@@ -244,7 +255,8 @@ fn push_items_flaws(
 }
 
 fn push_root_kinds(alloc: Global, flaws: &mut Vec<Flaw>, document: &Table) -> Result<(), AllocError>
-    ensures { OnOk result (flaws_view flaws.new ≡ flaws_view flaws.old ++ root_flaws FlawClass.Kinds (table_view document.now)) }
+    ensures { OnOk result (flaws_view flaws.new
+        ≡ flaws_view flaws.old ++ root_flaws FlawClass.Kinds (table_view document.now)) }
 {
     push_wrong_kind(alloc, flaws, Kind::Text, "", "name", document)?;
     push_wrong_kind(alloc, flaws, Kind::Texts, "", "states", document)?;
@@ -258,7 +270,8 @@ fn push_root_flaws(
     flaw_class: FlawClass,
     document: &Table,
 ) -> Result<(), AllocError>
-    ensures { OnOk result (flaws_view flaws.new ≡ flaws_view flaws.old ++ root_flaws flaw_class (table_view document.now)) }
+    ensures { OnOk result (flaws_view flaws.new
+        ≡ flaws_view flaws.old ++ root_flaws flaw_class (table_view document.now)) }
 {
     match flaw_class {
         FlawClass::OtherKeys => {
@@ -277,7 +290,8 @@ pub(crate) fn push_flaws_by(
     flaw_class: FlawClass,
     document: &Table,
 ) -> Result<(), AllocError>
-    ensures { OnOk result (flaws_view flaws.new ≡ flaws_view flaws.old ++ flaws_by flaw_class (table_view document.now)) }
+    ensures { OnOk result (flaws_view flaws.new
+        ≡ flaws_view flaws.old ++ flaws_by flaw_class (table_view document.now)) }
 {
     push_root_flaws(alloc, flaws, flaw_class, document)?;
     if let Some(values) = array_at(document, "operation") {

@@ -29,7 +29,8 @@ fn push_bad_name(
     what: &str,
     name: &str,
 ) -> Result<(), AllocError>
-    ensures { OnOk result (flaws_view flaws.new ≡ flaws_view flaws.old ++ bad_name what.now name.now) }
+    ensures { OnOk result (flaws_view flaws.new
+        ≡ flaws_view flaws.old ++ bad_name what.now name.now) }
 {
     if !is_name(name) {
         let text = bad_name_text(alloc, what, name)?;
@@ -44,7 +45,9 @@ fn push_bad_names(
     what: &str,
     names: &[String],
 ) -> Result<(), AllocError>
-    ensures { OnOk result (flaws_view flaws.new ≡ flaws_view flaws.old ++ flat_map (bad_name what.now) (map (λ s. string_bytes s) names.now)) }
+    ensures { OnOk result (flaws_view flaws.new
+        ≡ flaws_view flaws.old
+            ++ flat_map (bad_name what.now) (map (λ s. string_bytes s) names.now)) }
 {
     for name in names {
         push_bad_name(alloc, flaws, what, name.as_str())?;
@@ -65,7 +68,8 @@ fn operation_names(alloc: Global, rows: &[DraftRow]) -> Result<Vec<String>, Allo
 /// The type, the states, the responses and the operations that have no name.
 #[tactic(auto, unfolding(crate::specs::Flaws::name_flaws))]
 fn push_name_flaws(alloc: Global, flaws: &mut Vec<Flaw>, draft: &Draft) -> Result<(), AllocError>
-    ensures { OnOk result (flaws_view flaws.new ≡ flaws_view flaws.old ++ name_flaws (draft_view draft.now)) }
+    ensures { OnOk result (flaws_view flaws.new
+        ≡ flaws_view flaws.old ++ name_flaws (draft_view draft.now)) }
 {
     push_bad_name(alloc, flaws, "name", draft.name.as_str())?;
     push_bad_names(alloc, flaws, "state", &draft.states)?;
@@ -93,7 +97,8 @@ fn push_bad_count(
     most: usize,
     count: usize,
 ) -> Result<(), AllocError>
-    ensures { OnOk result (flaws_view flaws.new ≡ flaws_view flaws.old ++ bad_count what.now most count) }
+    ensures { OnOk result (flaws_view flaws.new
+        ≡ flaws_view flaws.old ++ bad_count what.now most count) }
 {
     if count < 1 {
         let text = too_few_text(alloc, what)?;
@@ -108,7 +113,8 @@ fn push_bad_count(
 /// Too few or too many states, responses or operations.
 #[tactic(auto, unfolding(crate::specs::Flaws::count_flaws))]
 fn push_count_flaws(alloc: Global, flaws: &mut Vec<Flaw>, draft: &Draft) -> Result<(), AllocError>
-    ensures { OnOk result (flaws_view flaws.new ≡ flaws_view flaws.old ++ count_flaws (draft_view draft.now)) }
+    ensures { OnOk result (flaws_view flaws.new
+        ≡ flaws_view flaws.old ++ count_flaws (draft_view draft.now)) }
 {
     let states = draft.states.as_slice();
     let responses = draft.responses.as_slice();
@@ -156,7 +162,8 @@ fn push_repeats(
     what: &str,
     names: &[String],
 ) -> Result<(), AllocError>
-    ensures { OnOk result (flaws_view flaws.new ≡ flaws_view flaws.old ++ repeats what.now (map (λ s. string_bytes s) names.now)) }
+    ensures { OnOk result (flaws_view flaws.new
+        ≡ flaws_view flaws.old ++ repeats what.now (map (λ s. string_bytes s) names.now)) }
 {
     for (i, name) in names.iter().enumerate() {
         push_repeated(alloc, flaws, what, name, &names[i + 1..])?;
@@ -167,7 +174,8 @@ fn push_repeats(
 /// The names that stand twice.
 #[tactic(auto, unfolding(crate::specs::Flaws::repeat_flaws))]
 fn push_repeat_flaws(alloc: Global, flaws: &mut Vec<Flaw>, draft: &Draft) -> Result<(), AllocError>
-    ensures { OnOk result (flaws_view flaws.new ≡ flaws_view flaws.old ++ repeat_flaws (draft_view draft.now)) }
+    ensures { OnOk result (flaws_view flaws.new
+        ≡ flaws_view flaws.old ++ repeat_flaws (draft_view draft.now)) }
 {
     push_repeats(alloc, flaws, "states", &draft.states)?;
     push_repeats(alloc, flaws, "responses", &draft.responses)?;
@@ -197,7 +205,8 @@ fn push_bad_length(
     count: usize,
     states: usize,
 ) -> Result<(), AllocError>
-    ensures { OnOk result (flaws_view flaws.new ≡ flaws_view flaws.old ++ bad_length operation.now row.now count states) }
+    ensures { OnOk result (flaws_view flaws.new
+        ≡ flaws_view flaws.old ++ bad_length operation.now row.now count states) }
 {
     if count != states {
         let text = length_text(alloc, operation, row, count, states)?;
@@ -213,7 +222,8 @@ fn push_row_lengths(
     i: usize,
     row: &DraftRow,
 ) -> Result<(), AllocError>
-    ensures { OnOk result (flaws_view flaws.new ≡ flaws_view flaws.old ++ row_lengths states i (row_view row.now)) }
+    ensures { OnOk result (flaws_view flaws.new
+        ≡ flaws_view flaws.old ++ row_lengths states i (row_view row.now)) }
 {
     let operation = operation_text(alloc, i, row.name.as_str())?;
     let place = operation.as_str();
@@ -227,7 +237,8 @@ fn push_all_lengths(
     states: usize,
     rows: &[DraftRow],
 ) -> Result<(), AllocError>
-    ensures { OnOk result (flaws_view flaws.new ≡ flaws_view flaws.old ++ each (row_lengths states) 0 (map row_view rows.now)) }
+    ensures { OnOk result (flaws_view flaws.new
+        ≡ flaws_view flaws.old ++ each (row_lengths states) 0 (map row_view rows.now)) }
 {
     for (i, row) in rows.iter().enumerate() {
         push_row_lengths(alloc, flaws, states, i, row)?;
@@ -238,7 +249,8 @@ fn push_all_lengths(
 /// The rows that have not an entry for each state.
 #[tactic(auto, unfolding(crate::specs::Flaws::length_flaws))]
 fn push_length_flaws(alloc: Global, flaws: &mut Vec<Flaw>, draft: &Draft) -> Result<(), AllocError>
-    ensures { OnOk result (flaws_view flaws.new ≡ flaws_view flaws.old ++ length_flaws (draft_view draft.now)) }
+    ensures { OnOk result (flaws_view flaws.new
+        ≡ flaws_view flaws.old ++ length_flaws (draft_view draft.now)) }
 {
     push_all_lengths(alloc, flaws, draft.states.len(), &draft.operations)
 }
@@ -252,7 +264,8 @@ fn entry_text(
     what: &str,
     names: &str,
 ) -> Result<String, AllocError>
-    ensures { IfOk result (λ s. string_bytes s ≡ entry_text operation.now row.now k text.now what.now names.now) }
+    ensures { IfOk result (λ s. string_bytes s
+        ≡ entry_text operation.now row.now k text.now what.now names.now) }
 {
     let text = in_quotes(alloc, text)?;
     format!(in alloc; "{operation}, {row}[{k}]: {text} is no {what}{names}")
@@ -267,8 +280,11 @@ fn push_unknown_entries(
     names: &[String],
     texts: &[String],
 ) -> Result<(), AllocError>
-    ensures { OnOk result (flaws_view flaws.new ≡ flaws_view flaws.old
-        ++ each (unknown_entry operation.now row.now what.now (map (λ s. string_bytes s) names.now)) 0 (map (λ s. string_bytes s) texts.now)) }
+    ensures { OnOk result (flaws_view flaws.new
+        ≡ flaws_view flaws.old
+            ++ each
+                (unknown_entry operation.now row.now what.now (map (λ s. string_bytes s) names.now))
+                0 (map (λ s. string_bytes s) texts.now)) }
 {
     let brackets = names_in_brackets(alloc, names)?;
     for (k, text) in texts.iter().enumerate() {
@@ -296,8 +312,10 @@ fn push_row_entries(
     i: usize,
     row: &DraftRow,
 ) -> Result<(), AllocError>
-    ensures { OnOk result (flaws_view flaws.new ≡ flaws_view flaws.old
-        ++ row_entries (map (λ s. string_bytes s) states.now) (map (λ s. string_bytes s) responses.now) i (row_view row.now)) }
+    ensures { OnOk result (flaws_view flaws.new
+        ≡ flaws_view flaws.old
+            ++ row_entries (map (λ s. string_bytes s) states.now)
+                (map (λ s. string_bytes s) responses.now) i (row_view row.now)) }
 {
     let operation = operation_text(alloc, i, row.name.as_str())?;
     let place = operation.as_str();
@@ -320,8 +338,11 @@ fn push_all_entries(
     responses: &[String],
     rows: &[DraftRow],
 ) -> Result<(), AllocError>
-    ensures { OnOk result (flaws_view flaws.new ≡ flaws_view flaws.old
-        ++ each (row_entries (map (λ s. string_bytes s) states.now) (map (λ s. string_bytes s) responses.now)) 0 (map row_view rows.now)) }
+    ensures { OnOk result (flaws_view flaws.new
+        ≡ flaws_view flaws.old
+            ++ each
+                (row_entries (map (λ s. string_bytes s) states.now)
+                    (map (λ s. string_bytes s) responses.now)) 0 (map row_view rows.now)) }
 {
     for (i, row) in rows.iter().enumerate() {
         push_row_entries(alloc, flaws, states, responses, i, row)?;
@@ -332,7 +353,8 @@ fn push_all_entries(
 /// The entries that name no response or no state.
 #[tactic(auto, unfolding(crate::specs::Flaws::entry_flaws))]
 fn push_entry_flaws(alloc: Global, flaws: &mut Vec<Flaw>, draft: &Draft) -> Result<(), AllocError>
-    ensures { OnOk result (flaws_view flaws.new ≡ flaws_view flaws.old ++ entry_flaws (draft_view draft.now)) }
+    ensures { OnOk result (flaws_view flaws.new
+        ≡ flaws_view flaws.old ++ entry_flaws (draft_view draft.now)) }
 {
     push_all_entries(
         alloc,
@@ -350,7 +372,8 @@ pub(crate) fn push_draft_flaws(
     flaws: &mut Vec<Flaw>,
     draft: &Draft,
 ) -> Result<(), AllocError>
-    ensures { OnOk result (flaws_view flaws.new ≡ flaws_view flaws.old ++ draft_flaws (draft_view draft.now)) }
+    ensures { OnOk result (flaws_view flaws.new
+        ≡ flaws_view flaws.old ++ draft_flaws (draft_view draft.now)) }
 {
     push_name_flaws(alloc, flaws, draft)?;
     push_count_flaws(alloc, flaws, draft)?;

@@ -20,7 +20,8 @@ pub(crate) fn push_flaw(
     fault: TableFault,
     text: String,
 ) -> Result<(), AllocError>
-    ensures { OnOk result (flaws_view flaws.new ≡ flaws_view flaws.old ++ flaw fault (string_bytes text)) }
+    ensures { OnOk result (flaws_view flaws.new
+        ≡ flaws_view flaws.old ++ flaw fault (string_bytes text)) }
 {
     flaws.push(Flaw { fault, text })?;
     Ok(())

@@ -91,7 +91,9 @@ pub(crate) fn states_text(alloc: Global, count: usize) -> Result<String, AllocEr
 }
 
 fn push_names(text: &mut String, names: &[String]) -> Result<(), AllocError>
-    ensures { OnOk result (string_bytes text.new ≡ string_bytes text.old ++ joined_texts (codes ", ") (map (λ s. string_bytes s) names.now)) }
+    ensures { OnOk result (string_bytes text.new
+        ≡ string_bytes text.old
+            ++ joined_texts (codes ", ") (map (λ s. string_bytes s) names.now)) }
 {
     let [first, rest @ ..] = names else {
         return Ok(());
@@ -106,7 +108,8 @@ fn push_names(text: &mut String, names: &[String]) -> Result<(), AllocError>
 
 /// The names in brackets, where they are few names; else nothing.
 pub(crate) fn names_in_brackets(alloc: Global, names: &[String]) -> Result<String, AllocError>
-    ensures { IfOk result (λ s. string_bytes s ≡ names_in_brackets (map (λ s. string_bytes s) names.now)) }
+    ensures { IfOk result (λ s. string_bytes s
+        ≡ names_in_brackets (map (λ s. string_bytes s) names.now)) }
 {
     let mut text = String::new(alloc);
     if names.len() <= MOST_STATES && have_names(names) {

@@ -26,7 +26,9 @@ pub fn diagram_of(alloc: Global, table: &Table) -> Result<String, AllocError>
 }
 
 fn push_states(text: &mut String, table: &Table) -> Result<(), AllocError>
-    ensures { OnOk result (string_bytes text.new ≡ string_bytes text.old ++ flat_map (state_dot table.now) (range_with_len 0 (length table.now.states))) }
+    ensures { OnOk result (string_bytes text.new
+        ≡ string_bytes text.old
+            ++ flat_map (state_dot table.now) (range_with_len 0 (length table.now.states))) }
 {
     for state in 0..table.states() {
         push_state(text, table, State(state))?;
@@ -36,13 +38,16 @@ fn push_states(text: &mut String, table: &Table) -> Result<(), AllocError>
 
 fn push_state(text: &mut String, table: &Table, state: State) -> Result<(), AllocError>
     requires { state.0 < length table.now.states }
-    ensures { OnOk result (string_bytes text.new ≡ string_bytes text.old ++ state_dot table.now state.0) }
+    ensures { OnOk result (string_bytes text.new
+        ≡ string_bytes text.old ++ state_dot table.now state.0) }
 {
     write!(text, "  \"{}\";\n", table.state_name(state))
 }
 
 fn push_all_arrows(alloc: Global, text: &mut String, table: &Table) -> Result<(), AllocError>
-    ensures { OnOk result (string_bytes text.new ≡ string_bytes text.old ++ flat_map (arrows_dot table.now) (range_with_len 0 (length table.now.states))) }
+    ensures { OnOk result (string_bytes text.new
+        ≡ string_bytes text.old
+            ++ flat_map (arrows_dot table.now) (range_with_len 0 (length table.now.states))) }
 {
     for from in 0..table.states() {
         push_arrows(alloc, text, table, State(from))?;
@@ -57,7 +62,8 @@ fn push_arrows(
     from: State,
 ) -> Result<(), AllocError>
     requires { from.0 < length table.now.states }
-    ensures { OnOk result (string_bytes text.new ≡ string_bytes text.old ++ arrows_dot table.now from.0) }
+    ensures { OnOk result (string_bytes text.new
+        ≡ string_bytes text.old ++ arrows_dot table.now from.0) }
 {
     for next in 0..table.states() {
         push_arrow(alloc, text, table, from, State(next))?;
@@ -75,7 +81,8 @@ fn push_arrow(
 ) -> Result<(), AllocError>
     requires from { from.0 < length table.now.states }
     requires next { next.0 < length table.now.states }
-    ensures { OnOk result (string_bytes text.new ≡ string_bytes text.old ++ arrow_dot table.now from.0 next.0) }
+    ensures { OnOk result (string_bytes text.new
+        ≡ string_bytes text.old ++ arrow_dot table.now from.0 next.0) }
 {
     let label = label_of(alloc, table, from, next)?;
     if label.is_empty() {
@@ -106,7 +113,8 @@ fn push_line(
 ) -> Result<(), AllocError>
     requires operation { operation.0 < length table.now.operations }
     requires from { from.0 < length table.now.states }
-    ensures { OnOk result (string_bytes label.new ≡ string_bytes label.old ++ line_dot table.now from.0 next.0 operation.0) }
+    ensures { OnOk result (string_bytes label.new
+        ≡ string_bytes label.old ++ line_dot table.now from.0 next.0 operation.0) }
 {
     let (response, reached) = table.apply(operation, from);
     if reached.0 != next.0 {

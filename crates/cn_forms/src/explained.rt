@@ -22,7 +22,8 @@ use std::alloc::{AllocError, Global};
 
 /// The number in words.
 fn push_number(text: &mut String, limit: u8, number: Option<u8>) -> Result<(), AllocError>
-    ensures { OnOk result (string_bytes text.new ≡ string_bytes text.old ++ number_told limit number) }
+    ensures { OnOk result (string_bytes text.new
+        ≡ string_bytes text.old ++ number_told limit number) }
 {
     match number {
         None => text.push_str("1"),
@@ -37,7 +38,8 @@ fn push_head(
     limit: u8,
     number: Option<u8>,
 ) -> Result<(), AllocError>
-    ensures { OnOk result (string_bytes text.new ≡ string_bytes text.old ++ head_line table.now limit number) }
+    ensures { OnOk result (string_bytes text.new
+        ≡ string_bytes text.old ++ head_line table.now limit number) }
 {
     let name = table.name();
     write!(text, "{name}: consensus number ")?;
@@ -53,8 +55,10 @@ fn push_all_pair_rows(
     witness: &Choice,
 ) -> Result<(), AllocError>
     requires { FitsTable table.now witness.now }
-    ensures { OnOk result (string_bytes text.new ≡ string_bytes text.old
-        ++ flat_map (seen_rows table.now witness.now) (range_with_len 0 (length witness.now.a + length witness.now.b))) }
+    ensures { OnOk result (string_bytes text.new
+        ≡ string_bytes text.old
+            ++ flat_map (seen_rows table.now witness.now)
+                (range_with_len 0 (length witness.now.a + length witness.now.b))) }
 {
     for process in 0..(witness.a.len() + witness.b.len()) as u8 {
         push_pair_rows(alloc, text, table, witness, process)?;
@@ -66,7 +70,8 @@ fn push_all_pair_rows(
 #[tactic(auto, unfolding(crate::specs::Explained::movers))]
 fn push_movers(text: &mut String, table: &Table, witness: &Choice) -> Result<(), AllocError>
     requires { FitsTable table.now witness.now }
-    ensures { OnOk result (string_bytes text.new ≡ string_bytes text.old ++ movers table.now witness.now) }
+    ensures { OnOk result (string_bytes text.new
+        ≡ string_bytes text.old ++ movers table.now witness.now) }
 {
     let (a_word, b_word) = (" (team A) does ", " (team B) does ");
     push_both_teams(text, table, witness, a_word, ", ", b_word)
@@ -80,7 +85,8 @@ fn push_witness_start(
     witness: &Choice,
 ) -> Result<(), AllocError>
     requires { FitsTable table.now witness.now }
-    ensures { OnOk result (string_bytes text.new ≡ string_bytes text.old ++ witness_start table.now number witness.now) }
+    ensures { OnOk result (string_bytes text.new
+        ≡ string_bytes text.old ++ witness_start table.now number witness.now) }
 {
     let start = table.state_name(witness.state);
     write!(text, "Why {number}: from state {start}, ")
@@ -94,7 +100,8 @@ fn push_witness_line(
     witness: &Choice,
 ) -> Result<(), AllocError>
     requires { FitsTable table.now witness.now }
-    ensures { OnOk result (string_bytes text.new ≡ string_bytes text.old ++ witness_line table.now number witness.now) }
+    ensures { OnOk result (string_bytes text.new
+        ≡ string_bytes text.old ++ witness_line table.now number witness.now) }
 {
     push_witness_start(text, table, number, witness)?;
     push_movers(text, table, witness)?;
@@ -117,7 +124,8 @@ fn push_witness(
     witness: &Choice,
 ) -> Result<(), AllocError>
     requires { FitsTable table.now witness.now }
-    ensures { OnOk result (string_bytes text.new ≡ string_bytes text.old ++ witness_text table.now number witness.now) }
+    ensures { OnOk result (string_bytes text.new
+        ≡ string_bytes text.old ++ witness_text table.now number witness.now) }
 {
     push_witness_line(text, table, number, witness)?;
     push_all_pair_rows(alloc, text, table, witness)?;
@@ -133,7 +141,8 @@ fn push_why(
     witness: &Option<Choice>,
 ) -> Result<(), AllocError>
     requires { IfSome witness.now (FitsTable table.now) }
-    ensures { OnOk result (string_bytes text.new ≡ string_bytes text.old ++ why table.now number witness.now) }
+    ensures { OnOk result (string_bytes text.new
+        ≡ string_bytes text.old ++ why table.now number witness.now) }
 {
     match (number, witness) {
         (Some(number), Some(witness)) => push_witness(alloc, text, table, number, witness),
@@ -184,7 +193,8 @@ fn push_entries(
     all: bool,
 ) -> Result<(), AllocError>
     requires { All (IsRefuted table.now) entries.now }
-    ensures { OnOk result (string_bytes text.new ≡ string_bytes text.old ++ told_ways table.now entries.now all) }
+    ensures { OnOk result (string_bytes text.new
+        ≡ string_bytes text.old ++ told_ways table.now entries.now all) }
 {
     let told = entries_told(entries, all);
     push_ways(text, table, told)?;
@@ -242,7 +252,8 @@ fn push_refutation(
     n: u8,
 ) -> Result<(), AllocError>
     requires { All (IsRefuted table.now) entries.now }
-    ensures { OnOk result (string_bytes text.new ≡ string_bytes text.old ++ refutation table.now version entries.now all n) }
+    ensures { OnOk result (string_bytes text.new
+        ≡ string_bytes text.old ++ refutation table.now version entries.now all n) }
 {
     write!(text, "Why not {n}: ")?;
     push_count(text, entries.len())?;
@@ -261,7 +272,8 @@ fn push_why_not(
     number: Option<u8>,
 ) -> Result<(), AllocError>
     requires { All (IsRefuted table.now) entries.now }
-    ensures { OnOk result (string_bytes text.new ≡ string_bytes text.old ++ why_not table.now version limit entries.now all number) }
+    ensures { OnOk result (string_bytes text.new
+        ≡ string_bytes text.old ++ why_not table.now version limit entries.now all number) }
 {
     match number {
         None => push_refutation(text, table, version, entries, all, 2),

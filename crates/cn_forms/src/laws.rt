@@ -13,7 +13,8 @@ use cn_choice::laws::{pair_in_order, team_orders};
 /// The pairs that an explanation tells for a process of the witness, where a team is first, are
 /// those of the team's outcome set for the process.
 pub fn told_pairs()
-    ensures { (t : TypeTable) (c : Choice) (team : Team) (j r q : ℕ) → IsTrue (sees t c team j r q) ↔ InOutcomeSet t (raw_choice_of c) team j (r, q) }
+    ensures { (t : TypeTable) (c : Choice) (team : Team) (j r q : ℕ)
+        → IsTrue (sees t c team j r q) ↔ InOutcomeSet t (raw_choice_of c) team j (r, q) }
 {
     team_orders();
     pair_in_order();

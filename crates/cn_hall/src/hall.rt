@@ -92,14 +92,19 @@ impl Hall {
         ensures same { IsSameSeat seat.old seat.new }
         ensures events { GoesOn seat.old.process seat.old.core seat.new.core }
         ensures seen { BeginsWith (entries_seen seat.new) (entries_seen seat.old) }
-        ensures reply { IfOk result (λ r. (mine : Entry) → pending seat.old ≡ Some mine → IsReply mine seat.new r) }
-        ensures fault { IfErr result (λ e. (mine : Entry) → pending seat.old ≡ Some mine → EndsBy mine e seat.new) }
+        ensures reply { IfOk result (λ r. (mine : Entry) → pending seat.old ≡ Some mine
+            → IsReply mine seat.new r) }
+        ensures fault { IfErr result (λ e. (mine : Entry) → pending seat.old ≡ Some mine
+            → EndsBy mine e seat.new) }
         ensures own { AddsReply (own seat.old) (own seat.new) result }
         ensures calls { HasPlaced seat.new result }
-        ensures range { IfOk result (λ r. r.response.0 < length seat.old.core.opening.object.responses) }
+        ensures range { IfOk result (λ r. r.response.0
+            < length seat.old.core.opening.object.responses) }
         ensures said { G.says gate.new ≡ go_after result }
         ensures asked { (mine : Entry) → pending seat.old ≡ Some mine
-            → IsAsked G.asks G.says mine seat.old (asked_times result (steps_since seat.old.process seat.old.core seat.new.core)) gate.old gate.new }
+            → IsAsked G.asks G.says mine seat.old
+                (asked_times result (steps_since seat.old.process seat.old.core seat.new.core))
+                gate.old gate.new }
     {
         seats_have_their_calls(seat);
         every_log();
@@ -141,16 +146,19 @@ impl Hall {
         requires gate { G.says gate.old ≡ On }
         ensures same { IsSameSeat seat.old seat.new }
         ensures seen { BeginsWith (entries_seen seat.new) (entries_seen seat.old) }
-        ensures reply { IfOk result (λ r. MakesCall seat.old.process operation.0 seat.old.core seat.new.core
-            × IsReply (next_call seat.old operation.0) seat.new r) }
+        ensures reply { IfOk result (λ r. MakesCall seat.old.process operation.0 seat.old.core
+                seat.new.core × IsReply (next_call seat.old operation.0) seat.new r) }
         ensures fault { IfErr result (λ e. CallFails operation.0 e seat.old seat.new) }
-        ensures told { length (slots_seen seat.old) ≡ seat.old.core.opening.capacity → (result ≡ Err LogFull) × (seat.new ≡ seat.old) × (gate.new ≡ gate.old) }
+        ensures told { length (slots_seen seat.old) ≡ seat.old.core.opening.capacity
+            → (result ≡ Err LogFull) × (seat.new ≡ seat.old) × (gate.new ≡ gate.old) }
         ensures own { AddsReply (own seat.old) (own seat.new) result }
         ensures calls { HasPlaced seat.new result }
-        ensures range { IfOk result (λ r. r.response.0 < length seat.old.core.opening.object.responses) }
+        ensures range { IfOk result (λ r. r.response.0
+            < length seat.old.core.opening.object.responses) }
         ensures said { G.says gate.new ≡ go_after result }
         ensures asked { IsAsked G.asks G.says (next_call seat.old operation.0) seat.old
-            (asked_times result (steps_since seat.old.process seat.old.core seat.new.core)) gate.old gate.new }
+            (asked_times result (steps_since seat.old.process seat.old.core seat.new.core)) gate.old
+            gate.new }
     {
         seats_have_their_calls(seat);
         every_caller();
@@ -169,8 +177,10 @@ impl Hall {
         ensures opening { second.old.core.opening ≡ first.old.core.opening }
         ensures met { HaveMet first.old second.old }
         ensures made { HasOnlyMade first.old second.old × HasOnlyMade second.old first.old }
-        ensures seen { BeginsWith (entries_seen second.old) (entries_seen first.old) ⊎ BeginsWith (entries_seen first.old) (entries_seen second.old) }
-        ensures order { result ≡ nat_cmp (length (entries_seen first.old)) (length (entries_seen second.old)) }
+        ensures seen { BeginsWith (entries_seen second.old) (entries_seen first.old)
+            ⊎ BeginsWith (entries_seen first.old) (entries_seen second.old) }
+        ensures order { result
+            ≡ nat_cmp (length (entries_seen first.old)) (length (entries_seen second.old)) }
     {
         let (one, two) = (first.process, second.process);
         events::look(rt, &self.queue, &mut first.pass, &mut second.pass, one);
@@ -192,9 +202,16 @@ impl Hall {
         ensures linearized { IsLinearized (setting result) result.schedule }
         ensures bypass { IsBypassBounded (setting result) result.schedule }
         ensures wait_free { IsWaitFree (setting result) result.schedule }
-        ensures slots { All (λ s. BeginsWith (batches (setting result) result.schedule) (slots_seen s)) seats.items }
-        ensures entries { All (λ s. BeginsWith (entries (setting result) result.schedule) (entries_seen s)) seats.items }
-        ensures answers { All (λ s. BeginsWith (replies_from (setting result) s.process [] (batches (setting result) result.schedule)) (own s)) seats.items }
+        ensures slots { All
+            (λ s. BeginsWith (batches (setting result) result.schedule) (slots_seen s))
+            seats.items }
+        ensures entries { All
+            (λ s. BeginsWith (entries (setting result) result.schedule) (entries_seen s))
+            seats.items }
+        ensures answers { All
+            (λ s. BeginsWith
+                (replies_from (setting result) s.process []
+                    (batches (setting result) result.schedule)) (own s)) seats.items }
     {
         let Hall { queue } = self;
         let mut seats = seats;

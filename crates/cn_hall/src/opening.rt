@@ -76,7 +76,8 @@ impl Error for OpenFault {}
 /// Fails only for want of memory, and hands the core back.
 pub fn open<R: Wait>(rt: &R, alloc: Global, core: LogCore) -> Result<(Hall, Vec<Seat>), OpenFault>
     ensures count { IfOk result (λ r. length r.1.items ≡ processes_of core.opening.plan) }
-    ensures seats { IfOk result (λ r. (p : ℕ) → p < processes_of core.opening.plan → slice_get r.1.items p ≡ Some (seat_state r.0 p core)) }
+    ensures seats { IfOk result (λ r. (p : ℕ) → p < processes_of core.opening.plan
+        → slice_get r.1.items p ≡ Some (seat_state r.0 p core)) }
     ensures of { IfOk result (λ r. All (IsSeatOf r.0) r.1.items) }
     ensures core { IfOk result (λ r. All (λ s. s.core ≡ core) r.1.items) }
     ensures idle { IfOk result (λ r. core.schedule ≡ [] → All (λ s. pending s ≡ None) r.1.items) }
@@ -106,7 +107,8 @@ fn seat_each<R: Wait>(
     requires empty { seats.items ≡ [] }
     requires room { processes_of core.opening.plan ≤ vec_capacity seats }
     ensures count { length result.items ≡ processes_of core.opening.plan }
-    ensures seats { (p : ℕ) → p < processes_of core.opening.plan → slice_get result.items p ≡ Some (seat_state queue.now.table.shared.table_id p core) }
+    ensures seats { (p : ℕ) → p < processes_of core.opening.plan
+        → slice_get result.items p ≡ Some (seat_state queue.now.table.shared.table_id p core) }
 {
     let mut pass = pass;
     let mut seats = seats;

@@ -45,7 +45,8 @@ fn give_way() {
 /// the way.
 fn put<R: Wait>(rt: &R, queue: &Queue, pass: &mut Pass, item: Item)
     requires queue { IsPassOf queue.now pass.old × (ruled_capacity queue.now ≡ 1) }
-    requires may { Pushes Holds (ruled_capacity queue.now) pass.old.id (view pass.old) item (MayPut (view pass.old) item) }
+    requires may { Pushes Holds (ruled_capacity queue.now) pass.old.id (view pass.old) item
+        (MayPut (view pass.old) item) }
     requires free { Learns Holds pass.old.id (view pass.old) (λ items. items ≡ []) }
     ensures same { IsSamePass pass.old pass.new }
     ensures put { MayPut (view pass.old) item (view pass.new) }

@@ -13,7 +13,8 @@ use std::alloc::{AllocError, Global};
 
 /// A space and the word go behind the lines.
 fn put_word(lines: &mut String, word: &str) -> Result<(), AllocError>
-    ensures { OnOk result (string_bytes lines.new ≡ string_bytes lines.old ++ codes " " ++ word.now) }
+    ensures { OnOk result (string_bytes lines.new
+        ≡ string_bytes lines.old ++ codes " " ++ word.now) }
 {
     lines.push_str(" ")?;
     lines.push_str(word)
@@ -28,7 +29,8 @@ fn put_word(lines: &mut String, word: &str) -> Result<(), AllocError>
 /// Fails only for want of memory, and may then have put a part of it there.
 pub fn put_answer_line(lines: &mut String, object: &Table, end: CallEnd) -> Result<(), AllocError>
     requires { EndsWithResponse object.now end }
-    ensures { OnOk result (string_bytes lines.new ≡ string_bytes lines.old ++ answer_line object.now end) }
+    ensures { OnOk result (string_bytes lines.new
+        ≡ string_bytes lines.old ++ answer_line object.now end) }
 {
     match end {
         CallEnd::Answered {
@@ -79,7 +81,8 @@ fn put_entry_line(
     requires operation { entry.operation.0 < length object.now.operations }
     requires response { given.0.0 < length object.now.responses }
     requires state { given.1.0 < length object.now.states }
-    ensures { OnOk result (string_bytes lines.new ≡ string_bytes lines.old ++ entry_line object.now slot entry (given.0.0, given.1.0)) }
+    ensures { OnOk result (string_bytes lines.new
+        ≡ string_bytes lines.old ++ entry_line object.now slot entry (given.0.0, given.1.0)) }
 {
     lines.push_str("entry ")?;
     put_number(lines, slot)?;
@@ -106,9 +109,11 @@ pub fn entry_lines(
     core: &LogCore,
 ) -> Result<String, AllocError>
     requires start { start.0 < length object.now.states }
-    requires known { All (λ e. e.operation.0 < length object.now.operations) (entries (setting core.now) core.now.schedule) }
-    ensures { IfOk result (λ lines. string_bytes lines ≡ entry_lines object.now start.0 (entries (setting core.now) core.now.schedule)
-        (entry_slots (setting core.now) core.now.schedule)) }
+    requires known { All (λ e. e.operation.0 < length object.now.operations)
+        (entries (setting core.now) core.now.schedule) }
+    ensures { IfOk result (λ lines. string_bytes lines
+        ≡ entry_lines object.now start.0 (entries (setting core.now) core.now.schedule)
+            (entry_slots (setting core.now) core.now.schedule)) }
 {
     let mut lines = String::new(alloc);
     let mut state = start;

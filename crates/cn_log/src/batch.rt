@@ -69,7 +69,8 @@ pub(crate) fn put_batch(
     requires room { vec_len entries.old + processes ≤ vec_capacity entries.old }
     requires slots_room { vec_len slots.old + processes ≤ vec_capacity slots.old }
     ensures entries { entries.new.items ≡ entries.old.items ++ members processes 0 batch }
-    ensures slots { slots.new.items ≡ slots.old.items ++ each_slot slot (members processes 0 batch) }
+    ensures slots { slots.new.items
+        ≡ slots.old.items ++ each_slot slot (members processes 0 batch) }
     ensures room { vec_capacity entries.new ≡ vec_capacity entries.old }
     ensures slots_room { vec_capacity slots.new ≡ vec_capacity slots.old }
 {
@@ -99,8 +100,10 @@ pub(crate) fn count(processes: u8, batch: Batch) -> u16
 pub(crate) fn state_after(object: &Table, processes: u8, batch: Batch, start: State) -> State
     requires processes { processes ≤ MOST_PROCESSES }
     requires start { start.0 < length object.now.states }
-    requires operations { (q : ℕ) (e : EntryOf) → entry_at batch q ≡ Some e → e.operation.0 < length object.now.operations }
-    ensures state { result.0 ≡ run_of object.now start.0 (operations_of (members processes 0 batch)) }
+    requires operations { (q : ℕ) (e : EntryOf) → entry_at batch q ≡ Some e
+        → e.operation.0 < length object.now.operations }
+    ensures state { result.0
+        ≡ run_of object.now start.0 (operations_of (members processes 0 batch)) }
     ensures known { result.0 < length object.now.states }
 {
     let mut state = start;

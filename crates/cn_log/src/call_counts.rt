@@ -39,7 +39,8 @@ impl CallCounts {
         requires places { length self.calls ≡ MOST_PROCESSES }
         requires few { (q : ℕ) → q < processes → count_at self q ≤ MOST_ENTRIES }
         ensures places { length result.calls ≡ MOST_PROCESSES }
-        ensures number { (q : ℕ) → q < processes → count_at result q ≡ count_at self q + length (and_entry (entry_at batch q) []) }
+        ensures number { (q : ℕ) → q < processes
+            → count_at result q ≡ count_at self q + length (and_entry (entry_at batch q) []) }
     {
         let mut calls = self.calls;
         for p in 0..processes {

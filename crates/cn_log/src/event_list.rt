@@ -39,14 +39,18 @@ pub fn replay(
     requires start { start.0 < length object.now.states }
     requires some { 1 ≤ capacity }
     requires few { capacity ≤ MOST_SLOTS }
-    ensures opening { IfOk result (λ core. core.opening ≡ opening_of plan.now object.now start.0 capacity) }
+    ensures opening { IfOk result (λ core. core.opening
+        ≡ opening_of plan.now object.now start.0 capacity) }
     ensures schedule { IfOk result (λ core. core.schedule ≡ events.now) }
-    ensures fault { IfErr result (λ fault. fault ≢ OutOfMemory → IsFirstEventFault (setting_of (opening_of plan.now object.now start.0 capacity)) events.now fault) }
+    ensures fault { IfErr result (λ fault. fault ≢ OutOfMemory
+        → IsFirstEventFault (setting_of (opening_of plan.now object.now start.0 capacity))
+            events.now fault) }
 
     // Where there is no fault, these are events that can come, and the log is as it should be.
     ensures events { IfOk result (λ core. IsEventList (setting core) core.schedule) }
     ensures linearized { IfOk result (λ core. IsLinearized (setting core) core.schedule) }
-    ensures grows { IfOk result (λ core. (before after : List EventOf) → core.schedule ≡ before ++ after → Grows (setting core) before after) }
+    ensures grows { IfOk result (λ core. (before after : List EventOf)
+        → core.schedule ≡ before ++ after → Grows (setting core) before after) }
     ensures in_turn { IfOk result (λ core. BeginsInTurn (setting core) core.schedule) }
     ensures bypass { IfOk result (λ core. IsBypassBounded (setting core) core.schedule) }
     ensures wait_free { IfOk result (λ core. IsWaitFree (setting core) core.schedule) }

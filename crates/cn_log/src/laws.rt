@@ -28,10 +28,11 @@ use cn_proto::laws::{every_plan, plans_are_sound};
 /// in them for each process.
 pub(crate) fn rounds_agree()
     ensures agrees { (o : OpeningOf) → IsPlan o.plan → RoundsAgree (setting_of o) (RunsBy o.plan) }
-    ensures begun { (o : OpeningOf) → IsPlan o.plan → (w : RoundWorld BatchOf) → RunsBy o.plan w → (p : ℕ) → p < processes_of o.plan
-        → (local_at w p ≡ NotBegun) ↔ (input_at w p ≡ None) }
-    ensures sizes { (o : OpeningOf) → IsPlan o.plan → (w : RoundWorld BatchOf) → RunsBy o.plan w → (length w.nodes ≡ nodes_of o.plan)
-        × (length w.locals ≡ processes_of o.plan) × (length w.inputs ≡ processes_of o.plan) }
+    ensures begun { (o : OpeningOf) → IsPlan o.plan → (w : RoundWorld BatchOf) → RunsBy o.plan w
+        → (p : ℕ) → p < processes_of o.plan → (local_at w p ≡ NotBegun) ↔ (input_at w p ≡ None) }
+    ensures sizes { (o : OpeningOf) → IsPlan o.plan → (w : RoundWorld BatchOf) → RunsBy o.plan w
+        → (length w.nodes ≡ nodes_of o.plan) × (length w.locals ≡ processes_of o.plan)
+            × (length w.inputs ≡ processes_of o.plan) }
 {
     every_plan();
     every_round::<Batch>();
@@ -43,10 +44,13 @@ pub(crate) fn rounds_agree()
 pub(crate) fn openings_are_valid(opening: &Opening)
     ensures opening { IsOpening opening.now }
     ensures agrees { RoundsAgree (setting_of opening.now) (RunsBy opening.now.plan) }
-    ensures begun { (w : RoundWorld BatchOf) → RunsBy opening.now.plan w → (p : ℕ) → p < processes_of opening.now.plan
+    ensures begun { (w : RoundWorld BatchOf) → RunsBy opening.now.plan w
+        → (p : ℕ) → p < processes_of opening.now.plan
         → (local_at w p ≡ NotBegun) ↔ (input_at w p ≡ None) }
-    ensures sizes { (w : RoundWorld BatchOf) → RunsBy opening.now.plan w → (length w.nodes ≡ nodes_of opening.now.plan)
-        × (length w.locals ≡ processes_of opening.now.plan) × (length w.inputs ≡ processes_of opening.now.plan) }
+    ensures sizes { (w : RoundWorld BatchOf) → RunsBy opening.now.plan w
+        → (length w.nodes ≡ nodes_of opening.now.plan)
+            × (length w.locals ≡ processes_of opening.now.plan)
+            × (length w.inputs ≡ processes_of opening.now.plan) }
 {
     plans_are_sound(&opening.plan);
     rounds_agree();
@@ -59,13 +63,18 @@ pub(crate) fn openings_are_valid(opening: &Opening)
 /// the next; `wait_free`, it is over within so many steps of its process; `room`, there are fewer
 /// events than a log has room for.
 pub fn every_log()
-    ensures linearized { (o : OpeningOf) (events : List EventOf) → IsOpening o → IsEventList (setting_of o) events → IsLinearized (setting_of o) events }
-    ensures grows { (o : OpeningOf) (before after : List EventOf) → IsOpening o → IsEventList (setting_of o) (before ++ after)
-        → Grows (setting_of o) before after }
-    ensures in_turn { (o : OpeningOf) (events : List EventOf) → IsOpening o → IsEventList (setting_of o) events → BeginsInTurn (setting_of o) events }
-    ensures bypass { (o : OpeningOf) (events : List EventOf) → IsOpening o → IsEventList (setting_of o) events → IsBypassBounded (setting_of o) events }
-    ensures wait_free { (o : OpeningOf) (events : List EventOf) → IsOpening o → IsEventList (setting_of o) events → IsWaitFree (setting_of o) events }
-    ensures room { (o : OpeningOf) (events : List EventOf) → IsOpening o → IsEventList (setting_of o) events
+    ensures linearized { (o : OpeningOf) (events : List EventOf) → IsOpening o
+        → IsEventList (setting_of o) events → IsLinearized (setting_of o) events }
+    ensures grows { (o : OpeningOf) (before after : List EventOf) → IsOpening o
+        → IsEventList (setting_of o) (before ++ after) → Grows (setting_of o) before after }
+    ensures in_turn { (o : OpeningOf) (events : List EventOf) → IsOpening o
+        → IsEventList (setting_of o) events → BeginsInTurn (setting_of o) events }
+    ensures bypass { (o : OpeningOf) (events : List EventOf) → IsOpening o
+        → IsEventList (setting_of o) events → IsBypassBounded (setting_of o) events }
+    ensures wait_free { (o : OpeningOf) (events : List EventOf) → IsOpening o
+        → IsEventList (setting_of o) events → IsWaitFree (setting_of o) events }
+    ensures room { (o : OpeningOf) (events : List EventOf) → IsOpening o
+        → IsEventList (setting_of o) events
         → length events < event_room (processes_of o.plan) o.capacity }
 {
     rounds_agree();
@@ -79,7 +88,8 @@ pub fn logs_are_linearized(core: &LogCore)
     ensures opening { IsOpening core.now.opening }
     ensures events { IsEventList (setting core.now) core.now.schedule }
     ensures linearized { IsLinearized (setting core.now) core.now.schedule }
-    ensures grows { (before after : List EventOf) → core.now.schedule ≡ before ++ after → Grows (setting core.now) before after }
+    ensures grows { (before after : List EventOf) → core.now.schedule ≡ before ++ after
+        → Grows (setting core.now) before after }
     ensures in_turn { BeginsInTurn (setting core.now) core.now.schedule }
     ensures bypass { IsBypassBounded (setting core.now) core.now.schedule }
     ensures wait_free { IsWaitFree (setting core.now) core.now.schedule }
@@ -91,7 +101,8 @@ pub fn logs_are_linearized(core: &LogCore)
 /// The law of faults: after any list of events, an event has a fault exactly where it cannot come.
 pub fn every_fault()
     ensures { (o : OpeningOf) (events : List EventOf) (place : ℕ) (event : EventOf)
-        → (event_fault (setting_of o) (state_of (setting_of o) events) place event ≡ None) ↔ MayCome (setting_of o) (state_of (setting_of o) events) event }
+        → (event_fault (setting_of o) (state_of (setting_of o) events) place event ≡ None)
+            ↔ MayCome (setting_of o) (state_of (setting_of o) events) event }
 {}
 
 /// The law of what a process knows: `front`, a beginning of a list of events is one; `stays`, events
@@ -100,19 +111,26 @@ pub fn every_fault()
 /// applied neither that nor every slot; `stepped`, what a step makes of it, by its answer;
 /// `replayed`, the fixed slots begin with those that the process has applied.
 pub fn every_caller()
-    ensures front { (o : OpeningOf) (before rest : List EventOf) → IsEventList (setting_of o) (before ++ rest) → IsEventList (setting_of o) before }
+    ensures front { (o : OpeningOf) (before rest : List EventOf)
+        → IsEventList (setting_of o) (before ++ rest) → IsEventList (setting_of o) before }
     ensures stays { (o : OpeningOf) (before rest : List EventOf) (p : ℕ) → HasNoEventOf p rest
         → caller_of (setting_of o) (before ++ rest) p ≡ caller_of (setting_of o) before p }
-    ensures invoked { (o : OpeningOf) (events : List EventOf) (p operation : ℕ) → let here = caller_of (setting_of o) events p in
-        caller_of (setting_of o) (events ++ Invoke p operation ∷ []) p
-        ≡ record { seen = here.seen; calls = here.calls + 1; phase = first_look (call_of p operation here.calls) } }
-    ensures pending { (o : OpeningOf) (events : List EventOf) (p : ℕ) (mine : EntryOf) → IsOpening o → IsEventList (setting_of o) events
-        → pending_in (caller_of (setting_of o) events p).phase ≡ Some mine → IsPendingCall (setting_of o) events p mine }
-    ensures stepped { (o : OpeningOf) (events : List EventOf) (p : ℕ) (mine : EntryOf) → IsOpening o → IsEventList (setting_of o) (events ++ Step p ∷ [])
+    ensures invoked { (o : OpeningOf) (events : List EventOf) (p operation : ℕ)
+        → let here = caller_of (setting_of o) events p in
+            caller_of (setting_of o) (events ++ Invoke p operation ∷ []) p
+            ≡ record { seen = here.seen; calls = here.calls + 1;
+                phase = first_look (call_of p operation here.calls) } }
+    ensures pending { (o : OpeningOf) (events : List EventOf) (p : ℕ) (mine : EntryOf) → IsOpening o
+        → IsEventList (setting_of o) events
+        → pending_in (caller_of (setting_of o) events p).phase ≡ Some mine
+        → IsPendingCall (setting_of o) events p mine }
+    ensures stepped { (o : OpeningOf) (events : List EventOf) (p : ℕ) (mine : EntryOf) → IsOpening o
+        → IsEventList (setting_of o) (events ++ Step p ∷ [])
         → pending_in (caller_of (setting_of o) events p).phase ≡ Some mine
         → IsStepped (setting_of o) p (caller_of (setting_of o) events p) mine
-        (caller_of (setting_of o) (events ++ Step p ∷ []) p) (answer (setting_of o) events p) }
-    ensures replayed { (o : OpeningOf) (events : List EventOf) (p : ℕ) → IsOpening o → IsEventList (setting_of o) events
+            (caller_of (setting_of o) (events ++ Step p ∷ []) p) (answer (setting_of o) events p) }
+    ensures replayed { (o : OpeningOf) (events : List EventOf) (p : ℕ) → IsOpening o
+        → IsEventList (setting_of o) events
         → BeginsWith (batches (setting_of o) events) (caller_of (setting_of o) events p).seen }
 {
     rounds_agree();
@@ -124,18 +142,26 @@ pub fn every_caller()
 /// the same after a step, by its answer; `made`, `seen_made`, the entries of the process in the log,
 /// and among those that any process has applied, are the first of its calls, in order.
 pub fn every_call()
-    ensures grow { (before rest : List EventOf) (p : ℕ) → BeginsWith (calls_by p (before ++ rest)) (calls_by p before) }
-    ensures stay { (before rest : List EventOf) (p : ℕ) → HasNoEventOf p rest → calls_by p (before ++ rest) ≡ calls_by p before }
+    ensures grow { (before rest : List EventOf) (p : ℕ)
+        → BeginsWith (calls_by p (before ++ rest)) (calls_by p before) }
+    ensures stay { (before rest : List EventOf) (p : ℕ) → HasNoEventOf p rest
+        → calls_by p (before ++ rest) ≡ calls_by p before }
     ensures called { (o : OpeningOf) (events : List EventOf) (p operation : ℕ)
-        → calls_by p (events ++ Invoke p operation ∷ []) ≡ calls_by p events ++ call_of p operation (caller_of (setting_of o) events p).calls ∷ [] }
-    ensures own { (o : OpeningOf) (events : List EventOf) (p : ℕ) → IsOpening o → IsEventList (setting_of o) events
-        → HasAppliedItsOwn (setting_of o) events p }
-    ensures own_stepped { (o : OpeningOf) (events : List EventOf) (p : ℕ) (mine : EntryOf) → IsOpening o
-        → IsEventList (setting_of o) (events ++ Step p ∷ []) → pending_in (caller_of (setting_of o) events p).phase ≡ Some mine
-        → HasAppliedBy (setting_of o) (events ++ Step p ∷ []) p mine (answer (setting_of o) events p) }
-    ensures made { (o : OpeningOf) (events : List EventOf) (p : ℕ) → IsOpening o → IsEventList (setting_of o) events
+        → calls_by p (events ++ Invoke p operation ∷ [])
+            ≡ calls_by p events ++ call_of p operation (caller_of (setting_of o) events p).calls
+                ∷ [] }
+    ensures own { (o : OpeningOf) (events : List EventOf) (p : ℕ) → IsOpening o
+        → IsEventList (setting_of o) events → HasAppliedItsOwn (setting_of o) events p }
+    ensures own_stepped { (o : OpeningOf) (events : List EventOf) (p : ℕ) (mine : EntryOf)
+        → IsOpening o → IsEventList (setting_of o) (events ++ Step p ∷ [])
+        → pending_in (caller_of (setting_of o) events p).phase ≡ Some mine
+        → HasAppliedBy (setting_of o) (events ++ Step p ∷ []) p mine
+            (answer (setting_of o) events p) }
+    ensures made { (o : OpeningOf) (events : List EventOf) (p : ℕ) → IsOpening o
+        → IsEventList (setting_of o) events
         → BeginsWith (calls_by p events) (entries_by p (entries (setting_of o) events)) }
-    ensures seen_made { (o : OpeningOf) (events : List EventOf) (p q : ℕ) → IsOpening o → IsEventList (setting_of o) events
+    ensures seen_made { (o : OpeningOf) (events : List EventOf) (p q : ℕ) → IsOpening o
+        → IsEventList (setting_of o) events
         → BeginsWith (calls_by p events) (entries_by p (seen_of (setting_of o) events q)) }
 {
     rounds_agree();
@@ -148,8 +174,8 @@ pub fn every_call()
 /// knows afterwards, what the event answers and what then stands where it acted depend on
 /// the local state of the process and on what the event touched, and on nothing else.
 pub fn atomic_events()
-    ensures { (o : OpeningOf) (events : List EventOf) (event : EventOf) → IsOpening o → IsEventList (setting_of o) (events ++ event ∷ [])
-        → IsAtomicEvent o events event }
+    ensures { (o : OpeningOf) (events : List EventOf) (event : EventOf) → IsOpening o
+        → IsEventList (setting_of o) (events ++ event ∷ []) → IsAtomicEvent o events event }
 {
     every_plan();
     every_round::<Batch>();

@@ -52,8 +52,10 @@ impl Model for LogCore {
 
     ghost view = { λ c. record { opening = c.opening.value; schedule = c.schedule.items } };
 
-    ghost invariant = { λ c. IsStateAfter c.opening.value c.schedule.items c.state.value × HasRoom c.opening.value c.state.value
-        × (event_room (processes_of c.opening.value.plan) c.opening.value.capacity ≤ vec_capacity c.schedule) };
+    ghost invariant = { λ c. IsStateAfter c.opening.value c.schedule.items c.state.value
+        × HasRoom c.opening.value c.state.value
+        × (event_room (processes_of c.opening.value.plan) c.opening.value.capacity
+            ≤ vec_capacity c.schedule) };
 }
 
 impl LogCore {
@@ -73,7 +75,8 @@ impl LogCore {
         requires start { start.0 < length object.now.states }
         requires some { 1 ≤ capacity }
         requires few { capacity ≤ MOST_SLOTS }
-        ensures opening { IfOk result (λ core. core.opening ≡ opening_of plan.now object.now start.0 capacity) }
+        ensures opening { IfOk result (λ core. core.opening
+            ≡ opening_of plan.now object.now start.0 capacity) }
         ensures empty { IfOk result (λ core. core.schedule ≡ []) }
     {
         let (plan, object) = (plan.copy(alloc)?, object.copy(alloc)?);
@@ -101,8 +104,10 @@ impl LogCore {
     /// Process `p` makes a call of an operation of the object. It is in no call, and has not
     /// applied every slot.
     pub fn invoke(&mut self, p: u8, operation: Operation)
-        requires { MayCome (setting self.old) (state_of (setting self.old) self.old.schedule) (Invoke p operation.0) }
-        ensures { self.new ≡ record self.old { schedule = self.old.schedule ++ Invoke p operation.0 ∷ [] } }
+        requires { MayCome (setting self.old) (state_of (setting self.old) self.old.schedule)
+            (Invoke p operation.0) }
+        ensures { self.new
+            ≡ record self.old { schedule = self.old.schedule ++ Invoke p operation.0 ∷ [] } }
     {
         let event = Event::Invoke(p, operation.0);
         put_event(&mut self.schedule, &self.opening, event);
@@ -113,7 +118,8 @@ impl LogCore {
     /// its slot and a response of the object; `Full` ends the call with no answer, since every slot
     /// is fixed and it stands in none.
     pub fn step(&mut self, p: u8) -> StepAnswer
-        requires { MayCome (setting self.old) (state_of (setting self.old) self.old.schedule) (Step p) }
+        requires { MayCome (setting self.old) (state_of (setting self.old) self.old.schedule)
+            (Step p) }
         ensures core { self.new ≡ record self.old { schedule = self.old.schedule ++ Step p ∷ [] } }
         ensures answer { result ≡ answer (setting self.old) self.old.schedule p }
         ensures range { HasResponse self.old.opening.object result }
@@ -129,13 +135,18 @@ impl LogCore {
     /// The fault of the event, with the number of events so far for its place; of several the one
     /// with the least number. The core is as it was. Want of memory is none of them.
     pub fn take(&mut self, event: Event) -> Result<Option<CallEnd>, ReplayFault>
-        ensures came { OnOk result (MayCome (setting self.old) (state_of (setting self.old) self.old.schedule) event) }
-        ensures core { OnOk result (self.new ≡ record self.old { schedule = self.old.schedule ++ event ∷ [] }) }
-        ensures end { IfOk result (λ end. end ≡ call_end (setting self.old) self.old.schedule event) }
+        ensures came { OnOk result
+            (MayCome (setting self.old) (state_of (setting self.old) self.old.schedule) event) }
+        ensures core { OnOk result (self.new
+            ≡ record self.old { schedule = self.old.schedule ++ event ∷ [] }) }
+        ensures end { IfOk result (λ end. end
+            ≡ call_end (setting self.old) self.old.schedule event) }
         ensures range { IfOk result (λ end. IfSome end (EndsWithResponse self.old.opening.object)) }
-        ensures fault { IfErr result (λ fault.
-            event_fault (setting self.old) (state_of (setting self.old) self.old.schedule) (length self.old.schedule) event ≡ Some fault) }
-        ensures first { IfErr result (λ fault. (rest : List EventOf) → IsFirstEventFault (setting self.old) (self.old.schedule ++ event ∷ rest) fault) }
+        ensures fault { IfErr result (λ fault. event_fault (setting self.old)
+                (state_of (setting self.old) self.old.schedule) (length self.old.schedule) event
+            ≡ Some fault) }
+        ensures first { IfErr result (λ fault. (rest : List EventOf)
+            → IsFirstEventFault (setting self.old) (self.old.schedule ++ event ∷ rest) fault) }
         ensures same { OnErr result (self.new ≡ self.old) }
     {
         laws::logs_are_linearized(self);
@@ -208,7 +219,8 @@ impl LogCore {
     /// How many slots process `p` has applied.
     pub fn applied_slots(&self, p: u8) -> u16
         requires { p < processes_of self.now.opening.plan }
-        ensures number { result ≡ length ((state_of (setting self.now) self.now.schedule).caller p).seen }
+        ensures number { result
+            ≡ length ((state_of (setting self.now) self.now.schedule).caller p).seen }
         ensures range { result ≤ self.now.opening.capacity }
     {
         laws::openings_are_valid(&self.opening);
@@ -226,7 +238,8 @@ impl LogCore {
     /// Whether process `p` is in no call.
     pub fn is_idle(&self, p: u8) -> bool
         requires { p < processes_of self.now.opening.plan }
-        ensures { IsTrue result ↔ (((state_of (setting self.now) self.now.schedule).caller p).phase ≡ Idle) }
+        ensures { IsTrue result
+            ↔ (((state_of (setting self.now) self.now.schedule).caller p).phase ≡ Idle) }
     {
         matches!(self.state.callers[usize::from(p)].phase, Phase::Idle)
     }
@@ -234,8 +247,12 @@ impl LogCore {
     /// Whether process `p` has applied every slot; else it has applied fewer.
     pub fn at_end(&self, p: u8) -> bool
         requires { p < processes_of self.now.opening.plan }
-        ensures end { IsTrue result ↔ (length ((state_of (setting self.now) self.now.schedule).caller p).seen ≡ self.now.opening.capacity) }
-        ensures before { IsFalse result ↔ (length ((state_of (setting self.now) self.now.schedule).caller p).seen < self.now.opening.capacity) }
+        ensures end { IsTrue result
+            ↔ (length ((state_of (setting self.now) self.now.schedule).caller p).seen
+                ≡ self.now.opening.capacity) }
+        ensures before { IsFalse result
+            ↔ (length ((state_of (setting self.now) self.now.schedule).caller p).seen
+                < self.now.opening.capacity) }
     {
         self.applied_slots(p) == self.opening.capacity
     }
@@ -244,7 +261,8 @@ impl LogCore {
 /// No events, and room for all that can come.
 fn empty_schedule(alloc: Global, opening: &Opening) -> Result<Vec<Event>, AllocError>
     ensures empty { IfOk result (λ schedule. schedule.items ≡ []) }
-    ensures room { IfOk result (λ schedule. event_room (processes_of opening.now.plan) opening.now.capacity ≤ vec_capacity schedule) }
+    ensures room { IfOk result (λ schedule. event_room (processes_of opening.now.plan)
+            opening.now.capacity ≤ vec_capacity schedule) }
 {
     laws::openings_are_valid(opening);
     let processes = usize::from(opening.plan.processes());
@@ -256,7 +274,8 @@ fn empty_schedule(alloc: Global, opening: &Opening) -> Result<Vec<Event>, AllocE
 /// One event more.
 fn put_event(schedule: &mut Vec<Event>, opening: &Opening, event: Event)
     requires events { IsEventList (setting_of opening.now) schedule.old.items }
-    requires room { event_room (processes_of opening.now.plan) opening.now.capacity ≤ vec_capacity schedule.old }
+    requires room { event_room (processes_of opening.now.plan) opening.now.capacity
+        ≤ vec_capacity schedule.old }
     ensures put { schedule.new.items ≡ schedule.old.items ++ event ∷ [] }
     ensures room { vec_capacity schedule.new ≡ vec_capacity schedule.old }
 {

@@ -89,7 +89,8 @@ impl LogState {
     /// Process p makes a call.
     pub fn invoke(&mut self, opening: &Opening, p: u8, operation: Operation)
         requires { (s : List EventOf) × IsStateAfter opening.now s self.old
-            × MayInvoke (setting_of opening.now) (state_of (setting_of opening.now) s) p operation.0 }
+            × MayInvoke (setting_of opening.now) (state_of (setting_of opening.now) s) p
+                operation.0 }
         ensures room { HasSameRoom self.old self.new }
         ensures keeps { (s : List EventOf) → IsStateAfter opening.now s self.old
             → MayInvoke (setting_of opening.now) (state_of (setting_of opening.now) s) p operation.0
@@ -113,12 +114,15 @@ impl LogState {
     /// One step of process p, which is in a call.
     pub fn step(&mut self, opening: &Opening, p: u8) -> StepAnswer
         requires room { HasRoom opening.now self.old }
-        requires may { (s : List EventOf) × IsStateAfter opening.now s self.old × MayStep (setting_of opening.now) (state_of (setting_of opening.now) s) p }
+        requires may { (s : List EventOf) × IsStateAfter opening.now s self.old
+            × MayStep (setting_of opening.now) (state_of (setting_of opening.now) s) p }
         ensures room { HasSameRoom self.old self.new }
         ensures keeps { (s : List EventOf) → IsStateAfter opening.now s self.old
-            → MayStep (setting_of opening.now) (state_of (setting_of opening.now) s) p → IsStateAfter opening.now (s ++ Step p ∷ []) self.new }
+            → MayStep (setting_of opening.now) (state_of (setting_of opening.now) s) p
+            → IsStateAfter opening.now (s ++ Step p ∷ []) self.new }
         ensures answer { (s : List EventOf) → IsStateAfter opening.now s self.old
-            → MayStep (setting_of opening.now) (state_of (setting_of opening.now) s) p → result ≡ answer (setting_of opening.now) s p }
+            → MayStep (setting_of opening.now) (state_of (setting_of opening.now) s) p
+            → result ≡ answer (setting_of opening.now) s p }
         ensures range { HasResponse opening.now.object result }
     {
         match self.callers[usize::from(p)].phase {
@@ -136,7 +140,8 @@ impl LogState {
     fn look(&mut self, opening: &Opening, p: u8, mine: Entry, q: u8, batch: Batch)
         requires { (s : List EventOf) × IsStateAt opening.now s self.old p (Looks mine q batch) }
         ensures room { HasSameRoom self.old self.new }
-        ensures keeps { (s : List EventOf) → IsStateAt opening.now s self.old p (Looks mine q batch) → IsStateAfter opening.now (s ++ Step p ∷ []) self.new }
+        ensures keeps { (s : List EventOf) → IsStateAt opening.now s self.old p (Looks mine q batch)
+            → IsStateAfter opening.now (s ++ Step p ∷ []) self.new }
     {
         openings_are_valid(opening);
         let here = self.callers[usize::from(p)];
@@ -157,8 +162,10 @@ impl LogState {
         requires room { HasRoom opening.now self.old }
         requires at { (s : List EventOf) × IsStateAt opening.now s self.old p (Runs mine) }
         ensures room { HasSameRoom self.old self.new }
-        ensures keeps { (s : List EventOf) → IsStateAt opening.now s self.old p (Runs mine) → IsStateAfter opening.now (s ++ Step p ∷ []) self.new }
-        ensures answer { (s : List EventOf) → IsStateAt opening.now s self.old p (Runs mine) → result ≡ answer (setting_of opening.now) s p }
+        ensures keeps { (s : List EventOf) → IsStateAt opening.now s self.old p (Runs mine)
+            → IsStateAfter opening.now (s ++ Step p ∷ []) self.new }
+        ensures answer { (s : List EventOf) → IsStateAt opening.now s self.old p (Runs mine)
+            → result ≡ answer (setting_of opening.now) s p }
         ensures range { HasResponse opening.now.object result }
     {
         openings_are_valid(opening);
@@ -188,7 +195,8 @@ impl LogState {
 
 /// A round for each slot, in which nothing has happened.
 fn untouched_rounds(alloc: Global, opening: &Opening) -> Result<Vec<Round<Batch>>, AllocError>
-    ensures { IfOk result (λ rounds. rounds.items ≡ replicate opening.now.capacity (setting_of opening.now).untouched) }
+    ensures { IfOk result (λ rounds. rounds.items
+        ≡ replicate opening.now.capacity (setting_of opening.now).untouched) }
 {
     let mut rounds = Vec::new(alloc);
     for _slot in 0..opening.capacity {
@@ -236,10 +244,16 @@ fn enter(
     requires processes { processes ≤ MOST_PROCESSES }
     requires slot { slot < MOST_SLOTS }
     requires room { fixed.old ≡ slot → vec_len entries.old + processes ≤ vec_capacity entries.old }
-    requires slots_room { fixed.old ≡ slot → vec_len slots.old + processes ≤ vec_capacity slots.old }
-    ensures entries { entries.new.items ≡ entries.old.items ++ entries_in processes (next_batch fixed.old slot (fixed_value round.now)) }
-    ensures slots { slots.new.items ≡ slots.old.items ++ slots_from processes slot (next_batch fixed.old slot (fixed_value round.now)) }
-    ensures fixed { fixed.new ≡ fixed.old + length (next_batch fixed.old slot (fixed_value round.now)) }
+    requires slots_room { fixed.old ≡ slot
+        → vec_len slots.old + processes ≤ vec_capacity slots.old }
+    ensures entries { entries.new.items
+        ≡ entries.old.items
+            ++ entries_in processes (next_batch fixed.old slot (fixed_value round.now)) }
+    ensures slots { slots.new.items
+        ≡ slots.old.items
+            ++ slots_from processes slot (next_batch fixed.old slot (fixed_value round.now)) }
+    ensures fixed { fixed.new
+        ≡ fixed.old + length (next_batch fixed.old slot (fixed_value round.now)) }
     ensures room { vec_capacity entries.new ≡ vec_capacity entries.old }
     ensures slots_room { vec_capacity slots.new ≡ vec_capacity slots.old }
 {
@@ -264,21 +278,29 @@ fn replay_batch(opening: &Opening, here: CallerState, mine: Entry, batch: Batch)
     requires few { opening.now.capacity ≤ MOST_SLOTS }
     requires applied_entries { here.applied_entries ≤ MOST_ENTRIES }
     requires calls_places { length here.calls_seen.calls ≡ MOST_PROCESSES }
-    requires calls_seen { (q : ℕ) → q < processes_of opening.now.plan → count_at here.calls_seen q ≤ MOST_ENTRIES }
+    requires calls_seen { (q : ℕ) → q < processes_of opening.now.plan
+        → count_at here.calls_seen q ≤ MOST_ENTRIES }
     requires mine { mine.process < processes_of opening.now.plan }
     requires operation { mine.operation.0 < length opening.now.object.operations }
-    requires operations { (q : ℕ) (e : EntryOf) → entry_at batch q ≡ Some e → e.operation.0 < length opening.now.object.operations }
+    requires operations { (q : ℕ) (e : EntryOf) → entry_at batch q ≡ Some e
+        → e.operation.0 < length opening.now.object.operations }
     requires state { here.state.0 < length opening.now.object.states }
     ensures applied_slots { result.caller.applied_slots ≡ here.applied_slots + 1 }
-    ensures applied_entries { result.caller.applied_entries ≡ here.applied_entries + length (members (processes_of opening.now.plan) 0 batch) }
+    ensures applied_entries { result.caller.applied_entries
+        ≡ here.applied_entries + length (members (processes_of opening.now.plan) 0 batch) }
     ensures calls_places { length result.caller.calls_seen.calls ≡ MOST_PROCESSES }
-    ensures calls_seen { (q : ℕ) → q < processes_of opening.now.plan →
-        count_at result.caller.calls_seen q ≡ count_at here.calls_seen q + length (and_entry (entry_at batch q) []) }
+    ensures calls_seen { (q : ℕ) → q < processes_of opening.now.plan
+        → count_at result.caller.calls_seen q
+            ≡ count_at here.calls_seen q + length (and_entry (entry_at batch q) []) }
     ensures calls { result.caller.calls ≡ here.calls }
-    ensures phase { result.caller.phase ≡ phase_after (setting_of opening.now) here.applied_slots mine batch }
-    ensures state { result.caller.state.0 ≡ run_of opening.now.object here.state.0 (operations_of (members (processes_of opening.now.plan) 0 batch)) }
+    ensures phase { result.caller.phase
+        ≡ phase_after (setting_of opening.now) here.applied_slots mine batch }
+    ensures state { result.caller.state.0
+        ≡ run_of opening.now.object here.state.0
+            (operations_of (members (processes_of opening.now.plan) 0 batch)) }
     ensures known { result.caller.state.0 < length opening.now.object.states }
-    ensures answer { result.answer ≡ reply (setting_of opening.now) here.applied_slots here.state.0 mine batch }
+    ensures answer { result.answer
+        ≡ reply (setting_of opening.now) here.applied_slots here.state.0 mine batch }
     ensures range { HasResponse opening.now.object result.answer }
 {
     let processes = opening.plan.processes();
@@ -309,7 +331,8 @@ fn replay_batch(opening: &Opening, here: CallerState, mine: Entry, batch: Batch)
 fn response_at(opening: &Opening, state: State, batch: Batch, mine: Entry) -> Response
     requires mine { mine.process ≤ MOST_PROCESSES }
     requires operation { mine.operation.0 < length opening.now.object.operations }
-    requires operations { (q : ℕ) (e : EntryOf) → entry_at batch q ≡ Some e → e.operation.0 < length opening.now.object.operations }
+    requires operations { (q : ℕ) (e : EntryOf) → entry_at batch q ≡ Some e
+        → e.operation.0 < length opening.now.object.operations }
     requires state { state.0 < length opening.now.object.states }
     ensures number { result.0 ≡ (transition opening.now.object mine.operation.0
         (run_of opening.now.object state.0 (operations_of (members mine.process 0 batch)))).0 }

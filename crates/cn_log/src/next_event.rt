@@ -12,7 +12,9 @@ use cn_table::Operation;
 
 /// Why the event cannot come next, if it cannot.
 pub(crate) fn fault_of(core: &LogCore, event: Event) -> Option<ReplayFault>
-    ensures { result ≡ event_fault (setting core.now) (state_of (setting core.now) core.now.schedule) (length core.now.schedule) event }
+    ensures { result
+        ≡ event_fault (setting core.now) (state_of (setting core.now) core.now.schedule)
+            (length core.now.schedule) event }
 {
     let place = core.schedule().len() as u64;
     let (Event::Invoke(p, _) | Event::Step(p)) = event;

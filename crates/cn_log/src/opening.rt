@@ -27,7 +27,8 @@ impl Model for Opening {
 
     ghost view = { λ o. opening_of o.plan o.object o.start.0 o.capacity };
 
-    ghost invariant = { λ o. (o.start.0 < length o.object.states) × ((1 ≤ o.capacity) × (o.capacity ≤ MOST_SLOTS)) };
+    ghost invariant = { λ o. (o.start.0 < length o.object.states)
+        × ((1 ≤ o.capacity) × (o.capacity ≤ MOST_SLOTS)) };
 }
 
 impl Opening {

@@ -48,7 +48,8 @@ pub struct Draft {
 }
 
 fn owned_text_at(alloc: Global, table: &Table, key: &str) -> Result<String, TableFault>
-    ensures { Reads TableFault.WrongKind (λ s. string_bytes s) result (text_at key.now (table_view table.now)) }
+    ensures { Reads TableFault.WrongKind (λ s. string_bytes s) result
+        (text_at key.now (table_view table.now)) }
 {
     let text = text_at(table, key).ok_or(TableFault::WrongKind)?;
     Ok(String::from_str(alloc, text)?)
@@ -66,7 +67,8 @@ fn texts(alloc: Global, values: &[Value]) -> Result<Vec<String>, TableFault>
 }
 
 fn texts_at(alloc: Global, table: &Table, key: &str) -> Result<Vec<String>, TableFault>
-    ensures { Reads TableFault.WrongKind texts_view result (texts_at key.now (table_view table.now)) }
+    ensures { Reads TableFault.WrongKind texts_view result
+        (texts_at key.now (table_view table.now)) }
 {
     let values = array_at(table, key).ok_or(TableFault::WrongKind)?;
     texts(alloc, values)

@@ -37,7 +37,8 @@ pub fn text_at<'a>(table: &'a Table, key: &str) -> Option<&'a str>
 
 /// The items of a value that is an array.
 pub fn items_of(value: &Value) -> Option<&[Value]>
-    ensures { option_map (λ s. map view s.now) result ≡ option_map list_of (as_array (view value.now)) }
+    ensures { option_map (λ s. map view s.now) result
+        ≡ option_map list_of (as_array (view value.now)) }
 {
     let items = value.as_array()?;
     Some(items.as_slice())
@@ -58,7 +59,9 @@ pub fn is_one_of(keys: &[&str], key: &str) -> bool
 }
 
 fn some_entry_is_other(table: &Table, known: &[&str]) -> bool
-    ensures { result ≡ list_any (λ k. not (list_any (λ l. bytes_eq l.now (string_bytes k)) known.now)) (keys_of table.now.entries) }
+    ensures { result
+        ≡ list_any (λ k. not (list_any (λ l. bytes_eq l.now (string_bytes k)) known.now))
+            (keys_of table.now.entries) }
 {
     table.keys().any(|key| !is_one_of(known, key.as_str()))
 }
@@ -71,7 +74,12 @@ fn has_other_key(table: &Table, known: &[&str]) -> bool
 }
 
 fn some_entry_is_missing(table: &Table, known: &[&str]) -> bool
-    ensures { result ≡ list_any (λ k. not (is_some (lookup (is_at (λ x. slice_cmp nat_cmp k.now (string_bytes x))) table.now.entries))) known.now }
+    ensures { result
+        ≡ list_any
+            (λ k. not
+                (is_some
+                    (lookup (is_at (λ x. slice_cmp nat_cmp k.now (string_bytes x)))
+                        table.now.entries))) known.now }
 {
     known.iter().any(|key| !table.contains_key(*key))
 }
@@ -84,7 +92,9 @@ fn lacks_a_key(table: &Table, known: &[&str]) -> bool
 }
 
 fn some_value_has_other_key(values: &[Value]) -> bool
-    ensures { result ≡ list_any (λ v. option_map_or (has_other_key operation_keys) (as_table (view v)) false) values.now }
+    ensures { result
+        ≡ list_any (λ v. option_map_or (has_other_key operation_keys) (as_table (view v)) false)
+            values.now }
 {
     values.iter().any(|value| match value.as_table() {
         Some(table) => has_other_key(table, &OPERATION_KEYS),
@@ -110,7 +120,9 @@ pub(crate) fn has_unknown_key(document: &Table) -> bool
 }
 
 fn some_value_lacks_a_key(values: &[Value]) -> bool
-    ensures { result ≡ list_any (λ v. option_map_or (lacks_a_key operation_keys) (as_table (view v)) false) values.now }
+    ensures { result
+        ≡ list_any (λ v. option_map_or (lacks_a_key operation_keys) (as_table (view v)) false)
+            values.now }
 {
     values.iter().any(|value| match value.as_table() {
         Some(table) => lacks_a_key(table, &OPERATION_KEYS),

@@ -19,7 +19,8 @@ use std::alloc::Global;
 #[tactic(auto, unfolding(crate::specs::Reads::draft_reading))]
 fn table_of_draft(alloc: Global, draft: Draft) -> Result<Table, TableFault>
     ensures table { IfOk result (λ t. draft_reading (draft_view draft) ≡ Ok t) }
-    ensures fault { IfErr result (λ e. (e ≡ OutOfMemory) ⊎ (draft_reading (draft_view draft) ≡ Err e)) }
+    ensures fault { IfErr result (λ e. (e ≡ OutOfMemory)
+        ⊎ (draft_reading (draft_view draft) ≡ Err e)) }
 {
     if has_bad_name(&draft) {
         return Err(TableFault::BadName);
@@ -40,7 +41,8 @@ fn table_of_draft(alloc: Global, draft: Draft) -> Result<Table, TableFault>
 #[tactic(auto, unfolding(crate::specs::Reads::document_reading))]
 fn table_of_document(alloc: Global, document: &toml::Table) -> Result<Table, TableFault>
     ensures table { IfOk result (λ t. document_reading (table_view document.now) ≡ Ok t) }
-    ensures fault { IfErr result (λ e. (e ≡ OutOfMemory) ⊎ (document_reading (table_view document.now) ≡ Err e)) }
+    ensures fault { IfErr result (λ e. (e ≡ OutOfMemory)
+        ⊎ (document_reading (table_view document.now) ≡ Err e)) }
 {
     if has_unknown_key(document) {
         return Err(TableFault::UnknownKey);

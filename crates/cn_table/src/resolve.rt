@@ -38,7 +38,8 @@ fn transitions(
     requires states { length states.now ≤ MOST_STATES }
     requires responses { length responses.now ≤ MOST_RESPONSES }
     ensures { Reads TableFault.UnknownName transitions_view result
-        (row_from (map (λ s. string_bytes s) states.now) (map (λ s. string_bytes s) responses.now) (row_view row.now)) }
+        (row_from (map (λ s. string_bytes s) states.now) (map (λ s. string_bytes s) responses.now)
+            (row_view row.now)) }
 {
     let response = numbers(alloc, responses, &row.response)?;
     let next = numbers(alloc, states, &row.next)?;
@@ -59,7 +60,8 @@ fn all_transitions(
     requires states { length states.now ≤ MOST_STATES }
     requires responses { length responses.now ≤ MOST_RESPONSES }
     ensures { Reads TableFault.UnknownName transitions_views result
-        (rows_from (map (λ s. string_bytes s) states.now) (map (λ s. string_bytes s) responses.now) (map row_view rows.now)) }
+        (rows_from (map (λ s. string_bytes s) states.now) (map (λ s. string_bytes s) responses.now)
+            (map row_view rows.now)) }
 {
     let mut out = Vec::new(alloc);
     for row in rows {

@@ -141,7 +141,8 @@ impl Table {
     /// The operation of this name, if there is one.
     #[tactic(auto, using(crate::proofs::ListLemmas::map_twice))]
     pub fn find_operation(&self, name: &str) -> Option<Operation>
-        ensures number { option_map (λ o. o.0) result ≡ number_of (operation_names self.now) name.now }
+        ensures number { option_map (λ o. o.0) result
+            ≡ number_of (operation_names self.now) name.now }
         ensures range { IfSome result (λ o. o.0 < length self.now.operations) }
     {
         let number = number_of(&self.operations, name)?;

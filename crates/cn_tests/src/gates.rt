@@ -18,7 +18,8 @@ impl Gate for StopsAt {
 
     ghost says = { λ g. g.last };
 
-    ghost asks = { λ old _ step new. (new.stop ≡ old.stop) × (new.last ≡ cond (nat_eq step old.stop) Stop On) };
+    ghost asks = { λ old _ step new. (new.stop ≡ old.stop)
+        × (new.last ≡ cond (nat_eq step old.stop) Stop On) };
 
     fn before(&mut self, _seat: &Seat, step: u32) -> Go {
         self.last = if step == self.stop { Go::Stop } else { Go::On };

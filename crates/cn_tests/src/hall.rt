@@ -50,7 +50,8 @@ pub(super) fn opened<R: Wait + Abort>(
     requires some { 1 ≤ capacity }
     requires few { capacity ≤ 1024 }
     ensures of { IfOk result (λ r. IsSeatOf r.0 r.1 × IsSeatOf r.0 r.2) }
-    ensures operation { IfOk result (λ r. (0 < length r.1.core.opening.object.operations) × (0 < length r.2.core.opening.object.operations)) }
+    ensures operation { IfOk result (λ r. (0 < length r.1.core.opening.object.operations)
+        × (0 < length r.2.core.opening.object.operations)) }
     ensures rest { IfOk result (λ r. (r.3.items ≡ []) × (2 ≤ vec_capacity r.3)) }
 {
     let core = core_after(rt, alloc, capacity, events)?;
@@ -219,7 +220,8 @@ fn overlap<R: Threads + Wait + Sync + Abort>(
     (Seat, Result<Reply, CallFault>),
 )
     requires of { IsSeatOf hall.now zero × IsSeatOf hall.now one }
-    requires operation { (0 < length zero.core.opening.object.operations) × (0 < length one.core.opening.object.operations) }
+    requires operation { (0 < length zero.core.opening.object.operations)
+        × (0 < length one.core.opening.object.operations) }
     ensures { IsSeatOf hall.now result.0.0 × IsSeatOf hall.now result.1.0 }
 {
     let begun = AtomicU32::new(0);

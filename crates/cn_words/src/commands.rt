@@ -324,7 +324,8 @@ fn command_met<'m, 'a>(matches: &'m ArgMatches<'a>) -> Option<(&'a str, &'m ArgM
 /// `Words` where it met none of the commands, or a word is missing, the limit is no number of one
 /// byte or the form is none; `OutOfMemory` for want of memory.
 pub fn command_of<'a>(alloc: Global, matches: &ArgMatches<'a>) -> Result<Command<'a>, CommandFault>
-    ensures { MatchResult result (IsCommandOf matches.now) (RefusesCommand (IsCommandOf matches.now)) }
+    ensures { MatchResult result (IsCommandOf matches.now)
+        (RefusesCommand (IsCommandOf matches.now)) }
 {
     let Some((name, words)) = command_met(matches) else {
         return Err(CommandFault::Words);

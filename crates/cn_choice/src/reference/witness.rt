@@ -19,7 +19,8 @@ pub fn raw_pair(table: &Table, choice: &RawChoice, order: &[u8], process: u8) ->
     requires fits { IsRawChoice table.now (length choice.now.operations) choice.now }
     requires known { All (λ p. p < length choice.now.operations) order.now }
     ensures pair { result ≡ pair_of table.now choice.now order.now process }
-    ensures range { IfSome result (λ pair. (pair.0 < length table.now.responses) × (pair.1 < length table.now.states)) }
+    ensures range { IfSome result (λ pair. (pair.0 < length table.now.responses)
+        × (pair.1 < length table.now.states)) }
 {
     let mut state = choice.state;
     let mut kept = None;
@@ -53,8 +54,9 @@ fn sees_the_same(table: &Table, choice: &RawChoice, alpha: &[u8], beta: &[u8], p
     requires fits { IsRawChoice table.now (length choice.now.operations) choice.now }
     requires alpha_known { All (λ p. p < length choice.now.operations) alpha.now }
     requires beta_known { All (λ p. p < length choice.now.operations) beta.now }
-    ensures { IsTrue result ↔ ((pair : ℕ × ℕ) × (pair_of table.now choice.now alpha.now process ≡ Some pair)
-        × (pair_of table.now choice.now beta.now process ≡ Some pair)) }
+    ensures { IsTrue result
+        ↔ ((pair : ℕ × ℕ) × (pair_of table.now choice.now alpha.now process ≡ Some pair)
+            × (pair_of table.now choice.now beta.now process ≡ Some pair)) }
 {
     match (
         raw_pair(table, choice, alpha, process),
@@ -102,8 +104,10 @@ fn collides_with_any(
 ) -> bool
     requires fits { IsRawChoice table.now (length choice.now.operations) choice.now }
     requires alpha_known { All (λ p. p < length choice.now.operations) alpha.now }
-    requires orders_known { All (λ beta. All (λ p. p < length choice.now.operations) beta.items) orders.now }
-    ensures { IsTrue result ↔ Any (λ beta. Collide table.now choice.now alpha.now beta.items) orders.now }
+    requires orders_known { All (λ beta. All (λ p. p < length choice.now.operations) beta.items)
+        orders.now }
+    ensures { IsTrue result
+        ↔ Any (λ beta. Collide table.now choice.now alpha.now beta.items) orders.now }
 {
     for beta in orders {
         if collide(table, choice, alpha, beta.as_slice()) {
@@ -116,8 +120,12 @@ fn collides_with_any(
 /// Whether one of the orders collides with one of them.
 fn any_collide(table: &Table, choice: &RawChoice, orders: &[ArrayVec<u8, MOST_PROCESSES>]) -> bool
     requires fits { IsRawChoice table.now (length choice.now.operations) choice.now }
-    requires orders_known { All (λ order. All (λ p. p < length choice.now.operations) order.items) orders.now }
-    ensures { IsTrue result ↔ Any (λ alpha. Any (λ beta. Collide table.now choice.now alpha.items beta.items) orders.now) orders.now }
+    requires orders_known { All (λ order. All (λ p. p < length choice.now.operations) order.items)
+        orders.now }
+    ensures { IsTrue result
+        ↔ Any
+            (λ alpha. Any (λ beta. Collide table.now choice.now alpha.items beta.items) orders.now)
+            orders.now }
 {
     for alpha in orders {
         if collides_with_any(table, choice, alpha.as_slice(), orders) {

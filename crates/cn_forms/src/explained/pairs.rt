@@ -39,8 +39,11 @@ fn pairs_of(
 ) -> Result<Vec<(u8, u8)>, AllocError>
     requires fits { FitsTable table.now choice.now }
     requires process { process < length choice.now.a + length choice.now.b }
-    ensures seen { IfOk result (λ pairs. pairs.items ≡ seen_pairs table.now choice.now team process) }
-    ensures known { IfOk result (λ pairs. All (λ pair. (pair.0 < length table.now.responses) × (pair.1 < length table.now.states)) pairs.items) }
+    ensures seen { IfOk result (λ pairs. pairs.items
+        ≡ seen_pairs table.now choice.now team process) }
+    ensures known { IfOk result (λ pairs. All
+        (λ pair. (pair.0 < length table.now.responses) × (pair.1 < length table.now.states))
+        pairs.items) }
 {
     told_pairs();
     let set = outcomes(table, choice, team, process);
@@ -55,7 +58,8 @@ fn pairs_of(
 pub(crate) fn push_pair_words(text: &mut String, table: &Table, pair: (u8, u8)) -> Result<(), AllocError>
     requires response { pair.0 < length table.now.responses }
     requires state { pair.1 < length table.now.states }
-    ensures { OnOk result (string_bytes text.new ≡ string_bytes text.old ++ pair_words table.now pair) }
+    ensures { OnOk result (string_bytes text.new
+        ≡ string_bytes text.old ++ pair_words table.now pair) }
 {
     let response = table.response_name(Response(pair.0));
     let state = table.state_name(State(pair.1));
@@ -64,7 +68,8 @@ pub(crate) fn push_pair_words(text: &mut String, table: &Table, pair: (u8, u8)) 
 
 /// The words or the spaces before the pair on the left.
 fn push_before_left(text: &mut String, process: u8, row: usize) -> Result<(), AllocError>
-    ensures { OnOk result (string_bytes text.new ≡ string_bytes text.old ++ before_left process row) }
+    ensures { OnOk result (string_bytes text.new
+        ≡ string_bytes text.old ++ before_left process row) }
 {
     if row == 0 {
         write!(text, "  p{process}   A first: ")
@@ -75,8 +80,10 @@ fn push_before_left(text: &mut String, process: u8, row: usize) -> Result<(), Al
 
 /// The spaces behind the pair on the left, or where there is none.
 fn push_left_gap(text: &mut String, table: &Table, pair: Option<(u8, u8)>) -> Result<(), AllocError>
-    requires { IfSome pair (λ x. (x.0 < length table.now.responses) × (x.1 < length table.now.states)) }
-    ensures { OnOk result (string_bytes text.new ≡ string_bytes text.old ++ left_gap table.now pair) }
+    requires { IfSome pair (λ x. (x.0 < length table.now.responses)
+        × (x.1 < length table.now.states)) }
+    ensures { OnOk result (string_bytes text.new
+        ≡ string_bytes text.old ++ left_gap table.now pair) }
 {
     let Some((response, state)) = pair else {
         push_pair_padding(text, table, "", "")?;
@@ -99,8 +106,10 @@ fn push_before_right(text: &mut String, row: usize) -> Result<(), AllocError>
 }
 
 fn push_left_part(text: &mut String, table: &Table, pair: Option<(u8, u8)>) -> Result<(), AllocError>
-    requires { IfSome pair (λ x. (x.0 < length table.now.responses) × (x.1 < length table.now.states)) }
-    ensures { OnOk result (string_bytes text.new ≡ string_bytes text.old ++ left_part table.now pair) }
+    requires { IfSome pair (λ x. (x.0 < length table.now.responses)
+        × (x.1 < length table.now.states)) }
+    ensures { OnOk result (string_bytes text.new
+        ≡ string_bytes text.old ++ left_part table.now pair) }
 {
     match pair {
         None => Ok(()),
@@ -115,9 +124,12 @@ fn push_right_part(
     left: Option<(u8, u8)>,
     right: Option<(u8, u8)>,
 ) -> Result<(), AllocError>
-    requires left { IfSome left (λ x. (x.0 < length table.now.responses) × (x.1 < length table.now.states)) }
-    requires right { IfSome right (λ x. (x.0 < length table.now.responses) × (x.1 < length table.now.states)) }
-    ensures { OnOk result (string_bytes text.new ≡ string_bytes text.old ++ right_part table.now row left right) }
+    requires left { IfSome left (λ x. (x.0 < length table.now.responses)
+        × (x.1 < length table.now.states)) }
+    requires right { IfSome right (λ x. (x.0 < length table.now.responses)
+        × (x.1 < length table.now.states)) }
+    ensures { OnOk result (string_bytes text.new
+        ≡ string_bytes text.old ++ right_part table.now row left right) }
 {
     let Some(pair) = right else {
         return Ok(());
@@ -136,9 +148,12 @@ fn push_row(
     left: Option<(u8, u8)>,
     right: Option<(u8, u8)>,
 ) -> Result<(), AllocError>
-    requires left { IfSome left (λ x. (x.0 < length table.now.responses) × (x.1 < length table.now.states)) }
-    requires right { IfSome right (λ x. (x.0 < length table.now.responses) × (x.1 < length table.now.states)) }
-    ensures { OnOk result (string_bytes text.new ≡ string_bytes text.old ++ pair_row table.now process row left right) }
+    requires left { IfSome left (λ x. (x.0 < length table.now.responses)
+        × (x.1 < length table.now.states)) }
+    requires right { IfSome right (λ x. (x.0 < length table.now.responses)
+        × (x.1 < length table.now.states)) }
+    ensures { OnOk result (string_bytes text.new
+        ≡ string_bytes text.old ++ pair_row table.now process row left right) }
 {
     push_before_left(text, process, row)?;
     push_left_part(text, table, left)?;
@@ -160,9 +175,12 @@ fn push_rows(
     left: &[(u8, u8)],
     right: &[(u8, u8)],
 ) -> Result<(), AllocError>
-    requires left { All (λ x. (x.0 < length table.now.responses) × (x.1 < length table.now.states)) left.now }
-    requires right { All (λ x. (x.0 < length table.now.responses) × (x.1 < length table.now.states)) right.now }
-    ensures { OnOk result (string_bytes text.new ≡ string_bytes text.old ++ pair_rows table.now process left.now right.now) }
+    requires left { All (λ x. (x.0 < length table.now.responses) × (x.1 < length table.now.states))
+        left.now }
+    requires right { All (λ x. (x.0 < length table.now.responses) × (x.1 < length table.now.states))
+        right.now }
+    ensures { OnOk result (string_bytes text.new
+        ≡ string_bytes text.old ++ pair_rows table.now process left.now right.now) }
 {
     for row in 0..left.len().max(right.len()) {
         let (a, b) = (pair_at(left, row), pair_at(right, row));
@@ -181,7 +199,8 @@ pub(crate) fn push_pair_rows(
 ) -> Result<(), AllocError>
     requires fits { FitsTable table.now choice.now }
     requires process { process < length choice.now.a + length choice.now.b }
-    ensures { OnOk result (string_bytes text.new ≡ string_bytes text.old ++ seen_rows table.now choice.now process) }
+    ensures { OnOk result (string_bytes text.new
+        ≡ string_bytes text.old ++ seen_rows table.now choice.now process) }
 {
     let left = pairs_of(alloc, table, choice, Team::A, process)?;
     let right = pairs_of(alloc, table, choice, Team::B, process)?;

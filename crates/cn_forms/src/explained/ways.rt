@@ -22,7 +22,8 @@ fn push_member(
 ) -> Result<(), AllocError>
     requires fits { IsRawChoice table.now (length choice.now.operations) choice.now }
     requires process { process < length choice.now.operations }
-    ensures { OnOk result (string_bytes text.new ≡ string_bytes text.old ++ member table.now choice.now word.now first process) }
+    ensures { OnOk result (string_bytes text.new
+        ≡ string_bytes text.old ++ member table.now choice.now word.now first process) }
 {
     if process != first {
         text.push_str(", ")?;
@@ -44,7 +45,8 @@ fn push_members(
     requires fits { IsRawChoice table.now (length choice.now.operations) choice.now }
     requires within { first + count ≤ length choice.now.operations }
     requires few { length choice.now.operations ≤ 8 }
-    ensures { OnOk result (string_bytes text.new ≡ string_bytes text.old ++ members table.now choice.now word.now first count) }
+    ensures { OnOk result (string_bytes text.new
+        ≡ string_bytes text.old ++ members table.now choice.now word.now first count) }
 {
     for place in 0..count {
         push_member(text, table, choice, word, first, first + place)?;
@@ -63,8 +65,10 @@ fn push_step(
     requires fits { IsRawChoice table.now (length choice.now.operations) choice.now }
     requires state { state.0 < length table.now.states }
     requires process { process < length choice.now.operations }
-    ensures written { OnOk result (string_bytes text.new ≡ string_bytes text.old ++ step_text table.now choice.now state.0 process) }
-    ensures next { IfOk result (λ next. next.0 ≡ (transition table.now (slice_index choice.now.operations process) state.0).1) }
+    ensures written { OnOk result (string_bytes text.new
+        ≡ string_bytes text.old ++ step_text table.now choice.now state.0 process) }
+    ensures next { IfOk result (λ next. next.0
+        ≡ (transition table.now (slice_index choice.now.operations process) state.0).1) }
     ensures known { IfOk result (λ next. next.0 < length table.now.states) }
 {
     let operation = Operation(choice.operations[process as usize]);
@@ -85,7 +89,8 @@ fn push_steps(
 ) -> Result<(), AllocError>
     requires fits { IsRawChoice table.now (length choice.now.operations) choice.now }
     requires known { All (λ p. p < length choice.now.operations) order.now }
-    ensures { OnOk result (string_bytes text.new ≡ string_bytes text.old ++ steps_text table.now choice.now choice.now.state order.now) }
+    ensures { OnOk result (string_bytes text.new
+        ≡ string_bytes text.old ++ steps_text table.now choice.now choice.now.state order.now) }
 {
     let mut state = choice.state;
     for process in order {
@@ -101,8 +106,10 @@ fn push_sight(
     process: u8,
     pair: Option<(u8, u8)>,
 ) -> Result<(), AllocError>
-    requires { IfSome pair (λ x. (x.0 < length table.now.responses) × (x.1 < length table.now.states)) }
-    ensures { OnOk result (string_bytes text.new ≡ string_bytes text.old ++ sight table.now process pair) }
+    requires { IfSome pair (λ x. (x.0 < length table.now.responses)
+        × (x.1 < length table.now.states)) }
+    ensures { OnOk result (string_bytes text.new
+        ≡ string_bytes text.old ++ sight table.now process pair) }
 {
     let Some(pair) = pair else {
         return Ok(());
@@ -149,7 +156,9 @@ pub(crate) fn push_both_teams(
     b_word: &str,
 ) -> Result<(), AllocError>
     requires { FitsTable table.now choice.now }
-    ensures { OnOk result (string_bytes text.new ≡ string_bytes text.old ++ both_teams table.now choice.now a_word.now between.now b_word.now) }
+    ensures { OnOk result (string_bytes text.new
+        ≡ string_bytes text.old
+            ++ both_teams table.now choice.now a_word.now between.now b_word.now) }
 {
     let raw = RawChoice::of(choice);
     let (a, b) = (choice.a.len() as u8, choice.b.len() as u8);
@@ -161,7 +170,8 @@ pub(crate) fn push_both_teams(
 #[tactic(auto, unfolding(crate::specs::Explained::choice_text))]
 fn push_choice(text: &mut String, table: &Table, choice: &Choice) -> Result<(), AllocError>
     requires { FitsTable table.now choice.now }
-    ensures { OnOk result (string_bytes text.new ≡ string_bytes text.old ++ choice_text table.now choice.now) }
+    ensures { OnOk result (string_bytes text.new
+        ≡ string_bytes text.old ++ choice_text table.now choice.now) }
 {
     let start = table.state_name(choice.state);
     write!(text, "start {start}; A: ")?;
@@ -192,7 +202,8 @@ fn push_way_line(
     process: u8,
 ) -> Result<(), AllocError>
     requires { FitsTable table.now choice.now }
-    ensures { OnOk result (string_bytes text.new ≡ string_bytes text.old ++ way_line table.now number choice.now process) }
+    ensures { OnOk result (string_bytes text.new
+        ≡ string_bytes text.old ++ way_line table.now number choice.now process) }
 {
     push_way_number(text, number)?;
     push_choice(text, table, choice)?;
@@ -219,7 +230,8 @@ fn push_way(
     entry: &Collision,
 ) -> Result<(), AllocError>
     requires { IsRefuted table.now entry.now }
-    ensures { OnOk result (string_bytes text.new ≡ string_bytes text.old ++ way table.now number entry.now) }
+    ensures { OnOk result (string_bytes text.new
+        ≡ string_bytes text.old ++ way table.now number entry.now) }
 {
     push_way_line(text, table, number, &entry.choice, entry.process)?;
     push_runs(text, table, entry)
@@ -232,7 +244,8 @@ pub(crate) fn push_ways(
     entries: &[Collision],
 ) -> Result<(), AllocError>
     requires { All (IsRefuted table.now) entries.now }
-    ensures { OnOk result (string_bytes text.new ≡ string_bytes text.old ++ ways table.now 0 entries.now) }
+    ensures { OnOk result (string_bytes text.new
+        ≡ string_bytes text.old ++ ways table.now 0 entries.now) }
 {
     for (place, entry) in entries.iter().enumerate() {
         push_way(text, table, place + 1, entry)?;

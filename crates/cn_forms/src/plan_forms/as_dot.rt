@@ -31,7 +31,8 @@ fn push_head(text: &mut String, plan: &Plan) -> Result<(), AllocError>
 
 #[tactic(auto, unfolding(crate::specs::Dot::head_lines))]
 fn push_head_lines(text: &mut String, name: &str, start: &str) -> Result<(), AllocError>
-    ensures { OnOk result (string_bytes text.new ≡ string_bytes text.old ++ head_lines name.now start.now) }
+    ensures { OnOk result (string_bytes text.new
+        ≡ string_bytes text.old ++ head_lines name.now start.now) }
 {
     write!(
         text,
@@ -40,7 +41,8 @@ fn push_head_lines(text: &mut String, name: &str, start: &str) -> Result<(), All
 }
 
 fn push_nodes(text: &mut String, plan: &Plan) -> Result<(), AllocError>
-    ensures { OnOk result (string_bytes text.new ≡ string_bytes text.old ++ flat_map node_dot (range_with_len 0 (nodes_of plan.now))) }
+    ensures { OnOk result (string_bytes text.new
+        ≡ string_bytes text.old ++ flat_map node_dot (range_with_len 0 (nodes_of plan.now))) }
 {
     for node in 0..plan.nodes() {
         push_node(text, node)?;
@@ -55,7 +57,9 @@ fn push_node(text: &mut String, node: u8) -> Result<(), AllocError>
 }
 
 fn push_processes(text: &mut String, plan: &Plan) -> Result<(), AllocError>
-    ensures { OnOk result (string_bytes text.new ≡ string_bytes text.old ++ flat_map (process_dot plan.now) (range_with_len 0 (processes_of plan.now))) }
+    ensures { OnOk result (string_bytes text.new
+        ≡ string_bytes text.old
+            ++ flat_map (process_dot plan.now) (range_with_len 0 (processes_of plan.now))) }
 {
     for process in 0..plan.processes() {
         push_process(text, plan, process)?;
@@ -65,7 +69,8 @@ fn push_processes(text: &mut String, plan: &Plan) -> Result<(), AllocError>
 
 fn push_process(text: &mut String, plan: &Plan, process: u8) -> Result<(), AllocError>
     requires { process < processes_of plan.now }
-    ensures { OnOk result (string_bytes text.new ≡ string_bytes text.old ++ process_dot plan.now process) }
+    ensures { OnOk result (string_bytes text.new
+        ≡ string_bytes text.old ++ process_dot plan.now process) }
 {
     push_process_line(text, process)?;
     push_edges(text, plan, process)
@@ -83,7 +88,8 @@ fn push_process_line(text: &mut String, process: u8) -> Result<(), AllocError>
 
 fn push_edges(text: &mut String, plan: &Plan, process: u8) -> Result<(), AllocError>
     requires { process < processes_of plan.now }
-    ensures { OnOk result (string_bytes text.new ≡ string_bytes text.old ++ edges_dot plan.now process) }
+    ensures { OnOk result (string_bytes text.new
+        ≡ string_bytes text.old ++ edges_dot plan.now process) }
 {
     for place in 0..plan.path(process).len() {
         push_edge(text, plan, process, place)?;
@@ -94,7 +100,8 @@ fn push_edges(text: &mut String, plan: &Plan, process: u8) -> Result<(), AllocEr
 /// The way of a process to a place of its path.
 fn push_edge(text: &mut String, plan: &Plan, process: u8, place: usize) -> Result<(), AllocError>
     requires { IsPlace (protocol_of plan.now) (processes_of plan.now) process place }
-    ensures { OnOk result (string_bytes text.new ≡ string_bytes text.old ++ edge_dot plan.now process place) }
+    ensures { OnOk result (string_bytes text.new
+        ≡ string_bytes text.old ++ edge_dot plan.now process place) }
 {
     let here = place_at(plan, process, place);
     text.push_str("  ")?;
@@ -105,7 +112,8 @@ fn push_edge(text: &mut String, plan: &Plan, process: u8, place: usize) -> Resul
 /// How a process comes to a place.
 fn push_arrival(text: &mut String, plan: &Plan, process: u8, here: Place) -> Result<(), AllocError>
     requires { here.role < processes_of plan.now }
-    ensures { OnOk result (string_bytes text.new ≡ string_bytes text.old ++ arrival_dot plan.now process here) }
+    ensures { OnOk result (string_bytes text.new
+        ≡ string_bytes text.old ++ arrival_dot plan.now process here) }
 {
     let operation = plan.table().operation_name(plan.operation(here.role));
     push_edge_head(text, here.node, process)?;
@@ -114,14 +122,16 @@ fn push_arrival(text: &mut String, plan: &Plan, process: u8, here: Place) -> Res
 
 #[tactic(auto, unfolding(crate::specs::Dot::edge_head))]
 fn push_edge_head(text: &mut String, node: u8, process: u8) -> Result<(), AllocError>
-    ensures { OnOk result (string_bytes text.new ≡ string_bytes text.old ++ edge_head node process) }
+    ensures { OnOk result (string_bytes text.new
+        ≡ string_bytes text.old ++ edge_head node process) }
 {
     write!(text, " -> node_{node} [label=\"process {process}: ")
 }
 
 #[tactic(auto, unfolding(crate::specs::Dot::edge_end))]
 fn push_edge_end(text: &mut String, team: &str, role: u8, operation: &str) -> Result<(), AllocError>
-    ensures { OnOk result (string_bytes text.new ≡ string_bytes text.old ++ edge_end team.now role operation.now) }
+    ensures { OnOk result (string_bytes text.new
+        ≡ string_bytes text.old ++ edge_end team.now role operation.now) }
 {
     write!(text, "{team} role {role} {operation}\"];\n")
 }
@@ -129,7 +139,8 @@ fn push_edge_end(text: &mut String, team: &str, role: u8, operation: &str) -> Re
 /// Where a process comes from when it goes to a place of its path.
 fn push_origin(text: &mut String, plan: &Plan, process: u8, place: usize) -> Result<(), AllocError>
     requires { IsPlace (protocol_of plan.now) (processes_of plan.now) process place }
-    ensures { OnOk result (string_bytes text.new ≡ string_bytes text.old ++ origin_dot plan.now process place) }
+    ensures { OnOk result (string_bytes text.new
+        ≡ string_bytes text.old ++ origin_dot plan.now process place) }
 {
     if place == 0 {
         return write!(text, "process_{process}");

@@ -30,7 +30,8 @@ fn push_paths(text: &mut String, plan: &Plan) -> Result<(), AllocError>
 }
 
 fn push_each_path(text: &mut String, plan: &Plan) -> Result<(), AllocError>
-    ensures { OnOk result (string_bytes text.new ≡ string_bytes text.old ++ each_path_json plan.now) }
+    ensures { OnOk result (string_bytes text.new
+        ≡ string_bytes text.old ++ each_path_json plan.now) }
 {
     for process in 0..plan.processes() {
         push_path(text, plan, process)?;
@@ -40,7 +41,8 @@ fn push_each_path(text: &mut String, plan: &Plan) -> Result<(), AllocError>
 
 fn push_path(text: &mut String, plan: &Plan, process: u8) -> Result<(), AllocError>
     requires { process < processes_of plan.now }
-    ensures { OnOk result (string_bytes text.new ≡ string_bytes text.old ++ path_json plan.now process) }
+    ensures { OnOk result (string_bytes text.new
+        ≡ string_bytes text.old ++ path_json plan.now process) }
 {
     push_comma(text, process)?;
     text.push_str("[")?;
@@ -49,7 +51,8 @@ fn push_path(text: &mut String, plan: &Plan, process: u8) -> Result<(), AllocErr
 }
 
 fn push_places(text: &mut String, places: &[Place]) -> Result<(), AllocError>
-    ensures { OnOk result (string_bytes text.new ≡ string_bytes text.old ++ joined_texts (codes ",") (map place_json places.now)) }
+    ensures { OnOk result (string_bytes text.new
+        ≡ string_bytes text.old ++ joined_texts (codes ",") (map place_json places.now)) }
 {
     let [first, rest @ ..] = places else {
         return Ok(());
@@ -82,7 +85,8 @@ fn push_roles(text: &mut String, plan: &Plan) -> Result<(), AllocError>
 }
 
 fn push_each_role(text: &mut String, plan: &Plan) -> Result<(), AllocError>
-    ensures { OnOk result (string_bytes text.new ≡ string_bytes text.old ++ each_role_json plan.now) }
+    ensures { OnOk result (string_bytes text.new
+        ≡ string_bytes text.old ++ each_role_json plan.now) }
 {
     for role in 0..plan.processes() {
         push_role(text, plan, role)?;
@@ -92,7 +96,8 @@ fn push_each_role(text: &mut String, plan: &Plan) -> Result<(), AllocError>
 
 fn push_role(text: &mut String, plan: &Plan, role: u8) -> Result<(), AllocError>
     requires { role < processes_of plan.now }
-    ensures { OnOk result (string_bytes text.new ≡ string_bytes text.old ++ role_json plan.now role) }
+    ensures { OnOk result (string_bytes text.new
+        ≡ string_bytes text.old ++ role_json plan.now role) }
 {
     push_comma(text, role)?;
     push_judged(text, plan, role)?;
@@ -102,7 +107,8 @@ fn push_role(text: &mut String, plan: &Plan, role: u8) -> Result<(), AllocError>
 /// The front of a role: the pairs that it judges to be team A's.
 fn push_judged(text: &mut String, plan: &Plan, role: u8) -> Result<(), AllocError>
     requires { role < processes_of plan.now }
-    ensures { OnOk result (string_bytes text.new ≡ string_bytes text.old ++ judged_json plan.now role) }
+    ensures { OnOk result (string_bytes text.new
+        ≡ string_bytes text.old ++ judged_json plan.now role) }
 {
     push_role_head(text)?;
     push_pairs(text, plan.table(), plan.judged_pairs(role))
@@ -117,7 +123,8 @@ fn push_role_head(text: &mut String) -> Result<(), AllocError>
 
 fn push_end(text: &mut String, plan: &Plan, role: u8) -> Result<(), AllocError>
     requires { role < processes_of plan.now }
-    ensures { OnOk result (string_bytes text.new ≡ string_bytes text.old ++ end_json plan.now role) }
+    ensures { OnOk result (string_bytes text.new
+        ≡ string_bytes text.old ++ end_json plan.now role) }
 {
     let operation = plan.table().operation_name(plan.operation(role));
     let team = plan.team(role).name();
@@ -127,7 +134,8 @@ fn push_end(text: &mut String, plan: &Plan, role: u8) -> Result<(), AllocError>
 /// What stands behind the pairs of a role.
 #[tactic(auto, unfolding(crate::specs::Json::role_end))]
 fn push_role_end(text: &mut String, operation: &str, team: &str) -> Result<(), AllocError>
-    ensures { OnOk result (string_bytes text.new ≡ string_bytes text.old ++ role_end operation.now team.now) }
+    ensures { OnOk result (string_bytes text.new
+        ≡ string_bytes text.old ++ role_end operation.now team.now) }
 {
     write!(
         text,
@@ -136,8 +144,11 @@ fn push_role_end(text: &mut String, operation: &str, team: &str) -> Result<(), A
 }
 
 fn push_pairs(text: &mut String, table: &Table, pairs: &[(u8, u8)]) -> Result<(), AllocError>
-    requires { All (λ pair. (pair.0 < length table.now.responses) × (pair.1 < length table.now.states)) pairs.now }
-    ensures { OnOk result (string_bytes text.new ≡ string_bytes text.old ++ joined_texts (codes ",") (map (pair_json table.now) pairs.now)) }
+    requires { All
+        (λ pair. (pair.0 < length table.now.responses) × (pair.1 < length table.now.states))
+        pairs.now }
+    ensures { OnOk result (string_bytes text.new
+        ≡ string_bytes text.old ++ joined_texts (codes ",") (map (pair_json table.now) pairs.now)) }
 {
     let [first, rest @ ..] = pairs else {
         return Ok(());
@@ -153,7 +164,8 @@ fn push_pairs(text: &mut String, table: &Table, pairs: &[(u8, u8)]) -> Result<()
 fn push_pair(text: &mut String, table: &Table, pair: &(u8, u8)) -> Result<(), AllocError>
     requires response { pair.now.0 < length table.now.responses }
     requires state { pair.now.1 < length table.now.states }
-    ensures { OnOk result (string_bytes text.new ≡ string_bytes text.old ++ pair_json table.now pair.now) }
+    ensures { OnOk result (string_bytes text.new
+        ≡ string_bytes text.old ++ pair_json table.now pair.now) }
 {
     let response = table.response_name(Response(pair.0));
     let state = table.state_name(State(pair.1));
@@ -162,7 +174,8 @@ fn push_pair(text: &mut String, table: &Table, pair: &(u8, u8)) -> Result<(), Al
 
 #[tactic(auto, unfolding(crate::specs::Json::named_pair))]
 fn push_named_pair(text: &mut String, response: &str, state: &str) -> Result<(), AllocError>
-    ensures { OnOk result (string_bytes text.new ≡ string_bytes text.old ++ named_pair response.now state.now) }
+    ensures { OnOk result (string_bytes text.new
+        ≡ string_bytes text.old ++ named_pair response.now state.now) }
 {
     write!(
         text,

@@ -57,7 +57,9 @@ fn push_role(text: &mut String, plan: &Plan, role: u8) -> Result<(), AllocError>
 }
 
 fn push_pairs(text: &mut String, table: &Table, pairs: &[(u8, u8)]) -> Result<(), AllocError>
-    requires { All (λ pair. (pair.0 < length table.now.responses) × (pair.1 < length table.now.states)) pairs.now }
+    requires { All
+        (λ pair. (pair.0 < length table.now.responses) × (pair.1 < length table.now.states))
+        pairs.now }
     ensures { OnOk result (string_bytes text.new ≡ string_bytes text.old
         ++ joined_texts (codes " ") (map (pair_text table.now) pairs.now)) }
 {
