@@ -30,8 +30,8 @@ pub(crate) fn act<V: Copy>(plan: &Plan, turn: Turn, node: &mut Node<V>, local: &
         → node.new ≡ node_after (protocol_of plan.now) turn.here x turn.stage node.old }
     ensures local { (x : V) → local.old ≡ Active turn.place x turn.stage
         → local.new
-            ≡ local_after (protocol_of plan.now) turn.places turn.place turn.here x turn.stage
-                node.old }
+        ≡ local_after (protocol_of plan.now) turn.places turn.place turn.here x turn.stage
+        node.old }
 {
     let Turn {
         here,

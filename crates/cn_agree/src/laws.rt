@@ -31,7 +31,7 @@ pub fn every_schedule<V>(plan: &Plan)
     ensures { (inputs : List V) (schedule : List ℕ) → length inputs ≡ processes_of plan.now
         → IsSchedule (processes_of plan.now) schedule
         → IsConsensus (protocol_of plan.now) (processes_of plan.now) inputs schedule
-            (decisions_after plan.now inputs schedule) }
+        (decisions_after plan.now inputs schedule) }
 {
     plans_are_sound(plan);
 }
@@ -42,7 +42,7 @@ pub fn plans_reach_consensus<V>()
         → (inputs : List V) (schedule : List ℕ) → length inputs ≡ processes_of plan
         → IsSchedule (processes_of plan) schedule
         → IsConsensus (protocol_of plan) (processes_of plan) inputs schedule
-            (decisions_after plan inputs schedule) }
+        (decisions_after plan inputs schedule) }
 {
     every_plan();
 }
@@ -56,20 +56,20 @@ pub fn plans_reach_consensus<V>()
 /// each for each node and process.
 pub fn every_round<V>()
     ensures consensus { (P : Protocol) (n nodes : ℕ) (team : ℕ → TeamOf) (schedule : List ℕ)
-            (w : World V) → IsSound P n nodes team → IsReached P n nodes schedule w
+        (w : World V) → IsSound P n nodes team → IsReached P n nodes schedule w
         → KeepsConsensus P n schedule w }
     ensures fixed { (P : Protocol) (n nodes : ℕ) (team : ℕ → TeamOf) (schedule : List ℕ)
-            (w : World V) → IsSound P n nodes team → IsReached P n nodes schedule w
+        (w : World V) → IsSound P n nodes team → IsReached P n nodes schedule w
         → (p : ℕ) (x : V) → p < n → fixed_value w ≡ Some x
         → fixed_value (after_step P p w) ≡ Some x }
     ensures begun { (P : Protocol) (n nodes : ℕ) (team : ℕ → TeamOf) (schedule : List ℕ)
-            (w : World V) → IsSound P n nodes team → IsReached P n nodes schedule w
+        (w : World V) → IsSound P n nodes team → IsReached P n nodes schedule w
         → (p : ℕ) → p < n → (local_at w p ≡ NotBegun) ↔ (input_at w p ≡ None) }
     ensures stays_begun { (P : Protocol) (n nodes : ℕ) (team : ℕ → TeamOf) (schedule : List ℕ)
-            (w : World V) → IsSound P n nodes team → IsReached P n nodes schedule w
+        (w : World V) → IsSound P n nodes team → IsReached P n nodes schedule w
         → (p q : ℕ) → p < n → HasBegun w q → HasBegun (after_step P p w) q }
     ensures sizes { (P : Protocol) (n nodes : ℕ) (team : ℕ → TeamOf) (schedule : List ℕ)
-            (w : World V) → IsSound P n nodes team → IsReached P n nodes schedule w
+        (w : World V) → IsSound P n nodes team → IsReached P n nodes schedule w
         → (length w.nodes ≡ nodes) × (length w.locals ≡ n) × (length w.inputs ≡ n) }
 {}
 

@@ -151,7 +151,7 @@ impl<V: Copy> Round<V> {
         ensures value { result ≡ fixed_value self.now }
         ensures valid { (plan : PlanOf) (schedule : List ℕ) → IsRoundOf plan schedule self.now
             → IfSome result (λ x. (q : ℕ) × IsParticipant schedule q
-                × (input_at self.now q ≡ Some x)) }
+            × (input_at self.now q ≡ Some x)) }
         ensures since { (plan : PlanOf) (schedule : List ℕ) → IsRoundOf plan schedule self.now
             → IsSome result ↔ IsAppliedAtRoot (protocol_of plan) (processes_of plan) self.now }
     {

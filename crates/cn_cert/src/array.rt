@@ -190,10 +190,10 @@ fn array_as<T: Parts>(
     token: Token<'_>,
 ) -> Result<Option<T>, CertFault>
     ensures ok { IfOk result (λ o. with_value (in_array (sole_thing T.parts))
-            (data_at depth (token_of token.entry ∷ reader.old)) ≡ Some (o, reader.new)) }
+        (data_at depth (token_of token.entry ∷ reader.old)) ≡ Some (o, reader.new)) }
     ensures err { IfErr result (λ e. Refuses e
         (with_value (in_array (sole_thing T.parts))
-            (data_at depth (token_of token.entry ∷ reader.old)))) }
+        (data_at depth (token_of token.entry ∷ reader.old)))) }
 {
     if opens(reader, depth, token)? {
         rest_as::<T>(alloc, reader, depth - 1)

@@ -31,8 +31,12 @@ impl Model for DraftCollision {
 
     ghost Value = { Collision };
 
-    ghost view = { λ c. record { choice = c.choice; process = c.process; alpha = c.alpha.items;
-        beta = c.beta.items } };
+    ghost view = { λ c. record {
+      choice = c.choice;
+      process = c.process;
+      alpha = c.alpha.items;
+      beta = c.beta.items;
+    } };
 }
 
 /// A certificate before its version, any number or its name is looked at.

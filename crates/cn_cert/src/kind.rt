@@ -29,7 +29,7 @@ pub(crate) trait Kind: Sized + Drop {
         token: Token<'_>,
     ) -> Result<Option<Self>, CertFault>
         ensures ok { IfOk result (λ o. with_value kind
-                (data_at depth (token_of token.entry ∷ reader.old)) ≡ Some (o, reader.new)) }
+            (data_at depth (token_of token.entry ∷ reader.old)) ≡ Some (o, reader.new)) }
         ensures err { IfErr result (λ e. Refuses e
             (with_value kind (data_at depth (token_of token.entry ∷ reader.old)))) };
 }

@@ -102,7 +102,7 @@ fn read_member(
     slots: &mut MemberSlots,
 ) -> Result<(), CertFault>
     ensures ok { IfOk result (λ _. with_value (with_member key.now slots.old)
-            (data_at depth reader.old) ≡ Some (slots.new, reader.new)) }
+        (data_at depth reader.old) ≡ Some (slots.new, reader.new)) }
     ensures err { IfErr result (λ e. Refuses e (with_value nothing (data_at depth reader.old))) }
 {
     if key == "collisions" {
@@ -138,7 +138,7 @@ fn draft_members(
     depth: usize,
 ) -> Result<Option<Draft>, CertFault>
     ensures ok { IfOk result (λ o. with_value (λ ms. draft_of (object ms))
-            (members_at depth no_members reader.old) ≡ Some (o, reader.new)) }
+        (members_at depth no_members reader.old) ≡ Some (o, reader.new)) }
     ensures err { IfErr result (λ e. Refuses e
         (with_value (λ ms. draft_of (object ms)) (members_at depth no_members reader.old))) }
 {

@@ -38,7 +38,7 @@ pub(crate) fn rest_of(
     token: Token<'_>,
 ) -> Result<(), CertFault>
     ensures ok { IfOk result (λ u. with_value nothing
-            (data_at depth (token_of token.entry ∷ reader.old)) ≡ Some (u, reader.new)) }
+        (data_at depth (token_of token.entry ∷ reader.old)) ≡ Some (u, reader.new)) }
     ensures err { IfErr result (λ e. Refuses e
         (with_value nothing (data_at depth (token_of token.entry ∷ reader.old)))) }
 {

@@ -17,8 +17,8 @@ pub(crate) fn are_below(numbers: &[u8], limit: u8) -> bool
 fn is_of_table(choice: &Choice, table: &Table) -> bool
     ensures { IsTrue result
         ↔ ((choice.now.state < length table.now.states)
-            × All (λ operation. operation < length table.now.operations) choice.now.a
-            × All (λ operation. operation < length table.now.operations) choice.now.b) }
+        × All (λ operation. operation < length table.now.operations) choice.now.a
+        × All (λ operation. operation < length table.now.operations) choice.now.b) }
 {
     let operations = table.operations();
     are_below(choice.a.as_slice(), operations)
@@ -30,7 +30,7 @@ fn is_of_table(choice: &Choice, table: &Table) -> bool
 fn has_processes(choice: &Choice, n: u8) -> bool
     ensures { IsTrue result
         ↔ ((1 ≤ length choice.now.a) × (1 ≤ length choice.now.b)
-            × (length choice.now.a + length choice.now.b ≡ n)) }
+        × (length choice.now.a + length choice.now.b ≡ n)) }
 {
     !choice.a.is_empty() && !choice.b.is_empty() && choice.a.len() + choice.b.len() == n as usize
 }

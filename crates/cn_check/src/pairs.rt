@@ -45,7 +45,7 @@ impl Pairs {
         requires response { response < MOST_RESPONSES }
         ensures { (j r q : ℕ)
             → HasPair self.new j r q
-                ↔ (HasPair self.old j r q ⊎ ((j ≡ process) × (r ≡ response) × IsIn states q)) }
+            ↔ (HasPair self.old j r q ⊎ ((j ≡ process) × (r ≡ response) × IsIn states q)) }
     {
         let place = MOST_RESPONSES * process as usize + response as usize;
         self.states[place] = union(self.states[place], states);

@@ -86,7 +86,7 @@ pub(crate) fn shown_pair(
     requires fits { FitsTable table.now choice.now }
     ensures pair { (pair : ℕ × ℕ)
         → (result ≡ Some pair)
-            ↔ Shows table.now (raw_choice_of choice.now) team process pair list.now }
+        ↔ Shows table.now (raw_choice_of choice.now) team process pair list.now }
     ensures range { IfSome result (λ pair. (pair.0 < length table.now.responses)
         × (pair.1 < length table.now.states)) }
 {

@@ -92,7 +92,7 @@ fn check_evidence(
     requires { IsInRange version limit number }
     ensures refuted { OnOk result
         (AllZip (Refutes table.now) (choices_to_refute_in version table.now limit number)
-            entries.now) }
+        entries.now) }
     ensures fault { IfErr result (IsEvidenceFault table.now version limit number entries.now) }
 {
     match number {

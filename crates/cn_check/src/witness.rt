@@ -49,8 +49,8 @@ fn walk(
         → IsIn result q ↔ EndsIn table.now (raw_choice_of choice.now) used state.0 q }
     ensures shown { (j r q : ℕ)
         → HasPair pairs.new j r q
-            ↔ (HasPair pairs.old j r q
-                ⊎ ShowsFrom table.now (raw_choice_of choice.now) used state.0 j r q) }
+        ↔ (HasPair pairs.old j r q
+        ⊎ ShowsFrom table.now (raw_choice_of choice.now) used state.0 j r q) }
     ensures walked { AreWalked table.now (raw_choice_of choice.now) end_sets.new pairs.new }
 {
     // A table has at most 16 states.

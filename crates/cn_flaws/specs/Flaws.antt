@@ -1,5 +1,6 @@
 -- What is wrong with the bytes of a table, and where: flaws, in the order of the faults.
-use Rattle.std.specs.Prelude.{codes, ℕ, ◌+◌, List, [], ◌∷◌, ◌++◌, length, map, flat_map, take, if◌then◌else◌, Bool, true, ◌==◌, Option, Some, None, is_some, nat_le, unwrap_or, Vec, string_bytes}
+use Rattle.std.specs.Prelude.{codes, ℕ, ◌+◌, List, [], ◌∷◌, ◌++◌, length, map, flat_map, take, if◌then◌else◌, Bool}
+use Rattle.std.specs.Prelude.{true, ◌==◌, Option, Some, None, is_some, nat_le, unwrap_or, Vec, string_bytes}
 use Rattle.std.specs.List.{list_any}
 use Rattle.std.specs.Option.{option_map_or}
 use Rattle.std.specs.Str.{bytes_eq, is_utf8}
@@ -10,7 +11,9 @@ use Rattle.cn_table.specs.Document.{keys_in, array_at}
 use Rattle.cn_table.specs.Draft.{Draft, DraftRow, row_names, draft_of, text_at}
 use Rattle.cn_table.specs.Faults.{root_keys, operation_keys, is_text, is_array_of}
 use Rattle.cn_table.specs.Names.{is_name, number_of}
-use Rattle.cn_flaws.specs.FlawText.{place_after, not_toml_text, operation_text, other_key_text, missing_key_text, kind_text, no_operation_text, bad_name_text, too_many_text, too_few_text, repeated_text, length_text, entry_text, names_in_brackets}
+use Rattle.cn_flaws.specs.FlawText.{place_after, not_toml_text, operation_text, other_key_text, missing_key_text}
+use Rattle.cn_flaws.specs.FlawText.{kind_text, no_operation_text, bad_name_text, too_many_text, too_few_text}
+use Rattle.cn_flaws.specs.FlawText.{repeated_text, length_text, entry_text, names_in_brackets}
 use Rattle.cn_table.specs.declared.fault.TableFault.{TableFault}
 use Rattle.cn_table.specs.declared.fault.TableFault.TheVariants.{NotToml, UnknownKey, MissingKey, WrongKind, BadName, Count, Repeated, RowLength, UnknownName}
 use Rattle.cn_flaws.specs.declared.document_flaws.Kind.{Kind}

@@ -20,7 +20,7 @@ fn push_not_toml(alloc: Global, flaws: &mut Vec<Flaw>, before: &[u8]) -> Result<
     requires { length before.now < 2 ^ 63 }
     ensures { OnOk result (flaws_view flaws.new
         ≡ flaws_view flaws.old
-            ++ flaw TableFault.NotToml (not_toml_text (place_after 1 1 before.now))) }
+        ++ flaw TableFault.NotToml (not_toml_text (place_after 1 1 before.now))) }
 {
     let (line, column) = place_after(before);
     let text = format!(in alloc; "line {line}, column {column}: not TOML")?;
@@ -35,7 +35,7 @@ fn push_flaws_of_draft(
 ) -> Result<(), AllocError>
     ensures { OnOk result (flaws_view flaws.new
         ≡ flaws_view flaws.old
-            ++ option_map_or draft_flaws (draft_of (table_view document.now)) []) }
+        ++ option_map_or draft_flaws (draft_of (table_view document.now)) []) }
 {
     match draft_from(alloc, document) {
         Ok(draft) => push_draft_flaws(alloc, flaws, &draft),

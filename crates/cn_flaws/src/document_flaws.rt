@@ -74,8 +74,8 @@ fn push_other_keys(
 ) -> Result<(), AllocError>
     ensures { OnOk result (flaws_view flaws.new
         ≡ flaws_view flaws.old
-            ++ other_keys before.now after.now (map (λ k. k.now) known.now)
-                (keys_in (table_view table.now))) }
+        ++ other_keys before.now after.now (map (λ k. k.now) known.now)
+        (keys_in (table_view table.now))) }
 {
     for key in table.keys() {
         if !is_one_of(known, key.as_str()) {
@@ -102,7 +102,7 @@ fn push_missing_keys(
 ) -> Result<(), AllocError>
     ensures { OnOk result (flaws_view flaws.new
         ≡ flaws_view flaws.old
-            ++ missing_keys place.now (map (λ k. k.now) known.now) (table_view table.now)) }
+        ++ missing_keys place.now (map (λ k. k.now) known.now) (table_view table.now)) }
 {
     for key in known {
         if value_at(table, *key).is_none() {
@@ -175,9 +175,9 @@ fn push_table_kinds(
 ) -> Result<(), AllocError>
     ensures { OnOk result (flaws_view flaws.new
         ≡ flaws_view flaws.old
-            ++ (wrong_kind Kind.Text before.now (codes "name") (table_view table.now)
-                ++ (wrong_kind Kind.Texts before.now (codes "response") (table_view table.now)
-                    ++ wrong_kind Kind.Texts before.now (codes "next") (table_view table.now)))) }
+        ++ (wrong_kind Kind.Text before.now (codes "name") (table_view table.now)
+        ++ (wrong_kind Kind.Texts before.now (codes "response") (table_view table.now)
+        ++ wrong_kind Kind.Texts before.now (codes "next") (table_view table.now)))) }
 {
     push_wrong_kind(alloc, flaws, Kind::Text, before, "name", table)?;
     push_wrong_kind(alloc, flaws, Kind::Texts, before, "response", table)?;

@@ -47,7 +47,7 @@ fn push_bad_names(
 ) -> Result<(), AllocError>
     ensures { OnOk result (flaws_view flaws.new
         ≡ flaws_view flaws.old
-            ++ flat_map (bad_name what.now) (map (λ s. string_bytes s) names.now)) }
+        ++ flat_map (bad_name what.now) (map (λ s. string_bytes s) names.now)) }
 {
     for name in names {
         push_bad_name(alloc, flaws, what, name.as_str())?;
@@ -282,9 +282,9 @@ fn push_unknown_entries(
 ) -> Result<(), AllocError>
     ensures { OnOk result (flaws_view flaws.new
         ≡ flaws_view flaws.old
-            ++ each
-                (unknown_entry operation.now row.now what.now (map (λ s. string_bytes s) names.now))
-                0 (map (λ s. string_bytes s) texts.now)) }
+        ++ each
+        (unknown_entry operation.now row.now what.now (map (λ s. string_bytes s) names.now))
+        0 (map (λ s. string_bytes s) texts.now)) }
 {
     let brackets = names_in_brackets(alloc, names)?;
     for (k, text) in texts.iter().enumerate() {
@@ -314,8 +314,8 @@ fn push_row_entries(
 ) -> Result<(), AllocError>
     ensures { OnOk result (flaws_view flaws.new
         ≡ flaws_view flaws.old
-            ++ row_entries (map (λ s. string_bytes s) states.now)
-                (map (λ s. string_bytes s) responses.now) i (row_view row.now)) }
+        ++ row_entries (map (λ s. string_bytes s) states.now)
+        (map (λ s. string_bytes s) responses.now) i (row_view row.now)) }
 {
     let operation = operation_text(alloc, i, row.name.as_str())?;
     let place = operation.as_str();
@@ -340,9 +340,9 @@ fn push_all_entries(
 ) -> Result<(), AllocError>
     ensures { OnOk result (flaws_view flaws.new
         ≡ flaws_view flaws.old
-            ++ each
-                (row_entries (map (λ s. string_bytes s) states.now)
-                    (map (λ s. string_bytes s) responses.now)) 0 (map row_view rows.now)) }
+        ++ each
+        (row_entries (map (λ s. string_bytes s) states.now)
+        (map (λ s. string_bytes s) responses.now)) 0 (map row_view rows.now)) }
 {
     for (i, row) in rows.iter().enumerate() {
         push_row_entries(alloc, flaws, states, responses, i, row)?;

@@ -93,7 +93,7 @@ pub(crate) fn states_text(alloc: Global, count: usize) -> Result<String, AllocEr
 fn push_names(text: &mut String, names: &[String]) -> Result<(), AllocError>
     ensures { OnOk result (string_bytes text.new
         ≡ string_bytes text.old
-            ++ joined_texts (codes ", ") (map (λ s. string_bytes s) names.now)) }
+        ++ joined_texts (codes ", ") (map (λ s. string_bytes s) names.now)) }
 {
     let [first, rest @ ..] = names else {
         return Ok(());

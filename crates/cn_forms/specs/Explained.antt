@@ -1,5 +1,6 @@
 -- The text of `explain`: the number, the table, why the number is so much, and why it is no more.
-use Rattle.std.specs.Prelude.{ℕ, ◌+◌, ◌-◌, List, [], ◌∷◌, ◌++◌, length, codes, Bool, ◌==◌, nat_lt, Option, Some, None, if◌then◌else◌, flat_map, slice_index, take}
+use Rattle.std.specs.Prelude.{ℕ, ◌+◌, ◌-◌, List, [], ◌∷◌, ◌++◌, length, codes, Bool, ◌==◌, nat_lt, Option, Some, None}
+use Rattle.std.specs.Prelude.{if◌then◌else◌, flat_map, slice_index, take}
 use Rattle.std.specs.List.{range_with_len}
 use Rattle.std.specs.Fmt.{decimal}
 use Rattle.cn_forms.specs.Grid.{cells_text}
@@ -62,7 +63,8 @@ sight t j (Some pair) = codes "     p" ++ decimal j ++ codes " " ++ pair_words t
 -- a run from the start state in an order that begins in the team, and what process j sees of it
 abbrev pub run_line : TypeTable → RawChoice → Team → List ℕ → ℕ → List ℕ
 run_line t c team order j =
-    codes "       " ++ team_name team ++ codes " first:  " ++ name_at t.states c.state ++ steps_text t c c.state order ++ sight t j (pair_of t c order j) ++ codes "\n"
+    codes "       " ++ team_name team ++ codes " first:  " ++ name_at t.states c.state ++ steps_text t c c.state order
+    ++ sight t j (pair_of t c order j) ++ codes "\n"
 
 -- ---- why the number is so much
 

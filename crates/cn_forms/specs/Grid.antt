@@ -1,5 +1,6 @@
 -- A table as a grid: a line for each operation, a column for each state.
-use Rattle.std.specs.Prelude.{◌≡◌, codes, ℕ, ◌+◌, ◌-◌, max, List, [], ◌∷◌, ◌++◌, ◌==◌, length, nat_lt, flat_map, replicate, get_or, Bool, false, Option, Some, None, if◌then◌else◌}
+use Rattle.std.specs.Prelude.{◌≡◌, codes, ℕ, ◌+◌, ◌-◌, max, List, [], ◌∷◌, ◌++◌, ◌==◌, length, nat_lt, flat_map}
+use Rattle.std.specs.Prelude.{replicate, get_or, Bool, false, Option, Some, None, if◌then◌else◌}
 use Rattle.std.specs.List.{range_with_len}
 use Rattle.cn_table.specs.Names.{name_at}
 use Rattle.cn_table.specs.TypeTable.{TypeTable, operation_names, transition}

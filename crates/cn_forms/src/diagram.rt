@@ -28,7 +28,7 @@ pub fn diagram_of(alloc: Global, table: &Table) -> Result<String, AllocError>
 fn push_states(text: &mut String, table: &Table) -> Result<(), AllocError>
     ensures { OnOk result (string_bytes text.new
         ≡ string_bytes text.old
-            ++ flat_map (state_dot table.now) (range_with_len 0 (length table.now.states))) }
+        ++ flat_map (state_dot table.now) (range_with_len 0 (length table.now.states))) }
 {
     for state in 0..table.states() {
         push_state(text, table, State(state))?;
@@ -47,7 +47,7 @@ fn push_state(text: &mut String, table: &Table, state: State) -> Result<(), Allo
 fn push_all_arrows(alloc: Global, text: &mut String, table: &Table) -> Result<(), AllocError>
     ensures { OnOk result (string_bytes text.new
         ≡ string_bytes text.old
-            ++ flat_map (arrows_dot table.now) (range_with_len 0 (length table.now.states))) }
+        ++ flat_map (arrows_dot table.now) (range_with_len 0 (length table.now.states))) }
 {
     for from in 0..table.states() {
         push_arrows(alloc, text, table, State(from))?;

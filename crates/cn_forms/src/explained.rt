@@ -57,8 +57,8 @@ fn push_all_pair_rows(
     requires { FitsTable table.now witness.now }
     ensures { OnOk result (string_bytes text.new
         ≡ string_bytes text.old
-            ++ flat_map (seen_rows table.now witness.now)
-                (range_with_len 0 (length witness.now.a + length witness.now.b))) }
+        ++ flat_map (seen_rows table.now witness.now)
+        (range_with_len 0 (length witness.now.a + length witness.now.b))) }
 {
     for process in 0..(witness.a.len() + witness.b.len()) as u8 {
         push_pair_rows(alloc, text, table, witness, process)?;

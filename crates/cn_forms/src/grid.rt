@@ -239,8 +239,8 @@ fn push_state_marks(
 ) -> Result<(), AllocError>
     ensures { OnOk result (string_bytes text.new
         ≡ string_bytes text.old
-            ++ flat_map (λ q. state_mark table.now q (get_or reached.now q false))
-                (range_with_len 0 (length table.now.states))) }
+        ++ flat_map (λ q. state_mark table.now q (get_or reached.now q false))
+        (range_with_len 0 (length table.now.states))) }
 {
     for q in 0..table.states() {
         push_state_mark(text, table, State(q), reached[q as usize])?;

@@ -103,8 +103,8 @@ impl Hall {
         ensures said { G.says gate.new ≡ go_after result }
         ensures asked { (mine : Entry) → pending seat.old ≡ Some mine
             → IsAsked G.asks G.says mine seat.old
-                (asked_times result (steps_since seat.old.process seat.old.core seat.new.core))
-                gate.old gate.new }
+            (asked_times result (steps_since seat.old.process seat.old.core seat.new.core))
+            gate.old gate.new }
     {
         seats_have_their_calls(seat);
         every_log();
@@ -147,7 +147,7 @@ impl Hall {
         ensures same { IsSameSeat seat.old seat.new }
         ensures seen { BeginsWith (entries_seen seat.new) (entries_seen seat.old) }
         ensures reply { IfOk result (λ r. MakesCall seat.old.process operation.0 seat.old.core
-                seat.new.core × IsReply (next_call seat.old operation.0) seat.new r) }
+            seat.new.core × IsReply (next_call seat.old operation.0) seat.new r) }
         ensures fault { IfErr result (λ e. CallFails operation.0 e seat.old seat.new) }
         ensures told { length (slots_seen seat.old) ≡ seat.old.core.opening.capacity
             → (result ≡ Err LogFull) × (seat.new ≡ seat.old) × (gate.new ≡ gate.old) }
@@ -210,8 +210,8 @@ impl Hall {
             seats.items }
         ensures answers { All
             (λ s. BeginsWith
-                (replies_from (setting result) s.process []
-                    (batches (setting result) result.schedule)) (own s)) seats.items }
+            (replies_from (setting result) s.process []
+            (batches (setting result) result.schedule)) (own s)) seats.items }
     {
         let Hall { queue } = self;
         let mut seats = seats;

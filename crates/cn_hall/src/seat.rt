@@ -24,8 +24,12 @@ impl Model for Seat {
 
     ghost Value = { SeatState };
 
-    ghost view = { λ s. record { hall = s.pass.table_id; process = s.process;
-        core = core_of (known s.pass); held = is_held (known s.pass).held } };
+    ghost view = { λ s. record {
+      hall = s.pass.table_id;
+      process = s.process;
+      core = core_of (known s.pass);
+      held = is_held (known s.pass).held;
+    } };
 
     ghost invariant = { λ s. let core = core_of (known s.pass) in
         (s.pass.me.1 ≡ []) × IsOfSeat (known s.pass) s.process core

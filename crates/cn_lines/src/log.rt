@@ -113,7 +113,7 @@ pub fn entry_lines(
         (entries (setting core.now) core.now.schedule) }
     ensures { IfOk result (λ lines. string_bytes lines
         ≡ entry_lines object.now start.0 (entries (setting core.now) core.now.schedule)
-            (entry_slots (setting core.now) core.now.schedule)) }
+        (entry_slots (setting core.now) core.now.schedule)) }
 {
     let mut lines = String::new(alloc);
     let mut state = start;

@@ -44,7 +44,7 @@ pub fn replay(
     ensures schedule { IfOk result (λ core. core.schedule ≡ events.now) }
     ensures fault { IfErr result (λ fault. fault ≢ OutOfMemory
         → IsFirstEventFault (setting_of (opening_of plan.now object.now start.0 capacity))
-            events.now fault) }
+        events.now fault) }
 
     // Where there is no fault, these are events that can come, and the log is as it should be.
     ensures events { IfOk result (λ core. IsEventList (setting core) core.schedule) }

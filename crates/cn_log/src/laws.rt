@@ -32,7 +32,7 @@ pub(crate) fn rounds_agree()
         → (p : ℕ) → p < processes_of o.plan → (local_at w p ≡ NotBegun) ↔ (input_at w p ≡ None) }
     ensures sizes { (o : OpeningOf) → IsPlan o.plan → (w : RoundWorld BatchOf) → RunsBy o.plan w
         → (length w.nodes ≡ nodes_of o.plan) × (length w.locals ≡ processes_of o.plan)
-            × (length w.inputs ≡ processes_of o.plan) }
+        × (length w.inputs ≡ processes_of o.plan) }
 {
     every_plan();
     every_round::<Batch>();
@@ -49,8 +49,8 @@ pub(crate) fn openings_are_valid(opening: &Opening)
         → (local_at w p ≡ NotBegun) ↔ (input_at w p ≡ None) }
     ensures sizes { (w : RoundWorld BatchOf) → RunsBy opening.now.plan w
         → (length w.nodes ≡ nodes_of opening.now.plan)
-            × (length w.locals ≡ processes_of opening.now.plan)
-            × (length w.inputs ≡ processes_of opening.now.plan) }
+        × (length w.locals ≡ processes_of opening.now.plan)
+        × (length w.inputs ≡ processes_of opening.now.plan) }
 {
     plans_are_sound(&opening.plan);
     rounds_agree();
@@ -102,7 +102,7 @@ pub fn logs_are_linearized(core: &LogCore)
 pub fn every_fault()
     ensures { (o : OpeningOf) (events : List EventOf) (place : ℕ) (event : EventOf)
         → (event_fault (setting_of o) (state_of (setting_of o) events) place event ≡ None)
-            ↔ MayCome (setting_of o) (state_of (setting_of o) events) event }
+        ↔ MayCome (setting_of o) (state_of (setting_of o) events) event }
 {}
 
 /// The law of what a process knows: `front`, a beginning of a list of events is one; `stays`, events
@@ -117,9 +117,12 @@ pub fn every_caller()
         → caller_of (setting_of o) (before ++ rest) p ≡ caller_of (setting_of o) before p }
     ensures invoked { (o : OpeningOf) (events : List EventOf) (p operation : ℕ)
         → let here = caller_of (setting_of o) events p in
-            caller_of (setting_of o) (events ++ Invoke p operation ∷ []) p
-            ≡ record { seen = here.seen; calls = here.calls + 1;
-                phase = first_look (call_of p operation here.calls) } }
+        caller_of (setting_of o) (events ++ Invoke p operation ∷ []) p
+        ≡ record {
+          seen = here.seen;
+          calls = here.calls + 1;
+          phase = first_look (call_of p operation here.calls);
+        } }
     ensures pending { (o : OpeningOf) (events : List EventOf) (p : ℕ) (mine : EntryOf) → IsOpening o
         → IsEventList (setting_of o) events
         → pending_in (caller_of (setting_of o) events p).phase ≡ Some mine
@@ -128,7 +131,7 @@ pub fn every_caller()
         → IsEventList (setting_of o) (events ++ Step p ∷ [])
         → pending_in (caller_of (setting_of o) events p).phase ≡ Some mine
         → IsStepped (setting_of o) p (caller_of (setting_of o) events p) mine
-            (caller_of (setting_of o) (events ++ Step p ∷ []) p) (answer (setting_of o) events p) }
+        (caller_of (setting_of o) (events ++ Step p ∷ []) p) (answer (setting_of o) events p) }
     ensures replayed { (o : OpeningOf) (events : List EventOf) (p : ℕ) → IsOpening o
         → IsEventList (setting_of o) events
         → BeginsWith (batches (setting_of o) events) (caller_of (setting_of o) events p).seen }
@@ -148,15 +151,15 @@ pub fn every_call()
         → calls_by p (before ++ rest) ≡ calls_by p before }
     ensures called { (o : OpeningOf) (events : List EventOf) (p operation : ℕ)
         → calls_by p (events ++ Invoke p operation ∷ [])
-            ≡ calls_by p events ++ call_of p operation (caller_of (setting_of o) events p).calls
-                ∷ [] }
+        ≡ calls_by p events ++ call_of p operation (caller_of (setting_of o) events p).calls
+        ∷ [] }
     ensures own { (o : OpeningOf) (events : List EventOf) (p : ℕ) → IsOpening o
         → IsEventList (setting_of o) events → HasAppliedItsOwn (setting_of o) events p }
     ensures own_stepped { (o : OpeningOf) (events : List EventOf) (p : ℕ) (mine : EntryOf)
         → IsOpening o → IsEventList (setting_of o) (events ++ Step p ∷ [])
         → pending_in (caller_of (setting_of o) events p).phase ≡ Some mine
         → HasAppliedBy (setting_of o) (events ++ Step p ∷ []) p mine
-            (answer (setting_of o) events p) }
+        (answer (setting_of o) events p) }
     ensures made { (o : OpeningOf) (events : List EventOf) (p : ℕ) → IsOpening o
         → IsEventList (setting_of o) events
         → BeginsWith (calls_by p events) (entries_by p (entries (setting_of o) events)) }

@@ -55,7 +55,7 @@ impl Model for LogCore {
     ghost invariant = { λ c. IsStateAfter c.opening.value c.schedule.items c.state.value
         × HasRoom c.opening.value c.state.value
         × (event_room (processes_of c.opening.value.plan) c.opening.value.capacity
-            ≤ vec_capacity c.schedule) };
+        ≤ vec_capacity c.schedule) };
 }
 
 impl LogCore {
@@ -143,7 +143,7 @@ impl LogCore {
             ≡ call_end (setting self.old) self.old.schedule event) }
         ensures range { IfOk result (λ end. IfSome end (EndsWithResponse self.old.opening.object)) }
         ensures fault { IfErr result (λ fault. event_fault (setting self.old)
-                (state_of (setting self.old) self.old.schedule) (length self.old.schedule) event
+            (state_of (setting self.old) self.old.schedule) (length self.old.schedule) event
             ≡ Some fault) }
         ensures first { IfErr result (λ fault. (rest : List EventOf)
             → IsFirstEventFault (setting self.old) (self.old.schedule ++ event ∷ rest) fault) }
@@ -249,10 +249,10 @@ impl LogCore {
         requires { p < processes_of self.now.opening.plan }
         ensures end { IsTrue result
             ↔ (length ((state_of (setting self.now) self.now.schedule).caller p).seen
-                ≡ self.now.opening.capacity) }
+            ≡ self.now.opening.capacity) }
         ensures before { IsFalse result
             ↔ (length ((state_of (setting self.now) self.now.schedule).caller p).seen
-                < self.now.opening.capacity) }
+            < self.now.opening.capacity) }
     {
         self.applied_slots(p) == self.opening.capacity
     }
@@ -262,7 +262,7 @@ impl LogCore {
 fn empty_schedule(alloc: Global, opening: &Opening) -> Result<Vec<Event>, AllocError>
     ensures empty { IfOk result (λ schedule. schedule.items ≡ []) }
     ensures room { IfOk result (λ schedule. event_room (processes_of opening.now.plan)
-            opening.now.capacity ≤ vec_capacity schedule) }
+        opening.now.capacity ≤ vec_capacity schedule) }
 {
     laws::openings_are_valid(opening);
     let processes = usize::from(opening.plan.processes());

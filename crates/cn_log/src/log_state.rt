@@ -90,7 +90,7 @@ impl LogState {
     pub fn invoke(&mut self, opening: &Opening, p: u8, operation: Operation)
         requires { (s : List EventOf) × IsStateAfter opening.now s self.old
             × MayInvoke (setting_of opening.now) (state_of (setting_of opening.now) s) p
-                operation.0 }
+            operation.0 }
         ensures room { HasSameRoom self.old self.new }
         ensures keeps { (s : List EventOf) → IsStateAfter opening.now s self.old
             → MayInvoke (setting_of opening.now) (state_of (setting_of opening.now) s) p operation.0
@@ -248,10 +248,10 @@ fn enter(
         → vec_len slots.old + processes ≤ vec_capacity slots.old }
     ensures entries { entries.new.items
         ≡ entries.old.items
-            ++ entries_in processes (next_batch fixed.old slot (fixed_value round.now)) }
+        ++ entries_in processes (next_batch fixed.old slot (fixed_value round.now)) }
     ensures slots { slots.new.items
         ≡ slots.old.items
-            ++ slots_from processes slot (next_batch fixed.old slot (fixed_value round.now)) }
+        ++ slots_from processes slot (next_batch fixed.old slot (fixed_value round.now)) }
     ensures fixed { fixed.new
         ≡ fixed.old + length (next_batch fixed.old slot (fixed_value round.now)) }
     ensures room { vec_capacity entries.new ≡ vec_capacity entries.old }
@@ -291,13 +291,13 @@ fn replay_batch(opening: &Opening, here: CallerState, mine: Entry, batch: Batch)
     ensures calls_places { length result.caller.calls_seen.calls ≡ MOST_PROCESSES }
     ensures calls_seen { (q : ℕ) → q < processes_of opening.now.plan
         → count_at result.caller.calls_seen q
-            ≡ count_at here.calls_seen q + length (and_entry (entry_at batch q) []) }
+        ≡ count_at here.calls_seen q + length (and_entry (entry_at batch q) []) }
     ensures calls { result.caller.calls ≡ here.calls }
     ensures phase { result.caller.phase
         ≡ phase_after (setting_of opening.now) here.applied_slots mine batch }
     ensures state { result.caller.state.0
         ≡ run_of opening.now.object here.state.0
-            (operations_of (members (processes_of opening.now.plan) 0 batch)) }
+        (operations_of (members (processes_of opening.now.plan) 0 batch)) }
     ensures known { result.caller.state.0 < length opening.now.object.states }
     ensures answer { result.answer
         ≡ reply (setting_of opening.now) here.applied_slots here.state.0 mine batch }

@@ -14,7 +14,7 @@ use cn_table::Operation;
 pub(crate) fn fault_of(core: &LogCore, event: Event) -> Option<ReplayFault>
     ensures { result
         ≡ event_fault (setting core.now) (state_of (setting core.now) core.now.schedule)
-            (length core.now.schedule) event }
+        (length core.now.schedule) event }
 {
     let place = core.schedule().len() as u64;
     let (Event::Invoke(p, _) | Event::Step(p)) = event;

@@ -2,7 +2,8 @@
 use Rattle.std.specs.Prelude.{ℕ, List, ◌++◌, Option, Some, None, codes}
 use Rattle.std.specs.Fmt.{decimal}
 use Rattle.cn_table.specs.declared.fault.TableFault.{TableFault}
-use Rattle.cn_table.specs.declared.fault.TableFault.TheVariants.{NotToml, UnknownKey, MissingKey, WrongKind, BadName, Count, Repeated, RowLength, UnknownName, OutOfMemory}
+use Rattle.cn_table.specs.declared.fault.TableFault.TheVariants.{NotToml, UnknownKey, MissingKey, WrongKind, BadName}
+use Rattle.cn_table.specs.declared.fault.TableFault.TheVariants.{Count, Repeated, RowLength, UnknownName, OutOfMemory}
 
 -- a fault's number and its name, and the number that it carries, if it carries one, with one space between them
 abbrev pub numbered_text : ℕ → List ℕ → Option ℕ → List ℕ

@@ -1,5 +1,6 @@
 -- The nine faults that bytes can have as a table, and what reading the bytes comes to.
-use Rattle.std.specs.Prelude.{codes, ℕ, List, [], ◌∷◌, length, ◌==◌, Bool, false, ◌||◌, ◌&&◌, not, Option, Result, Err, is_none, is_some, nat_le, find, option_and_then}
+use Rattle.std.specs.Prelude.{codes, ℕ, List, [], ◌∷◌, length, ◌==◌, Bool, false, ◌||◌, ◌&&◌, not, Option, Result, Err}
+use Rattle.std.specs.Prelude.{is_none, is_some, nat_le, find, option_and_then}
 use Rattle.std.specs.List.{list_all, list_any}
 use Rattle.std.specs.Option.{option_map_or, ok_or}
 use Rattle.std.specs.Str.{bytes_eq}
@@ -11,7 +12,8 @@ use Rattle.cn_table.specs.Numbering.{table_from}
 use Rattle.cn_table.specs.TypeTable.{TypeTable}
 use Rattle.cn_table.specs.declared.fault.TableFault.{TableFault}
 use Rattle.cn_table.specs.declared.limits.TheConstants.{MOST_OPERATIONS, MOST_RESPONSES, MOST_STATES}
-use Rattle.cn_table.specs.declared.fault.TableFault.TheVariants.{NotToml, UnknownKey, MissingKey, WrongKind, BadName, Count, Repeated, RowLength, UnknownName, OutOfMemory}
+use Rattle.cn_table.specs.declared.fault.TableFault.TheVariants.{NotToml, UnknownKey, MissingKey, WrongKind, BadName}
+use Rattle.cn_table.specs.declared.fault.TableFault.TheVariants.{Count, Repeated, RowLength, UnknownName, OutOfMemory}
 
 -- the keys of the root, and of an operation
 abbrev pub root_keys : List (List ℕ)

@@ -61,7 +61,7 @@ pub fn is_one_of(keys: &[&str], key: &str) -> bool
 fn some_entry_is_other(table: &Table, known: &[&str]) -> bool
     ensures { result
         ≡ list_any (λ k. not (list_any (λ l. bytes_eq l.now (string_bytes k)) known.now))
-            (keys_of table.now.entries) }
+        (keys_of table.now.entries) }
 {
     table.keys().any(|key| !is_one_of(known, key.as_str()))
 }
@@ -76,10 +76,10 @@ fn has_other_key(table: &Table, known: &[&str]) -> bool
 fn some_entry_is_missing(table: &Table, known: &[&str]) -> bool
     ensures { result
         ≡ list_any
-            (λ k. not
-                (is_some
-                    (lookup (is_at (λ x. slice_cmp nat_cmp k.now (string_bytes x)))
-                        table.now.entries))) known.now }
+        (λ k. not
+        (is_some
+        (lookup (is_at (λ x. slice_cmp nat_cmp k.now (string_bytes x)))
+        table.now.entries))) known.now }
 {
     known.iter().any(|key| !table.contains_key(*key))
 }
@@ -94,7 +94,7 @@ fn lacks_a_key(table: &Table, known: &[&str]) -> bool
 fn some_value_has_other_key(values: &[Value]) -> bool
     ensures { result
         ≡ list_any (λ v. option_map_or (has_other_key operation_keys) (as_table (view v)) false)
-            values.now }
+        values.now }
 {
     values.iter().any(|value| match value.as_table() {
         Some(table) => has_other_key(table, &OPERATION_KEYS),
@@ -122,7 +122,7 @@ pub(crate) fn has_unknown_key(document: &Table) -> bool
 fn some_value_lacks_a_key(values: &[Value]) -> bool
     ensures { result
         ≡ list_any (λ v. option_map_or (lacks_a_key operation_keys) (as_table (view v)) false)
-            values.now }
+        values.now }
 {
     values.iter().any(|value| match value.as_table() {
         Some(table) => lacks_a_key(table, &OPERATION_KEYS),

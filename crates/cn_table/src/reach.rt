@@ -27,11 +27,11 @@ impl Table {
         requires { from.0 < length self.now.states }
         ensures { MatchOption result
             ((o : ℕ) → o < length self.now.operations
-                → get_or marked.now (transition self.now o from.0).1 false ≡ true)
+            → get_or marked.now (transition self.now o from.0).1 false ≡ true)
             (λ q. (q.0 < length self.now.states) × (q.0 < MOST_STATES)
-                × (get_or marked.now q.0 false ≡ false)
-                × ((o : ℕ) × (o < length self.now.operations)
-                    × ((transition self.now o from.0).1 ≡ q.0))) }
+            × (get_or marked.now q.0 false ≡ false)
+            × ((o : ℕ) × (o < length self.now.operations)
+            × ((transition self.now o from.0).1 ≡ q.0))) }
     {
         for o in 0..self.operations() {
             let next = self.next(Operation(o), from);
@@ -46,13 +46,13 @@ impl Table {
     fn next_unmarked(&self, marked: &[bool; MOST_STATES]) -> Option<State>
         ensures way { MatchOption result
             ((p : ℕ) → p < length self.now.states → get_or marked.now p false ≡ true
-                → (o : ℕ) → o < length self.now.operations
-                → get_or marked.now (transition self.now o p).1 false ≡ true)
+            → (o : ℕ) → o < length self.now.operations
+            → get_or marked.now (transition self.now o p).1 false ≡ true)
             (λ q. (q.0 < length self.now.states) × (q.0 < MOST_STATES)
-                × (get_or marked.now q.0 false ≡ false)
-                × ((p : ℕ) × (p < length self.now.states) × (get_or marked.now p false ≡ true)
-                    × ((o : ℕ) × (o < length self.now.operations)
-                        × ((transition self.now o p).1 ≡ q.0)))) }
+            × (get_or marked.now q.0 false ≡ false)
+            × ((p : ℕ) × (p < length self.now.states) × (get_or marked.now p false ≡ true)
+            × ((o : ℕ) × (o < length self.now.operations)
+            × ((transition self.now o p).1 ≡ q.0)))) }
         ensures table { IsTypeTable self.now }
     {
         for p in 0..self.states() {

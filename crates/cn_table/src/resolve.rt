@@ -39,7 +39,7 @@ fn transitions(
     requires responses { length responses.now ≤ MOST_RESPONSES }
     ensures { Reads TableFault.UnknownName transitions_view result
         (row_from (map (λ s. string_bytes s) states.now) (map (λ s. string_bytes s) responses.now)
-            (row_view row.now)) }
+        (row_view row.now)) }
 {
     let response = numbers(alloc, responses, &row.response)?;
     let next = numbers(alloc, states, &row.next)?;
@@ -61,7 +61,7 @@ fn all_transitions(
     requires responses { length responses.now ≤ MOST_RESPONSES }
     ensures { Reads TableFault.UnknownName transitions_views result
         (rows_from (map (λ s. string_bytes s) states.now) (map (λ s. string_bytes s) responses.now)
-            (map row_view rows.now)) }
+        (map row_view rows.now)) }
 {
     let mut out = Vec::new(alloc);
     for row in rows {

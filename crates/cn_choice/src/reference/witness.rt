@@ -56,7 +56,7 @@ fn sees_the_same(table: &Table, choice: &RawChoice, alpha: &[u8], beta: &[u8], p
     requires beta_known { All (λ p. p < length choice.now.operations) beta.now }
     ensures { IsTrue result
         ↔ ((pair : ℕ × ℕ) × (pair_of table.now choice.now alpha.now process ≡ Some pair)
-            × (pair_of table.now choice.now beta.now process ≡ Some pair)) }
+        × (pair_of table.now choice.now beta.now process ≡ Some pair)) }
 {
     match (
         raw_pair(table, choice, alpha, process),
@@ -124,8 +124,8 @@ fn any_collide(table: &Table, choice: &RawChoice, orders: &[ArrayVec<u8, MOST_PR
         orders.now }
     ensures { IsTrue result
         ↔ Any
-            (λ alpha. Any (λ beta. Collide table.now choice.now alpha.items beta.items) orders.now)
-            orders.now }
+        (λ alpha. Any (λ beta. Collide table.now choice.now alpha.items beta.items) orders.now)
+        orders.now }
 {
     for alpha in orders {
         if collides_with_any(table, choice, alpha.as_slice(), orders) {

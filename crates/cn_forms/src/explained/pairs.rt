@@ -55,7 +55,11 @@ fn pairs_of(
 }
 
 /// What a process got and reads.
-pub(crate) fn push_pair_words(text: &mut String, table: &Table, pair: (u8, u8)) -> Result<(), AllocError>
+pub(crate) fn push_pair_words(
+    text: &mut String,
+    table: &Table,
+    pair: (u8, u8),
+) -> Result<(), AllocError>
     requires response { pair.0 < length table.now.responses }
     requires state { pair.1 < length table.now.states }
     ensures { OnOk result (string_bytes text.new
@@ -105,7 +109,11 @@ fn push_before_right(text: &mut String, row: usize) -> Result<(), AllocError>
     }
 }
 
-fn push_left_part(text: &mut String, table: &Table, pair: Option<(u8, u8)>) -> Result<(), AllocError>
+fn push_left_part(
+    text: &mut String,
+    table: &Table,
+    pair: Option<(u8, u8)>,
+) -> Result<(), AllocError>
     requires { IfSome pair (λ x. (x.0 < length table.now.responses)
         × (x.1 < length table.now.states)) }
     ensures { OnOk result (string_bytes text.new

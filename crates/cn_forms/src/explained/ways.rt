@@ -158,7 +158,7 @@ pub(crate) fn push_both_teams(
     requires { FitsTable table.now choice.now }
     ensures { OnOk result (string_bytes text.new
         ≡ string_bytes text.old
-            ++ both_teams table.now choice.now a_word.now between.now b_word.now) }
+        ++ both_teams table.now choice.now a_word.now between.now b_word.now) }
 {
     let raw = RawChoice::of(choice);
     let (a, b) = (choice.a.len() as u8, choice.b.len() as u8);

@@ -59,7 +59,7 @@ fn push_node(text: &mut String, node: u8) -> Result<(), AllocError>
 fn push_processes(text: &mut String, plan: &Plan) -> Result<(), AllocError>
     ensures { OnOk result (string_bytes text.new
         ≡ string_bytes text.old
-            ++ flat_map (process_dot plan.now) (range_with_len 0 (processes_of plan.now))) }
+        ++ flat_map (process_dot plan.now) (range_with_len 0 (processes_of plan.now))) }
 {
     for process in 0..plan.processes() {
         push_process(text, plan, process)?;
