@@ -69,10 +69,10 @@ abbrev pub title : TypeTable → List ℕ
 title t = t.name ++ codes "\n"
 
 unfoldable pub grid_text : TypeTable → List Bool → List ℕ
-grid_text t reached =
-    title t ++ (cells_text t ++ (flat_map (λ q. state_mark t q (get_or reached q false)) (range_with_len 0 (length t.states))
+grid_text t reached_states =
+    title t ++ (cells_text t ++ (flat_map (λ q. state_mark t q (get_or reached_states q false)) (range_with_len 0 (length t.states))
     ++ flat_map (operation_mark t) (range_with_len 0 (length t.operations))))
 
 -- the text of the grid of a table
 abbrev pub IsGrid : TypeTable → List ℕ → Type 0
-IsGrid t text = (reached : List Bool) × AreReached t reached × (text ≡ grid_text t reached)
+IsGrid t text = (reached_states : List Bool) × AreReached t reached_states × (text ≡ grid_text t reached_states)

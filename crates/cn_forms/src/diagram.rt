@@ -116,8 +116,8 @@ fn push_line(
     ensures { OnOk result (string_bytes label.new
         ≡ string_bytes label.old ++ line_dot table.now from.0 next.0 operation.0) }
 {
-    let (response, reached) = table.apply(operation, from);
-    if reached.0 != next.0 {
+    let (response, target) = table.apply(operation, from);
+    if target.0 != next.0 {
         return Ok(());
     }
     let operation = table.operation_name(operation);

@@ -21,23 +21,23 @@ use std::alloc::{AllocError, Global};
 pub fn grid_of(alloc: Global, table: &Table) -> Result<String, AllocError>
     ensures { IfOk result (λ text. IsGrid table.now (string_bytes text)) }
 {
-    let reached = table.reached();
+    let reached_states = table.reached_states();
     let mut text = String::new(alloc);
-    push_grid(&mut text, table, &reached)?;
+    push_grid(&mut text, table, &reached_states)?;
     Ok(text)
 }
 
 fn push_grid(
     text: &mut String,
     table: &Table,
-    reached: &[bool; MOST_STATES],
+    reached_states: &[bool; MOST_STATES],
 ) -> Result<(), AllocError>
     ensures { OnOk result (string_bytes text.new ≡ string_bytes text.old
-        ++ grid_text table.now reached.now) }
+        ++ grid_text table.now reached_states.now) }
 {
     push_title(text, table)?;
     push_cells(text, table)?;
-    push_state_marks(text, table, reached)?;
+    push_state_marks(text, table, reached_states)?;
     push_operation_marks(text, table)
 }
 
@@ -235,15 +235,15 @@ fn operation_width(table: &Table) -> usize
 fn push_state_marks(
     text: &mut String,
     table: &Table,
-    reached: &[bool; MOST_STATES],
+    reached_states: &[bool; MOST_STATES],
 ) -> Result<(), AllocError>
     ensures { OnOk result (string_bytes text.new
         ≡ string_bytes text.old
-        ++ flat_map (λ q. state_mark table.now q (get_or reached.now q false))
+        ++ flat_map (λ q. state_mark table.now q (get_or reached_states.now q false))
         (range_with_len 0 (length table.now.states))) }
 {
     for q in 0..table.states() {
-        push_state_mark(text, table, State(q), reached[q as usize])?;
+        push_state_mark(text, table, State(q), reached_states[q as usize])?;
     }
     Ok(())
 }

@@ -66,7 +66,7 @@ impl Table {
     }
 
     /// For each state, by its number, whether operations lead to it from the first one.
-    pub fn reached(&self) -> [bool; MOST_STATES]
+    pub fn reached_states(&self) -> [bool; MOST_STATES]
         ensures { AreReached self.now result }
     {
         let mut marked = [false; MOST_STATES];

@@ -8,7 +8,7 @@ pub returns : goal.returns
 unfolding grid_text
 returns c =
     let t = c.args.table.now in
-    let states = flat_map (λ q. state_mark t q (get_or c.args.reached.now q false)) (range_with_len 0 (length t.states)) in
+    let states = flat_map (λ q. state_mark t q (get_or c.args.reached_states.now q false)) (range_with_len 0 (length t.states)) in
     let marks = flat_map (operation_mark t) (range_with_len 0 (length t.operations)) in
     let r = c.push_operation_marks.result in
     let new = string_bytes c.push_operation_marks.new.text in

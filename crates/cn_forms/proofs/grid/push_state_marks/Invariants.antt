@@ -5,4 +5,4 @@ use Rattle.cn_forms.proofs.grid.push_state_marks.Given as goal
 
 -- what is written so far
 abbrev pub invariant-loop-q : goal.invariant-loop-q
-invariant-loop-q l = string_bytes l.text ≡ string_bytes l.initial.text ++ flat_map (λ q. state_mark l.table q (get_or l.reached q false)) (range_with_len 0 l.q)
+invariant-loop-q l = string_bytes l.text ≡ string_bytes l.initial.text ++ flat_map (λ q. state_mark l.table q (get_or l.reached_states q false)) (range_with_len 0 l.q)

@@ -1,6 +1,6 @@
 use Rattle.std.proofs.Common.{◌∙◌, inl, inr, arith, refl}
 use Rattle.cn_table.proofs.ReachLemmas.{marks_few, marks_more, reached_is_marked, leads_on, set_length, set_keeps, set_from, first_alone, at_first}
-use Rattle.cn_table.proofs.table.Table.reached.Goals as goal
+use Rattle.cn_table.proofs.table.Table.reached_states.Goals as goal
 
 pub loop-round-init : goal.loop-round-init
 loop-round-init c = record {

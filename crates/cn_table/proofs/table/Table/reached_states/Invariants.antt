@@ -1,7 +1,7 @@
 use Rattle.std.proofs.Common.{◌≡◌, ℕ, ◌+◌, get_or, length, true, false}
 use Rattle.cn_table.specs.Reach.{Leads}
 use Rattle.cn_table.proofs.ReachLemmas.{marks}
-use Rattle.cn_table.proofs.table.Table.reached.Given as goal
+use Rattle.cn_table.proofs.table.Table.reached_states.Given as goal
 
 -- each round marks one state more, and only states to which operations lead
 abbrev pub invariant-loop-round : goal.invariant-loop-round
