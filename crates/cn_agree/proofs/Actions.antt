@@ -318,9 +318,9 @@ module _ {V : Type 0} (P : Protocol) (n nodes : ℕ) (team : ℕ → Team) (soun
       → (y : V) × (register (node_at P w v) (P.judge role response state) ≡ Some y) × (fixed_at P team w order v ≡ Some y)
   found_is v role response state [] is h = elim h [ ]
   found_is v role response state (head ∷ rest) is h =
-      let judged : P.judge role response state ≡ team head = rw h.ends at (sound.judged (team head) h.order role response h.run h.answered) in
+      let judges_right : P.judge role response state ≡ team head = rw h.ends at (sound.judges_right (team head) h.order role response h.run h.answered) in
       let r = holds.written v head rest is in
-      (r.0, rw judged r.1, rw is r.1)
+      (r.0, rw judges_right r.1, rw is r.1)
 
   keeps_onward : (y : V) → IsPlace P n p i → fixed_at P team w order (place_of P p i).node ≡ Some y → (more : Bool) → nat_lt (i + 1) (length (P.path p)) ≡ more → LocalHolds P n team w order p (onward (length (P.path p)) i y)
   keeps_onward y at h true is = let less : i + 1 < length (P.path p) = grind (arith, nat_tests) in
