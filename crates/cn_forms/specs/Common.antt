@@ -13,8 +13,8 @@ comma zero = []
 comma (suc k) = codes ","
 
 -- the name of the operation of a role
-abbrev pub operation_of : Plan → ℕ → List ℕ
-operation_of plan role = name_at (operation_names plan.table) (slice_index (raw_choice_of plan.choice).operations role)
+abbrev pub operation_name_of : Plan → ℕ → List ℕ
+operation_name_of plan role = name_at (operation_names plan.table) (slice_index (raw_choice_of plan.choice).operations role)
 
 -- how many places the path of a process has
 abbrev pub places_of : Plan → ℕ → ℕ

@@ -6,7 +6,7 @@ use Rattle.cn_proto.specs.Plan.{Plan, processes_of, nodes_of}
 use Rattle.cn_choice.specs.TeamNames.{team_name}
 use Rattle.cn_table.specs.Names.{name_at}
 use Rattle.cn_proto.specs.declared.place.Place.{Place}
-use Rattle.cn_forms.specs.Common.{operation_of, place_at, places_of}
+use Rattle.cn_forms.specs.Common.{operation_name_of, place_at, places_of}
 
 -- the first lines, with the names of the type and of a state
 unfoldable pub head_lines : List ℕ → List ℕ → List ℕ
@@ -34,7 +34,7 @@ edge_end team role operation = team ++ codes " role " ++ decimal role ++ codes "
 
 -- how process p comes to a place: its team there, its role and the operation of the role
 abbrev pub arrival_dot : Plan → ℕ → Place → List ℕ
-arrival_dot plan p place = edge_head place.node p ++ edge_end (team_name place.team) place.role (operation_of plan place.role)
+arrival_dot plan p place = edge_head place.node p ++ edge_end (team_name place.team) place.role (operation_name_of plan place.role)
 
 -- the way of process p to place i of its path
 abbrev pub edge_dot : Plan → ℕ → ℕ → List ℕ

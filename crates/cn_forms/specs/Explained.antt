@@ -24,8 +24,8 @@ abbrev pub number_told : ℕ → Option ℕ → List ℕ
 number_told limit None = codes "1"
 number_told limit (Some n) = if nat_lt n limit then decimal n else (codes "at least " ++ decimal n ++ codes " (the limit)")
 
-abbrev pub head_line : TypeTable → ℕ → Option ℕ → List ℕ
-head_line t limit number = t.name ++ codes ": consensus number " ++ number_told limit number ++ codes " (for processes that can read the whole state)\n"
+abbrev pub number_line : TypeTable → ℕ → Option ℕ → List ℕ
+number_line t limit number = t.name ++ codes ": consensus number " ++ number_told limit number ++ codes " (for processes that can read the whole state)\n"
 
 -- ---- processes and runs
 
@@ -174,5 +174,5 @@ why_not t version limit entries all (Some n) =
 
 unfoldable pub explain_text : TypeTable → Certificate → Bool → List ℕ
 explain_text t c all =
-    head_line t c.limit c.number ++ codes "\n" ++ cells_text t ++ codes "\n" ++ why t c.number c.witness ++ codes "\n"
+    number_line t c.limit c.number ++ codes "\n" ++ cells_text t ++ codes "\n" ++ why t c.number c.witness ++ codes "\n"
     ++ why_not t c.version c.limit c.collisions all c.number

@@ -8,7 +8,7 @@ use Rattle.cn_table.specs.Texts.{joined_texts}
 use Rattle.cn_table.specs.Names.{name_at}
 use Rattle.cn_proto.specs.Tournament.{team_of}
 use Rattle.cn_proto.specs.declared.place.Place.{Place}
-use Rattle.cn_forms.specs.Common.{comma, operation_of}
+use Rattle.cn_forms.specs.Common.{comma, operation_name_of}
 
 abbrev pub place_json : Place → List ℕ
 place_json place =
@@ -38,7 +38,7 @@ unfoldable pub role_end : List ℕ → List ℕ → List ℕ
 role_end operation team = codes "],\"operation\":\"" ++ operation ++ codes "\",\"team\":\"" ++ team ++ codes "\"}"
 
 abbrev pub end_json : Plan → ℕ → List ℕ
-end_json plan role = role_end (operation_of plan role) (team_name (team_of (length plan.choice.a) role))
+end_json plan role = role_end (operation_name_of plan role) (team_name (team_of (length plan.choice.a) role))
 
 -- what a role judges, its operation and its team
 abbrev pub role_json : Plan → ℕ → List ℕ

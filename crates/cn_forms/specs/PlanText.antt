@@ -8,7 +8,7 @@ use Rattle.cn_choice.specs.TeamNames.{team_name}
 use Rattle.cn_proto.specs.Plan.{Plan, processes_of, nodes_of, protocol_of}
 use Rattle.cn_proto.specs.Tournament.{team_of}
 use Rattle.cn_proto.specs.declared.place.Place.{Place}
-use Rattle.cn_forms.specs.Common.{operation_of}
+use Rattle.cn_forms.specs.Common.{operation_name_of}
 
 -- a pair of a response and a state, by their names
 abbrev pub pair_text : TypeTable → ℕ × ℕ → List ℕ
@@ -27,7 +27,7 @@ type_line p =
 abbrev pub role_line : Plan → ℕ → List ℕ
 role_line p role =
     codes "role " ++ decimal role ++ codes " " ++ team_name (team_of (length p.choice.a) role) ++ codes " "
-    ++ operation_of p role
+    ++ operation_name_of p role
     ++ codes " judges " ++ joined_texts (codes " ") (map (pair_text p.table) (slice_index_or p.judged_pairs role [])) ++ line_feed
 
 -- the places of a process, from its lowest node to the root

@@ -6,7 +6,7 @@ use Rattle.cn_table.specs.Names.{name_at}
 use Rattle.cn_choice.specs.TeamNames.{team_name}
 use Rattle.cn_proto.specs.Plan.{Plan, processes_of, nodes_of, protocol_of}
 use Rattle.cn_proto.specs.declared.place.Place.{Place}
-use Rattle.cn_forms.specs.Common.{operation_of, place_at, places_of}
+use Rattle.cn_forms.specs.Common.{operation_name_of, place_at, places_of}
 
 -- ---- what all processes share
 
@@ -110,7 +110,7 @@ stand_line node team role operation =
     codes "    /* node " ++ decimal node ++ codes ", team " ++ team ++ codes ", role " ++ decimal role ++ codes ": " ++ operation ++ codes " */\n"
 
 abbrev pub stand_promela : Plan → Place → List ℕ
-stand_promela plan place = stand_line place.node (team_name place.team) place.role (operation_of plan place.role)
+stand_promela plan place = stand_line place.node (team_name place.team) place.role (operation_name_of plan place.role)
 
 -- the action of process p that these statements are
 unfoldable pub action_line : ℕ → List ℕ → List ℕ

@@ -4,7 +4,7 @@ ghost use Rattle.std.specs.Prelude.{◌≡◌, ◌+◌, ◌-◌, ◌++◌, lengt
 ghost use Rattle.std.specs.List.{range_with_len};
 ghost use Rattle.cn_choice.specs.Canonical.{FitsTable};
 ghost use Rattle.cn_check.specs.Verdict.{IsAccepted};
-ghost use Rattle.cn_forms.specs.Explained.{apart_line, explain_text, head_line, left_out, more_line, movers, notes, number_told, refutation, same_ways, theorem_line, entries_told, told_ways, ways_words, why, why_not, witness_line, witness_start, witness_text, IsRefuted};
+ghost use Rattle.cn_forms.specs.Explained.{apart_line, explain_text, number_line, left_out, more_line, movers, notes, number_told, refutation, same_ways, theorem_line, entries_told, told_ways, ways_words, why, why_not, witness_line, witness_start, witness_text, IsRefuted};
 ghost use Rattle.cn_forms.specs.Pairs.{seen_rows};
 
 mod pairs;
@@ -39,7 +39,7 @@ fn push_head(
     number: Option<u8>,
 ) -> Result<(), AllocError>
     ensures { OnOk result (string_bytes text.new
-        ≡ string_bytes text.old ++ head_line table.now limit number) }
+        ≡ string_bytes text.old ++ number_line table.now limit number) }
 {
     let name = table.name();
     write!(text, "{name}: consensus number ")?;

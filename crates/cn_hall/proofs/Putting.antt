@@ -2,12 +2,12 @@
 use Rattle.std.proofs.Common.{◌≡◌, [], ◌∷◌, length, Some, None, sym, ap, ◌∙◌, length-append, arith}
 use Rattle.cn_log.specs.Opening.{Log}
 use Rattle.cn_hall.specs.declared.rule.Item.{Item}
-use Rattle.cn_hall.specs.declared.rule.Stage.TheVariants.{First, Live}
+use Rattle.cn_hall.specs.declared.rule.PassStatus.TheVariants.{First, Live}
 use Rattle.cn_hall.specs.declared.rule.View.{View}
 use Rattle.cn_hall.specs.Rule.{item_of, first_view, bare_view, later_view, opened_view, seated_view, IsOneEventLater, IsOneSeatMore, MayPut, FirstPut, AsItWas, OneEvent, OneSeat}
 
-not_first : (v : View) → v.stage ≡ Live → v ≡ first_view → ⊥
-not_first v live is = let e : First ≡ Live = sym (ap (λ (u : View). u.stage) is) ∙ live in cc
+not_first : (v : View) → v.status ≡ Live → v ≡ first_view → ⊥
+not_first v live is = let e : First ≡ Live = sym (ap (λ (u : View). u.status) is) ∙ live in cc
 
 -- a core isn't itself one event later
 not_later : (v : View) (x : Item) → v.held ≡ Some x → IsOneEventLater v x → ⊥
@@ -33,19 +33,19 @@ not_both v x one more =
     let b = ap (λ (y : Item). y.seated) more.is in
     omega (arith, a, b)
 
-pub as_it_was : (v : View) (x : Item) (w : View) → v.stage ≡ Live → v.held ≡ Some x → MayPut v x w → w ≡ bare_view v
+pub as_it_was : (v : View) (x : Item) (w : View) → v.status ≡ Live → v.held ≡ Some x → MayPut v x w → w ≡ bare_view v
 as_it_was v x w live held (FirstPut first one is) = absurd (not_first v live first)
 as_it_was v x w live held (AsItWas same is) = is
 as_it_was v x w live held (OneEvent one is) = absurd (not_later v x held one)
 as_it_was v x w live held (OneSeat more is) = absurd (not_more v x held more)
 
-pub one_event : (v : View) (x : Item) (w : View) → v.stage ≡ Live → IsOneEventLater v x → MayPut v x w → w ≡ later_view v x
+pub one_event : (v : View) (x : Item) (w : View) → v.status ≡ Live → IsOneEventLater v x → MayPut v x w → w ≡ later_view v x
 one_event v x w live one (FirstPut first seated is) = absurd (not_first v live first)
 one_event v x w live one (AsItWas same is) = absurd (not_later v x same one)
 one_event v x w live one (OneEvent again is) = is
 one_event v x w live one (OneSeat more is) = absurd (not_both v x one more)
 
-pub one_seat : (v : View) (x : Item) (w : View) → v.stage ≡ Live → IsOneSeatMore v x → MayPut v x w → w ≡ seated_view v x
+pub one_seat : (v : View) (x : Item) (w : View) → v.status ≡ Live → IsOneSeatMore v x → MayPut v x w → w ≡ seated_view v x
 one_seat v x w live more (FirstPut first one is) = absurd (not_first v live first)
 one_seat v x w live more (AsItWas same is) = absurd (not_more v x same more)
 one_seat v x w live more (OneEvent one is) = absurd (not_both v x one more)

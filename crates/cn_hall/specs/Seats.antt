@@ -15,7 +15,7 @@ use Rattle.cn_log.specs.declared.caller_state.Phase.TheVariants.{Idle, Looks, Ru
 use Rattle.cn_hall.specs.declared.standing.Standing.{Standing}
 use Rattle.cn_hall.specs.declared.rule.Item.{Item}
 use Rattle.cn_hall.specs.declared.rule.Pair.{Pair}
-use Rattle.cn_hall.specs.declared.rule.Stage.TheVariants.{Live}
+use Rattle.cn_hall.specs.declared.rule.PassStatus.TheVariants.{Live}
 use Rattle.cn_hall.specs.declared.rule.View.{View}
 use Rattle.cn_hall.specs.Rule.{Carries, later_core, pair, view_of}
 

@@ -1,7 +1,7 @@
 //! One removal of the core from the queue, or its return.
 ghost use Rattle.std.specs.Prelude.{◌≡◌, Some, []};
 ghost use Rattle.cn_hall.specs.Rule.{FitsItem, Holds, IsOneEventLater, IsOneSeatMore, MayPut, bare_view, first_view, holding_view, later_view, opened_view, seated_view};
-ghost use Rattle.cn_hall.specs.declared.rule.Stage.TheVariants.{Live};
+ghost use Rattle.cn_hall.specs.declared.rule.PassStatus.TheVariants.{Live};
 ghost use Rattle.crossbeam_queue.specs.Fifo.{Learns, Pushes};
 ghost use Rattle.crossbeam_queue.specs.Passes.{view, IsPassOf, IsSamePass, ruled_capacity};
 
@@ -17,7 +17,7 @@ const SPINS: u32 = 2_000;
 /// has the core: who waits looks seldom, so that the other does many events in a row.
 pub(crate) fn take<R: Wait>(rt: &R, queue: &Queue, pass: &mut Pass) -> Item
     requires queue { IsPassOf queue.now pass.old }
-    requires live { (view pass.old).stage ≡ Live }
+    requires live { (view pass.old).status ≡ Live }
     ensures same { IsSamePass pass.old pass.new }
     ensures held { view pass.new ≡ holding_view (view pass.old) result }
     ensures agrees { FitsItem (view pass.old) result }
@@ -62,7 +62,7 @@ fn put<R: Wait>(rt: &R, queue: &Queue, pass: &mut Pass, item: Item)
 /// Puts the core back as it was.
 pub(crate) fn put_back<R: Wait>(rt: &R, queue: &Queue, pass: &mut Pass, item: Item)
     requires queue { IsPassOf queue.now pass.old × (ruled_capacity queue.now ≡ 1) }
-    requires live { (view pass.old).stage ≡ Live }
+    requires live { (view pass.old).status ≡ Live }
     requires held { (view pass.old).held ≡ Some item }
     ensures same { IsSamePass pass.old pass.new }
     ensures now { view pass.new ≡ bare_view (view pass.old) }
@@ -84,7 +84,7 @@ pub(crate) fn put_first<R: Wait>(rt: &R, queue: &Queue, pass: &mut Pass, item: I
 /// Puts the core back one event of the pass's process later.
 pub(crate) fn put_step<R: Wait>(rt: &R, queue: &Queue, pass: &mut Pass, item: Item)
     requires queue { IsPassOf queue.now pass.old × (ruled_capacity queue.now ≡ 1) }
-    requires live { (view pass.old).stage ≡ Live }
+    requires live { (view pass.old).status ≡ Live }
     requires event { IsOneEventLater (view pass.old) item }
     ensures same { IsSamePass pass.old pass.new }
     ensures now { view pass.new ≡ later_view (view pass.old) item }
@@ -95,7 +95,7 @@ pub(crate) fn put_step<R: Wait>(rt: &R, queue: &Queue, pass: &mut Pass, item: It
 /// Puts the core back with one process more seated, in this pass.
 pub(crate) fn put_seat<R: Wait>(rt: &R, queue: &Queue, pass: &mut Pass, item: Item)
     requires queue { IsPassOf queue.now pass.old × (ruled_capacity queue.now ≡ 1) }
-    requires live { (view pass.old).stage ≡ Live }
+    requires live { (view pass.old).status ≡ Live }
     requires count { IsOneSeatMore (view pass.old) item }
     ensures same { IsSamePass pass.old pass.new }
     ensures now { view pass.new ≡ seated_view (view pass.old) item }

@@ -17,7 +17,7 @@ use Rattle.cn_log.specs.declared.event.StepAnswer.TheVariants.{Working, Answered
 use Rattle.cn_log.specs.declared.caller_state.Phase.{Phase}
 use Rattle.cn_log.specs.declared.caller_state.Phase.TheVariants.{Idle, Looks, Runs}
 use Rattle.cn_log.specs.declared.caller_state.CallerState.{CallerState}
-use Rattle.cn_log.specs.Fields.{count_at, batch_with_calls, next_batch, reply, IsCallerState, Fields, AreFieldsOf, Keeps}
+use Rattle.cn_log.specs.Fields.{count_at, batch_with_calls, next_batch, step_answer, IsCallerState, Fields, AreFieldsOf, Keeps}
 use Rattle.cn_log.specs.Log.{Setting, World, Caller, put, batch_with, operations_of, object_after, after_step, after_gathering, after_decision, phase_after, state_of, fixed_from, batches_of, entries_of, MayStep, IsEventList, answer, answer_from, answer_with}
 use Rattle.cn_log.proofs.ListLemmas.{put_same, put_other}
 use Rattle.cn_log.proofs.Invariant.{IsRuns, IsPending, IsLooking, IsBegun, PhaseHolds, Holds, in_order, fixed_begun}
@@ -323,8 +323,8 @@ module _ {R : Type 0} {L : Setting R} {Good : R → Type 0} {s : List Event} {ke
           ≡ transition L.object mine.operation.0 (object_after L (entries_in L.processes (caller run).seen ++ members mine.process 0 x))
       reply_at = ap (transition L.object mine.operation.0) (sym (run_join L.object L.start (entries_in L.processes (caller run).seen) (members mine.process 0 x)))
 
-      pub some_answer : (a : StepAnswer) → a ≡ reply L here.applied_slots here.state.0 mine x → a ≡ answer L s p
-      some_answer a h = h ∙ ap (λ k. reply L k here.state.0 mine x) runs_is.applied_slots ∙ ap (λ z. reply L (k0 run) z mine x) runs_is.state
+      pub some_answer : (a : StepAnswer) → a ≡ step_answer L here.applied_slots here.state.0 mine x → a ≡ answer L s p
+      some_answer a h = h ∙ ap (λ k. step_answer L k here.state.0 mine x) runs_is.applied_slots ∙ ap (λ z. step_answer L (k0 run) z mine x) runs_is.state
           ∙ ap (λ (z : ℕ × ℕ). if has x mine then Answered (k0 run) (record { 0 = z.0 }) else (if (k0 run) + 1 == L.capacity then Full else Working)) reply_at ∙ sym (answer_is (Some x) is)
 
 -- a process that looks at the announcements

@@ -53,8 +53,8 @@ pub record Fields (R : Type 0) : Type 0 where
 
 module _ {R : Type 0} (L : Setting R) where
   -- what a process answers with this call pending that replays batch x in slot k, where its copy of the object is in this state
-  abbrev pub reply : ℕ → ℕ → Entry → Batch → StepAnswer
-  reply k state mine x =
+  abbrev pub step_answer : ℕ → ℕ → Entry → Batch → StepAnswer
+  step_answer k state mine x =
       if has x mine
       then Answered k (record { 0 = (transition L.object mine.operation.0 (state_after L.object state (operations_of (members mine.process 0 x)))).0 })
       else (if k + 1 == L.capacity then Full else Working)

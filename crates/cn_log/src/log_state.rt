@@ -13,7 +13,7 @@ ghost use Rattle.cn_log.specs.declared.event.Event.TheVariants.{Invoke, Step};
 ghost use Rattle.cn_log.specs.declared.limits.TheConstants.{MOST_SLOTS, MOST_ENTRIES};
 ghost use Rattle.cn_log.specs.declared.caller_state.Phase.TheVariants.{Idle, Looks, Runs};
 ghost use Rattle.cn_log.specs.Callers.{HasResponse};
-ghost use Rattle.cn_log.specs.Fields.{count_at, batch_with_calls, next_batch, reply, HasRoom, HasSameRoom, IsStateAfter, IsStateAt};
+ghost use Rattle.cn_log.specs.Fields.{count_at, batch_with_calls, next_batch, step_answer, HasRoom, HasSameRoom, IsStateAfter, IsStateAt};
 ghost use Rattle.cn_log.specs.Log.{MayInvoke, MayStep, answer, first_look, operations_of, phase_after, state_of};
 ghost use Rattle.cn_log.specs.Opening.{setting_of};
 ghost use Rattle.cn_choice.specs.declared.limits.TheConstants.{MOST_PROCESSES};
@@ -300,7 +300,7 @@ fn replay_batch(opening: &Opening, here: CallerState, mine: Entry, batch: Batch)
         (operations_of (members (processes_of opening.now.plan) 0 batch)) }
     ensures known { result.caller.state.0 < length opening.now.object.states }
     ensures answer { result.answer
-        ≡ reply (setting_of opening.now) here.applied_slots here.state.0 mine batch }
+        ≡ step_answer (setting_of opening.now) here.applied_slots here.state.0 mine batch }
     ensures range { HasResponse opening.now.object result.answer }
 {
     let processes = opening.plan.processes();

@@ -6,7 +6,7 @@ use Rattle.cn_hall.proofs.Meeting.{both_see, one_opening, have_met, log_of, met_
 use Rattle.cn_hall.proofs.hall.Hall.meet.Goals as goal
 
 pub look-requires-2-clause-other : goal.look-requires-2-clause-other
-look-requires-2-clause-other g c = let h = c.look.ensures.same.1 in (ap (λ (v : View). v.stage) h, λ none. let e = sym (ap (λ (v : View). v.pairs) h) ∙ none in cc)
+look-requires-2-clause-other g c = let h = c.look.ensures.same.1 in (ap (λ (v : View). v.status) h, λ none. let e = sym (ap (λ (v : View). v.pairs) h) ∙ none in cc)
 
 pub returns-clause-opening : goal.returns-clause-opening
 returns-clause-opening g c = let see = both_see _ _ c.args.first.now c.args.second.now (core_of (view c.look.new.other)) (core_of (view c.look.new.pass)) c.first.view_is c.second.view_is c.look.ensures.met
