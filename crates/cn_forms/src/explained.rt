@@ -196,9 +196,9 @@ fn push_entries(
     ensures { OnOk result (string_bytes text.new
         ≡ string_bytes text.old ++ told_ways table.now entries.now all) }
 {
-    let told = entries_told(entries, all);
-    push_ways(text, table, told)?;
-    push_more(text, entries.len() - told.len())
+    let first_entries = entries_told(entries, all);
+    push_ways(text, table, first_entries)?;
+    push_more(text, entries.len() - first_entries.len())
 }
 
 /// Which ways are left out.

@@ -71,25 +71,25 @@ module _ {R : Type 0} (L : Setting R) where
     pub known : here.state.0 < length L.object.states
 
   -- this state is kept
-  pub record AreFieldsOf (w : World R) (kept : Fields R) : Type 0 where
-    pub rounds_many : length kept.rounds ≡ L.capacity
-    pub round : (k : ℕ) → k < L.capacity → slice_index_or kept.rounds k L.untouched ≡ w.round k
-    pub announced_many : length kept.announced ≡ L.processes
-    pub announcement : (p : ℕ) → p < L.processes → slice_index_or kept.announced p None ≡ w.announced p
-    pub callers_many : length kept.callers ≡ L.processes
-    pub caller : (p : ℕ) → p < L.processes → IsCallerState (slice_index_or kept.callers p no_caller_state) (w.caller p)
-    pub entries_are : kept.entries ≡ entries_of L w
-    pub slots_are : kept.slots ≡ slots_from L.processes 0 (batches_of L w)
-    pub fixed_is : kept.fixed ≡ length (batches_of L w)
+  pub record AreFieldsOf (w : World R) (fields : Fields R) : Type 0 where
+    pub rounds_many : length fields.rounds ≡ L.capacity
+    pub round : (k : ℕ) → k < L.capacity → slice_index_or fields.rounds k L.untouched ≡ w.round k
+    pub announced_many : length fields.announced ≡ L.processes
+    pub announcement : (p : ℕ) → p < L.processes → slice_index_or fields.announced p None ≡ w.announced p
+    pub callers_many : length fields.callers ≡ L.processes
+    pub caller : (p : ℕ) → p < L.processes → IsCallerState (slice_index_or fields.callers p no_caller_state) (w.caller p)
+    pub entries_are : fields.entries ≡ entries_of L w
+    pub slots_are : fields.slots ≡ slots_from L.processes 0 (batches_of L w)
+    pub fixed_is : fields.fixed ≡ length (batches_of L w)
 
   -- the state after the schedule is kept
-  pub record Keeps (schedule : List Event) (kept : Fields R) : Type 0 where
+  pub record Keeps (schedule : List Event) (fields : Fields R) : Type 0 where
     pub events : IsEventList L schedule
-    pub fits : AreFieldsOf (state_of L schedule) kept
+    pub fits : AreFieldsOf (state_of L schedule) fields
 
   -- and process p is in this phase
-  pub record IsAt (schedule : List Event) (kept : Fields R) (p : ℕ) (phase : Phase) : Type 0 where
-    pub keeps : Keeps schedule kept
+  pub record IsAt (schedule : List Event) (fields : Fields R) (p : ℕ) (phase : Phase) : Type 0 where
+    pub keeps : Keeps schedule fields
     pub process : p < L.processes
     pub phase_is : ((state_of L schedule).caller p).phase ≡ phase
 

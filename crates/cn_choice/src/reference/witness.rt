@@ -23,16 +23,16 @@ pub fn raw_pair(table: &Table, choice: &RawChoice, order: &[u8], process: u8) ->
         × (pair.1 < length table.now.states)) }
 {
     let mut state = choice.state;
-    let mut kept = None;
+    let mut own_response = None;
     for p in order {
         let operation = Operation(choice.operations[*p as usize]);
         let (response, next) = table.apply(operation, state);
-        if kept.is_none() && *p == process {
-            kept = Some(response.0);
+        if own_response.is_none() && *p == process {
+            own_response = Some(response.0);
         }
         state = next;
     }
-    match kept {
+    match own_response {
         Some(response) => Some((response, state.0)),
         None => None,
     }
