@@ -282,8 +282,7 @@ fn push_unknown_entries(
 ) -> Result<(), AllocError>
     ensures { OnOk result (flaws_view flaws.new
         ≡ flaws_view flaws.old
-        ++ each
-        (unknown_entry operation.now row.now what.now (map (λ s. string_bytes s) names.now))
+        ++ each (unknown_entry operation.now row.now what.now (map (λ s. string_bytes s) names.now))
         0 (map (λ s. string_bytes s) texts.now)) }
 {
     let brackets = names_in_brackets(alloc, names)?;

@@ -208,10 +208,9 @@ impl Hall {
         ensures entries { All
             (λ s. BeginsWith (entries (setting result) result.schedule) (entries_seen s))
             seats.items }
-        ensures answers { All
-            (λ s. BeginsWith
-            (replies_from (setting result) s.process []
-            (batches (setting result) result.schedule)) (own s)) seats.items }
+        ensures answers { All (λ s. BeginsWith
+            (replies_from (setting result) s.process [] (batches (setting result) result.schedule))
+            (own s)) seats.items }
     {
         let Hall { queue } = self;
         let mut seats = seats;

@@ -151,8 +151,7 @@ pub fn every_call()
         → calls_by p (before ++ rest) ≡ calls_by p before }
     ensures called { (o : OpeningOf) (events : List EventOf) (p operation : ℕ)
         → calls_by p (events ++ Invoke p operation ∷ [])
-        ≡ calls_by p events ++ call_of p operation (caller_of (setting_of o) events p).calls
-        ∷ [] }
+        ≡ calls_by p events ++ call_of p operation (caller_of (setting_of o) events p).calls ∷ [] }
     ensures own { (o : OpeningOf) (events : List EventOf) (p : ℕ) → IsOpening o
         → IsEventList (setting_of o) events → HasAppliedItsOwn (setting_of o) events p }
     ensures own_stepped { (o : OpeningOf) (events : List EventOf) (p : ℕ) (mine : EntryOf)

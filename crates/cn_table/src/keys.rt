@@ -75,11 +75,9 @@ fn has_other_key(table: &Table, known: &[&str]) -> bool
 
 fn some_entry_is_missing(table: &Table, known: &[&str]) -> bool
     ensures { result
-        ≡ list_any
-        (λ k. not
-        (is_some
-        (lookup (is_at (λ x. slice_cmp nat_cmp k.now (string_bytes x)))
-        table.now.entries))) known.now }
+        ≡ list_any (λ k. not (is_some
+        (lookup (is_at (λ x. slice_cmp nat_cmp k.now (string_bytes x))) table.now.entries)))
+        known.now }
 {
     known.iter().any(|key| !table.contains_key(*key))
 }

@@ -51,8 +51,7 @@ impl Table {
             (λ q. (q.0 < length self.now.states) × (q.0 < MOST_STATES)
             × (get_or marked.now q.0 false ≡ false)
             × ((p : ℕ) × (p < length self.now.states) × (get_or marked.now p false ≡ true)
-            × ((o : ℕ) × (o < length self.now.operations)
-            × ((transition self.now o p).1 ≡ q.0)))) }
+            × ((o : ℕ) × (o < length self.now.operations) × ((transition self.now o p).1 ≡ q.0)))) }
         ensures table { IsTypeTable self.now }
     {
         for p in 0..self.states() {
