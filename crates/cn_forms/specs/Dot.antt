@@ -24,7 +24,7 @@ abbrev pub origin_dot : Plan → ℕ → ℕ → List ℕ
 origin_dot plan p zero = codes "process_" ++ decimal p
 origin_dot plan p (suc i) = codes "node_" ++ decimal (place_at plan p i).node
 
--- an arrow to a node, and whose way it is
+-- an arrow to a node, and whose it is
 unfoldable pub edge_head : ℕ → ℕ → List ℕ
 edge_head node p = codes " -> node_" ++ decimal node ++ codes " [label=\"process " ++ decimal p ++ codes ": "
 
@@ -36,7 +36,7 @@ edge_end team role operation = team ++ codes " role " ++ decimal role ++ codes "
 abbrev pub arrival_dot : Plan → ℕ → Place → List ℕ
 arrival_dot plan p place = edge_head place.node p ++ edge_end (team_name place.team) place.role (operation_name_of plan place.role)
 
--- the way of process p to place i of its path
+-- the edge of process p to place i of its path
 abbrev pub edge_dot : Plan → ℕ → ℕ → List ℕ
 edge_dot plan p i = codes "  " ++ origin_dot plan p i ++ arrival_dot plan p (place_at plan p i)
 
@@ -46,7 +46,7 @@ edges_dot plan p = flat_map (edge_dot plan p) (range_with_len 0 (places_of plan 
 unfoldable pub process_line : ℕ → List ℕ
 process_line p = codes "  process_" ++ decimal p ++ codes " [shape=box,label=\"process " ++ decimal p ++ codes "\"];\n"
 
--- a process, and its way up to the root
+-- a process, and its edges up to the root
 abbrev pub process_dot : Plan → ℕ → List ℕ
 process_dot plan p = process_line p ++ edges_dot plan p
 

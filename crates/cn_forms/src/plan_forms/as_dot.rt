@@ -97,7 +97,7 @@ fn push_edges(text: &mut String, plan: &Plan, process: u8) -> Result<(), AllocEr
     Ok(())
 }
 
-/// The way of a process to a place of its path.
+/// The edge of a process to a place of its path.
 fn push_edge(text: &mut String, plan: &Plan, process: u8, place: usize) -> Result<(), AllocError>
     requires { IsPlace (protocol_of plan.now) (processes_of plan.now) process place }
     ensures { OnOk result (string_bytes text.new
