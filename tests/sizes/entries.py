@@ -3,12 +3,14 @@ that a fault of an entry can carry."""
 import dataclasses
 import itertools
 import json
+import random
 import re
 import tempfile
 
 import counts
 import judge
 from calls import TYPES, answer, called, fault
+from plans import accepted
 from protocol import Kind
 from tables import blind, shots
 
@@ -119,14 +121,31 @@ def found(name, limit, count):
             yield f"{name}, limit {limit}, {change}", lambda spelling=spelling: checked(spelling, table), fault(said)
 
 
+def witness_check(kind, table, witness):
+    """What `check` says of a choice as a witness, for its number of processes as the limit, and what it has to say."""
+    value = json.loads(accepted(kind, witness))
+    said = judge.check_fault(kind, value)
+    return lambda: checked(text(value), table), fault(f"check: {said}") if said else OK
+
+
+def chosen():
+    """Choices by chance, for 5 to 8 processes of some types and for 2 to 4 of the one with all states and operations."""
+    chance = random.Random(3)
+    sizes = [(name, n) for name in ("sticky_bit", "three_shot", "test_and_set", "compare_and_swap_4", "shots_12_4") for n in (5, 6, 7, 8)]
+    for name, n in sizes + [("wide", n) for n in (2, 3, 4)] * 10:
+        kind, size = Kind(TYPES[name]), chance.randrange(1, n)
+        operations = [chance.randrange(len(kind.operations)) for _ in range(n)]
+        witness = [chance.randrange(len(kind.states)), operations[:size], operations[size:]]
+        yield f"{name}: {witness}", *witness_check(kind, TYPES[name], witness)
+
+
 def witnesses():
     """Each of eight processes as the only one that cannot tell."""
     table = blind()
     for j in range(8):
         operations = [(2 if p == j else 0) + (p > 3) for p in range(8)]
-        witness = text([0, operations[:4], operations[4:]])
-        whole = Certificate([], f',"limit":8,"number":8,"type":"blind","version":2,"witness":{witness}}}').text()
-        yield f"process {j} alone cannot tell", lambda whole=whole: checked(whole, table), fault(f"check: 4 WitnessMeets {j}")
+        run = lambda whole=accepted(Kind(table), [0, operations[:4], operations[4:]]): checked(whole, table)
+        yield f"process {j} alone cannot tell", run, fault(f"check: 4 WitnessMeets {j}")
 
 
 def cases():
@@ -134,4 +153,5 @@ def cases():
     yield from written(5, (407_615,), 1)
     for it in FOUND:
         yield from found(*it)
+    yield from chosen()
     yield from witnesses()

@@ -4,7 +4,7 @@ import random
 import tempfile
 
 import judge
-from calls import TYPES, answer, called
+from calls import TYPES, answer, called, fault
 from protocol import TEAMS, Kind, Plan, Round
 from tables import sums
 
@@ -124,7 +124,7 @@ def process(plan, p):
 
 
 def with_certificate(certificate, command, table, *words):
-    """What a command says with the text of a certificate in a file; the words before its name end with `--`."""
+    """What a command says of the text of a certificate in a file, with the words behind its name."""
     with tempfile.NamedTemporaryFile("w", suffix=".json") as file:
         file.write(certificate)
         file.flush()
@@ -167,3 +167,6 @@ def cases():
             words = [",".join(map(str, it)) for it in (inputs, schedule)]
             run = lambda words=words, certificate=certificate, table=table: with_certificate(certificate, ["agree"], table, *words)
             yield f"{about}, {words[1]}", run, answer(decided(plan, inputs, schedule))
+        words, count = [words[0], f"{words[1]},{plan.n}"], len(schedule)
+        run = lambda words=words, certificate=certificate, table=table: with_certificate(certificate, ["agree"], table, *words)
+        yield f"{about}, a step of process {plan.n}", run, fault(f"schedule: 2 NoSuchProcess {count}")
