@@ -1,0 +1,151 @@
+"""`lint`: where a text stops to be TOML, the flaws of large tables, and tables as long as they may be."""
+import re
+
+from calls import TOP, TYPES, answer, called, fault
+from tables import table
+
+NAME = re.compile(r"[a-z0-9_]{1,32}\Z")
+LONGEST = 65_536
+# Texts that are no TOML, a character that `*` stands for in some of them.
+NO_TOML = ["name = !", 'name = "a" "b"', "= 1", "[[operation]", 'name = "a', 'name = "a"\nname = "b"', 'a = "\\q"', "a = [1,\n2,\n3"]
+NO_TOML += ["a = 00", "a = { b = 1", "a.b = 1\na = 2", "name ="]
+WIDE = ['name = "*" !', '"*" 1', 'a = ["*", "*" 1]', "# *\n'*'*", "a = '*"]
+# Lines that may stand before any of them; `*` is the number of the line.
+BEFORE = ["", "# 0123456789", "# é€😀", 'k* = "é€"']
+
+
+def place(text):
+    """The line and the column that `lint` tells of a text that is no TOML."""
+    printed, told, status = called(["lint"], text)
+    line = re.fullmatch(rb"line (\d+), column (\d+): not TOML\n", printed)
+    return (int(line[1]), int(line[2])) if line and (told, status) == (b"cnum: table: 1 NotToml\n", 2) else (printed, told, status)
+
+
+def is_in(text, at):
+    """Whether the text has this place; its end counts too."""
+    lines = text.split("\n")
+    return 1 <= at[0] <= len(lines) and 1 <= at[1] <= len(lines[at[0] - 1]) + 1
+
+
+def places():
+    """The same fault behind lines: the line rises by just these, and the column stays."""
+    for text in NO_TOML:
+        first = place(text)
+        yield f"{text}: at {first}, in the text", lambda text=text, first=first: is_in(text, first), True
+        for count in (1, 40, 3000):
+            for line in BEFORE:
+                for end in ("\n", "\r\n"):
+                    whole = "".join(line.replace("*", str(k)) + end for k in range(count)) + text
+                    yield f"{text}: behind {count} lines {line!r}{end!r}", lambda whole=whole: place(whole), (first[0] + count, first[1])
+
+
+def columns():
+    """The same fault behind characters of one to four bytes: a column counts characters."""
+    for text in WIDE:
+        lines = text.split("\n")
+        first = place(text.replace("*", "e"))
+        yield f"{text}: at {first}, in the text", lambda text=text, first=first: is_in(text, first), True
+        before = lines[first[0] - 1][: first[1] - 1].count("*")
+        for count in (1, 40, 3000):
+            for character in "eé€😀":
+                whole = text.replace("*", character * count)
+                yield f"{text}: {count} of {character}", lambda whole=whole: place(whole), (first[0], first[1] + before * (count - 1))
+
+
+# Flaws
+
+
+def flaws(name, states, responses, operations):
+    """The lines that `lint` has to write of a draft, (number and name of the fault, line) each; an operation is (name, responses,
+    next states)."""
+    names = [it[0] for it in operations]
+    called_so = lambda i: f'operation "{names[i]}"' if NAME.match(names[i]) else f"operation[{i}]"
+    for what, texts in (("name", [name]), ("state", states), ("response", responses), ("operation", names)):
+        yield from (("5 BadName", f'{what} "{it}": 1 to 32 of a-z, 0-9, _') for it in texts if not NAME.match(it))
+    groups = (("states", states, 16), ("responses", responses, 16), ("operations", names, 8))
+    for what, texts, most in groups:
+        if not texts or len(texts) > most:
+            yield "6 Count", f"{len(texts)} {what}; at {f'most {most}' if texts else 'least 1'}"
+    for what, texts, _ in groups:
+        yield from (("7 Repeated", f'two {what} are called "{it}"') for i, it in enumerate(texts) if it in texts[i + 1 :])
+    there = "there is 1 state" if len(states) == 1 else f"there are {len(states)} states"
+    for i, (_, *rows) in enumerate(operations):
+        for row, entries in zip(("response", "next"), rows):
+            if len(entries) != len(states):
+                yield "8 RowLength", f"{called_so(i)}: {row} has {'1 entry' if len(entries) == 1 else f'{len(entries)} entries'}, {there}"
+    for i, (_, *rows) in enumerate(operations):
+        for row, entries, what, known in zip(("response", "next"), rows, ("response", "state"), (responses, states)):
+            told = f" ({', '.join(known)})" if len(known) <= 16 and all(map(NAME.match, known)) else ""
+            for k, it in enumerate(entries):
+                if it not in known:
+                    yield "9 UnknownName", f'{called_so(i)}, {row}[{k}]: "{it}" is no {what}{told}'
+
+
+def told(draft):
+    """A case of a draft that is refused: `lint` writes its flaws, and another command the fault alone."""
+    found = list(flaws(*draft))
+    refused = fault(f"table: {found[0][0]}")
+    text = table(*draft)
+    yield lambda: called(["lint"], text), ("".join(f"{line}\n" for _, line in found).encode(), *refused[1:])
+    yield lambda: called(["find", "--limit", "2"], text), refused
+
+
+def row_of(states, unknown=()):
+    """A row whose entries are the first name, or none of the names at these places."""
+    return ["nosuch" if k in unknown else "n0" for k in range(states)]
+
+
+def drafts():
+    """Drafts with as many names as there may be, and one of them wrong; and with far more."""
+    names = [f"n{k}" for k in range(16)]
+    operations = lambda count, *rows: [(f"n{k}", *(rows or (row_of(16), row_of(16)))) for k in range(count)]
+    changed = lambda texts, k, text: texts[:k] + [text] + texts[k + 1 :]
+    for k in range(15):
+        yield f"states 15 and {k}", ("t", changed(names, 15, names[k]), names, operations(8))
+        yield f"responses 15 and {k}", ("t", names, changed(names, 15, names[k]), operations(8))
+    for k in range(7):
+        yield f"operations 7 and {k}", ("t", names, names, changed(operations(8), 7, (f"n{k}", row_of(16), row_of(16))))
+    for k in range(16):
+        for row in ("response", "next"):
+            rows = [row_of(16, [k] if row == it else []) for it in ("response", "next")]
+            yield f"{row}[{k}]", ("t", names, names, changed(operations(8), 7, ("n7", *rows)))
+    for count in (1, 63, 64, 65, 128, 129, 255, 256):
+        unknown = [[k for k in range(16) if 32 * i + 16 * j + k < count] for i in range(8) for j in range(2)]
+        rows = [(f"n{i}", row_of(16, unknown[2 * i]), row_of(16, unknown[2 * i + 1])) for i in range(8)]
+        yield f"{count} unknown entries", ("t", names, names, rows)
+    yield "all names alike", ("t", ["n0"] * 16, ["n0"] * 16, [("n0", row_of(16), row_of(16))] * 8)
+    for count in (0, 1, 15, 17, 1001):
+        yield f"rows of {count}", ("t", names, names, operations(2, row_of(count), row_of(count)))
+        yield f"states {count}", ("t", [f"n{k}" for k in range(count)], names, operations(1, row_of(16), row_of(16)))
+    for count in (17, 1001):
+        many = [f"n{k}" for k in range(count)]
+        yield f"{count} responses", ("t", names, many, operations(1))
+        yield f"{count} bad names", ("T", [f"N{k}" for k in range(count)], names, operations(1))
+    for count in (9, 300):
+        yield f"{count} operations", ("t", ["n0"], ["n0"], operations(count, ["n0"], ["n0"]))
+    for length in (32, 33):
+        yield f"names of {length} bytes", ("t" * length, ["n0", "s" * length], ["n0", "r" * length], [("o" * length, row_of(2, [1]), row_of(2))])
+
+
+def lengths():
+    """A table, and a refused one, filled to some length by a comment, by line feeds and before its end."""
+    text, grid = TYPES["three_shot"], (TOP / "tests/cli/lint_three_shot/stdout").read_text()
+    for length in (511, 512, 513, 1023, 1024, 1025, 4095, 4096, 4097, 8191, 8192, 8193, 32_768, 65_000, LONGEST - 1, LONGEST, LONGEST + 1):
+        left = length - len(text)
+        for about, whole in (("a comment", "#" * (left - 1) + "\n" + text), ("line feeds", text + "\n" * left), ("spaces", text[:4] + " " * left + text[4:])):
+            assert len(whole) == length
+            wanted = fault("table: too long") if length > LONGEST else answer(grid)
+            yield f"{length} bytes, {about}", lambda whole=whole: called(["lint"], whole), wanted
+    more = "color = 1\n"
+    whole = more + "#" * (65_000 - len(text) - len(more) - 1) + "\n" + text
+    flaw = b'"color": the root has name, states, responses, operation\n'
+    yield "65000 bytes and a flaw", lambda: called(["lint"], whole), (flaw, *fault("table: 2 UnknownKey")[1:])
+
+
+def cases():
+    yield from places()
+    yield from columns()
+    for about, draft in drafts():
+        for run, wanted in told(draft):
+            yield about, run, wanted
+    yield from lengths()
