@@ -132,7 +132,8 @@ def lengths():
     text, grid = TYPES["three_shot"], (TOP / "tests/cli/lint_three_shot/stdout").read_text()
     for length in (511, 512, 513, 1023, 1024, 1025, 4095, 4096, 4097, 8191, 8192, 8193, 32_768, 65_000, LONGEST - 1, LONGEST, LONGEST + 1):
         left = length - len(text)
-        for about, whole in (("a comment", "#" * (left - 1) + "\n" + text), ("line feeds", text + "\n" * left), ("spaces", text[:4] + " " * left + text[4:])):
+        comment, feeds, spaces = "#" * (left - 1) + "\n" + text, text + "\n" * left, text[:4] + " " * left + text[4:]
+        for about, whole in (("a comment", comment), ("line feeds", feeds), ("spaces", spaces)):
             assert len(whole) == length
             wanted = fault("table: too long") if length > LONGEST else answer(grid)
             yield f"{length} bytes, {about}", lambda whole=whole: called(["lint"], whole), wanted

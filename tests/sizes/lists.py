@@ -96,7 +96,8 @@ def lengths():
         text = text if len(text) == length else text[:-1] + "00"
         assert len(text) == length
         for end in ("", "\n"):
-            yield f"a schedule of {length} bytes{end!r}", lambda text=text + end: ran(["agree", "7,7", "@steps"], {"steps": text}), answer("0: 7\n1: 7\n")
+            run = lambda text=text + end: ran(["agree", "7,7", "@steps"], {"steps": text})
+            yield f"a schedule of {length} bytes{end!r}", run, answer("0: 7\n1: 7\n")
 
 
 def numbers():

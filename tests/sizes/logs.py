@@ -5,7 +5,7 @@ import tempfile
 
 from calls import TYPES, answer, called, fault, path_of
 from plans import accepted, plan_text
-from protocol import Kind, Log, Plan, events_text, read_events
+from protocol import Kind, Log, Plan, events_text
 from tables import sums
 
 COUNTER = Kind(TYPES["counter_3"])
@@ -105,7 +105,8 @@ def full_logs():
             wrong = [(f"s{n}", "1 NoSuchProcess"), (f"i{p}:1", "2 NoSuchOperation"), (f"s{p}", IDLE), (f"i{p}:0", "5 AtEnd")]
             for event, said in wrong:
                 yield f"{about}, then {event}", lambda says=says, event=event: says([event]), fault(f"replay: {said} {count}")
-            run = lambda served=served, capacity=capacity, events=events, p=p: served.says("replay", capacity, ",".join([*events[:-1], f"i{p}:0"]))
+            other = ",".join([*events[:-1], f"i{p}:0"])
+            run = lambda served=served, capacity=capacity, other=other: served.says("replay", capacity, other)
             yield f"{about}, a call in place of the last step", run, fault(f"replay: 3 NotIdle {count - 1}")
 
 
@@ -145,7 +146,8 @@ def together():
         for calls, capacity in (([most] * served.n, most * served.n), ([most] * served.n, most), ([k % 3 for k in range(served.n)], 1)):
             log, counts = Log(served.plan, COUNTER, 0, capacity), [[0] * count for count in calls]
             word = "/".join(",".join(map(str, it)) or "none" for it in counts)
-            run = lambda served=served, capacity=capacity, word=word, log=log, counts=counts: log.is_served(counts, served.says("serve", capacity, word))
+            says = lambda served=served, capacity=capacity, word=word: served.says("serve", capacity, word)
+            run = lambda log=log, counts=counts, says=says: log.is_served(counts, says())
             yield f"{served.about}: {calls} calls, {capacity} slots", run, True
 
 
