@@ -6,7 +6,7 @@ use Rattle.json.specs.declared.token.Token.{Token as ReadToken}
 use Rattle.json.specs.declared.token.Token.TheVariants as read
 use Rattle.json.specs.Json as json
 use Rattle.json.specs.Json.{Json, Parse, parse_map, after_end_array, read_key, items_step, members_step, items, members, value}
-use Rattle.json.proofs.Grammar.{left, TakesThing, skip_value-shorter, value_is, value-begin_array, value-begin_object, read_key-shorter}
+use Rattle.json.proofs.Grammar.{left, Takes, skip_value-shorter, value_is, value-begin_array, value-begin_object, read_key-shorter}
 use Rattle.serde_json.specs.Data.{Num, Data, null, boolean, number, string, array, object, Items, no_items, item, Members, no_members, put}
 use Rattle.serde_json.specs.Read.{of_json, of_items, of_members, converted, number_of}
 use Rattle.cn_cert.proofs.Conversions.{converted_some, converted-array, converted-object, item_read, item_refused, items_over, member_read, member_refused, key_refused, members_over, pick}
@@ -38,7 +38,7 @@ told_same f g same (Some p) = ap (λ b. Some (b, p.1)) (same p.0)
 
 -- ---- the number that bounds the turns does not matter where it is great enough
 
-nothing_of_nothing : (p : Parse Json) → TakesThing p → p [] ≡ None
+nothing_of_nothing : (p : Parse Json) → Takes p → p [] ≡ None
 nothing_of_nothing p takes = from (p []) refl
   where
     from : (o : Option (Json × List Token)) → p [] ≡ o → p [] ≡ None
@@ -61,7 +61,7 @@ members_turn p a b ts None key h = refl
 members_turn p a b ts (Some (None, s)) key h = refl
 members_turn p a b ts (Some (Some k, s)) key h = same_turn (json.member k) a b (p s) (λ q e. h s q (read_key-shorter ts (Some k) s key) e)
 
-enough_items : (p : Parse Json) → TakesThing p → (n m : ℕ) (ts : List Token) → length ts ≤ n → length ts ≤ m → items p n ts ≡ items p m ts
+enough_items : (p : Parse Json) → Takes p → (n m : ℕ) (ts : List Token) → length ts ≤ n → length ts ≤ m → items p n ts ≡ items p m ts
 unfolding items
 enough_items p takes zero zero ts ln lm = refl
 enough_items p takes zero (suc m) [] ln lm = sym (ap (option_and_then (λ q. parse_map (json.item q.0) (items p m q.1))) (nothing_of_nothing p takes))
@@ -72,7 +72,7 @@ enough_items p takes (suc n) (suc m) ts ln lm =
     items_turn p (items p n) (items p m) ts (after_end_array ts)
     (λ q e. let less = takes ts q.1 (ap left e) in enough_items p takes n m q.1 (omega (arith, less, ln)) (omega (arith, less, lm)))
 
-enough_members : (p : Parse Json) → TakesThing p → (n m : ℕ) (ts : List Token) → length ts ≤ n → length ts ≤ m → members p n ts ≡ members p m ts
+enough_members : (p : Parse Json) → Takes p → (n m : ℕ) (ts : List Token) → length ts ≤ n → length ts ≤ m → members p n ts ≡ members p m ts
 unfolding members
 enough_members p takes zero zero ts ln lm = refl
 enough_members p takes zero (suc m) [] ln lm = refl
