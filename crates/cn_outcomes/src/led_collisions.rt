@@ -1,10 +1,10 @@
 //! Collisions of process 0 whose first order is short and led by it.
 ghost use Rattle.std.specs.Prelude.{◌≡◌, ◌≤◌, ◌<◌, ◌+◌, length, IfSome};
 ghost use Rattle.cn_table.specs.declared.limits.TheConstants.{MOST_RESPONSES, MOST_STATES};
-ghost use Rattle.cn_choice.specs.Canonical.{raw_choice_of};
 ghost use Rattle.cn_choice.specs.FirstCollision.{IsFirstCollision};
 ghost use Rattle.cn_choice.specs.RawChoices.{IsRawChoice};
 ghost use Rattle.cn_outcomes.specs.LedOrders.{IsFirstLed};
+ghost use Rattle.cn_outcomes.specs.Subjects.{IsSubject};
 ghost use Rattle.cn_outcomes.specs.Twins.{AreLinks};
 ghost use Rattle.cn_choice.specs.declared.limits.TheConstants.{MOST_PROCESSES};
 
@@ -14,10 +14,11 @@ use crate::first_orders::first_order_into;
 use crate::images::Images;
 use crate::outcome_sets::OutcomeSet;
 use crate::response_rows::{asked_first, least_with, response_rows};
+use crate::subject::Subject;
 use crate::subset_rows::is_in;
-use crate::tails::{Place, way_into};
+use crate::tails::{Place, Target, way_into};
 use arrayvec::ArrayVec;
-use cn_choice::{Choice, MOST_PROCESSES, RawChoice, Team};
+use cn_choice::{MOST_PROCESSES, RawChoice, Team};
 use cn_table::Table;
 
 /// The first order of one or two processes that process 0 leads and that gives it a pair of the set,
@@ -31,21 +32,24 @@ fn led_alpha(
     requires some { 1 ≤ length raw.now.operations }
     requires short { length raw.now.operations ≤ MOST_PROCESSES }
     requires fits { IsRawChoice table.now (length raw.now.operations) raw.now }
-    ensures first { IfSome result (λ found. IsFirstLed table.now raw.now set.now found.0.items found.1) }
-    ensures in_range { IfSome result (λ found. (found.1.0 < MOST_RESPONSES) × (found.1.1 < MOST_STATES)) }
+    ensures first { IfSome result (λ found.
+        IsFirstLed table.now raw.now set.now found.0.items found.1) }
+    ensures in_range { IfSome result (λ found.
+        (found.1.0 < MOST_RESPONSES) × (found.1.1 < MOST_STATES)) }
 {
+    let target = Target { process: 0, set };
     let alone = Place {
         used: 0,
         left: 1,
         state: raw.state,
         seen: None,
     };
-    let soon = way_into(table, raw, 0, set, dead, 0, 1, alone);
+    let soon = way_into(table, raw, &target, dead, 0, 1, alone);
     if let Some((order, pair)) = soon {
         return Some((order, pair));
     }
     let then = Place { left: 2, ..alone };
-    let (order, pair) = way_into(table, raw, 0, set, dead, 0, 1, then)?;
+    let (order, pair) = way_into(table, raw, &target, dead, 0, 1, then)?;
     Some((order, pair))
 }
 
@@ -53,22 +57,21 @@ fn led_alpha(
 /// else it may be none. Then 0 gets in it what it gets in the start state, so that the rows for this
 /// response are enough.
 pub(crate) fn led_collision(
-    table: &Table,
-    choice: &Choice,
-    raw: &RawChoice,
+    subject: &Subject<'_>,
     links: u16,
     images: &Images,
     dead: &mut DeadEnds,
 ) -> Option<(ArrayVec<u8, MOST_PROCESSES>, ArrayVec<u8, MOST_PROCESSES>)>
-    requires images { images.now ≡ table.now }
-    requires some { 1 ≤ length choice.now.a + length choice.now.b }
-    requires few { length choice.now.a + length choice.now.b ≤ MOST_PROCESSES }
-    requires same { raw.now ≡ raw_choice_of choice.now }
-    requires short { length raw.now.operations ≤ MOST_PROCESSES }
-    requires fits { IsRawChoice table.now (length raw.now.operations) raw.now }
-    requires links { AreLinks raw.now links }
-    ensures { IfSome result (λ found. IsFirstCollision table.now raw.now 0 found.0.items found.1.items) }
+    requires subject { IsSubject subject.now }
+    requires images { images.now ≡ subject.now.table.now }
+    requires some { 1 ≤ length subject.now.choice.now.a + length subject.now.choice.now.b }
+    requires links { AreLinks subject.now.raw.now links }
+    ensures { IfSome result (λ found.
+        IsFirstCollision subject.now.table.now subject.now.raw.now 0
+        found.0.items found.1.items) }
 {
+    let table = subject.table;
+    let raw = subject.raw;
     if !is_in(raw, 0, Team::A) {
         return None;
     }
@@ -81,6 +84,10 @@ pub(crate) fn led_collision(
     let (alpha, (response, state)) = led_alpha(table, raw, &from_b, dead)?;
     let pair = OutcomeSet::only(response, state);
     let first = least_with(&rows.given, count, state) + 1;
-    let (beta, _) = first_order_into(table, choice, raw, Team::B, 0, &pair, first, n + 1, dead)?;
+    let again = Target {
+        process: 0,
+        set: &pair,
+    };
+    let (beta, _) = first_order_into(subject, Team::B, &again, first, n + 1, dead)?;
     Some((alpha, beta))
 }

@@ -28,6 +28,13 @@ pub(crate) struct Place {
     pub seen: Option<u8>,
 }
 
+/// The end that is looked for: the process gets a pair of the set.
+#[derive(Clone, Copy)]
+pub(crate) struct Target<'s> {
+    pub process: u8,
+    pub set: &'s OutcomeSet,
+}
+
 /// The response that process j has got: the first.
 fn seen_after(j: u8, process: u8, response: u8, seen: Option<u8>) -> Option<u8>
     ensures { result ≡ seen_after j process response seen }
@@ -52,7 +59,8 @@ fn place_after(table: &Table, choice: &RawChoice, j: u8, place: Place, process: 
     ensures left { result.left ≡ place.left - 1 }
     ensures state { result.state.0 ≡ next_of table.now choice.now process place.state.0 }
     ensures known { result.state.0 < length table.now.states }
-    ensures seen { result.seen ≡ seen_after j process (answer_of table.now choice.now process place.state.0) place.seen }
+    ensures seen { result.seen
+        ≡ seen_after j process (answer_of table.now choice.now process place.state.0) place.seen }
     ensures in_range { IfSome result.seen (λ response. response < MOST_RESPONSES) }
 {
     let _responses = table.responses();
@@ -67,11 +75,13 @@ fn place_after(table: &Table, choice: &RawChoice, j: u8, place: Place, process: 
 
 /// The empty list and the pair of the place, if the set has it.
 fn end_within(set: &OutcomeSet, place: Place) -> Option<(ArrayVec<u8, MOST_PROCESSES>, (u8, u8))>
-    ensures none { IfNone result ((response : ℕ) → place.seen ≡ Some response → ¬ Has set.now response place.state.0) }
+    ensures none { IfNone result ((response : ℕ) → place.seen ≡ Some response
+        → ¬ Has set.now response place.state.0) }
     ensures empty { IfSome result (λ found. found.0.items ≡ []) }
     ensures ends { IfSome result (λ found. (place.seen ≡ Some found.1.0) × (place.state.0 ≡ found.1.1)) }
     ensures has { IfSome result (λ found. Has set.now found.1.0 found.1.1) }
-    ensures in_range { IfSome result (λ found. (found.1.0 < MOST_RESPONSES) × (found.1.1 < MOST_STATES)) }
+    ensures in_range { IfSome result (λ found.
+        (found.1.0 < MOST_RESPONSES) × (found.1.1 < MOST_STATES)) }
 {
     let response = place.seen?;
     if set.has(Response(response), place.state) {
@@ -84,7 +94,8 @@ fn end_within(set: &OutcomeSet, place: Place) -> Option<(ArrayVec<u8, MOST_PROCE
 /// Whether the set has no pair of the response that was got.
 fn is_unwanted(set: &OutcomeSet, place: Place) -> bool
     requires { IfSome place.seen (λ response. response < MOST_RESPONSES) }
-    ensures { IsTrue result → (response : ℕ) × (place.seen ≡ Some response) × ((q : ℕ) → ¬ Has set.now response q) }
+    ensures { IsTrue result
+        → (response : ℕ) × (place.seen ≡ Some response) × ((q : ℕ) → ¬ Has set.now response q) }
 {
     match place.seen {
         None => false,
@@ -99,7 +110,8 @@ fn is_open(choice: &RawChoice, j: u8, place: Place, tried: u16, process: u8) -> 
     requires few { length choice.now.operations ≤ MOST_PROCESSES }
     requires operation { slice_index choice.now.operations process < 16 }
     ensures open { IsTrue result → ¬ IsBitSet place.used process }
-    ensures closed { IsFalse result → IsPassed choice.now j place.used place.left place.seen tried process }
+    ensures closed { IsFalse result
+        → IsPassed choice.now j place.used place.left place.seen tried process }
 {
     if contains(place.used, process) {
         return false;
@@ -117,7 +129,8 @@ fn is_open(choice: &RawChoice, j: u8, place: Place, tried: u16, process: u8) -> 
 fn tried_after(choice: &RawChoice, j: u8, tried: u16, process: u8) -> u16
     requires process { process < length choice.now.operations }
     requires operation { slice_index choice.now.operations process < 16 }
-    ensures { (o : ℕ) → IsBitSet result o → IsBitSet tried o ⊎ ((process ≢ j) × (o ≡ slice_index choice.now.operations process)) }
+    ensures { (o : ℕ) → IsBitSet result o
+        → IsBitSet tried o ⊎ ((process ≢ j) × (o ≡ slice_index choice.now.operations process)) }
 {
     if process == j {
         tried
@@ -144,8 +157,7 @@ fn turns(j: u8, place: Place, n: u8) -> (u8, u8)
 pub(crate) fn way_into(
     table: &Table,
     choice: &RawChoice,
-    j: u8,
-    set: &OutcomeSet,
+    target: &Target<'_>,
     dead: &mut DeadEnds,
     low: u8,
     high: u8,
@@ -158,32 +170,41 @@ pub(crate) fn way_into(
     requires used { place.used < SUBSETS }
     requires seen { IfSome place.seen (λ response. response < MOST_RESPONSES) }
     requires state { place.state.0 < length table.now.states }
-    requires dead { 2 < place.left → AreDead table.now choice.now j set.now (place.left + count_moved place.used) dead.old }
-    ensures none { IfNone result (NoWay table.now choice.now j set.now place.left low high place.used place.state.0 place.seen) }
-    ensures first { IfSome result (λ f. IsFirstWay table.now choice.now j set.now place.left low high place.used place.state.0 place.seen f.0.items f.1) }
-    ensures in_range { IfSome result (λ found. (found.1.0 < MOST_RESPONSES) × (found.1.1 < MOST_STATES)) }
-    ensures dead { StayDead table.now choice.now j set.now (place.left + count_moved place.used) dead.old dead.new }
+    requires dead { 2 < place.left
+        → AreDead table.now choice.now target.now.process target.now.set.now
+        (place.left + count_moved place.used) dead.old }
+
+    ensures none { IfNone result
+        (NoWay table.now choice.now target.now.process target.now.set.now
+        place.left low high place.used place.state.0 place.seen) }
+    ensures first { IfSome result (λ found.
+        IsFirstWay table.now choice.now target.now.process target.now.set.now
+        place.left low high place.used place.state.0 place.seen found.0.items found.1) }
+    ensures in_range { IfSome result (λ found.
+        (found.1.0 < MOST_RESPONSES) × (found.1.1 < MOST_STATES)) }
+    ensures dead { StayDead table.now choice.now target.now.process target.now.set.now
+        (place.left + count_moved place.used) dead.old dead.new }
 {
     if place.left == 0 {
-        return end_within(set, place);
+        return end_within(target.set, place);
     }
     let (_operations, _states) = (table.operations(), table.states());
     let n = choice.operations.len() as u8;
     let mut tried = 0;
     for process in low..high {
-        if !is_open(choice, j, place, tried, process) {
+        if !is_open(choice, target.process, place, tried, process) {
             continue;
         }
-        tried = tried_after(choice, j, tried, process);
-        let next = place_after(table, choice, j, place, process);
-        if process == j && is_unwanted(set, next) {
+        tried = tried_after(choice, target.process, tried, process);
+        let next = place_after(table, choice, target.process, place, process);
+        if process == target.process && is_unwanted(target.set, next) {
             continue;
         }
         if dead.has(next) {
             continue;
         }
-        let (from, end) = turns(j, next, n);
-        let found = way_into(table, choice, j, set, dead, from, end, next);
+        let (from, end) = turns(target.process, next, n);
+        let found = way_into(table, choice, target, dead, from, end, next);
         if let Some((mut tail, pair)) = found {
             tail.insert(0, process);
             return Some((tail, pair));
