@@ -47,14 +47,14 @@ cleared subset p = bit_and subset (2 ^ 16 - 1 - 1 * 2 ^ p % 2 ^ 16)
 cleared_same : (subset p : ℕ) → p < 16 → bit_at (cleared subset p) p ≡ 0
 cleared_same subset p l = bit_at_clear_same w16 subset p l
 
+pub below_or_not : (i k : ℕ) → (i < k) ⊎ (k ≤ i)
+below_or_not i zero = inr (omega arith)
+below_or_not zero (suc k) = inl (omega arith)
+below_or_not (suc i) (suc k) = elim (below_or_not i k) [ inl h ↦ inl (omega arith) | inr h ↦ inr (omega arith) ]
+
 cleared_other : (subset p i : ℕ) → p < 16 → subset < 2 ^ 16 → i ≢ p → bit_at (cleared subset p) i ≡ bit_at subset i
 cleared_other subset p i l u n = by_width (below_or_not i 16)
   where
-    below_or_not : (i k : ℕ) → (i < k) ⊎ (k ≤ i)
-    below_or_not i zero = inr (omega arith)
-    below_or_not zero (suc k) = inl (omega arith)
-    below_or_not (suc i) (suc k) = elim (below_or_not i k) [ inl h ↦ inl (omega arith) | inr h ↦ inr (omega arith) ]
-
     by_width : (i < 16) ⊎ (16 ≤ i) → bit_at (cleared subset p) i ≡ bit_at subset i
     by_width (inl h) = bit_at_clear_other w16 subset p l i h n
     by_width (inr h) = omega (arith, bit_at_and subset (2 ^ 16 - 1 - 1 * 2 ^ p % 2 ^ 16) i, bit_at_above subset 16 i u h)

@@ -1,5 +1,5 @@
 -- The rows for one response of a process, by the last process of an order.
-use Rattle.std.proofs.Common.{◌^◌, ◌*◌, ◌-◌, ◌%◌, List, length, get_or, get_or-set_other, get_or-set_same, length-set, ◌≡◌, ◌≢◌, ℕ, ◌+◌, ◌<◌, ◌≤◌, ◌⊎◌, inl, inr, ◌↔◌, refl, sym, ap, ◌∙◌, subst, arith, Some, suc}
+use Rattle.std.proofs.Common.{◌^◌, ◌*◌, ◌-◌, ◌%◌, List, length, get_or, ◌≡◌, ◌≢◌, ℕ, ◌+◌, ◌<◌, ◌≤◌, ◌⊎◌, inl, inr, ◌↔◌, refl, sym, ap, ◌∙◌, subst, arith, Some, suc}
 use Rattle.std.specs.Prelude.{IsBitSet, slice_get}
 use Rattle.std.specs.Int.Bits.{bit_or}
 use Rattle.std.proofs.lemmas.Nat.{one_shl, or_lt, pow_below}
@@ -11,9 +11,9 @@ use Rattle.cn_choice.specs.declared.team.Team.{Team}
 use Rattle.cn_outcomes.specs.OutcomeOrders.{NoneOfLength}
 use Rattle.cn_outcomes.specs.PairSets.{Has}
 use Rattle.cn_choice.specs.OutcomeSets.{InOutcomeSet}
-use Rattle.cn_choice.specs.RawChoices.{RawChoice}
-use Rattle.cn_outcomes.specs.ResponseRows.{AreGivenRows, AreRowsOf, GivesWith, IsOthers}
-use Rattle.cn_outcomes.specs.Subsets.{Below, Finds, Gives, IsWithout, Leaves}
+use Rattle.cn_choice.specs.RawChoices.{IsRawChoice, RawChoice}
+use Rattle.cn_outcomes.specs.ResponseRows.{AreGivenRows, GivesWith, IsOthers}
+use Rattle.cn_outcomes.specs.Subsets.{AreRowsOf, Below, Finds, Gives, IsWithout, Leaves}
 use Rattle.cn_choice.specs.Moves.{answer_of, next_of}
 use Rattle.cn_outcomes.specs.Tails.{count_below}
 use Rattle.cn_outcomes.specs.Twins.{AreLinks, IsMover, IsPacked}
@@ -21,50 +21,12 @@ use Rattle.cn_outcomes.proofs.BitSets.{cleared, cleared_is, even_not, filled, me
 use Rattle.cn_outcomes.proofs.LastAnswers.{exactly_subset, gives_from, gives_member, gives_to, outcome_subset, subset_below, subset_of}
 use Rattle.cn_outcomes.proofs.LastProcess.{exactly_to, known_from, leaves_some, same_or_not, zero_has_none}
 use Rattle.cn_outcomes.proofs.LeastSizes.{size_of_list}
-use Rattle.cn_outcomes.proofs.Packing.{below_or_last, gives_by_mover, packing, rest_less, rest_packed}
+use Rattle.cn_outcomes.proofs.Packing.{gives_by_mover, packing, rest_less, rest_packed}
 use Rattle.cn_outcomes.proofs.Sizes.{count_more}
 use Rattle.cn_outcomes.proofs.TailLemmas.{in_pow}
-use Rattle.cn_outcomes.proofs.Unions.{GathersFrom, Gathers, from_more, gathers_more, gathers_none, subsets_of}
+use Rattle.cn_outcomes.proofs.Unions.{GathersFrom, Gathers, from_more, gathers_more, gathers_none, rows_first, rows_more, rows_passed, subsets_of}
 
 -- ---- the rows, one after the other
-
-module _ (links j : ℕ) (wanted : ℕ → ℕ → Type 0) (bound : ℕ) where
-  pub others_first : (rows : List ℕ) → length rows ≡ 256 → get_or rows 0 0 ≡ 0 → ((q : ℕ) → ¬ wanted 0 q) → AreRowsOf links j wanted bound 1 rows
-  others_first rows e z n = record {
-    same = λ s l _ q. none s q (omega arith);
-    known = λ s l _ q b. absurd (zero_has_none q (subst (λ (x : ℕ). IsBitSet x q) (here s (omega arith)) b));
-    long = e;
-  }
-    where
-      here : (s : ℕ) → s ≡ 0 → get_or rows s 0 ≡ 0
-      here s e = ap (λ (i : ℕ). get_or rows i 0) e ∙ z
-
-      none : (s q : ℕ) → s ≡ 0 → IsBitSet (get_or rows s 0) q ↔ wanted s q
-      none s q e = (λ b. absurd (zero_has_none q (subst (λ (x : ℕ). IsBitSet x q) (here s e) b)), λ w. absurd (n q (subst (λ (x : ℕ). wanted x q) e w)))
-
-  pub others_more : (rows : List ℕ) (k part : ℕ) → k < length rows → AreRowsOf links j wanted bound k rows → ((q : ℕ) → IsBitSet part q ↔ wanted k q) → Below bound part → AreRowsOf links j wanted bound (k + 1) (set rows k part)
-  others_more rows k part l r h b = record { same = λ s u p. same s p (below_or_last s k u); known = λ s u p. known s p (below_or_last s k u); long = length-set rows k part ∙ r.long }
-    where
-      other : (s : ℕ) → s < k → get_or rows s 0 ≡ get_or (set rows k part) s 0
-      other s u = let n : s ≢ k = omega arith in sym (get_or-set_other rows k s part 0 n)
-
-      at : (s : ℕ) → s ≡ k → part ≡ get_or (set rows k part) s 0
-      at s e = sym (get_or-set_same rows k part 0 l) ∙ ap (λ (i : ℕ). get_or (set rows k part) i 0) (sym e)
-
-      same : (s : ℕ) → IsOthers links j s → (s < k) ⊎ (s ≡ k) → (q : ℕ) → IsBitSet (get_or (set rows k part) s 0) q ↔ wanted s q
-      same s p (inl u) = subst (λ (x : ℕ). (q : ℕ) → IsBitSet x q ↔ wanted s q) (other s u) (r.same s u p)
-      same s p (inr e) = subst (λ (x : ℕ). (q : ℕ) → IsBitSet x q ↔ wanted s q) (at s e) (subst (λ (x : ℕ). (q : ℕ) → IsBitSet part q ↔ wanted x q) (sym e) h)
-
-      known : (s : ℕ) → IsOthers links j s → (s < k) ⊎ (s ≡ k) → Below bound (get_or (set rows k part) s 0)
-      known s p (inl u) = subst (Below bound) (other s u) (r.known s u p)
-      known s p (inr e) = subst (Below bound) (at s e) b
-
-  -- another subset is passed by
-  pub others_passed : (rows : List ℕ) (k : ℕ) → ¬ IsOthers links j k → AreRowsOf links j wanted bound k rows → AreRowsOf links j wanted bound (k + 1) rows
-  others_passed rows k n r = record { same = λ s u p. r.same s (below s u p) p; known = λ s u p. r.known s (below s u p) p; long = r.long }
-    where
-      below : (s : ℕ) → s < k + 1 → IsOthers links j s → s < k
-      below s u p = elim (below_or_last s k u) [ inl l ↦ l | inr e ↦ absurd (n (subst (IsOthers links j) e p)) ]
 
 -- the even numbers are the subsets without process 0: each is followed by one with it
 not_odd : (links k : ℕ) → ¬ IsOthers links 0 (2 * k + 1)
@@ -74,19 +36,19 @@ two_more : (k : ℕ) → 2 * k + 1 + 1 ≡ 2 * (k + 1)
 two_more k = omega arith
 
 module _ (links : ℕ) (wanted : ℕ → ℕ → Type 0) (bound : ℕ) where
-  pub evens_first : (rows : List ℕ) → length rows ≡ 256 → get_or rows 0 0 ≡ 0 → ((q : ℕ) → ¬ wanted 0 q) → AreRowsOf links 0 wanted bound 2 rows
-  evens_first rows e z n = others_passed links 0 wanted bound rows 1 (not_odd links 0) (others_first links 0 wanted bound rows e z n)
+  pub evens_first : (rows : List ℕ) → length rows ≡ 256 → get_or rows 0 0 ≡ 0 → ((q : ℕ) → ¬ wanted 0 q) → AreRowsOf (IsOthers links 0) wanted bound 2 rows
+  evens_first rows e z n = rows_passed (IsOthers links 0) wanted bound rows 1 (not_odd links 0) (rows_first (IsOthers links 0) wanted bound rows e z n)
 
-  pub evens_more : (rows : List ℕ) (k part : ℕ) → 2 * k < length rows → AreRowsOf links 0 wanted bound (2 * k) rows → ((q : ℕ) → IsBitSet part q ↔ wanted (2 * k) q) → Below bound part
-      → AreRowsOf links 0 wanted bound (2 * (k + 1)) (set rows (2 * k) part)
+  pub evens_more : (rows : List ℕ) (k part : ℕ) → 2 * k < length rows → AreRowsOf (IsOthers links 0) wanted bound (2 * k) rows → ((q : ℕ) → IsBitSet part q ↔ wanted (2 * k) q) → Below bound part
+      → AreRowsOf (IsOthers links 0) wanted bound (2 * (k + 1)) (set rows (2 * k) part)
   evens_more rows k part l r h b =
-      subst (λ (end : ℕ). AreRowsOf links 0 wanted bound end (set rows (2 * k) part)) (two_more k)
-      (others_passed links 0 wanted bound (set rows (2 * k) part) (2 * k + 1) (not_odd links k) (others_more links 0 wanted bound rows (2 * k) part l r h b))
+      subst (λ (end : ℕ). AreRowsOf (IsOthers links 0) wanted bound end (set rows (2 * k) part)) (two_more k)
+      (rows_passed (IsOthers links 0) wanted bound (set rows (2 * k) part) (2 * k + 1) (not_odd links k) (rows_more (IsOthers links 0) wanted bound rows (2 * k) part l r h b))
 
-  pub evens_passed : (rows : List ℕ) (k : ℕ) → ¬ IsOthers links 0 (2 * k) → AreRowsOf links 0 wanted bound (2 * k) rows → AreRowsOf links 0 wanted bound (2 * (k + 1)) rows
+  pub evens_passed : (rows : List ℕ) (k : ℕ) → ¬ IsOthers links 0 (2 * k) → AreRowsOf (IsOthers links 0) wanted bound (2 * k) rows → AreRowsOf (IsOthers links 0) wanted bound (2 * (k + 1)) rows
   evens_passed rows k n r =
-      subst (λ (end : ℕ). AreRowsOf links 0 wanted bound end rows) (two_more k)
-      (others_passed links 0 wanted bound rows (2 * k + 1) (not_odd links k) (others_passed links 0 wanted bound rows (2 * k) n r))
+      subst (λ (end : ℕ). AreRowsOf (IsOthers links 0) wanted bound end rows) (two_more k)
+      (rows_passed (IsOthers links 0) wanted bound rows (2 * k + 1) (not_odd links k) (rows_passed (IsOthers links 0) wanted bound rows (2 * k) n r))
 
   -- the parts of these subsets together
   abbrev part_of : ℕ → ℕ → Type 0
@@ -122,6 +84,13 @@ half_count n some few =
     let double = pow-suc 2 (n - 1) in
     let most = (subsets_of n few).1 in
     (omega (arith, one, two, double), omega (arith, one, two, double, most))
+
+-- the operation of a member of a subset is one of an equal table
+pub member_operation : (s t : TypeTable) → s ≡ t → (c : RawChoice) → IsRawChoice t (length c.operations) c → (subset p operation : ℕ) → subset < 2 ^ length c.operations → IsBitSet subset p
+    → operation ≡ get_or c.operations p 0 → operation < length s.operations
+member_operation s t e c fits subset p operation inside member is =
+    subst (λ (u : TypeTable). operation < length u.operations) (sym e)
+    (subst (λ (o : ℕ). o < length t.operations) (sym is) (fits.operations_known p 0 (member_below (length c.operations) subset p inside member)))
 
 -- such a subset without one of its movers
 pub rest_others : (links j subset p rest : ℕ) → IsPacked links subset → ¬ IsBitSet subset j → IsMover links subset p → IsWithout subset p rest → IsOthers links j rest

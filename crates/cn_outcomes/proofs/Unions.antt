@@ -8,13 +8,13 @@ use Rattle.std.proofs.lemmas.Nat.{one_shl, pow_below, pow_pos}
 use Rattle.cn_outcomes.specs.PairSets.{Has}
 use Rattle.cn_choice.specs.OutcomeSets.{InOutcomeSet}
 use Rattle.std.proofs.Math.ListN.{set}
-use Rattle.cn_outcomes.specs.Subsets.{AreRows, ArePairRows, IsRow, Below, Leaves, Gives, Finds, IsWithout, OtherLast, OwnLast}
+use Rattle.cn_outcomes.specs.Subsets.{AreRowsOf, ArePairRows, IsRow, Below, Leaves, Gives, Finds, IsWithout, OtherLast, OwnLast}
 use Rattle.cn_choice.specs.Moves.{answer_of, next_of}
 use Rattle.cn_outcomes.specs.Twins.{AreLinks, IsMover, IsPacked, IsRun}
 use Rattle.cn_outcomes.proofs.Packing.{below_or_last, finds_last, gives_by_mover, leaves_by_mover, packing}
 use Rattle.cn_outcomes.proofs.LastProcess.{zero_has_none, LeavesLast, leaves_to, leaves_from, leaves_some, same_or_not}
 use Rattle.cn_outcomes.proofs.LastAnswers.{gives_to, gives_from, gives_member, outcome_subset, pair_parts}
-use Rattle.cn_outcomes.proofs.BitSets.{cleared, cleared_is, without_one, member_below}
+use Rattle.cn_outcomes.proofs.BitSets.{below_or_not, cleared, cleared_is, without_one, member_below}
 
 -- the set has what the parts below k have
 abbrev pub Gathers : (ℕ → ℕ → Type 0) → ℕ → ℕ → Type 0
@@ -122,46 +122,46 @@ row_all t c team links linked subset of left set e small l movers g q =
 
 -- ---- the rows
 
-module _ (t : TypeTable) (c : RawChoice) (team : Team) (links : ℕ) where
-  pub rows_first : (rows : List ℕ) → length rows ≡ 256 → get_or rows 0 0 ≡ 0 → AreRows t c team links 1 rows
-  rows_first rows e z = record {
-    long = e;
-    same = λ s l _ q. none s (omega arith) q;
+-- one place of a list more
+pub at_more : {X : Type 0} (fits : ℕ → X → Type 0) (none : X) (rows : List X) (k : ℕ) (row : X) → k < length rows → ((i : ℕ) → i < k → fits i (get_or rows i none)) → fits k row
+    → (i : ℕ) → i < k + 1 → fits i (get_or (set rows k row) i none)
+at_more fits none rows k row l g h i u = elim (below_or_last i k u) [
+  | inl b ↦ (let n : i ≢ k = omega arith in subst (fits i) (sym (get_or-set_other rows k i row none n)) (g i b))
+  | inr e ↦ subst (λ (j : ℕ). fits j (get_or (set rows k row) j none)) (sym e) (subst (fits k) (sym (get_or-set_same rows k row none l)) h)
+]
+
+-- a number that has no row is none of those that have one
+pub below_passed : (has_row : ℕ → Type 0) (k : ℕ) → ¬ has_row k → (s : ℕ) → s < k + 1 → has_row s → s < k
+below_passed has_row k n s u p = elim (below_or_last s k u) [ inl l ↦ l | inr e ↦ absurd (n (subst has_row e p)) ]
+
+module _ (has_row : ℕ → Type 0) (states : ℕ → ℕ → Type 0) (bound : ℕ) where
+  pub rows_first : (rows : List ℕ) → length rows ≡ 256 → get_or rows 0 0 ≡ 0 → ((q : ℕ) → ¬ states 0 q) → AreRowsOf has_row states bound 1 rows
+  rows_first rows e z n = record {
+    same = λ s l _ q. none s q (omega arith);
     known = λ s l _ q b. absurd (zero_has_none q (subst (λ (x : ℕ). IsBitSet x q) (here s (omega arith)) b));
+    long = e;
   }
     where
       here : (s : ℕ) → s ≡ 0 → get_or rows s 0 ≡ 0
       here s e = ap (λ (i : ℕ). get_or rows i 0) e ∙ z
 
-      none : (s : ℕ) → s ≡ 0 → (q : ℕ) → IsBitSet (get_or rows s 0) q ↔ Leaves t c team s q
-      none s e q = (
-        λ b. absurd (zero_has_none q (subst (λ (x : ℕ). IsBitSet x q) (here s e) b)),
-        λ h. absurd (leaves_some t c team q (subst (λ (x : ℕ). Leaves t c team x q) e h)),
-      )
+      none : (s q : ℕ) → s ≡ 0 → IsBitSet (get_or rows s 0) q ↔ states s q
+      none s q e = (λ b. absurd (zero_has_none q (subst (λ (x : ℕ). IsBitSet x q) (here s e) b)), λ w. absurd (n q (subst (λ (x : ℕ). states x q) e w)))
 
-  pub rows_more : (rows : List ℕ) (k part : ℕ) → k < length rows → AreRows t c team links k rows → ((q : ℕ) → IsBitSet part q ↔ Leaves t c team k q) → Below (length t.states) part → AreRows t c team links (k + 1) (set rows k part)
-  rows_more rows k part l r h b = record { long = length-set rows k part ∙ r.long; same = λ s u p. same s p (below_or_last s k u); known = λ s u p. known s p (below_or_last s k u) }
-    where
-      other : (s : ℕ) → s < k → get_or rows s 0 ≡ get_or (set rows k part) s 0
-      other s u = let n : s ≢ k = omega arith in sym (get_or-set_other rows k s part 0 n)
+  pub rows_more : (rows : List ℕ) (k part : ℕ) → k < length rows → AreRowsOf has_row states bound k rows → ((q : ℕ) → IsBitSet part q ↔ states k q) → Below bound part → AreRowsOf has_row states bound (k + 1) (set rows k part)
+  rows_more rows k part l r h b = record {
+    same = at_more (λ s (row : ℕ). has_row s → (q : ℕ) → IsBitSet row q ↔ states s q) 0 rows k part l r.same (λ _. h);
+    known = at_more (λ s (row : ℕ). has_row s → Below bound row) 0 rows k part l r.known (λ _. b);
+    long = length-set rows k part ∙ r.long;
+  }
 
-      at : (s : ℕ) → s ≡ k → part ≡ get_or (set rows k part) s 0
-      at s e = sym (get_or-set_same rows k part 0 l) ∙ ap (λ (i : ℕ). get_or (set rows k part) i 0) (sym e)
-
-      same : (s : ℕ) → IsPacked links s → (s < k) ⊎ (s ≡ k) → (q : ℕ) → IsBitSet (get_or (set rows k part) s 0) q ↔ Leaves t c team s q
-      same s p (inl u) = subst (λ (x : ℕ). (q : ℕ) → IsBitSet x q ↔ Leaves t c team s q) (other s u) (r.same s u p)
-      same s p (inr e) = subst (λ (x : ℕ). (q : ℕ) → IsBitSet x q ↔ Leaves t c team s q) (at s e) (subst (λ (x : ℕ). (q : ℕ) → IsBitSet part q ↔ Leaves t c team x q) (sym e) h)
-
-      known : (s : ℕ) → IsPacked links s → (s < k) ⊎ (s ≡ k) → Below (length t.states) (get_or (set rows k part) s 0)
-      known s p (inl u) = subst (Below (length t.states)) (other s u) (r.known s u p)
-      known s p (inr e) = subst (Below (length t.states)) (at s e) b
-
-  -- a subset that is not packed is passed by
-  pub rows_passed : (rows : List ℕ) (k : ℕ) → ¬ IsPacked links k → AreRows t c team links k rows → AreRows t c team links (k + 1) rows
-  rows_passed rows k n r = record { long = r.long; same = λ s u p. r.same s (below s u p) p; known = λ s u p. r.known s (below s u p) p }
-    where
-      below : (s : ℕ) → s < k + 1 → IsPacked links s → s < k
-      below s u p = elim (below_or_last s k u) [ inl l ↦ l | inr e ↦ absurd (n (subst (IsPacked links) e p)) ]
+  -- a subset that has none is passed by
+  pub rows_passed : (rows : List ℕ) (k : ℕ) → ¬ has_row k → AreRowsOf has_row states bound k rows → AreRowsOf has_row states bound (k + 1) rows
+  rows_passed rows k n r = record {
+    same = λ s u p. r.same s (below_passed has_row k n s u p) p;
+    known = λ s u p. r.known s (below_passed has_row k n s u p) p;
+    long = r.long;
+  }
 
 -- ---- rows of pairs
 
@@ -209,11 +209,6 @@ pub beyond : (xs : List ℕ) (i : ℕ) → length xs ≤ i → get_or xs i 0 ≡
 beyond [] i l = refl
 beyond (x ∷ xs) zero l = absurd (omega arith)
 beyond (x ∷ xs) (suc i) l = beyond xs i (omega arith)
-
-pub below_or_not : (i k : ℕ) → (i < k) ⊎ (k ≤ i)
-below_or_not i zero = inr (omega arith)
-below_or_not zero (suc k) = inl (omega arith)
-below_or_not (suc i) (suc k) = elim (below_or_not i k) [ inl h ↦ inl (omega arith) | inr h ↦ inr (omega arith) ]
 
 pub nothing_beyond : (xs : List ℕ) (n r q : ℕ) → length xs ≡ n → n ≤ r → ¬ IsBitSet (get_or xs r 0) q
 nothing_beyond xs n r q e l b = zero_has_none q (subst (λ (x : ℕ). IsBitSet x q) (beyond xs r (omega (arith, e, l))) b)
@@ -317,24 +312,11 @@ module _ (t : TypeTable) (c : RawChoice) (team : Team) (j links : ℕ) where
 
   pub pairs_more : (rows : List (List ℕ)) (k : ℕ) (row : List ℕ) → k < length rows → ArePairRows t c team j links k rows → ((r q : ℕ) → Has row r q ↔ Gives t c team j k r q) → IsRow t row
       → ArePairRows t c team j links (k + 1) (set rows k row)
-  pairs_more rows k row l a h i = record { same = λ s u p. same s p (below_or_last s k u); row = λ s u p. row_is s p (below_or_last s k u); long = length-set rows k row ∙ a.long }
-    where
-      other : (s : ℕ) → s < k → get_or rows s [] ≡ get_or (set rows k row) s []
-      other s u = let n : s ≢ k = omega arith in sym (get_or-set_other rows k s row [] n)
-
-      at : (s : ℕ) → s ≡ k → row ≡ get_or (set rows k row) s []
-      at s e = sym (get_or-set_same rows k row [] l) ∙ ap (λ (i : ℕ). get_or (set rows k row) i []) (sym e)
-
-      same : (s : ℕ) → IsPacked links s → (s < k) ⊎ (s ≡ k) → (r q : ℕ) → Has (get_or (set rows k row) s []) r q ↔ Gives t c team j s r q
-      same s p (inl u) = subst (λ (x : List ℕ). (r q : ℕ) → Has x r q ↔ Gives t c team j s r q) (other s u) (a.same s u p)
-      same s p (inr e) = subst (λ (x : List ℕ). (r q : ℕ) → Has x r q ↔ Gives t c team j s r q) (at s e) (subst (λ (x : ℕ). (r q : ℕ) → Has row r q ↔ Gives t c team j x r q) (sym e) h)
-
-      row_is : (s : ℕ) → IsPacked links s → (s < k) ⊎ (s ≡ k) → IsRow t (get_or (set rows k row) s [])
-      row_is s p (inl u) = subst (IsRow t) (other s u) (a.row s u p)
-      row_is s p (inr e) = subst (IsRow t) (at s e) i
-
-  below : (s k : ℕ) → ¬ IsPacked links k → s < k + 1 → IsPacked links s → s < k
-  below s k n u p = elim (below_or_last s k u) [ inl l ↦ l | inr e ↦ absurd (n (subst (IsPacked links) e p)) ]
+  pairs_more rows k row l a h i = record {
+    same = at_more (λ s (row : List ℕ). IsPacked links s → (r q : ℕ) → Has row r q ↔ Gives t c team j s r q) [] rows k row l a.same (λ _. h);
+    row = at_more (λ s (row : List ℕ). IsPacked links s → IsRow t row) [] rows k row l a.row (λ _. i);
+    long = length-set rows k row ∙ a.long;
+  }
 
   -- a subset without j gives nothing
   pub gives_nothing : (k : ℕ) → ¬ IsBitSet k j → (r q : ℕ) → Has (zeros 16) r q ↔ Gives t c team j k r q
@@ -345,7 +327,11 @@ module _ (t : TypeTable) (c : RawChoice) (team : Team) (j links : ℕ) where
 
   -- a subset that is not packed is passed by
   pub pairs_passed : (rows : List (List ℕ)) (k : ℕ) → ¬ IsPacked links k → ArePairRows t c team j links k rows → ArePairRows t c team j links (k + 1) rows
-  pairs_passed rows k n a = record { same = λ s u p. a.same s (below s k n u p) p; row = λ s u p. a.row s (below s k n u p) p; long = a.long }
+  pairs_passed rows k n a = record {
+    same = λ s u p. a.same s (below_passed (IsPacked links) k n s u p) p;
+    row = λ s u p. a.row s (below_passed (IsPacked links) k n s u p) p;
+    long = a.long;
+  }
 
   pub subsets_first : (q set : ℕ) → set ≡ 0 → Gathers (subset_part q) 1 set
   subsets_first q set e r = (λ b. absurd (zero_has_none r (subst (λ (x : ℕ). IsBitSet x r) e b)), λ h. absurd (gives_some t c team j h.0 r q (omega (arith, h.1)) h.2.1))

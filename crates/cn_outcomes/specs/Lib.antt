@@ -5,6 +5,7 @@ pub mod LedOrders
 pub mod OutcomeOrders
 pub mod PairSets
 pub mod ResponseRows
+pub mod RowSettings
 pub mod Subjects
 pub mod Subsets
 pub mod Tails

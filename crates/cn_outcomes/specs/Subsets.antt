@@ -38,11 +38,15 @@ Finds t c team p rest state = ((rest ≡ 0) × (slice_get c.marks p ≡ Some tea
 abbrev pub Below : ℕ → ℕ → Type 0
 Below bound set = (q : ℕ) → IsBitSet set q → q < bound
 
--- the row of each packed subset below the end is the set of the states in which orders of that subset leave the object
-pub record AreRows (t : TypeTable) (c : RawChoice) (team : Team) (links end : ℕ) (rows : List ℕ) : Type 0 where
-  pub same : (subset : ℕ) → subset < end → IsPacked links subset → (q : ℕ) → IsBitSet (slice_index rows subset) q ↔ Leaves t c team subset q
-  pub known : (subset : ℕ) → subset < end → IsPacked links subset → Below (length t.states) (slice_index rows subset)
+-- the row of each subset below the end that has one is the set of these states of it, which are below the bound
+pub record AreRowsOf (has_row : ℕ → Type 0) (states : ℕ → ℕ → Type 0) (bound end : ℕ) (rows : List ℕ) : Type 0 where
+  pub same : (subset : ℕ) → subset < end → has_row subset → (q : ℕ) → IsBitSet (slice_index rows subset) q ↔ states subset q
+  pub known : (subset : ℕ) → subset < end → has_row subset → Below bound (slice_index rows subset)
   pub long : length rows ≡ SUBSETS
+
+-- the rows of the packed subsets: the states in which orders of a subset leave the object
+abbrev pub AreRows : TypeTable → RawChoice → Team → ℕ → ℕ → List ℕ → Type 0
+AreRows t c team links end rows = AreRowsOf (IsPacked links) (Leaves t c team) (length t.states) end rows
 
 -- it has a place for each state
 pub record IsRow (t : TypeTable) (row : List ℕ) : Type 0 where

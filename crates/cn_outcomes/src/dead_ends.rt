@@ -62,7 +62,8 @@ impl DeadEnds {
         requires used { place.used < SUBSETS }
         requires seen { IfSome place.seen (λ response. response < MOST_RESPONSES) }
         requires state { place.state.0 < MOST_STATES }
-        ensures { IsTrue result → (1 < place.left) × IsKept self.now place.used place.seen place.state.0 }
+        ensures { IsTrue result
+            → (1 < place.left) × IsKept self.now place.used place.seen place.state.0 }
     {
         let used = place.used as usize;
         if place.left < 2 || !self.begun[used] {
@@ -87,7 +88,9 @@ impl DeadEnds {
         requires used { place.used < SUBSETS }
         requires seen { IfSome place.seen (λ response. response < MOST_RESPONSES) }
         requires state { place.state.0 < MOST_STATES }
-        ensures { (u q : ℕ) (s : Option ℕ) → IsKept self.new u s q → IsKept self.old u s q ⊎ ((u ≡ place.used) × (s ≡ place.seen) × (q ≡ place.state.0)) }
+        ensures { (u q : ℕ) (s : Option ℕ) → IsKept self.new u s q
+            → IsKept self.old u s q
+            ⊎ ((u ≡ place.used) × (s ≡ place.seen) × (q ≡ place.state.0)) }
     {
         if place.left < 2 {
             return;

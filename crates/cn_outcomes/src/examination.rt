@@ -5,9 +5,7 @@ ghost use Rattle.cn_outcomes.specs.Examination.{IsExamined};
 ghost use Rattle.cn_choice.specs.Canonical.{FitsTable};
 ghost use Rattle.cn_choice.specs.FirstCollision.{IsFirstCollision};
 ghost use Rattle.cn_outcomes.specs.OutcomeOrders.{IsFirstInto};
-ghost use Rattle.cn_outcomes.specs.PairSets.{Has};
-ghost use Rattle.cn_choice.specs.OutcomeSets.{InOutcomeSet};
-ghost use Rattle.cn_outcomes.specs.Subjects.{IsSubject};
+ghost use Rattle.cn_outcomes.specs.Subjects.{IsSubject, IsTargetOfA};
 ghost use Rattle.cn_outcomes.specs.Subsets.{AreRows};
 ghost use Rattle.cn_outcomes.specs.Twins.{AreLinks};
 ghost use Rattle.cn_choice.specs.declared.team.Team.TheVariants.{A, B};
@@ -21,6 +19,7 @@ use crate::images::Images;
 use crate::led_collisions::led_collision;
 use crate::limits::SUBSETS;
 use crate::outcome_sets::{OutcomeSet, outcomes_from};
+use crate::row_setting::RowSetting;
 use crate::subject::Subject;
 use crate::subset_rows::{least_size, rows};
 use crate::tails::Target;
@@ -67,25 +66,18 @@ fn meets(
     pairs: &mut [[u16; MOST_STATES]; SUBSETS],
 ) -> bool
     requires subject { IsSubject subject.now }
-    requires process { target.now.process < length subject.now.raw.now.operations }
-    requires first { ¬ IsBitSet links target.now.process }
-    requires links { AreLinks subject.now.raw.now links }
-    requires from_b { (r q : ℕ) → Has target.now.set.now r q
-        ↔ InOutcomeSet subject.now.table.now subject.now.raw.now B target.now.process (r, q) }
+    requires target { IsTargetOfA subject.now links target.now }
     ensures none { IsFalse result → (alpha beta : List ℕ)
         → ¬ IsCollision subject.now.table.now subject.now.raw.now target.now.process alpha beta }
 {
-    let rows_a = rows(subject.table, subject.raw, Team::A, links);
-    let from_a = outcomes_from(
-        subject.table,
-        subject.raw,
-        Team::A,
-        target.process,
+    let setting = RowSetting {
+        table: subject.table,
+        choice: subject.raw,
+        team: Team::A,
         links,
-        &rows_a,
-        pairs,
-    );
-    from_a.meets(target.set)
+    };
+    let rows_a = rows(&setting);
+    outcomes_from(&setting, target.process, &rows_a, pairs).meets(target.set)
 }
 
 /// The first order that begins in team A and leads to the target, and the pair that it gives. The
@@ -98,11 +90,7 @@ fn first_alpha(
     dead: &mut DeadEnds,
 ) -> Option<(ArrayVec<u8, MOST_PROCESSES>, (u8, u8))>
     requires subject { IsSubject subject.now }
-    requires process { target.now.process < length subject.now.raw.now.operations }
-    requires first { ¬ IsBitSet links target.now.process }
-    requires links { AreLinks subject.now.raw.now links }
-    requires from_b { (r q : ℕ) → Has target.now.set.now r q
-        ↔ InOutcomeSet subject.now.table.now subject.now.raw.now B target.now.process (r, q) }
+    requires target { IsTargetOfA subject.now links target.now }
 
     ensures none { IfNone result ((alpha beta : List ℕ)
         → ¬ IsCollision subject.now.table.now subject.now.raw.now target.now.process alpha beta) }
@@ -150,15 +138,13 @@ fn collision_of(
 {
     let raw = subject.raw;
     let n = raw.operations.len() as u8;
-    let from_b = outcomes_from(
-        subject.table,
-        raw,
-        Team::B,
-        process,
+    let setting = RowSetting {
+        table: subject.table,
+        choice: raw,
+        team: Team::B,
         links,
-        rows_b,
-        &mut room.from_b,
-    );
+    };
+    let from_b = outcomes_from(&setting, process, rows_b, &mut room.from_b);
     let target = Target {
         process,
         set: &from_b,
@@ -201,7 +187,12 @@ fn collision_by_rows(
     collision_or_witness();
     process_of_pair();
     let raw = subject.raw;
-    let rows_b = rows(subject.table, raw, Team::B, links);
+    let rows_b = rows(&RowSetting {
+        table: subject.table,
+        choice: raw,
+        team: Team::B,
+        links,
+    });
     for process in 0..raw.operations.len() as u8 {
         if contains(links, process) {
             continue;

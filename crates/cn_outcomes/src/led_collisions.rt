@@ -14,6 +14,7 @@ use crate::first_orders::first_order_into;
 use crate::images::Images;
 use crate::outcome_sets::OutcomeSet;
 use crate::response_rows::{asked_first, least_with, response_rows};
+use crate::row_setting::RowSetting;
 use crate::subject::Subject;
 use crate::subset_rows::is_in;
 use crate::tails::{Place, Target, way_into};
@@ -79,7 +80,13 @@ pub(crate) fn led_collision(
     let n = raw.operations.len() as u8;
     let count = 1u16 << (n - 1);
     let asked = asked_first(table, raw, 0);
-    let rows = response_rows(table, raw, Team::B, asked, links, count, images);
+    let setting = RowSetting {
+        table,
+        choice: raw,
+        team: Team::B,
+        links,
+    };
+    let rows = response_rows(&setting, asked, count, images);
     let from_b = OutcomeSet::of_response(asked.response, rows.all);
     let (alpha, (response, state)) = led_alpha(table, raw, &from_b, dead)?;
     let pair = OutcomeSet::only(response, state);

@@ -12,6 +12,7 @@ mod led_collisions;
 mod limits;
 mod outcome_sets;
 mod response_rows;
+mod row_setting;
 mod subject;
 mod subset_rows;
 mod tails;

@@ -78,7 +78,8 @@ fn end_within(set: &OutcomeSet, place: Place) -> Option<(ArrayVec<u8, MOST_PROCE
     ensures none { IfNone result ((response : ℕ) → place.seen ≡ Some response
         → ¬ Has set.now response place.state.0) }
     ensures empty { IfSome result (λ found. found.0.items ≡ []) }
-    ensures ends { IfSome result (λ found. (place.seen ≡ Some found.1.0) × (place.state.0 ≡ found.1.1)) }
+    ensures ends { IfSome result (λ found.
+        (place.seen ≡ Some found.1.0) × (place.state.0 ≡ found.1.1)) }
     ensures has { IfSome result (λ found. Has set.now found.1.0 found.1.1) }
     ensures in_range { IfSome result (λ found.
         (found.1.0 < MOST_RESPONSES) × (found.1.1 < MOST_STATES)) }

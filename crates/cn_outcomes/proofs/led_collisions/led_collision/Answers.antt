@@ -27,10 +27,14 @@ response_rows-rows-requires-clause-small c =
 pub response_rows-rows-requires-clause-alone : goal.response_rows-rows-requires-clause-alone
 response_rows-rows-requires-clause-alone c b = ((c.minus-links.ensures 1).0 b).1 ((c.with.ensures 1).1 (inr refl))
 
-pub response_rows-rows-requires-clause-links : goal.response_rows-rows-requires-clause-links
-response_rows-rows-requires-clause-links c = record {
-  twins = λ p b. c.requires.links.twins p ((c.minus-links.ensures (p + 1)).0 b).0;
-  not_first = λ b. c.requires.links.not_first ((c.minus-links.ensures 0).0 b).0;
+pub response_rows-rows-requires-clause-setting : goal.response_rows-rows-requires-clause-setting
+response_rows-rows-requires-clause-setting c = record {
+  few = c.requires.subject.short;
+  fits = c.requires.subject.fits;
+  linked = record {
+    twins = λ p b. c.requires.links.twins p ((c.minus-links.ensures (p + 1)).0 b).0;
+    not_first = λ b. c.requires.links.not_first ((c.minus-links.ensures 0).0 b).0;
+  };
 }
 
 pub response_rows-rows-requires-clause-other : goal.response_rows-rows-requires-clause-other

@@ -6,6 +6,6 @@ use Rattle.cn_outcomes.proofs.subset_rows.outcome_row.Given as goal
 -- the pairs of the packed subsets so far
 abbrev pub invariant-loop-subset : goal.invariant-loop-subset
 invariant-loop-subset l =
-    ArePairRows l.table l.choice l.fn.team l.j l.links l.subset l.pairs ×
-    ((q : ℕ) → Gathers (subset_part l.table l.choice l.fn.team l.j l.links q) l.subset (get_or l.all q 0)) ×
-    IsRow l.table l.all
+    ArePairRows l.setting.table.now l.setting.choice.now l.setting.team l.j l.setting.links l.subset l.pairs ×
+    ((q : ℕ) → Gathers (subset_part l.setting.table.now l.setting.choice.now l.setting.team l.j l.setting.links q) l.subset (get_or l.all q 0)) ×
+    IsRow l.setting.table.now l.all
