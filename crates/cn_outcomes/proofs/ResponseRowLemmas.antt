@@ -13,7 +13,7 @@ use Rattle.cn_outcomes.specs.PairSets.{Has}
 use Rattle.cn_choice.specs.OutcomeSets.{InOutcomeSet}
 use Rattle.cn_choice.specs.RawChoices.{IsRawChoice, RawChoice}
 use Rattle.cn_outcomes.specs.ResponseRows.{AreGivenRows, GivesWith, IsOthers}
-use Rattle.cn_outcomes.specs.Subsets.{AreRowsOf, Below, Finds, Gives, IsWithout, Leaves}
+use Rattle.cn_outcomes.specs.Subsets.{AreRowsOf, Below, FindsState, GivesPair, IsWithout, LeavesState}
 use Rattle.cn_choice.specs.Moves.{answer_of, next_of}
 use Rattle.cn_outcomes.specs.Tails.{count_below}
 use Rattle.cn_outcomes.specs.Twins.{AreLinks, IsMover, IsPacked}
@@ -124,7 +124,7 @@ OtherWith t c team j r s p q = (rest : ℕ) × IsWithout s p rest × ((found : �
 
 -- process j moved last
 abbrev pub OwnWith : TypeTable → RawChoice → Team → ℕ → ℕ → ℕ → ℕ → Type 0
-OwnWith t c team j r s q = (found : ℕ) × Leaves t c team s found × (answer_of t c j found ≡ r) × (next_of t c j found ≡ q)
+OwnWith t c team j r s q = (found : ℕ) × LeavesState t c team s found × (answer_of t c j found ≡ r) × (next_of t c j found ≡ q)
 
 module _ (t : TypeTable) (c : RawChoice) (team : Team) (links j r : ℕ) where
   own_gives : (s q : ℕ) → j < length c.operations → ¬ IsBitSet s j → OwnWith t c team j r s q → GivesWith t c team j r s q
@@ -158,11 +158,11 @@ module _ (t : TypeTable) (c : RawChoice) (team : Team) (links j r : ℕ) where
         let x = gives_to t c team j whole (cleared whole) r q cut h.3 in
         elim x.3 [
           | inl a ↦ (
-              let finds : Finds t c team j (cleared whole j) a.1.0 = subst (λ (p : ℕ). Finds t c team p (cleared whole p) a.1.0) a.0 a.1.1 in
+              let finds : FindsState t c team j (cleared whole j) a.1.0 = subst (λ (p : ℕ). FindsState t c team p (cleared whole p) a.1.0) a.0 a.1.1 in
               let same = without_one whole j (cleared whole j) s h.1 (cut j h.1) h.2 in
               inl (
                 a.1.0,
-                elim finds [ inl z ↦ absurd (other z.1) | inr b ↦ subst (λ (k : ℕ). Leaves t c team k a.1.0) same b ],
+                elim finds [ inl z ↦ absurd (other z.1) | inr b ↦ subst (λ (k : ℕ). LeavesState t c team k a.1.0) same b ],
                 ap (λ (p : ℕ). answer_of t c p a.1.0) (sym a.0) ∙ a.1.2,
                 ap (λ (p : ℕ). next_of t c p a.1.0) (sym a.0) ∙ a.1.3,
               )
@@ -202,7 +202,7 @@ module _ (t : TypeTable) (c : RawChoice) (team : Team) (links j r : ℕ) where
     nothing_alone q h = elim (gives_last 0 q (omega arith) h) [ inl a ↦ leaves_some t c team a.0 a.1 | inr a ↦ zero_has_none a.0 a.1.0 ]
 
     -- each pair of the response comes from a packed subset with j in it
-    by_others : ¬ IsBitSet links (j + 1) → length c.operations ≤ 8 → (subset q : ℕ) → subset < 2 ^ length c.operations → Gives t c team j subset r q
+    by_others : ¬ IsBitSet links (j + 1) → length c.operations ≤ 8 → (subset q : ℕ) → subset < 2 ^ length c.operations → GivesPair t c team j subset r q
         → (s : ℕ) × (s < 2 ^ length c.operations) × IsOthers links j s × GivesWith t c team j r s q × (suc (count_below 8 s) ≡ count_below 8 subset)
     by_others alone few subset q u g =
         let y = packing t c team links linked j first (subset + 1) subset r q (omega arith) u few g in
@@ -234,8 +234,8 @@ module _ (t : TypeTable) (c : RawChoice) (team : Team) (links j r : ℕ) where
     none_shorter_with alone few rows are state single only least lower k l x o long leads =
         let known = known_from (length c.operations) x o in
         let same = (only leads.0.0 leads.0.1).0 leads.2 in
-        let gives : Gives t c team j (subset_of x) leads.0.0 leads.0.1 = (x, record { ordered = o; exactly = exactly_to (subset_of x) x (exactly_subset x) }, leads.1.0, leads.1.1) in
-        let wanted : Gives t c team j (subset_of x) r state = subst (λ (a : ℕ). Gives t c team j (subset_of x) a state) same.0 (subst (λ (b : ℕ). Gives t c team j (subset_of x) leads.0.0 b) same.1 gives) in
+        let gives : GivesPair t c team j (subset_of x) leads.0.0 leads.0.1 = (x, record { ordered = o; exactly = exactly_to (subset_of x) x (exactly_subset x) }, leads.1.0, leads.1.1) in
+        let wanted : GivesPair t c team j (subset_of x) r state = subst (λ (a : ℕ). GivesPair t c team j (subset_of x) a state) same.0 (subst (λ (b : ℕ). GivesPair t c team j (subset_of x) leads.0.0 b) same.1 gives) in
         let y = by_others alone few (subset_of x) state (subset_below (length c.operations) x known.below) wanted in
         let size = size_of_list x (λ q i. (let b = known.below q i in omega (arith, b, few))) known.differ in
         absurd (omega (arith, lower y.0 y.1 y.2 ((are.same y.0 y.1 y.2 state).1 y.3), y.4, size, long, l))
@@ -259,7 +259,7 @@ other_with_more t c team j r subset of left k after set more rest from new insid
     ))
 
 -- process j moved last: it got the response in the state that it found
-pub own_with : (t : TypeTable) (c : RawChoice) (team : Team) (j r subset row asked from new : ℕ) → ((q : ℕ) → IsBitSet row q ↔ Leaves t c team subset q) → Below (length t.states) row
+pub own_with : (t : TypeTable) (c : RawChoice) (team : Team) (j r subset row asked from new : ℕ) → ((q : ℕ) → IsBitSet row q ↔ LeavesState t c team subset q) → Below (length t.states) row
     → ((q : ℕ) → IsBitSet asked q ↔ ((q < length t.states) × (answer_of t c j q ≡ r)))
     → ((q : ℕ) → IsBitSet from q ↔ (IsBitSet row q × IsBitSet asked q)) → ((q : ℕ) → IsBitSet new q ↔ ((found : ℕ) × IsBitSet from found × (next_of t c j found ≡ q))) → (q : ℕ) → IsBitSet new q ↔ OwnWith t c team j r subset q
 own_with t c team j r subset row asked from new h known a f n q = (

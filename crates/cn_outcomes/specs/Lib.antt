@@ -1,7 +1,7 @@
 pub mod EarlyPairs
 pub mod Examination
 pub mod Images
-pub mod LedOrders
+pub mod ShortOrders
 pub mod OutcomeOrders
 pub mod PairSets
 pub mod ResponseRows

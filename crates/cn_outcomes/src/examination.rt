@@ -16,10 +16,10 @@ use crate::bits::contains;
 use crate::dead_ends::DeadEnds;
 use crate::first_orders::first_order_into;
 use crate::images::Images;
-use crate::led_collisions::led_collision;
 use crate::limits::SUBSETS;
 use crate::outcome_sets::{OutcomeSet, outcomes_from};
 use crate::row_setting::RowSetting;
+use crate::short_collisions::short_collision;
 use crate::subject::Subject;
 use crate::subset_rows::{least_size, rows};
 use crate::tails::Target;
@@ -225,7 +225,7 @@ fn raw_collision(
         found.0 found.1.0.items found.1.1.items) }
 {
     let links = links(subject.raw);
-    if let Some(found) = led_collision(subject, links, images, &mut room.dead) {
+    if let Some(found) = short_collision(subject, links, images, &mut room.dead) {
         return Some((0, found));
     }
     let (process, found) = collision_by_rows(subject, links, room)?;

@@ -7,7 +7,7 @@ ghost use Rattle.cn_outcomes.specs.declared.limits.TheConstants.{TOO_LONG};
 
 use crate::dead_ends::DeadEnds;
 use crate::subject::Subject;
-use crate::tails::{Place, Target, way_into};
+use crate::tails::{Prefix, Target, way_into};
 use arrayvec::ArrayVec;
 use cn_choice::{MOST_PROCESSES, Team};
 
@@ -43,7 +43,7 @@ pub(crate) fn first_order_into(
         if left > 2 {
             dead.clear();
         }
-        let start = Place {
+        let start = Prefix {
             used: 0,
             left,
             state: raw.state,

@@ -3,16 +3,16 @@ ghost use Rattle.std.specs.Prelude.{◌≡◌, ◌<◌, ◌≤◌, ◌↔◌, �
 ghost use Rattle.cn_table.specs.TypeTable.{transition};
 ghost use Rattle.cn_table.specs.declared.limits.TheConstants.{MOST_RESPONSES, MOST_STATES};
 ghost use Rattle.cn_choice.specs.RawChoices.{IsRawChoice};
-ghost use Rattle.cn_outcomes.specs.ResponseRows.{AreAsked, GivesWith};
+ghost use Rattle.cn_outcomes.specs.ResponseRows.{AreAskedStates, GivesWith};
 ghost use Rattle.cn_choice.specs.OutcomeSets.{InOutcomeSet};
 ghost use Rattle.cn_outcomes.specs.RowSettings.{HasGivenRows, HasRowsWithout, IsRowSetting, subset_count};
-ghost use Rattle.cn_outcomes.specs.Subsets.{Below, Leaves};
+ghost use Rattle.cn_outcomes.specs.Subsets.{Below, LeavesState};
 ghost use Rattle.cn_outcomes.specs.Tails.{count_below};
 ghost use Rattle.cn_outcomes.specs.Twins.{IsPacked};
 ghost use Rattle.cn_choice.specs.declared.limits.TheConstants.{MOST_PROCESSES};
 ghost use Rattle.cn_outcomes.specs.declared.limits.TheConstants.{SUBSETS, TOO_LONG};
 
-use crate::bits::{common, contains, least, size, union, with, without};
+use crate::bits::{contains, intersection, least, size, union, with, without};
 use crate::images::Images;
 use crate::limits::{SUBSETS, TOO_LONG};
 use crate::row_setting::RowSetting;
@@ -23,7 +23,7 @@ use cn_table::{Operation, Response, State, Table};
 
 /// A response of a process, and the states in which it gets it.
 #[derive(Clone, Copy)]
-pub(crate) struct Asked {
+pub(crate) struct AskedResponse {
     pub response: u8,
     pub states: u16,
 }
@@ -54,19 +54,19 @@ fn states_with(table: &Table, operation: Operation, response: Response) -> u16
 }
 
 /// The response that the process gets in the start state, and the states in which it gets that.
-pub(crate) fn asked_first(table: &Table, choice: &RawChoice, j: u8) -> Asked
+pub(crate) fn start_response(table: &Table, choice: &RawChoice, j: u8) -> AskedResponse
     requires few { length choice.now.operations ≤ MOST_PROCESSES }
     requires fits { IsRawChoice table.now (length choice.now.operations) choice.now }
     requires j { j < length choice.now.operations }
     ensures response { result.response
         ≡ (transition table.now (slice_index choice.now.operations j) choice.now.state).0 }
     ensures in_range { result.response < MOST_RESPONSES }
-    ensures states { AreAsked table.now choice.now j result.response result.states }
+    ensures states { AreAskedStates table.now choice.now j result.response result.states }
 {
     let _responses = table.responses();
     let operation = operation_of(choice, j);
     let (response, _) = table.apply(operation, choice.state);
-    Asked {
+    AskedResponse {
         response: response.0,
         states: states_with(table, operation, response),
     }
@@ -77,7 +77,7 @@ pub(crate) fn asked_first(table: &Table, choice: &RawChoice, j: u8) -> Asked
 fn both_rows(
     setting: &RowSetting<'_>,
     j: u8,
-    asked: Asked,
+    asked: AskedResponse,
     rows: &[u16; SUBSETS],
     given: &[u16; SUBSETS],
     subset: u16,
@@ -88,7 +88,7 @@ fn both_rows(
     requires j { j < length setting.now.choice.now.operations }
     requires other { ¬ (slice_get setting.now.choice.now.marks j ≡ Some setting.now.team) }
     requires first { ¬ IsBitSet setting.now.links j }
-    requires asked { AreAsked setting.now.table.now setting.now.choice.now j
+    requires asked { AreAskedStates setting.now.table.now setting.now.choice.now j
         asked.response asked.states }
     requires subset { subset < SUBSETS }
     requires inside { subset < subset_count setting.now }
@@ -98,7 +98,7 @@ fn both_rows(
     requires given { HasGivenRows setting.now j asked.response subset given.now }
 
     ensures row { (q : ℕ) → IsBitSet result.0 q
-        ↔ Leaves setting.now.table.now setting.now.choice.now setting.now.team subset q }
+        ↔ LeavesState setting.now.table.now setting.now.choice.now setting.now.team subset q }
     ensures known { Below (length setting.now.table.now.states) result.0 }
     ensures given { (q : ℕ) → IsBitSet result.1 q
         ↔ GivesWith setting.now.table.now setting.now.choice.now setting.now.team j
@@ -118,7 +118,7 @@ fn both_rows(
         let passed = images.of(operation, given[rest as usize]);
         gets = union(gets, passed);
     }
-    let asking = common(row, asked.states);
+    let asking = intersection(row, asked.states);
     let own = images.of(operation_of(setting.choice, j), asking);
     (row, union(gets, own))
 }
@@ -128,7 +128,7 @@ fn both_rows(
 /// there are.
 pub(crate) fn response_rows(
     setting: &RowSetting<'_>,
-    asked: Asked,
+    asked: AskedResponse,
     count: u16,
     images: &Images,
 ) -> ResponseRows
@@ -137,7 +137,7 @@ pub(crate) fn response_rows(
     requires some { 1 ≤ length setting.now.choice.now.operations }
     requires other { ¬ (slice_get setting.now.choice.now.marks 0 ≡ Some setting.now.team) }
     requires alone { ¬ IsBitSet setting.now.links 1 }
-    requires asked { AreAsked setting.now.table.now setting.now.choice.now 0
+    requires asked { AreAskedStates setting.now.table.now setting.now.choice.now 0
         asked.response asked.states }
     requires count { 2 * count ≡ subset_count setting.now }
     requires small { 2 * count ≤ SUBSETS }

@@ -5,7 +5,7 @@ ghost use Rattle.cn_table.specs.declared.limits.TheConstants.{MOST_RESPONSES, MO
 ghost use Rattle.cn_outcomes.specs.PairSets.{Has};
 ghost use Rattle.cn_choice.specs.OutcomeSets.{InOutcomeSet};
 ghost use Rattle.cn_outcomes.specs.RowSettings.{HasPairRows, HasRows, HasRowsBefore, IsRowSetting, subset_count};
-ghost use Rattle.cn_outcomes.specs.Subsets.{Leaves, Gives, Finds, Below, IsRow, OtherLast, OwnLast};
+ghost use Rattle.cn_outcomes.specs.Subsets.{LeavesState, GivesPair, FindsState, Below, IsRow, OtherLast, OwnLast};
 ghost use Rattle.cn_outcomes.specs.Tails.{count_below};
 ghost use Rattle.cn_outcomes.specs.Twins.{IsMover, IsPacked};
 ghost use Rattle.cn_choice.specs.declared.limits.TheConstants.{MOST_PROCESSES};
@@ -39,7 +39,7 @@ pub(crate) fn image(table: &Table, operation: Operation, from: u16) -> u16
 }
 
 /// What a process gets by the operation, and the states that it leaves, from one of these states.
-fn answers(table: &Table, operation: Operation, from: u16) -> [u16; MOST_STATES]
+fn answer_row(table: &Table, operation: Operation, from: u16) -> [u16; MOST_STATES]
     requires operation { operation.0 < length table.now.operations }
     requires known { Below (length table.now.states) from }
     ensures same { (r q : ℕ) → Has result r q
@@ -86,10 +86,10 @@ pub(crate) fn found_states(
     requires process { process < length setting.now.choice.now.operations }
     requires rest { rest < SUBSETS }
     requires row { (q : ℕ) → IsBitSet (slice_index rows.now rest) q
-        ↔ Leaves setting.now.table.now setting.now.choice.now setting.now.team rest q }
+        ↔ LeavesState setting.now.table.now setting.now.choice.now setting.now.team rest q }
     requires known { Below (length setting.now.table.now.states) (slice_index rows.now rest) }
     ensures same { (q : ℕ) → IsBitSet result q
-        ↔ Finds setting.now.table.now setting.now.choice.now setting.now.team process rest q }
+        ↔ FindsState setting.now.table.now setting.now.choice.now setting.now.team process rest q }
     ensures known { Below (length setting.now.table.now.states) result }
 {
     let choice = setting.choice;
@@ -108,7 +108,7 @@ fn row(setting: &RowSetting<'_>, rows: &[u16; SUBSETS], subset: u16) -> u16
     requires setting { IsRowSetting setting.now }
     requires rows { HasRowsBefore setting.now subset rows.now }
     ensures same { (q : ℕ) → IsBitSet result q
-        ↔ Leaves setting.now.table.now setting.now.choice.now setting.now.team subset q }
+        ↔ LeavesState setting.now.table.now setting.now.choice.now setting.now.team subset q }
     ensures known { Below (length setting.now.table.now.states) result }
 {
     let _states = setting.table.states();
@@ -169,7 +169,7 @@ fn images(
 }
 
 /// The pairs of both rows.
-fn merged(table: &Table, a: &[u16; MOST_STATES], b: &[u16; MOST_STATES]) -> [u16; MOST_STATES]
+fn row_union(table: &Table, a: &[u16; MOST_STATES], b: &[u16; MOST_STATES]) -> [u16; MOST_STATES]
     requires a { IsRow table.now a.now }
     requires b { IsRow table.now b.now }
     ensures same { (r q : ℕ) → Has result r q ↔ (Has a.now r q ⊎ Has b.now r q) }
@@ -200,7 +200,7 @@ fn own_row(
     let last = last_twin(setting.links, subset, j);
     let rest = without(subset, last);
     let from = found_states(setting, rows, last, rest);
-    answers(setting.table, operation_of(setting.choice, j), from)
+    answer_row(setting.table, operation_of(setting.choice, j), from)
 }
 
 /// The pairs that process j got before some other process moved last of the packed subset.
@@ -233,7 +233,7 @@ fn others_row(
             &pairs[rest],
             rows[rest],
         );
-        row = merged(setting.table, &row, &moved);
+        row = row_union(setting.table, &row, &moved);
     }
     row
 }
@@ -254,12 +254,12 @@ fn pair_row(
     requires member { IsBitSet subset j }
     requires pairs { HasPairRows setting.now j subset pairs.now }
     ensures same { (r q : ℕ) → Has result r q
-        ↔ Gives setting.now.table.now setting.now.choice.now setting.now.team j subset r q }
+        ↔ GivesPair setting.now.table.now setting.now.choice.now setting.now.team j subset r q }
     ensures row { IsRow setting.now.table.now result }
 {
     let own = own_row(setting, j, rows, subset);
     let others = others_row(setting, j, rows, pairs, subset);
-    merged(setting.table, &own, &others)
+    row_union(setting.table, &own, &others)
 }
 
 /// The pairs that orders of any subset give to process j, which is the first of its twins. The rows
@@ -292,7 +292,7 @@ pub(crate) fn outcome_row(
         }
         let row = pair_row(setting, j, rows, pairs, subset);
         pairs[subset as usize] = row;
-        all = merged(setting.table, &all, &row);
+        all = row_union(setting.table, &all, &row);
     }
     all
 }

@@ -70,7 +70,7 @@ of-passed-requires-clause-known c =
     (rest_others c.args.setting.now.links c.args.j c.args.subset c.least-process.result c.without-rest.result c.requires.packed c.requires.without mover c.without-rest.ensures.others))
 
 pub of-own-requires-clause-known : goal.of-own-requires-clause-known
-of-own-requires-clause-known c = subst (λ (s : TypeTable). Below (length s.states) c.common-asking.result) (sym c.requires.images) (λ q b. c.loop-left.invariant.1 q ((c.common-asking.ensures q).0 b).0)
+of-own-requires-clause-known c = subst (λ (s : TypeTable). Below (length s.states) c.intersection-asking.result) (sym c.requires.images) (λ q b. c.loop-left.invariant.1 q ((c.intersection-asking.ensures q).0 b).0)
 
 pub of-own-requires-clause-operation : goal.of-own-requires-clause-operation
 of-own-requires-clause-operation c =
@@ -91,8 +91,8 @@ returns-clause-given c q =
     let row = row_all t raw setting.team setting.links c.requires.setting.linked c.args.subset c.movers-left.result c.loop-left.left c.loop-left.row (omega (arith, c.loop-left-test.false)) (omega arith) c.requires.inside
     c.movers-left.ensures c.loop-left.invariant.0 in
     let whole = from_all (OtherWith t raw setting.team c.args.j c.args.asked.response c.args.subset) c.movers-left.result c.loop-left.left c.loop-left.gets c.loop-left.invariant.2 (omega (arith, c.loop-left-test.false)) q in
-    let own = own_with t raw setting.team c.args.j c.args.asked.response c.args.subset c.loop-left.row c.args.asked.states c.common-asking.result c.of-own.result row c.loop-left.invariant.1 c.requires.asked c.common-asking.ensures
-    (image_of c.args.images.now t c.requires.images _ _ c.operation_of.ensures c.common-asking.result c.of-own.result c.of-own.ensures.same) q in
+    let own = own_with t raw setting.team c.args.j c.args.asked.response c.args.subset c.loop-left.row c.args.asked.states c.intersection-asking.result c.of-own.result row c.loop-left.invariant.1 c.requires.asked c.intersection-asking.ensures
+    (image_of c.args.images.now t c.requires.images _ _ c.operation_of.ensures c.intersection-asking.result c.of-own.result c.of-own.ensures.same) q in
     with_all t raw setting.team setting.links c.args.j c.args.asked.response c.requires.setting.linked c.requires.first c.requires.other (omega (arith, c.requires.j, c.requires.setting.few)) c.requires.setting.few c.requires.j c.args.subset q c.union.result
     c.requires.inside (omega arith) c.requires.without (
       λ b. elim ((c.union.ensures q).0 b) [ inl a ↦ (let x = whole.0 a in inl (x.0, (c.movers-left.ensures x.0).0 x.1, x.2)) | inr a ↦ inr (own.0 a) ],

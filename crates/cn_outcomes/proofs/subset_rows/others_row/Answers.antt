@@ -1,7 +1,7 @@
 use Rattle.std.proofs.Common.{ℕ, ◌≡◌, ◌↔◌, length, get_or, arith, refl, subst, sym, ◌<◌, []}
 use Rattle.cn_table.specs.TypeTable.{transition}
 use Rattle.cn_outcomes.specs.PairSets.{Has}
-use Rattle.cn_outcomes.specs.Subsets.{Gives, OtherLast}
+use Rattle.cn_outcomes.specs.Subsets.{GivesPair, OtherLast}
 use Rattle.cn_outcomes.proofs.BitSets.{member_below}
 use Rattle.cn_outcomes.proofs.Packing.{rest_less, rest_packed}
 use Rattle.cn_outcomes.proofs.Unions.{from_all, from_none, gives_leaves, other_more, other_self, zeros_none}
@@ -48,12 +48,12 @@ loop-left-preserved c =
     let i = c.loop-left.invariant in
     let mover = (c.movers-left.ensures c.least-process.result).0 ((i.0 0).within c.least-process.result c.least-process.ensures.member) in
     let packed = rest_packed setting.links c.args.subset c.least-process.result c.without-rest.result c.requires.rows.packed mover c.without-rest.ensures.others in
-    let moved = moved_is (Has c.images-moved.result) (Has (get_or c.args.pairs.now c.without-rest.result [])) (transition t) (Gives t raw setting.team c.args.j c.without-rest.result) c.operation_of.result.0 _ c.operation_of.ensures
+    let moved = moved_is (Has c.images-moved.result) (Has (get_or c.args.pairs.now c.without-rest.result [])) (transition t) (GivesPair t raw setting.team c.args.j c.without-rest.result) c.operation_of.result.0 _ c.operation_of.ensures
     (c.requires.pairs.same c.without-rest.result (rest_less c.args.subset c.least-process.result c.without-rest.result c.without-rest.ensures.smaller) packed) c.images-moved.ensures.same in (
-      λ q. other_more t raw setting.team c.args.j c.args.subset c.movers-left.result c.loop-left.left c.least-process.result c.without-left.result (get_or c.loop-left.row q 0) (get_or c.merged-row.result q 0)
+      λ q. other_more t raw setting.team c.args.j c.args.subset c.movers-left.result c.loop-left.left c.least-process.result c.without-left.result (get_or c.loop-left.row q 0) (get_or c.row_union-row.result q 0)
           c.without-rest.result (get_or c.images-moved.result q 0) q
-          (λ p m. ((c.movers-left.ensures p).0 m).0) (i.0 q) c.least-process.ensures.member c.without-left.ensures.others c.without-rest.ensures.others (λ r. moved r q) (λ r. c.merged-row.ensures.same r q),
-      c.merged-row.ensures.row,
+          (λ p m. ((c.movers-left.ensures p).0 m).0) (i.0 q) c.least-process.ensures.member c.without-left.ensures.others c.without-rest.ensures.others (λ r. moved r q) (λ r. c.row_union-row.ensures.same r q),
+      c.row_union-row.ensures.row,
     )
 
 pub loop-left-preserved-then-process-j : goal.loop-left-preserved-then-process-j

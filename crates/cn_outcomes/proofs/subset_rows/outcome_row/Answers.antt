@@ -28,9 +28,9 @@ loop-subset-preserved c =
     let s = subsets_of c.len.result n in
     let l : c.loop-subset.subset < length c.loop-subset.pairs = omega (arith, s.0, s.1, c.loop-subset-test.true, i.0.long) in (
       pairs_more t setting.choice.now setting.team c.args.j setting.links c.loop-subset.pairs c.loop-subset.subset c.pair_row-row.result l i.0 c.pair_row-row.ensures.same c.pair_row-row.ensures.row,
-      λ q. subsets_more t setting.choice.now setting.team c.args.j setting.links q c.loop-subset.subset (get_or c.loop-subset.all q 0) (get_or c.pair_row-row.result q 0) (get_or c.merged-all.result q 0)
-          (c.is_packed.ensures.0 c.if-not-is_packed.false) (i.1 q) (λ r. c.pair_row-row.ensures.same r q) (λ r. c.merged-all.ensures.same r q),
-      c.merged-all.ensures.row,
+      λ q. subsets_more t setting.choice.now setting.team c.args.j setting.links q c.loop-subset.subset (get_or c.loop-subset.all q 0) (get_or c.pair_row-row.result q 0) (get_or c.row_union-all.result q 0)
+          (c.is_packed.ensures.0 c.if-not-is_packed.false) (i.1 q) (λ r. c.pair_row-row.ensures.same r q) (λ r. c.row_union-all.ensures.same r q),
+      c.row_union-all.ensures.row,
     )
 
 pub loop-subset-preserved-then-not-contains : goal.loop-subset-preserved-then-not-contains

@@ -21,6 +21,6 @@ found_states-from-requires-clause-known c =
 pub returns-clause-same : goal.returns-clause-same
 returns-clause-same c =
     let setting = c.args.setting.now in
-    own_is setting.table.now setting.choice.now setting.team setting.links c.requires.setting.linked c.args.j c.args.subset c.last_twin-last.result c.without-rest.result c.operation_of.result.0 c.found_states-from.result (Has c.answers.result)
+    own_is setting.table.now setting.choice.now setting.team setting.links c.requires.setting.linked c.args.j c.args.subset c.last_twin-last.result c.without-rest.result c.operation_of.result.0 c.found_states-from.result (Has c.answer_row.result)
     (omega arith) c.last_twin-last.ensures.from c.requires.member c.last_twin-last.ensures.member c.requires.rows.packed c.last_twin-last.ensures.run c.without-rest.ensures.others c.operation_of.ensures c.found_states-from.ensures.same
-    c.answers.ensures.same
+    c.answer_row.ensures.same

@@ -1,7 +1,7 @@
 use Rattle.std.proofs.Common.{get_or, arith, refl}
 use Rattle.cn_table.specs.TypeTable.{transition}
 use Rattle.cn_outcomes.proofs.Unions.{answers_more, answer_part, from_none, from_all, row_set, zeros_none}
-use Rattle.cn_outcomes.proofs.subset_rows.answers.Goals as goal
+use Rattle.cn_outcomes.proofs.subset_rows.answer_row.Goals as goal
 
 pub loop-left-init : goal.loop-left-init
 loop-left-init c = (λ q. from_none _ c.args.from _ (zeros_none 16 q), record { long = refl })

@@ -3,28 +3,28 @@ ghost use Rattle.std.specs.Prelude.{◌≡◌, ◌≤◌, ◌<◌, ◌+◌, leng
 ghost use Rattle.cn_table.specs.declared.limits.TheConstants.{MOST_RESPONSES, MOST_STATES};
 ghost use Rattle.cn_choice.specs.FirstCollision.{IsFirstCollision};
 ghost use Rattle.cn_choice.specs.RawChoices.{IsRawChoice};
-ghost use Rattle.cn_outcomes.specs.LedOrders.{IsFirstLed};
+ghost use Rattle.cn_outcomes.specs.ShortOrders.{IsFirstShort};
 ghost use Rattle.cn_outcomes.specs.Subjects.{IsSubject};
 ghost use Rattle.cn_outcomes.specs.Twins.{AreLinks};
 ghost use Rattle.cn_choice.specs.declared.limits.TheConstants.{MOST_PROCESSES};
 
-use crate::bits::{minus, with};
+use crate::bits::{difference, with};
 use crate::dead_ends::DeadEnds;
 use crate::first_orders::first_order_into;
 use crate::images::Images;
 use crate::outcome_sets::OutcomeSet;
-use crate::response_rows::{asked_first, least_with, response_rows};
+use crate::response_rows::{least_with, response_rows, start_response};
 use crate::row_setting::RowSetting;
 use crate::subject::Subject;
 use crate::subset_rows::is_in;
-use crate::tails::{Place, Target, way_into};
+use crate::tails::{Prefix, Target, way_into};
 use arrayvec::ArrayVec;
 use cn_choice::{MOST_PROCESSES, RawChoice, Team};
 use cn_table::Table;
 
 /// The first order of one or two processes that process 0 leads and that gives it a pair of the set,
 /// and that pair.
-fn led_alpha(
+fn short_alpha(
     table: &Table,
     raw: &RawChoice,
     set: &OutcomeSet,
@@ -34,12 +34,12 @@ fn led_alpha(
     requires short { length raw.now.operations ≤ MOST_PROCESSES }
     requires fits { IsRawChoice table.now (length raw.now.operations) raw.now }
     ensures first { IfSome result (λ found.
-        IsFirstLed table.now raw.now set.now found.0.items found.1) }
+        IsFirstShort table.now raw.now set.now found.0.items found.1) }
     ensures in_range { IfSome result (λ found.
         (found.1.0 < MOST_RESPONSES) × (found.1.1 < MOST_STATES)) }
 {
     let target = Target { process: 0, set };
-    let alone = Place {
+    let alone = Prefix {
         used: 0,
         left: 1,
         state: raw.state,
@@ -49,7 +49,7 @@ fn led_alpha(
     if let Some((order, pair)) = soon {
         return Some((order, pair));
     }
-    let then = Place { left: 2, ..alone };
+    let then = Prefix { left: 2, ..alone };
     let (order, pair) = way_into(table, raw, &target, dead, 0, 1, then)?;
     Some((order, pair))
 }
@@ -57,7 +57,7 @@ fn led_alpha(
 /// The first collision of process 0, if its first order has one or two processes and 0 leads it;
 /// else it may be none. Then 0 gets in it what it gets in the start state, so that the rows for this
 /// response are enough.
-pub(crate) fn led_collision(
+pub(crate) fn short_collision(
     subject: &Subject<'_>,
     links: u16,
     images: &Images,
@@ -76,10 +76,10 @@ pub(crate) fn led_collision(
     if !is_in(raw, 0, Team::A) {
         return None;
     }
-    let links = minus(links, with(0, 1));
+    let links = difference(links, with(0, 1));
     let n = raw.operations.len() as u8;
     let count = 1u16 << (n - 1);
-    let asked = asked_first(table, raw, 0);
+    let asked = start_response(table, raw, 0);
     let setting = RowSetting {
         table,
         choice: raw,
@@ -88,7 +88,7 @@ pub(crate) fn led_collision(
     };
     let rows = response_rows(&setting, asked, count, images);
     let from_b = OutcomeSet::of_response(asked.response, rows.all);
-    let (alpha, (response, state)) = led_alpha(table, raw, &from_b, dead)?;
+    let (alpha, (response, state)) = short_alpha(table, raw, &from_b, dead)?;
     let pair = OutcomeSet::only(response, state);
     let first = least_with(&rows.given, count, state) + 1;
     let again = Target {

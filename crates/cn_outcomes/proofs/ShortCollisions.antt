@@ -5,7 +5,7 @@ use Rattle.std.proofs.lemmas.List.Elements.{All-from_recursion, recursion_from_A
 use Rattle.cn_table.specs.TypeTable.{TypeTable}
 use Rattle.cn_choice.specs.declared.team.Team.TheVariants.{A, B}
 use Rattle.cn_choice.specs.FirstCollision.{IsFirstCollision}
-use Rattle.cn_outcomes.specs.LedOrders.{IsFirstLed}
+use Rattle.cn_outcomes.specs.ShortOrders.{IsFirstShort}
 use Rattle.cn_choice.specs.Orders.{ComesBefore, IsOrder}
 use Rattle.cn_outcomes.specs.OutcomeOrders.{IsFirstInto}
 use Rattle.cn_choice.specs.OutcomeSets.{BeginsIn, InOutcomeSet, pair_of}
@@ -47,7 +47,7 @@ module _ (t : TypeTable) (c : RawChoice) where
   led_head pair (x ∷ xs) b e = let z : x ≡ 0 = omega (arith, b.1) in (xs, ap (λ (k : ℕ). k ∷ xs) z)
 
   module _ (set : List ℕ) (response : ℕ) (is : response ≡ answer_of t c 0 c.state) (from_b : (r q : ℕ) → Has set r q ↔ ((r ≡ response) × InOutcomeSet t c B 0 (r, q)))
-      (mark : slice_get c.marks 0 ≡ Some A) (alpha : List ℕ) (pair : ℕ × ℕ) (led : IsFirstLed t c set alpha pair) where
+      (mark : slice_get c.marks 0 ≡ Some A) (alpha : List ℕ) (pair : ℕ × ℕ) (led : IsFirstShort t c set alpha pair) where
     parted : (ps : List ℕ) × (alpha ≡ 0 ∷ ps)
     parted = led_head pair alpha led.way.way.begins led.way.ends
 
@@ -68,8 +68,8 @@ module _ (t : TypeTable) (c : RawChoice) where
           | inr later ↦ led.way.earlier x (subst (λ (k : ℕ). IsWay (length c.operations) k 0 1 0 x) later.0 way) later.1 hits
         ]
 
-    pub led_first : (single : List ℕ) → ((r q : ℕ) → Has single r q ↔ ((r ≡ pair.0) × (q ≡ pair.1))) → (beta : List ℕ) (again : ℕ × ℕ) → IsFirstInto t c B 0 single beta again → IsFirstCollision t c 0 alpha beta
-    led_first single only beta again second =
+    pub short_first : (single : List ℕ) → ((r q : ℕ) → Has single r q ↔ ((r ≡ pair.0) × (q ≡ pair.1))) → (beta : List ℕ) (again : ℕ × ℕ) → IsFirstInto t c B 0 single beta again → IsFirstCollision t c 0 alpha beta
+    short_first single only beta again second =
         let r = fresh_to (length c.operations) 0 alpha led.way.way.fresh in
         let e = ends_to t c 0 c.state None alpha pair led.way.ends in
         let gets : pair_of t c alpha 0 ≡ Some pair = pair_whole t c 0 alpha pair.0 pair.1 e.0 e.1 in
@@ -94,15 +94,15 @@ module _ (t : TypeTable) (c : RawChoice) where
   nobody set [] e h = absurd (cc h.1.0)
   nobody set (p ∷ ps) e h = absurd (omega (arith, e))
 
-  pub led_one : (set order : List ℕ) (pair : ℕ × ℕ) → IsFirstWay t c 0 set 1 0 1 0 c.state None order pair → IsFirstLed t c set order pair
-  led_one set order pair f = record {
+  pub short_one : (set order : List ℕ) (pair : ℕ × ℕ) → IsFirstWay t c 0 set 1 0 1 0 c.state None order pair → IsFirstShort t c set order pair
+  short_one set order pair f = record {
     short = omega (arith, f.way.long);
     way = subst (λ (k : ℕ). IsFirstWay t c 0 set k 0 1 0 c.state None order pair) (sym f.way.long) f;
     shorter = λ k l x w. nobody set x (omega (arith, w.long, l, f.way.long));
   }
 
-  pub led_two : (set order : List ℕ) (pair : ℕ × ℕ) → NoWay t c 0 set 1 0 1 0 c.state None → IsFirstWay t c 0 set 2 0 1 0 c.state None order pair → IsFirstLed t c set order pair
-  led_two set order pair none f = record {
+  pub short_two : (set order : List ℕ) (pair : ℕ × ℕ) → NoWay t c 0 set 1 0 1 0 c.state None → IsFirstWay t c 0 set 2 0 1 0 c.state None order pair → IsFirstShort t c set order pair
+  short_two set order pair none f = record {
     short = omega (arith, f.way.long);
     way = subst (λ (k : ℕ). IsFirstWay t c 0 set k 0 1 0 c.state None order pair) (sym f.way.long) f;
     shorter = λ k l x w. elim (same_or_not (length x) 0) [
