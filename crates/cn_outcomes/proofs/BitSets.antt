@@ -47,14 +47,14 @@ cleared subset p = bit_and subset (2 ^ 16 - 1 - 1 * 2 ^ p % 2 ^ 16)
 cleared_same : (subset p : ℕ) → p < 16 → bit_at (cleared subset p) p ≡ 0
 cleared_same subset p l = bit_at_clear_same w16 subset p l
 
+pub below_or_not : (i k : ℕ) → (i < k) ⊎ (k ≤ i)
+below_or_not i zero = inr (omega arith)
+below_or_not zero (suc k) = inl (omega arith)
+below_or_not (suc i) (suc k) = elim (below_or_not i k) [ inl h ↦ inl (omega arith) | inr h ↦ inr (omega arith) ]
+
 cleared_other : (subset p i : ℕ) → p < 16 → subset < 2 ^ 16 → i ≢ p → bit_at (cleared subset p) i ≡ bit_at subset i
 cleared_other subset p i l u n = by_width (below_or_not i 16)
   where
-    below_or_not : (i k : ℕ) → (i < k) ⊎ (k ≤ i)
-    below_or_not i zero = inr (omega arith)
-    below_or_not zero (suc k) = inl (omega arith)
-    below_or_not (suc i) (suc k) = elim (below_or_not i k) [ inl h ↦ inl (omega arith) | inr h ↦ inr (omega arith) ]
-
     by_width : (i < 16) ⊎ (16 ≤ i) → bit_at (cleared subset p) i ≡ bit_at subset i
     by_width (inl h) = bit_at_clear_other w16 subset p l i h n
     by_width (inr h) = omega (arith, bit_at_and subset (2 ^ 16 - 1 - 1 * 2 ^ p % 2 ^ 16) i, bit_at_above subset 16 i u h)
@@ -134,8 +134,8 @@ shared a b l = cases (nat_eq (bit_and a b) 0) refl
     cases false e = (λ t. common_some a b l (λ z. true≢false (sym (eq-eqb (bit_and a b) 0 z) ∙ e)), λ h. refl)
 
 -- the numbers of both
-pub common_set : (a b q : ℕ) → IsBitSet (bit_and a b) q ↔ (IsBitSet a q × IsBitSet b q)
-common_set a b q = (
+pub intersection_set : (a b q : ℕ) → IsBitSet (bit_and a b) q ↔ (IsBitSet a q × IsBitSet b q)
+intersection_set a b q = (
   λ s. (
     set_from a q (omega (arith, bit_from (bit_and a b) q s, bit_at_and a b q, bit_at-lt a q, bit_at-lt b q)),
     set_from b q (omega (arith, bit_from (bit_and a b) q s, bit_at_and a b q, bit_at-lt a q, bit_at-lt b q)),
@@ -144,8 +144,8 @@ common_set a b q = (
 )
 
 -- the numbers of a that are not in b
-pub minus_set : (a b q : ℕ) → a < 2 ^ 16 → b < 2 ^ 16 → IsBitSet (bit_and a (2 ^ 16 - 1 - b)) q ↔ (IsBitSet a q × ¬ IsBitSet b q)
-minus_set a b q l u = (
+pub difference_set : (a b q : ℕ) → a < 2 ^ 16 → b < 2 ^ 16 → IsBitSet (bit_and a (2 ^ 16 - 1 - b)) q ↔ (IsBitSet a q × ¬ IsBitSet b q)
+difference_set a b q l u = (
   λ s.
       let one : bit_at a q ≡ 1 = omega (arith, bit_at_and a (2 ^ 16 - 1 - b) q, bit_from (bit_and a (2 ^ 16 - 1 - b)) q s, bit_at-lt a q, bit_at-lt (2 ^ 16 - 1 - b) q) in
       let here = set_from a q one in
@@ -160,8 +160,8 @@ minus_set a b q l u = (
     clear n = elim (by_bit b q) [ inl e ↦ e | inr e ↦ absurd (n (set_from b q e)) ]
 
 -- the numbers of both, less one
-pub lowered_set : (a b q : ℕ) → IsBitSet (bit_and a b / 2) q ↔ (IsBitSet a (q + 1) × IsBitSet b (q + 1))
-lowered_set a b q =
+pub common_predecessors_set : (a b q : ℕ) → IsBitSet (bit_and a b / 2) q ↔ (IsBitSet a (q + 1) × IsBitSet b (q + 1))
+common_predecessors_set a b q =
     let next : suc q ≡ q + 1 = omega arith in
     let moved : bit_at (bit_and a b / 2) q ≡ bit_at (bit_and a b) (q + 1) = sym (bit_at-suc (bit_and a b) q) ∙ ap (bit_at (bit_and a b)) next in (
       λ s. (

@@ -5,7 +5,7 @@ use Rattle.cn_table.specs.TypeTable.{TypeTable, transition}
 use Rattle.cn_choice.specs.declared.team.Team.{Team}
 use Rattle.cn_choice.specs.declared.team.Team.TheVariants.{A, B}
 use Rattle.cn_choice.specs.Discerning.{IsWitness}
-use Rattle.cn_outcomes.specs.EarlyPairs.{AreGiven}
+use Rattle.cn_outcomes.specs.EarlyPairs.{AreOutcomePairs}
 use Rattle.cn_outcomes.specs.PairSets.{Has, HaveCommonPair}
 use Rattle.cn_choice.specs.OutcomeSets.{InOutcomeSet}
 use Rattle.cn_choice.specs.RawChoices.{RawChoice}
@@ -45,14 +45,14 @@ module _ (t : TypeTable) (c : RawChoice) (team : Team) (j : ℕ) (l : j < length
         let two : q ≡ next_of t c j (next_of t c i c.state) = ap (λ (p : ℕ × ℕ). p.1) f ∙ rw (is_own, left) refl in
         rw (one, two) (second_gets t c team j l i u apart m)
 
-  pub one_given : (set : List ℕ) (a b : ℕ) → InOutcomeSet t c team j (a, b) → ((r q : ℕ) → Has set r q ↔ ((r ≡ a) × (q ≡ b))) → AreGiven t c team j set
+  pub one_given : (set : List ℕ) (a b : ℕ) → InOutcomeSet t c team j (a, b) → ((r q : ℕ) → Has set r q ↔ ((r ≡ a) × (q ≡ b))) → AreOutcomePairs t c team j set
   one_given set a b g h r q s = let e = (h r q).0 s in subst (λ (x : ℕ). InOutcomeSet t c team j (x, q)) (sym e.0) (subst (λ (y : ℕ). InOutcomeSet t c team j (a, y)) (sym e.1) g)
 
-  pub more_given : (set more : List ℕ) (a b : ℕ) → AreGiven t c team j set → InOutcomeSet t c team j (a, b) → ((r q : ℕ) → Has more r q ↔ (Has set r q ⊎ ((r ≡ a) × (q ≡ b)))) → AreGiven t c team j more
+  pub more_given : (set more : List ℕ) (a b : ℕ) → AreOutcomePairs t c team j set → InOutcomeSet t c team j (a, b) → ((r q : ℕ) → Has more r q ↔ (Has set r q ⊎ ((r ≡ a) × (q ≡ b)))) → AreOutcomePairs t c team j more
   more_given set more a b old g h r q s = elim ((h r q).0 s) [
     | inl o ↦ old r q o
     | inr e ↦ subst (λ (x : ℕ). InOutcomeSet t c team j (x, q)) (sym e.0) (subst (λ (y : ℕ). InOutcomeSet t c team j (a, y)) (sym e.1) g)
   ]
 
-pub given_meet : (t : TypeTable) (c : RawChoice) (j : ℕ) (from_a from_b : List ℕ) → AreGiven t c A j from_a → AreGiven t c B j from_b → HaveCommonPair from_a from_b → ¬ IsWitness t c
+pub given_meet : (t : TypeTable) (c : RawChoice) (j : ℕ) (from_a from_b : List ℕ) → AreOutcomePairs t c A j from_a → AreOutcomePairs t c B j from_b → HaveCommonPair from_a from_b → ¬ IsWitness t c
 given_meet t c j from_a from_b a b h w = w j (h.0, h.1) (a h.0 h.1 h.2) (b h.0 h.1 h.3)

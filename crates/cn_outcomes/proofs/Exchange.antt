@@ -9,7 +9,7 @@ use Rattle.cn_choice.specs.declared.team.Team.{Team}
 use Rattle.cn_choice.specs.RawChoices.{RawChoice}
 use Rattle.cn_choice.specs.Renumbering.{Embeds}
 use Rattle.cn_choice.specs.OutcomeSets.{InOutcomeSet, pair_of}
-use Rattle.cn_outcomes.specs.Subsets.{Finds, Gives, IsOrderOf, IsWithout, Leaves}
+use Rattle.cn_outcomes.specs.Subsets.{FindsState, GivesPair, IsOrderOf, IsWithout, LeavesState}
 use Rattle.cn_outcomes.specs.Twins.{AreTwins}
 use Rattle.cn_choice.proofs.Embedding.{begins_embeds, operations_embed, order_embeds, pair_embeds, result_embeds}
 use Rattle.cn_outcomes.proofs.LastProcess.{same_or_not, zero_has_none}
@@ -116,7 +116,7 @@ module _ (t : TypeTable) (c : RawChoice) (p : ℕ) (twins : AreTwins c p) where
     );
   }
 
-  pub leaves_exchanged : (team : Team) (U V q : ℕ) → IsExchanged p (p + 1) U V → Leaves t c team U q → Leaves t c team V q
+  pub leaves_exchanged : (team : Team) (U V q : ℕ) → IsExchanged p (p + 1) U V → LeavesState t c team U q → LeavesState t c team V q
   leaves_exchanged team U V q x h =
       let known = recursion_from_All (λ i. i < length c.operations) h.0 h.1.ordered.known in (
         map (exchange p (p + 1)) h.0,
@@ -125,7 +125,7 @@ module _ (t : TypeTable) (c : RawChoice) (p : ℕ) (twins : AreTwins c p) where
         ap (state_after t c.state) (sym (operations_embed (exchange p (p + 1)) c c embeds h.0 known)) ∙ h.3,
       )
 
-  pub gives_exchanged : (team : Team) (j U V r q : ℕ) → j ≢ p → j ≢ p + 1 → IsExchanged p (p + 1) U V → Gives t c team j U r q → Gives t c team j V r q
+  pub gives_exchanged : (team : Team) (j U V r q : ℕ) → j ≢ p → j ≢ p + 1 → IsExchanged p (p + 1) U V → GivesPair t c team j U r q → GivesPair t c team j V r q
   gives_exchanged team j U V r q n m x h =
       let known = recursion_from_All (λ i. i < length c.operations) h.0 h.1.ordered.known in
       let l = pair_takes_part t c (length c.operations) h.0 j (r, q) h.1.ordered.known h.3 in (
@@ -136,13 +136,13 @@ module _ (t : TypeTable) (c : RawChoice) (p : ℕ) (twins : AreTwins c p) where
       )
 
   -- what the one finds where the others have moved, the other finds
-  pub finds_next : (team : Team) (subset one other q : ℕ) → IsBitSet subset p → IsBitSet subset (p + 1) → IsWithout subset p one → IsWithout subset (p + 1) other → Finds t c team p one q → Finds t c team (p + 1) other q
+  pub finds_next : (team : Team) (subset one other q : ℕ) → IsBitSet subset p → IsBitSet subset (p + 1) → IsWithout subset p one → IsWithout subset (p + 1) other → FindsState t c team p one q → FindsState t c team (p + 1) other q
   finds_next team subset one other q s u v w h = elim h [
     | inl a ↦ absurd (zero_has_none (p + 1) (subst (λ (x : ℕ). IsBitSet x (p + 1)) a.0 ((v (p + 1)).1 (u, (let n : p + 1 ≢ p = omega arith in n)))))
     | inr b ↦ inr (leaves_exchanged team one other q (without_exchanged p subset one other s u v w) b)
   ]
 
-  pub finds_before : (team : Team) (subset one other q : ℕ) → IsBitSet subset p → IsBitSet subset (p + 1) → IsWithout subset p one → IsWithout subset (p + 1) other → Finds t c team (p + 1) other q → Finds t c team p one q
+  pub finds_before : (team : Team) (subset one other q : ℕ) → IsBitSet subset p → IsBitSet subset (p + 1) → IsWithout subset p one → IsWithout subset (p + 1) other → FindsState t c team (p + 1) other q → FindsState t c team p one q
   finds_before team subset one other q s u v w h = elim h [
     | inl a ↦ absurd (zero_has_none p (subst (λ (x : ℕ). IsBitSet x p) a.0 ((w p).1 (s, (let n : p ≢ p + 1 = omega arith in n)))))
     | inr b ↦ inr (leaves_exchanged team other one q (exchanged_back p (p + 1) one other (without_exchanged p subset one other s u v w)) b)

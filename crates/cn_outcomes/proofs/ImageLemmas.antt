@@ -1,17 +1,14 @@
 -- The images of sets of states, by two sets of eight.
-use Rattle.std.proofs.Common.{◌≡◌, ◌≢◌, ℕ, ◌+◌, ◌-◌, ◌/◌, ◌%◌, ◌^◌, ◌<◌, ◌⊎◌, inl, inr, ◌↔◌, List, length, get_or, get_or-set_other, get_or-set_same, sym, ap, ◌∙◌, subst, arith}
+use Rattle.std.proofs.Common.{◌≡◌, ℕ, ◌+◌, ◌-◌, ◌/◌, ◌%◌, ◌^◌, ◌<◌, ◌⊎◌, inl, inr, ◌↔◌, length, sym, ap, ◌∙◌, subst, arith}
 use Rattle.std.specs.Prelude.{IsBitSet}
 use Rattle.std.specs.Int.{bit_at}
-use Rattle.std.proofs.Math.ListN.{set}
 use Rattle.std.proofs.lemmas.Nat.{shr_split}
 use Rattle.std.proofs.lemmas.Nat.Bits.{bit_at_cat_high, bit_at_cat_low}
 use Rattle.cn_table.specs.TypeTable.{TypeTable, transition}
 use Rattle.cn_outcomes.specs.Images.{IsImageFrom}
 use Rattle.cn_outcomes.specs.Subsets.{Below}
-use Rattle.cn_outcomes.proofs.BitSets.{member_below}
+use Rattle.cn_outcomes.proofs.BitSets.{below_or_not, member_below}
 use Rattle.cn_outcomes.proofs.LastProcess.{bit_from, set_from}
-use Rattle.cn_outcomes.proofs.Packing.{below_or_last}
-use Rattle.cn_outcomes.proofs.Unions.{below_or_not}
 
 -- number i stands for a state, which the operation leads to state q
 abbrev pub image_part : TypeTable → ℕ → ℕ → ℕ → ℕ → Type 0
@@ -67,11 +64,3 @@ pub image_of : (s t : TypeTable) → s ≡ t → (o p : ℕ) → o ≡ p → (fr
 image_of s t e o p f from set h =
     subst (λ (u : TypeTable). (q : ℕ) → IsBitSet set q ↔ ((x : ℕ) × IsBitSet from x × ((transition u p x).1 ≡ q))) e
     (subst (λ (k : ℕ). (q : ℕ) → IsBitSet set q ↔ ((x : ℕ) × IsBitSet from x × ((transition s k x).1 ≡ q))) f h)
-
--- one image more of a row, or one row more
-pub at_more : {X : Type 0} (fits : ℕ → X → Type 0) (none : X) (rows : List X) (k : ℕ) (row : X) → k < length rows → ((i : ℕ) → i < k → fits i (get_or rows i none)) → fits k row
-    → (i : ℕ) → i < k + 1 → fits i (get_or (set rows k row) i none)
-at_more fits none rows k row l g h i u = elim (below_or_last i k u) [
-  | inl b ↦ (let n : i ≢ k = omega arith in subst (fits i) (sym (get_or-set_other rows k i row none n)) (g i b))
-  | inr e ↦ subst (λ (j : ℕ). fits j (get_or (set rows k row) j none)) (sym e) (subst (fits k) (sym (get_or-set_same rows k row none l)) h)
-]

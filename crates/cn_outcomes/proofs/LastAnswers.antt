@@ -12,7 +12,7 @@ use Rattle.cn_table.specs.TypeTable.{TypeTable}
 use Rattle.cn_table.specs.Run.{responses_along}
 use Rattle.cn_choice.specs.RawChoices.{RawChoice}
 use Rattle.cn_choice.specs.OutcomeSets.{BeginsIn, InOutcomeSet, operations_of, pair_of}
-use Rattle.cn_outcomes.specs.Subsets.{Gives, IsWithout, GivesLast}
+use Rattle.cn_outcomes.specs.Subsets.{GivesPair, IsWithout, GivesLast}
 use Rattle.cn_choice.specs.Moves.{answer_of, next_of}
 use Rattle.cn_choice.proofs.Members.{IsIn}
 use Rattle.cn_choice.proofs.Walks.{first_some, pair_of-response_of}
@@ -41,7 +41,7 @@ not_last : (rest : ℕ) (ps : List ℕ) (subset j : ℕ) → Exactly rest ps →
 not_last rest ps subset j e w i = ((w j).0 ((e j).0 i)).1 refl
 
 pub gives_to : (t : TypeTable) (c : RawChoice) (team : Team) (j subset : ℕ) (rest : ℕ → ℕ) (r q : ℕ) → ((p : ℕ) → IsBitSet subset p → IsWithout subset p (rest p))
-    → Gives t c team j subset r q → (p : ℕ) × IsBitSet subset p × (p < length c.operations) × GivesLast t c team j p (rest p) r q
+    → GivesPair t c team j subset r q → (p : ℕ) × IsBitSet subset p × (p < length c.operations) × GivesLast t c team j p (rest p) r q
 gives_to t c team j subset rest r q w h =
     let e = ending (length c.operations) subset rest h.0 w h.1 in
     let parts = pair_parts t c j (e.before ++ e.last ∷ []) r q (ap (λ (o : List ℕ). pair_of t c o j) (sym e.is) ∙ h.3) in
@@ -67,14 +67,14 @@ gives_to t c team j subset rest r q w h =
     self : (p : ℕ) → p ≡ j → (ps : List ℕ) → (IsIn p ps → ⊥) → along t c j (ps ++ p ∷ []) ≡ Some r → answer_of t c p (after t c ps) ≡ r
     self p s ps n f = let g = subst (λ (k : ℕ). along t c k (ps ++ p ∷ []) ≡ Some r) (sym s) f in let both = sym (last_self t c p ps n) ∙ g in cc both
 
-    gives_before : (rest p : ℕ) (ps : List ℕ) → Known (length c.operations) ps → Exactly rest ps → BeginsIn c team (ps ++ p ∷ []) → along t c j ps ≡ Some r → Gives t c team j rest r (after t c ps)
+    gives_before : (rest p : ℕ) (ps : List ℕ) → Known (length c.operations) ps → Exactly rest ps → BeginsIn c team (ps ++ p ∷ []) → along t c j ps ≡ Some r → GivesPair t c team j rest r (after t c ps)
     gives_before rest p [] k e b f = absurd (cc f)
     gives_before rest p (x ∷ xs) k e b f = (x ∷ xs, order_before (length c.operations) rest x xs k e, b, pair_whole t c j (x ∷ xs) r (after t c (x ∷ xs)) f refl)
 
 pub gives_from : (t : TypeTable) (c : RawChoice) (team : Team) (j subset rest p r q : ℕ) → IsBitSet subset p → p < length c.operations → IsWithout subset p rest
-    → GivesLast t c team j p rest r q → Gives t c team j subset r q
+    → GivesLast t c team j p rest r q → GivesPair t c team j subset r q
 gives_from t c team j subset rest p r q s l w h = elim h [
-  | inl a ↦ subst (λ (k : ℕ). Gives t c team k subset r q) a.0 (elim a.1.1 [
+  | inl a ↦ subst (λ (k : ℕ). GivesPair t c team k subset r q) a.0 (elim a.1.1 [
     | inl e ↦ (
       p ∷ [],
       alone (length c.operations) subset rest p s l w e.0,
@@ -143,7 +143,7 @@ pair_in t c j order pair e = gets_in t c j order (responses_along t c.state (ope
 
 -- a pair is in the outcome set exactly where some subset with j in it gives it
 pub outcome_subset : (t : TypeTable) (c : RawChoice) (team : Team) (j r q : ℕ)
-    → InOutcomeSet t c team j (r, q) ↔ ((subset : ℕ) × (subset < 2 ^ length c.operations) × IsBitSet subset j × Gives t c team j subset r q)
+    → InOutcomeSet t c team j (r, q) ↔ ((subset : ℕ) × (subset < 2 ^ length c.operations) × IsBitSet subset j × GivesPair t c team j subset r q)
 outcome_subset t c team j r q = (
   λ o. (
     subset_of o.0,
@@ -155,5 +155,5 @@ outcome_subset t c team j r q = (
 )
 
 -- what a subset gives to j, it gives where j is in it
-pub gives_member : (t : TypeTable) (c : RawChoice) (team : Team) (j subset r q : ℕ) → Gives t c team j subset r q → IsBitSet subset j
+pub gives_member : (t : TypeTable) (c : RawChoice) (team : Team) (j subset r q : ℕ) → GivesPair t c team j subset r q → IsBitSet subset j
 gives_member t c team j subset r q g = (exactly_from subset g.0 g.1.exactly j).0 (gets_in t c j g.0 (responses_along t c.state (operations_of c g.0)) r (pair_parts t c j g.0 r q g.3).0)

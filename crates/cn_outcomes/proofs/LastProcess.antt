@@ -14,7 +14,7 @@ use Rattle.cn_table.specs.Run.{state_after}
 use Rattle.cn_choice.specs.RawChoices.{RawChoice}
 use Rattle.cn_choice.specs.Orders.{IsOrder}
 use Rattle.cn_choice.specs.OutcomeSets.{BeginsIn, operations_of}
-use Rattle.cn_outcomes.specs.Subsets.{IsOrderOf, Leaves, IsWithout, Finds}
+use Rattle.cn_outcomes.specs.Subsets.{IsOrderOf, LeavesState, IsWithout, FindsState}
 use Rattle.cn_choice.specs.Moves.{next_of}
 use Rattle.cn_choice.proofs.Members.{IsIn, IsIn-append_left, IsIn-append_right, IsIn-append_cases, each_from, each_at, Contains-from_IsIn, IsIn-from_Contains}
 use Rattle.cn_choice.proofs.ArrangementLemmas.{Differ}
@@ -166,10 +166,10 @@ begins_more c team (x ∷ xs) p b = b
 
 -- process p moved last: it found a state, and left this one
 abbrev pub LeavesLast : TypeTable → RawChoice → Team → ℕ → ℕ → ℕ → Type 0
-LeavesLast t c team p rest state = (found : ℕ) × Finds t c team p rest found × (next_of t c p found ≡ state)
+LeavesLast t c team p rest state = (found : ℕ) × FindsState t c team p rest found × (next_of t c p found ≡ state)
 
 pub finds_from : (t : TypeTable) (c : RawChoice) (team : Team) (rest p : ℕ) (before : List ℕ)
-    → Known (length c.operations) before → Exactly rest before → BeginsIn c team (before ++ p ∷ []) → Finds t c team p rest (state_after t c.state (operations_of c before))
+    → Known (length c.operations) before → Exactly rest before → BeginsIn c team (before ++ p ∷ []) → FindsState t c team p rest (state_after t c.state (operations_of c before))
 finds_from t c team rest p [] k e b = inl (empty_rest rest e, mark b.0 b.1 b.2, refl)
   where
     mark : (q : ℕ) → slice_get (p ∷ []) 0 ≡ Some q → slice_get c.marks q ≡ Some team → slice_get c.marks p ≡ Some team
@@ -177,7 +177,7 @@ finds_from t c team rest p [] k e b = inl (empty_rest rest e, mark b.0 b.1 b.2, 
 finds_from t c team rest p (x ∷ xs) k e b = inr (x ∷ xs, order_before (length c.operations) rest x xs k e, b, refl)
 
 pub leaves_to : (t : TypeTable) (c : RawChoice) (team : Team) (subset : ℕ) (rest : ℕ → ℕ) (state : ℕ) → ((p : ℕ) → IsBitSet subset p → IsWithout subset p (rest p))
-    → Leaves t c team subset state → (p : ℕ) × IsBitSet subset p × (p < length c.operations) × LeavesLast t c team p (rest p) state
+    → LeavesState t c team subset state → (p : ℕ) × IsBitSet subset p × (p < length c.operations) × LeavesLast t c team p (rest p) state
 leaves_to t c team subset rest state w h =
     let e = ending (length c.operations) subset rest h.0 w h.1 in (
       e.last,
@@ -191,7 +191,7 @@ leaves_to t c team subset rest state w h =
     )
 
 pub leaves_from : (t : TypeTable) (c : RawChoice) (team : Team) (subset rest p state : ℕ) → IsBitSet subset p → p < length c.operations → IsWithout subset p rest
-    → LeavesLast t c team p rest state → Leaves t c team subset state
+    → LeavesLast t c team p rest state → LeavesState t c team subset state
 leaves_from t c team subset rest p state s l w h = elim h.1 [
   | inl a ↦ (p ∷ [], alone (length c.operations) subset rest p s l w a.0, (p, refl, a.1), ap (next_of t c p) a.2 ∙ h.2)
   | inr b ↦ (
@@ -203,7 +203,7 @@ leaves_from t c team subset rest p state s l w h = elim h.1 [
 ]
 
 -- no order has nobody
-pub leaves_some : (t : TypeTable) (c : RawChoice) (team : Team) (q : ℕ) → Leaves t c team 0 q → ⊥
+pub leaves_some : (t : TypeTable) (c : RawChoice) (team : Team) (q : ℕ) → LeavesState t c team 0 q → ⊥
 leaves_some t c team q h = some h.0 h.1.ordered.someone (exactly_from 0 h.0 h.1.exactly)
   where
     some : (order : List ℕ) → order ≢ [] → Exactly 0 order → ⊥

@@ -6,7 +6,7 @@ use Rattle.cn_choice.specs.declared.team.Team.{Team}
 use Rattle.cn_outcomes.specs.OutcomeOrders.{NoneOfLength}
 use Rattle.cn_outcomes.specs.PairSets.{Has}
 use Rattle.cn_choice.specs.RawChoices.{RawChoice}
-use Rattle.cn_outcomes.specs.Subsets.{ArePairRows, Gives}
+use Rattle.cn_outcomes.specs.Subsets.{ArePairRows, GivesPair}
 use Rattle.cn_outcomes.specs.Tails.{count_below}
 use Rattle.cn_outcomes.specs.Twins.{AreLinks, IsPacked}
 use Rattle.cn_choice.proofs.ArrangementLemmas.{Differ}
@@ -44,7 +44,7 @@ module _ (t : TypeTable) (c : RawChoice) (team : Team) (j links : ℕ) (linked :
       → (k : ℕ) → k < least → NoneOfLength t c team j single k
   none_shorter rows are pair single only least lower k l x o long leads =
       let known = known_from (length c.operations) x o in
-      let gives : Gives t c team j (subset_of x) leads.0.0 leads.0.1 = (x, record { ordered = o; exactly = exactly_to (subset_of x) x (exactly_subset x) }, leads.1.0, leads.1.1) in
+      let gives : GivesPair t c team j (subset_of x) leads.0.0 leads.0.1 = (x, record { ordered = o; exactly = exactly_to (subset_of x) x (exactly_subset x) }, leads.1.0, leads.1.1) in
       let p = packing t c team links linked j first (subset_of x + 1) (subset_of x) leads.0.0 leads.0.1 (omega arith) (subset_below (length c.operations) x known.below) few gives in
       let same = (only leads.0.0 leads.0.1).0 leads.2 in
       let has = subst (λ (r : ℕ). Has (get_or rows p.0 []) r pair.1) same.0 (subst (λ (q : ℕ). Has (get_or rows p.0 []) leads.0.0 q) same.1 ((are.same p.0 p.1 p.2 leads.0.0 leads.0.1).1 p.3)) in

@@ -8,7 +8,7 @@ pub mod ImageLemmas
 pub mod LastAnswers
 pub mod LastProcess
 pub mod LeastSizes
-pub mod LedCollisions
+pub mod ShortCollisions
 pub mod Packing
 pub mod ResponseRowLemmas
 pub mod Sizes

@@ -8,7 +8,7 @@ use Rattle.cn_table.specs.TypeTable.{TypeTable, transition}
 use Rattle.cn_choice.specs.declared.team.Team.{Team}
 use Rattle.cn_choice.specs.RawChoices.{RawChoice}
 use Rattle.cn_choice.specs.OutcomeSets.{InOutcomeSet}
-use Rattle.cn_outcomes.specs.Subsets.{Finds, Gives, IsWithout}
+use Rattle.cn_outcomes.specs.Subsets.{FindsState, GivesPair, IsWithout}
 use Rattle.cn_choice.specs.Moves.{next_of}
 use Rattle.cn_outcomes.specs.Tails.{count_below}
 use Rattle.cn_outcomes.specs.Twins.{AreLinks, AreTwins, IsMover, IsPacked, IsRun}
@@ -150,13 +150,13 @@ module _ (t : TypeTable) (c : RawChoice) (team : Team) (links : ℕ) (linked : A
       16 p (omega arith) s h
 
   -- what process j finds where it moves last, the last one of its run finds
-  pub finds_last : (j subset last q : ℕ) → subset < 2 ^ 16 → j ≤ last → IsBitSet subset last → IsPacked links subset → IsRun links j last → Finds t c team j (cleared subset j) q ↔ Finds t c team last (cleared subset last) q
+  pub finds_last : (j subset last q : ℕ) → subset < 2 ^ 16 → j ≤ last → IsBitSet subset last → IsPacked links subset → IsRun links j last → FindsState t c team j (cleared subset j) q ↔ FindsState t c team last (cleared subset last) q
   finds_last j subset last q u l s packed run =
       let member : (p : ℕ) → j ≤ p → p ≤ last → IsBitSet subset p = λ p a b. run_members links subset last packed s (last - p) p (omega (arith, b)) (λ i d e. run i (omega (arith, a, d)) e) in (
-        run_up (λ p. Finds t c team p (cleared subset p) q) links j (last - j) last (omega (arith, l))
+        run_up (λ p. FindsState t c team p (cleared subset p) q) links j (last - j) last (omega (arith, l))
             (λ p a b m g. finds_next t c p (linked.twins p m) team subset (cleared subset p) (cleared subset (p + 1)) q (member p a (omega (arith, b))) (member (p + 1) (omega (arith, a)) (omega (arith, b)))
             (without subset p u (member p a (omega (arith, b)))) (without subset (p + 1) u (member (p + 1) (omega (arith, a)) (omega (arith, b)))) g) run,
-        run_down (λ p. Finds t c team p (cleared subset p) q) links j (last - j) last (omega (arith, l))
+        run_down (λ p. FindsState t c team p (cleared subset p) q) links j (last - j) last (omega (arith, l))
             (λ p a b m g. finds_before t c p (linked.twins p m) team subset (cleared subset p) (cleared subset (p + 1)) q (member p a (omega (arith, b))) (member (p + 1) (omega (arith, a)) (omega (arith, b)))
             (without subset p u (member p a (omega (arith, b)))) (without subset (p + 1) u (member (p + 1) (omega (arith, a)) (omega (arith, b)))) g) run,
       )
@@ -167,7 +167,7 @@ module _ (t : TypeTable) (c : RawChoice) (team : Team) (links : ℕ) (linked : A
 
     -- process p moved last, and j before
     abbrev pub MovedBefore : ℕ → ℕ → ℕ → ℕ → ℕ → Type 0
-    MovedBefore subset r q p rest = (found : ℕ) × Gives t c team j rest r found × (next_of t c p found ≡ q)
+    MovedBefore subset r q p rest = (found : ℕ) × GivesPair t c team j rest r found × (next_of t c p found ≡ q)
 
     -- where some other process moved last, some mover did
     pub gives_by_mover : (subset p r q : ℕ) → subset < 2 ^ 16 → IsBitSet subset p → p ≢ j → MovedBefore subset r q p (cleared subset p) → (top : ℕ) × IsMover links subset top × MovedBefore subset r q top (cleared subset top)
@@ -186,8 +186,8 @@ module _ (t : TypeTable) (c : RawChoice) (team : Team) (links : ℕ) (linked : A
         (g.0, g.1, g.2.1)
 
     -- what a subset gives, a packed one of its size gives
-    pub packing : (fuel subset r q : ℕ) → subset < fuel → subset < 2 ^ length c.operations → length c.operations ≤ 8 → Gives t c team j subset r q
-        → (packed : ℕ) × (packed < 2 ^ length c.operations) × IsPacked links packed × Gives t c team j packed r q × (count_below 8 packed ≡ count_below 8 subset)
+    pub packing : (fuel subset r q : ℕ) → subset < fuel → subset < 2 ^ length c.operations → length c.operations ≤ 8 → GivesPair t c team j subset r q
+        → (packed : ℕ) × (packed < 2 ^ length c.operations) × IsPacked links packed × GivesPair t c team j packed r q × (count_below 8 packed ≡ count_below 8 subset)
     packing zero subset r q l u few g = absurd (omega (arith, l))
     packing (suc fuel) subset r q l u few g = elim (packed_or_not links subset (omega (arith, u, pow_below (length c.operations) 16 (omega (arith, few))))) [
       | inl p ↦ (subset, u, p, g, refl)

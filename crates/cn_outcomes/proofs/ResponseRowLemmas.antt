@@ -1,5 +1,5 @@
 -- The rows for one response of a process, by the last process of an order.
-use Rattle.std.proofs.Common.{◌^◌, ◌*◌, ◌-◌, ◌%◌, List, length, get_or, get_or-set_other, get_or-set_same, length-set, ◌≡◌, ◌≢◌, ℕ, ◌+◌, ◌<◌, ◌≤◌, ◌⊎◌, inl, inr, ◌↔◌, refl, sym, ap, ◌∙◌, subst, arith, Some, suc}
+use Rattle.std.proofs.Common.{◌^◌, ◌*◌, ◌-◌, ◌%◌, List, length, get_or, ◌≡◌, ◌≢◌, ℕ, ◌+◌, ◌<◌, ◌≤◌, ◌⊎◌, inl, inr, ◌↔◌, refl, sym, ap, ◌∙◌, subst, arith, Some, suc}
 use Rattle.std.specs.Prelude.{IsBitSet, slice_get}
 use Rattle.std.specs.Int.Bits.{bit_or}
 use Rattle.std.proofs.lemmas.Nat.{one_shl, or_lt, pow_below}
@@ -11,9 +11,9 @@ use Rattle.cn_choice.specs.declared.team.Team.{Team}
 use Rattle.cn_outcomes.specs.OutcomeOrders.{NoneOfLength}
 use Rattle.cn_outcomes.specs.PairSets.{Has}
 use Rattle.cn_choice.specs.OutcomeSets.{InOutcomeSet}
-use Rattle.cn_choice.specs.RawChoices.{RawChoice}
-use Rattle.cn_outcomes.specs.ResponseRows.{AreGivenRows, AreRowsOf, GivesWith, IsOthers}
-use Rattle.cn_outcomes.specs.Subsets.{Below, Finds, Gives, IsWithout, Leaves}
+use Rattle.cn_choice.specs.RawChoices.{IsRawChoice, RawChoice}
+use Rattle.cn_outcomes.specs.ResponseRows.{AreGivenRows, GivesWith, IsOthers}
+use Rattle.cn_outcomes.specs.Subsets.{AreRowsOf, Below, FindsState, GivesPair, IsWithout, LeavesState}
 use Rattle.cn_choice.specs.Moves.{answer_of, next_of}
 use Rattle.cn_outcomes.specs.Tails.{count_below}
 use Rattle.cn_outcomes.specs.Twins.{AreLinks, IsMover, IsPacked}
@@ -21,50 +21,12 @@ use Rattle.cn_outcomes.proofs.BitSets.{cleared, cleared_is, even_not, filled, me
 use Rattle.cn_outcomes.proofs.LastAnswers.{exactly_subset, gives_from, gives_member, gives_to, outcome_subset, subset_below, subset_of}
 use Rattle.cn_outcomes.proofs.LastProcess.{exactly_to, known_from, leaves_some, same_or_not, zero_has_none}
 use Rattle.cn_outcomes.proofs.LeastSizes.{size_of_list}
-use Rattle.cn_outcomes.proofs.Packing.{below_or_last, gives_by_mover, packing, rest_less, rest_packed}
+use Rattle.cn_outcomes.proofs.Packing.{gives_by_mover, packing, rest_less, rest_packed}
 use Rattle.cn_outcomes.proofs.Sizes.{count_more}
 use Rattle.cn_outcomes.proofs.TailLemmas.{in_pow}
-use Rattle.cn_outcomes.proofs.Unions.{GathersFrom, Gathers, from_more, gathers_more, gathers_none, subsets_of}
+use Rattle.cn_outcomes.proofs.Unions.{GathersFrom, Gathers, from_more, gathers_more, gathers_none, rows_first, rows_more, rows_passed, subsets_of}
 
 -- ---- the rows, one after the other
-
-module _ (links j : ℕ) (wanted : ℕ → ℕ → Type 0) (bound : ℕ) where
-  pub others_first : (rows : List ℕ) → length rows ≡ 256 → get_or rows 0 0 ≡ 0 → ((q : ℕ) → ¬ wanted 0 q) → AreRowsOf links j wanted bound 1 rows
-  others_first rows e z n = record {
-    same = λ s l _ q. none s q (omega arith);
-    known = λ s l _ q b. absurd (zero_has_none q (subst (λ (x : ℕ). IsBitSet x q) (here s (omega arith)) b));
-    long = e;
-  }
-    where
-      here : (s : ℕ) → s ≡ 0 → get_or rows s 0 ≡ 0
-      here s e = ap (λ (i : ℕ). get_or rows i 0) e ∙ z
-
-      none : (s q : ℕ) → s ≡ 0 → IsBitSet (get_or rows s 0) q ↔ wanted s q
-      none s q e = (λ b. absurd (zero_has_none q (subst (λ (x : ℕ). IsBitSet x q) (here s e) b)), λ w. absurd (n q (subst (λ (x : ℕ). wanted x q) e w)))
-
-  pub others_more : (rows : List ℕ) (k part : ℕ) → k < length rows → AreRowsOf links j wanted bound k rows → ((q : ℕ) → IsBitSet part q ↔ wanted k q) → Below bound part → AreRowsOf links j wanted bound (k + 1) (set rows k part)
-  others_more rows k part l r h b = record { same = λ s u p. same s p (below_or_last s k u); known = λ s u p. known s p (below_or_last s k u); long = length-set rows k part ∙ r.long }
-    where
-      other : (s : ℕ) → s < k → get_or rows s 0 ≡ get_or (set rows k part) s 0
-      other s u = let n : s ≢ k = omega arith in sym (get_or-set_other rows k s part 0 n)
-
-      at : (s : ℕ) → s ≡ k → part ≡ get_or (set rows k part) s 0
-      at s e = sym (get_or-set_same rows k part 0 l) ∙ ap (λ (i : ℕ). get_or (set rows k part) i 0) (sym e)
-
-      same : (s : ℕ) → IsOthers links j s → (s < k) ⊎ (s ≡ k) → (q : ℕ) → IsBitSet (get_or (set rows k part) s 0) q ↔ wanted s q
-      same s p (inl u) = subst (λ (x : ℕ). (q : ℕ) → IsBitSet x q ↔ wanted s q) (other s u) (r.same s u p)
-      same s p (inr e) = subst (λ (x : ℕ). (q : ℕ) → IsBitSet x q ↔ wanted s q) (at s e) (subst (λ (x : ℕ). (q : ℕ) → IsBitSet part q ↔ wanted x q) (sym e) h)
-
-      known : (s : ℕ) → IsOthers links j s → (s < k) ⊎ (s ≡ k) → Below bound (get_or (set rows k part) s 0)
-      known s p (inl u) = subst (Below bound) (other s u) (r.known s u p)
-      known s p (inr e) = subst (Below bound) (at s e) b
-
-  -- another subset is passed by
-  pub others_passed : (rows : List ℕ) (k : ℕ) → ¬ IsOthers links j k → AreRowsOf links j wanted bound k rows → AreRowsOf links j wanted bound (k + 1) rows
-  others_passed rows k n r = record { same = λ s u p. r.same s (below s u p) p; known = λ s u p. r.known s (below s u p) p; long = r.long }
-    where
-      below : (s : ℕ) → s < k + 1 → IsOthers links j s → s < k
-      below s u p = elim (below_or_last s k u) [ inl l ↦ l | inr e ↦ absurd (n (subst (IsOthers links j) e p)) ]
 
 -- the even numbers are the subsets without process 0: each is followed by one with it
 not_odd : (links k : ℕ) → ¬ IsOthers links 0 (2 * k + 1)
@@ -74,19 +36,19 @@ two_more : (k : ℕ) → 2 * k + 1 + 1 ≡ 2 * (k + 1)
 two_more k = omega arith
 
 module _ (links : ℕ) (wanted : ℕ → ℕ → Type 0) (bound : ℕ) where
-  pub evens_first : (rows : List ℕ) → length rows ≡ 256 → get_or rows 0 0 ≡ 0 → ((q : ℕ) → ¬ wanted 0 q) → AreRowsOf links 0 wanted bound 2 rows
-  evens_first rows e z n = others_passed links 0 wanted bound rows 1 (not_odd links 0) (others_first links 0 wanted bound rows e z n)
+  pub evens_first : (rows : List ℕ) → length rows ≡ 256 → get_or rows 0 0 ≡ 0 → ((q : ℕ) → ¬ wanted 0 q) → AreRowsOf (IsOthers links 0) wanted bound 2 rows
+  evens_first rows e z n = rows_passed (IsOthers links 0) wanted bound rows 1 (not_odd links 0) (rows_first (IsOthers links 0) wanted bound rows e z n)
 
-  pub evens_more : (rows : List ℕ) (k part : ℕ) → 2 * k < length rows → AreRowsOf links 0 wanted bound (2 * k) rows → ((q : ℕ) → IsBitSet part q ↔ wanted (2 * k) q) → Below bound part
-      → AreRowsOf links 0 wanted bound (2 * (k + 1)) (set rows (2 * k) part)
+  pub evens_more : (rows : List ℕ) (k part : ℕ) → 2 * k < length rows → AreRowsOf (IsOthers links 0) wanted bound (2 * k) rows → ((q : ℕ) → IsBitSet part q ↔ wanted (2 * k) q) → Below bound part
+      → AreRowsOf (IsOthers links 0) wanted bound (2 * (k + 1)) (set rows (2 * k) part)
   evens_more rows k part l r h b =
-      subst (λ (end : ℕ). AreRowsOf links 0 wanted bound end (set rows (2 * k) part)) (two_more k)
-      (others_passed links 0 wanted bound (set rows (2 * k) part) (2 * k + 1) (not_odd links k) (others_more links 0 wanted bound rows (2 * k) part l r h b))
+      subst (λ (end : ℕ). AreRowsOf (IsOthers links 0) wanted bound end (set rows (2 * k) part)) (two_more k)
+      (rows_passed (IsOthers links 0) wanted bound (set rows (2 * k) part) (2 * k + 1) (not_odd links k) (rows_more (IsOthers links 0) wanted bound rows (2 * k) part l r h b))
 
-  pub evens_passed : (rows : List ℕ) (k : ℕ) → ¬ IsOthers links 0 (2 * k) → AreRowsOf links 0 wanted bound (2 * k) rows → AreRowsOf links 0 wanted bound (2 * (k + 1)) rows
+  pub evens_passed : (rows : List ℕ) (k : ℕ) → ¬ IsOthers links 0 (2 * k) → AreRowsOf (IsOthers links 0) wanted bound (2 * k) rows → AreRowsOf (IsOthers links 0) wanted bound (2 * (k + 1)) rows
   evens_passed rows k n r =
-      subst (λ (end : ℕ). AreRowsOf links 0 wanted bound end rows) (two_more k)
-      (others_passed links 0 wanted bound rows (2 * k + 1) (not_odd links k) (others_passed links 0 wanted bound rows (2 * k) n r))
+      subst (λ (end : ℕ). AreRowsOf (IsOthers links 0) wanted bound end rows) (two_more k)
+      (rows_passed (IsOthers links 0) wanted bound rows (2 * k + 1) (not_odd links k) (rows_passed (IsOthers links 0) wanted bound rows (2 * k) n r))
 
   -- the parts of these subsets together
   abbrev part_of : ℕ → ℕ → Type 0
@@ -123,6 +85,13 @@ half_count n some few =
     let most = (subsets_of n few).1 in
     (omega (arith, one, two, double), omega (arith, one, two, double, most))
 
+-- the operation of a member of a subset is one of an equal table
+pub member_operation : (s t : TypeTable) → s ≡ t → (c : RawChoice) → IsRawChoice t (length c.operations) c → (subset p operation : ℕ) → subset < 2 ^ length c.operations → IsBitSet subset p
+    → operation ≡ get_or c.operations p 0 → operation < length s.operations
+member_operation s t e c fits subset p operation inside member is =
+    subst (λ (u : TypeTable). operation < length u.operations) (sym e)
+    (subst (λ (o : ℕ). o < length t.operations) (sym is) (fits.operations_known p 0 (member_below (length c.operations) subset p inside member)))
+
 -- such a subset without one of its movers
 pub rest_others : (links j subset p rest : ℕ) → IsPacked links subset → ¬ IsBitSet subset j → IsMover links subset p → IsWithout subset p rest → IsOthers links j rest
 rest_others links j subset p rest packed n mover w = (rest_packed links subset p rest packed mover w, λ b. n ((w j).0 b).0)
@@ -155,7 +124,7 @@ OtherWith t c team j r s p q = (rest : ℕ) × IsWithout s p rest × ((found : �
 
 -- process j moved last
 abbrev pub OwnWith : TypeTable → RawChoice → Team → ℕ → ℕ → ℕ → ℕ → Type 0
-OwnWith t c team j r s q = (found : ℕ) × Leaves t c team s found × (answer_of t c j found ≡ r) × (next_of t c j found ≡ q)
+OwnWith t c team j r s q = (found : ℕ) × LeavesState t c team s found × (answer_of t c j found ≡ r) × (next_of t c j found ≡ q)
 
 module _ (t : TypeTable) (c : RawChoice) (team : Team) (links j r : ℕ) where
   own_gives : (s q : ℕ) → j < length c.operations → ¬ IsBitSet s j → OwnWith t c team j r s q → GivesWith t c team j r s q
@@ -189,11 +158,11 @@ module _ (t : TypeTable) (c : RawChoice) (team : Team) (links j r : ℕ) where
         let x = gives_to t c team j whole (cleared whole) r q cut h.3 in
         elim x.3 [
           | inl a ↦ (
-              let finds : Finds t c team j (cleared whole j) a.1.0 = subst (λ (p : ℕ). Finds t c team p (cleared whole p) a.1.0) a.0 a.1.1 in
+              let finds : FindsState t c team j (cleared whole j) a.1.0 = subst (λ (p : ℕ). FindsState t c team p (cleared whole p) a.1.0) a.0 a.1.1 in
               let same = without_one whole j (cleared whole j) s h.1 (cut j h.1) h.2 in
               inl (
                 a.1.0,
-                elim finds [ inl z ↦ absurd (other z.1) | inr b ↦ subst (λ (k : ℕ). Leaves t c team k a.1.0) same b ],
+                elim finds [ inl z ↦ absurd (other z.1) | inr b ↦ subst (λ (k : ℕ). LeavesState t c team k a.1.0) same b ],
                 ap (λ (p : ℕ). answer_of t c p a.1.0) (sym a.0) ∙ a.1.2,
                 ap (λ (p : ℕ). next_of t c p a.1.0) (sym a.0) ∙ a.1.3,
               )
@@ -233,7 +202,7 @@ module _ (t : TypeTable) (c : RawChoice) (team : Team) (links j r : ℕ) where
     nothing_alone q h = elim (gives_last 0 q (omega arith) h) [ inl a ↦ leaves_some t c team a.0 a.1 | inr a ↦ zero_has_none a.0 a.1.0 ]
 
     -- each pair of the response comes from a packed subset with j in it
-    by_others : ¬ IsBitSet links (j + 1) → length c.operations ≤ 8 → (subset q : ℕ) → subset < 2 ^ length c.operations → Gives t c team j subset r q
+    by_others : ¬ IsBitSet links (j + 1) → length c.operations ≤ 8 → (subset q : ℕ) → subset < 2 ^ length c.operations → GivesPair t c team j subset r q
         → (s : ℕ) × (s < 2 ^ length c.operations) × IsOthers links j s × GivesWith t c team j r s q × (suc (count_below 8 s) ≡ count_below 8 subset)
     by_others alone few subset q u g =
         let y = packing t c team links linked j first (subset + 1) subset r q (omega arith) u few g in
@@ -265,8 +234,8 @@ module _ (t : TypeTable) (c : RawChoice) (team : Team) (links j r : ℕ) where
     none_shorter_with alone few rows are state single only least lower k l x o long leads =
         let known = known_from (length c.operations) x o in
         let same = (only leads.0.0 leads.0.1).0 leads.2 in
-        let gives : Gives t c team j (subset_of x) leads.0.0 leads.0.1 = (x, record { ordered = o; exactly = exactly_to (subset_of x) x (exactly_subset x) }, leads.1.0, leads.1.1) in
-        let wanted : Gives t c team j (subset_of x) r state = subst (λ (a : ℕ). Gives t c team j (subset_of x) a state) same.0 (subst (λ (b : ℕ). Gives t c team j (subset_of x) leads.0.0 b) same.1 gives) in
+        let gives : GivesPair t c team j (subset_of x) leads.0.0 leads.0.1 = (x, record { ordered = o; exactly = exactly_to (subset_of x) x (exactly_subset x) }, leads.1.0, leads.1.1) in
+        let wanted : GivesPair t c team j (subset_of x) r state = subst (λ (a : ℕ). GivesPair t c team j (subset_of x) a state) same.0 (subst (λ (b : ℕ). GivesPair t c team j (subset_of x) leads.0.0 b) same.1 gives) in
         let y = by_others alone few (subset_of x) state (subset_below (length c.operations) x known.below) wanted in
         let size = size_of_list x (λ q i. (let b = known.below q i in omega (arith, b, few))) known.differ in
         absurd (omega (arith, lower y.0 y.1 y.2 ((are.same y.0 y.1 y.2 state).1 y.3), y.4, size, long, l))
@@ -290,7 +259,7 @@ other_with_more t c team j r subset of left k after set more rest from new insid
     ))
 
 -- process j moved last: it got the response in the state that it found
-pub own_with : (t : TypeTable) (c : RawChoice) (team : Team) (j r subset row asked from new : ℕ) → ((q : ℕ) → IsBitSet row q ↔ Leaves t c team subset q) → Below (length t.states) row
+pub own_with : (t : TypeTable) (c : RawChoice) (team : Team) (j r subset row asked from new : ℕ) → ((q : ℕ) → IsBitSet row q ↔ LeavesState t c team subset q) → Below (length t.states) row
     → ((q : ℕ) → IsBitSet asked q ↔ ((q < length t.states) × (answer_of t c j q ≡ r)))
     → ((q : ℕ) → IsBitSet from q ↔ (IsBitSet row q × IsBitSet asked q)) → ((q : ℕ) → IsBitSet new q ↔ ((found : ℕ) × IsBitSet from found × (next_of t c j found ≡ q))) → (q : ℕ) → IsBitSet new q ↔ OwnWith t c team j r subset q
 own_with t c team j r subset row asked from new h known a f n q = (

@@ -8,13 +8,13 @@ use Rattle.std.proofs.lemmas.Nat.{one_shl, pow_below, pow_pos}
 use Rattle.cn_outcomes.specs.PairSets.{Has}
 use Rattle.cn_choice.specs.OutcomeSets.{InOutcomeSet}
 use Rattle.std.proofs.Math.ListN.{set}
-use Rattle.cn_outcomes.specs.Subsets.{AreRows, ArePairRows, IsRow, Below, Leaves, Gives, Finds, IsWithout, OtherLast, OwnLast}
+use Rattle.cn_outcomes.specs.Subsets.{AreRowsOf, ArePairRows, IsRow, Below, LeavesState, GivesPair, FindsState, IsWithout, OtherLast, OwnLast}
 use Rattle.cn_choice.specs.Moves.{answer_of, next_of}
 use Rattle.cn_outcomes.specs.Twins.{AreLinks, IsMover, IsPacked, IsRun}
 use Rattle.cn_outcomes.proofs.Packing.{below_or_last, finds_last, gives_by_mover, leaves_by_mover, packing}
 use Rattle.cn_outcomes.proofs.LastProcess.{zero_has_none, LeavesLast, leaves_to, leaves_from, leaves_some, same_or_not}
 use Rattle.cn_outcomes.proofs.LastAnswers.{gives_to, gives_from, gives_member, outcome_subset, pair_parts}
-use Rattle.cn_outcomes.proofs.BitSets.{cleared, cleared_is, without_one, member_below}
+use Rattle.cn_outcomes.proofs.BitSets.{below_or_not, cleared, cleared_is, without_one, member_below}
 
 -- the set has what the parts below k have
 abbrev pub Gathers : (ℕ → ℕ → Type 0) → ℕ → ℕ → Type 0
@@ -77,14 +77,14 @@ from_all part from left set g e q = (
 -- ---- what a process may find
 
 module _ (t : TypeTable) (c : RawChoice) (team : Team) (p rest : ℕ) where
-  pub found_first : rest ≡ 0 → slice_get c.marks p ≡ Some team → (set : ℕ) → ((q : ℕ) → IsBitSet set q ↔ (IsBitSet 0 q ⊎ (q ≡ c.state))) → ((q : ℕ) → ¬ IsBitSet 0 q) → (q : ℕ) → IsBitSet set q ↔ Finds t c team p rest q
+  pub found_first : rest ≡ 0 → slice_get c.marks p ≡ Some team → (set : ℕ) → ((q : ℕ) → IsBitSet set q ↔ (IsBitSet 0 q ⊎ (q ≡ c.state))) → ((q : ℕ) → ¬ IsBitSet 0 q) → (q : ℕ) → IsBitSet set q ↔ FindsState t c team p rest q
   found_first z m set h n q = (
     λ s. elim ((h q).0 s) [ inl a ↦ absurd (n q a) | inr b ↦ inl (z, m, sym b) ],
-    λ f. elim f [ inl a ↦ (h q).1 (inr (sym a.2)) | inr b ↦ absurd (leaves_some t c team q (subst (λ (r : ℕ). Leaves t c team r q) z b)) ],
+    λ f. elim f [ inl a ↦ (h q).1 (inr (sym a.2)) | inr b ↦ absurd (leaves_some t c team q (subst (λ (r : ℕ). LeavesState t c team r q) z b)) ],
   )
 
-  pub found_nothing : rest ≡ 0 → ¬ (slice_get c.marks p ≡ Some team) → (q : ℕ) → Finds t c team p rest q → ⊥
-  found_nothing z m q f = elim f [ inl a ↦ m a.1 | inr b ↦ leaves_some t c team q (subst (λ (r : ℕ). Leaves t c team r q) z b) ]
+  pub found_nothing : rest ≡ 0 → ¬ (slice_get c.marks p ≡ Some team) → (q : ℕ) → FindsState t c team p rest q → ⊥
+  found_nothing z m q f = elim f [ inl a ↦ m a.1 | inr b ↦ leaves_some t c team q (subst (λ (r : ℕ). LeavesState t c team r q) z b) ]
 
 -- ---- a row
 
@@ -94,7 +94,7 @@ row_part t c team subset p q = (rest : ℕ) × IsWithout subset p rest × Leaves
 
 pub row_more : (t : TypeTable) (c : RawChoice) (team : Team) (subset of left k after set more rest from new : ℕ) → ((p : ℕ) → IsBitSet of p → IsBitSet subset p) → GathersFrom (row_part t c team subset) of left set
     → IsBitSet left k → IsWithout left k after
-    → IsWithout subset k rest → ((q : ℕ) → IsBitSet from q ↔ Finds t c team k rest q) → ((q : ℕ) → IsBitSet new q ↔ ((found : ℕ) × IsBitSet from found × (next_of t c k found ≡ q)))
+    → IsWithout subset k rest → ((q : ℕ) → IsBitSet from q ↔ FindsState t c team k rest q) → ((q : ℕ) → IsBitSet new q ↔ ((found : ℕ) × IsBitSet from found × (next_of t c k found ≡ q)))
     → ((q : ℕ) → IsBitSet more q ↔ (IsBitSet set q ⊎ IsBitSet new q)) → GathersFrom (row_part t c team subset) of after more
 row_more t c team subset of left k after set more rest from new inside g s u w f n m =
     from_more (row_part t c team subset) of left set k after more g s u
@@ -110,7 +110,7 @@ row_more t c team subset of left k after set more rest from new inside g s u w f
     ))
 
 pub row_all : (t : TypeTable) (c : RawChoice) (team : Team) (links : ℕ) → AreLinks c links → (subset of left set : ℕ) → left ≡ 0 → subset < 2 ^ 16 → subset < 2 ^ length c.operations → ((p : ℕ) → IsBitSet of p ↔ IsMover links subset p)
-    → GathersFrom (row_part t c team subset) of left set → (q : ℕ) → IsBitSet set q ↔ Leaves t c team subset q
+    → GathersFrom (row_part t c team subset) of left set → (q : ℕ) → IsBitSet set q ↔ LeavesState t c team subset q
 row_all t c team links linked subset of left set e small l movers g q =
     let whole = from_all (row_part t c team subset) of left set g e q in (
       λ s. (let r = whole.0 s in let m = (movers r.0).0 r.1 in leaves_from t c team subset r.2.0 r.0 q m.0 (member_below (length c.operations) subset r.0 l m.0) r.2.1 r.2.2),
@@ -122,46 +122,46 @@ row_all t c team links linked subset of left set e small l movers g q =
 
 -- ---- the rows
 
-module _ (t : TypeTable) (c : RawChoice) (team : Team) (links : ℕ) where
-  pub rows_first : (rows : List ℕ) → length rows ≡ 256 → get_or rows 0 0 ≡ 0 → AreRows t c team links 1 rows
-  rows_first rows e z = record {
-    long = e;
-    same = λ s l _ q. none s (omega arith) q;
+-- one place of a list more
+pub at_more : {X : Type 0} (fits : ℕ → X → Type 0) (none : X) (rows : List X) (k : ℕ) (row : X) → k < length rows → ((i : ℕ) → i < k → fits i (get_or rows i none)) → fits k row
+    → (i : ℕ) → i < k + 1 → fits i (get_or (set rows k row) i none)
+at_more fits none rows k row l g h i u = elim (below_or_last i k u) [
+  | inl b ↦ (let n : i ≢ k = omega arith in subst (fits i) (sym (get_or-set_other rows k i row none n)) (g i b))
+  | inr e ↦ subst (λ (j : ℕ). fits j (get_or (set rows k row) j none)) (sym e) (subst (fits k) (sym (get_or-set_same rows k row none l)) h)
+]
+
+-- a number that has no row is none of those that have one
+pub below_passed : (has_row : ℕ → Type 0) (k : ℕ) → ¬ has_row k → (s : ℕ) → s < k + 1 → has_row s → s < k
+below_passed has_row k n s u p = elim (below_or_last s k u) [ inl l ↦ l | inr e ↦ absurd (n (subst has_row e p)) ]
+
+module _ (has_row : ℕ → Type 0) (states : ℕ → ℕ → Type 0) (bound : ℕ) where
+  pub rows_first : (rows : List ℕ) → length rows ≡ 256 → get_or rows 0 0 ≡ 0 → ((q : ℕ) → ¬ states 0 q) → AreRowsOf has_row states bound 1 rows
+  rows_first rows e z n = record {
+    same = λ s l _ q. none s q (omega arith);
     known = λ s l _ q b. absurd (zero_has_none q (subst (λ (x : ℕ). IsBitSet x q) (here s (omega arith)) b));
+    long = e;
   }
     where
       here : (s : ℕ) → s ≡ 0 → get_or rows s 0 ≡ 0
       here s e = ap (λ (i : ℕ). get_or rows i 0) e ∙ z
 
-      none : (s : ℕ) → s ≡ 0 → (q : ℕ) → IsBitSet (get_or rows s 0) q ↔ Leaves t c team s q
-      none s e q = (
-        λ b. absurd (zero_has_none q (subst (λ (x : ℕ). IsBitSet x q) (here s e) b)),
-        λ h. absurd (leaves_some t c team q (subst (λ (x : ℕ). Leaves t c team x q) e h)),
-      )
+      none : (s q : ℕ) → s ≡ 0 → IsBitSet (get_or rows s 0) q ↔ states s q
+      none s q e = (λ b. absurd (zero_has_none q (subst (λ (x : ℕ). IsBitSet x q) (here s e) b)), λ w. absurd (n q (subst (λ (x : ℕ). states x q) e w)))
 
-  pub rows_more : (rows : List ℕ) (k part : ℕ) → k < length rows → AreRows t c team links k rows → ((q : ℕ) → IsBitSet part q ↔ Leaves t c team k q) → Below (length t.states) part → AreRows t c team links (k + 1) (set rows k part)
-  rows_more rows k part l r h b = record { long = length-set rows k part ∙ r.long; same = λ s u p. same s p (below_or_last s k u); known = λ s u p. known s p (below_or_last s k u) }
-    where
-      other : (s : ℕ) → s < k → get_or rows s 0 ≡ get_or (set rows k part) s 0
-      other s u = let n : s ≢ k = omega arith in sym (get_or-set_other rows k s part 0 n)
+  pub rows_more : (rows : List ℕ) (k part : ℕ) → k < length rows → AreRowsOf has_row states bound k rows → ((q : ℕ) → IsBitSet part q ↔ states k q) → Below bound part → AreRowsOf has_row states bound (k + 1) (set rows k part)
+  rows_more rows k part l r h b = record {
+    same = at_more (λ s (row : ℕ). has_row s → (q : ℕ) → IsBitSet row q ↔ states s q) 0 rows k part l r.same (λ _. h);
+    known = at_more (λ s (row : ℕ). has_row s → Below bound row) 0 rows k part l r.known (λ _. b);
+    long = length-set rows k part ∙ r.long;
+  }
 
-      at : (s : ℕ) → s ≡ k → part ≡ get_or (set rows k part) s 0
-      at s e = sym (get_or-set_same rows k part 0 l) ∙ ap (λ (i : ℕ). get_or (set rows k part) i 0) (sym e)
-
-      same : (s : ℕ) → IsPacked links s → (s < k) ⊎ (s ≡ k) → (q : ℕ) → IsBitSet (get_or (set rows k part) s 0) q ↔ Leaves t c team s q
-      same s p (inl u) = subst (λ (x : ℕ). (q : ℕ) → IsBitSet x q ↔ Leaves t c team s q) (other s u) (r.same s u p)
-      same s p (inr e) = subst (λ (x : ℕ). (q : ℕ) → IsBitSet x q ↔ Leaves t c team s q) (at s e) (subst (λ (x : ℕ). (q : ℕ) → IsBitSet part q ↔ Leaves t c team x q) (sym e) h)
-
-      known : (s : ℕ) → IsPacked links s → (s < k) ⊎ (s ≡ k) → Below (length t.states) (get_or (set rows k part) s 0)
-      known s p (inl u) = subst (Below (length t.states)) (other s u) (r.known s u p)
-      known s p (inr e) = subst (Below (length t.states)) (at s e) b
-
-  -- a subset that is not packed is passed by
-  pub rows_passed : (rows : List ℕ) (k : ℕ) → ¬ IsPacked links k → AreRows t c team links k rows → AreRows t c team links (k + 1) rows
-  rows_passed rows k n r = record { long = r.long; same = λ s u p. r.same s (below s u p) p; known = λ s u p. r.known s (below s u p) p }
-    where
-      below : (s : ℕ) → s < k + 1 → IsPacked links s → s < k
-      below s u p = elim (below_or_last s k u) [ inl l ↦ l | inr e ↦ absurd (n (subst (IsPacked links) e p)) ]
+  -- a subset that has none is passed by
+  pub rows_passed : (rows : List ℕ) (k : ℕ) → ¬ has_row k → AreRowsOf has_row states bound k rows → AreRowsOf has_row states bound (k + 1) rows
+  rows_passed rows k n r = record {
+    same = λ s u p. r.same s (below_passed has_row k n s u p) p;
+    known = λ s u p. r.known s (below_passed has_row k n s u p) p;
+    long = r.long;
+  }
 
 -- ---- rows of pairs
 
@@ -210,17 +210,12 @@ beyond [] i l = refl
 beyond (x ∷ xs) zero l = absurd (omega arith)
 beyond (x ∷ xs) (suc i) l = beyond xs i (omega arith)
 
-pub below_or_not : (i k : ℕ) → (i < k) ⊎ (k ≤ i)
-below_or_not i zero = inr (omega arith)
-below_or_not zero (suc k) = inl (omega arith)
-below_or_not (suc i) (suc k) = elim (below_or_not i k) [ inl h ↦ inl (omega arith) | inr h ↦ inr (omega arith) ]
-
 pub nothing_beyond : (xs : List ℕ) (n r q : ℕ) → length xs ≡ n → n ≤ r → ¬ IsBitSet (get_or xs r 0) q
 nothing_beyond xs n r q e l b = zero_has_none q (subst (λ (x : ℕ). IsBitSet x q) (beyond xs r (omega (arith, e, l))) b)
 
 pub other_more : (t : TypeTable) (c : RawChoice) (team : Team) (j subset of left k after set more rest new q : ℕ) → ((p : ℕ) → IsBitSet of p → IsBitSet subset p) → GathersFrom (OtherLast t c team j subset q) of left set
     → IsBitSet left k → IsWithout left k after
-    → IsWithout subset k rest → ((r : ℕ) → IsBitSet new r ↔ ((found : ℕ) × Gives t c team j rest r found × (next_of t c k found ≡ q)))
+    → IsWithout subset k rest → ((r : ℕ) → IsBitSet new r ↔ ((found : ℕ) × GivesPair t c team j rest r found × (next_of t c k found ≡ q)))
     → ((r : ℕ) → IsBitSet more r ↔ (IsBitSet set r ⊎ IsBitSet new r)) → GathersFrom (OtherLast t c team j subset q) of after more
 other_more t c team j subset of left k after set more rest new q inside g s u w n m =
     from_more (OtherLast t c team j subset q) of left set k after more g s u
@@ -228,7 +223,7 @@ other_more t c team j subset of left k after set more rest new q inside g s u w 
       λ b. elim ((m r).0 b) [ inl a ↦ inl a | inr x ↦ inr (rest, w, (n r).0 x) ],
       λ b. (m r).1 (elim b [
         | inl a ↦ inl a
-        | inr y ↦ inr ((n r).1 (subst (λ (z : ℕ). (found : ℕ) × Gives t c team j z r found × (next_of t c k found ≡ q)) (without_one subset k y.0 rest (inside k (g.within k s)) y.1 w) y.2))
+        | inr y ↦ inr ((n r).1 (subst (λ (z : ℕ). (found : ℕ) × GivesPair t c team j z r found × (next_of t c k found ≡ q)) (without_one subset k y.0 rest (inside k (g.within k s)) y.1 w) y.2))
       ]),
     ))
 
@@ -244,25 +239,25 @@ other_self t c team j subset of left k after set q e g s u =
 -- what process j gets where it moves last, by what the last one of its run finds
 pub own_is : (t : TypeTable) (c : RawChoice) (team : Team) (links : ℕ) → AreLinks c links → (j subset last rest operation from : ℕ) (set : ℕ → ℕ → Type 0) → subset < 2 ^ 16 → j ≤ last → IsBitSet subset j
     → IsBitSet subset last → IsPacked links subset → IsRun links j last
-    → IsWithout subset last rest → operation ≡ slice_index c.operations j → ((q : ℕ) → IsBitSet from q ↔ Finds t c team last rest q)
+    → IsWithout subset last rest → operation ≡ slice_index c.operations j → ((q : ℕ) → IsBitSet from q ↔ FindsState t c team last rest q)
     → ((r q : ℕ) → set r q ↔ ((found : ℕ) × IsBitSet from found × ((transition t operation found).0 ≡ r) × ((transition t operation found).1 ≡ q)))
     → (r q : ℕ) → set r q ↔ OwnLast t c team j subset r q
 own_is t c team links linked j subset last rest operation from set small up s m packed run w is f a r q =
     let b = subst (λ (o : ℕ). set r q ↔ ((found : ℕ) × IsBitSet from found × ((transition t o found).0 ≡ r) × ((transition t o found).1 ≡ q))) is (a r q) in
     let cut : (i : ℕ) → IsBitSet subset i → IsWithout subset i (cleared subset i) = λ i n. cleared_is subset i (member_below 16 subset i small n) small in
     let same = without_one subset last rest (cleared subset last) m w (cut last m) in
-    let finds : (x : ℕ) → Finds t c team j (cleared subset j) x ↔ Finds t c team last (cleared subset last) x = λ x. finds_last t c team links linked j subset last x small up m packed run in (
-      λ h. (let x = b.0 h in (cleared subset j, cut j s, (x.0, (finds x.0).1 (subst (λ (z : ℕ). Finds t c team last z x.0) same ((f x.0).0 x.1)), x.2, x.3))),
+    let finds : (x : ℕ) → FindsState t c team j (cleared subset j) x ↔ FindsState t c team last (cleared subset last) x = λ x. finds_last t c team links linked j subset last x small up m packed run in (
+      λ h. (let x = b.0 h in (cleared subset j, cut j s, (x.0, (finds x.0).1 (subst (λ (z : ℕ). FindsState t c team last z x.0) same ((f x.0).0 x.1)), x.2, x.3))),
       λ h.
           let x = h.2 in
-          let found = subst (λ (z : ℕ). Finds t c team j z x.0) (without_one subset j h.0 (cleared subset j) s h.1 (cut j s)) x.1 in
-          b.1 (x.0, (f x.0).1 (subst (λ (z : ℕ). Finds t c team last z x.0) (sym same) ((finds x.0).0 found)), x.2, x.3),
+          let found = subst (λ (z : ℕ). FindsState t c team j z x.0) (without_one subset j h.0 (cleared subset j) s h.1 (cut j s)) x.1 in
+          b.1 (x.0, (f x.0).1 (subst (λ (z : ℕ). FindsState t c team last z x.0) (sym same) ((finds x.0).0 found)), x.2, x.3),
     )
 
 -- what is given to process j, by whether it moved last
 pub pair_all : (t : TypeTable) (c : RawChoice) (team : Team) (links : ℕ) → AreLinks c links → (j subset : ℕ) → ¬ IsBitSet links j → subset < 2 ^ 16 → subset < 2 ^ length c.operations → IsBitSet subset j → (own others all : ℕ → ℕ → Type 0)
     → ((r q : ℕ) → own r q ↔ OwnLast t c team j subset r q) → ((r q : ℕ) → others r q ↔ ((p : ℕ) × IsMover links subset p × OtherLast t c team j subset q p r)) → ((r q : ℕ) → all r q ↔ (own r q ⊎ others r q))
-    → (r q : ℕ) → all r q ↔ Gives t c team j subset r q
+    → (r q : ℕ) → all r q ↔ GivesPair t c team j subset r q
 pair_all t c team links linked j subset first small l member own others all is_own is_others is_all r q = (
   λ h. elim ((is_all r q).0 h) [
     | inl a ↦ (let x = (is_own r q).0 a in gives_from t c team j subset x.0 j r q member (member_below (length c.operations) subset j l member) x.1 (inl (refl, x.2)))
@@ -279,26 +274,26 @@ pair_all t c team links linked j subset first small l member own others all is_o
         | inl a ↦ inl ((is_own r q).1 (
           cleared subset j,
           cut j member,
-          (a.1.0, subst (λ (p : ℕ). Finds t c team p (cleared subset p) a.1.0) a.0 a.1.1, ap (λ (p : ℕ). answer_of t c p a.1.0) (sym a.0) ∙ a.1.2, ap (λ (p : ℕ). next_of t c p a.1.0) (sym a.0) ∙ a.1.3),
+          (a.1.0, subst (λ (p : ℕ). FindsState t c team p (cleared subset p) a.1.0) a.0 a.1.1, ap (λ (p : ℕ). answer_of t c p a.1.0) (sym a.0) ∙ a.1.2, ap (λ (p : ℕ). next_of t c p a.1.0) (sym a.0) ∙ a.1.3),
         ))
         | inr a ↦ (let top = gives_by_mover t c team links linked j first subset x.0 r q small x.1 a.0 a.1 in inr ((is_others r q).1 (top.0, top.1, (cleared subset top.0, cut top.0 top.1.0, top.2))))
       ]),
 )
 
 -- what an order gives to a process, it leaves too
-pub gives_leaves : (t : TypeTable) (c : RawChoice) (team : Team) (j subset r q : ℕ) → Gives t c team j subset r q → Leaves t c team subset q
+pub gives_leaves : (t : TypeTable) (c : RawChoice) (team : Team) (j subset r q : ℕ) → GivesPair t c team j subset r q → LeavesState t c team subset q
 gives_leaves t c team j subset r q g = (g.0, g.1, g.2, (pair_parts t c j g.0 r q g.3).1)
 
 pub row_set : (t : TypeTable) (row : List ℕ) (a w : ℕ) → IsRow t row → IsRow t (set row a w)
 row_set t row a w i = record { long = length-set row a w ∙ i.long }
 
-gives_some : (t : TypeTable) (c : RawChoice) (team : Team) (j s r q : ℕ) → s ≡ 0 → Gives t c team j s r q → ⊥
+gives_some : (t : TypeTable) (c : RawChoice) (team : Team) (j s r q : ℕ) → s ≡ 0 → GivesPair t c team j s r q → ⊥
 gives_some t c team j s r q e g = zero_has_none j (subst (λ (x : ℕ). IsBitSet x j) e (gives_member t c team j s r q g))
 
 module _ (t : TypeTable) (c : RawChoice) (team : Team) (j links : ℕ) where
   -- the pairs of the packed subsets so far
   abbrev pub subset_part : ℕ → ℕ → ℕ → Type 0
-  subset_part q s r = IsPacked links s × Gives t c team j s r q
+  subset_part q s r = IsPacked links s × GivesPair t c team j s r q
 
   pub pairs_first : (rows : List (List ℕ)) → length rows ≡ 256 → ((r : ℕ) → get_or (get_or rows 0 []) r 0 ≡ 0) → length (get_or rows 0 []) ≡ 16 → ArePairRows t c team j links 1 rows
   pairs_first rows e z y = record {
@@ -315,29 +310,16 @@ module _ (t : TypeTable) (c : RawChoice) (team : Team) (j links : ℕ) where
       here : (s r : ℕ) → s ≡ 0 → get_or (get_or rows s []) r 0 ≡ 0
       here s r f = ap (λ (i : ℕ). get_or (get_or rows i []) r 0) f ∙ z r
 
-  pub pairs_more : (rows : List (List ℕ)) (k : ℕ) (row : List ℕ) → k < length rows → ArePairRows t c team j links k rows → ((r q : ℕ) → Has row r q ↔ Gives t c team j k r q) → IsRow t row
+  pub pairs_more : (rows : List (List ℕ)) (k : ℕ) (row : List ℕ) → k < length rows → ArePairRows t c team j links k rows → ((r q : ℕ) → Has row r q ↔ GivesPair t c team j k r q) → IsRow t row
       → ArePairRows t c team j links (k + 1) (set rows k row)
-  pairs_more rows k row l a h i = record { same = λ s u p. same s p (below_or_last s k u); row = λ s u p. row_is s p (below_or_last s k u); long = length-set rows k row ∙ a.long }
-    where
-      other : (s : ℕ) → s < k → get_or rows s [] ≡ get_or (set rows k row) s []
-      other s u = let n : s ≢ k = omega arith in sym (get_or-set_other rows k s row [] n)
-
-      at : (s : ℕ) → s ≡ k → row ≡ get_or (set rows k row) s []
-      at s e = sym (get_or-set_same rows k row [] l) ∙ ap (λ (i : ℕ). get_or (set rows k row) i []) (sym e)
-
-      same : (s : ℕ) → IsPacked links s → (s < k) ⊎ (s ≡ k) → (r q : ℕ) → Has (get_or (set rows k row) s []) r q ↔ Gives t c team j s r q
-      same s p (inl u) = subst (λ (x : List ℕ). (r q : ℕ) → Has x r q ↔ Gives t c team j s r q) (other s u) (a.same s u p)
-      same s p (inr e) = subst (λ (x : List ℕ). (r q : ℕ) → Has x r q ↔ Gives t c team j s r q) (at s e) (subst (λ (x : ℕ). (r q : ℕ) → Has row r q ↔ Gives t c team j x r q) (sym e) h)
-
-      row_is : (s : ℕ) → IsPacked links s → (s < k) ⊎ (s ≡ k) → IsRow t (get_or (set rows k row) s [])
-      row_is s p (inl u) = subst (IsRow t) (other s u) (a.row s u p)
-      row_is s p (inr e) = subst (IsRow t) (at s e) i
-
-  below : (s k : ℕ) → ¬ IsPacked links k → s < k + 1 → IsPacked links s → s < k
-  below s k n u p = elim (below_or_last s k u) [ inl l ↦ l | inr e ↦ absurd (n (subst (IsPacked links) e p)) ]
+  pairs_more rows k row l a h i = record {
+    same = at_more (λ s (row : List ℕ). IsPacked links s → (r q : ℕ) → Has row r q ↔ GivesPair t c team j s r q) [] rows k row l a.same (λ _. h);
+    row = at_more (λ s (row : List ℕ). IsPacked links s → IsRow t row) [] rows k row l a.row (λ _. i);
+    long = length-set rows k row ∙ a.long;
+  }
 
   -- a subset without j gives nothing
-  pub gives_nothing : (k : ℕ) → ¬ IsBitSet k j → (r q : ℕ) → Has (zeros 16) r q ↔ Gives t c team j k r q
+  pub gives_nothing : (k : ℕ) → ¬ IsBitSet k j → (r q : ℕ) → Has (zeros 16) r q ↔ GivesPair t c team j k r q
   gives_nothing k n r q = (λ h. absurd (zeros_none 16 q r h), λ g. absurd (n (gives_member t c team j k r q g)))
 
   pub subsets_without : (q k set : ℕ) → ¬ IsBitSet k j → Gathers (subset_part q) k set → Gathers (subset_part q) (k + 1) set
@@ -345,12 +327,16 @@ module _ (t : TypeTable) (c : RawChoice) (team : Team) (j links : ℕ) where
 
   -- a subset that is not packed is passed by
   pub pairs_passed : (rows : List (List ℕ)) (k : ℕ) → ¬ IsPacked links k → ArePairRows t c team j links k rows → ArePairRows t c team j links (k + 1) rows
-  pairs_passed rows k n a = record { same = λ s u p. a.same s (below s k n u p) p; row = λ s u p. a.row s (below s k n u p) p; long = a.long }
+  pairs_passed rows k n a = record {
+    same = λ s u p. a.same s (below_passed (IsPacked links) k n s u p) p;
+    row = λ s u p. a.row s (below_passed (IsPacked links) k n s u p) p;
+    long = a.long;
+  }
 
   pub subsets_first : (q set : ℕ) → set ≡ 0 → Gathers (subset_part q) 1 set
   subsets_first q set e r = (λ b. absurd (zero_has_none r (subst (λ (x : ℕ). IsBitSet x r) e b)), λ h. absurd (gives_some t c team j h.0 r q (omega (arith, h.1)) h.2.1))
 
-  pub subsets_more : (q k set row more : ℕ) → IsPacked links k → Gathers (subset_part q) k set → ((r : ℕ) → IsBitSet row r ↔ Gives t c team j k r q) → ((r : ℕ) → IsBitSet more r ↔ (IsBitSet set r ⊎ IsBitSet row r))
+  pub subsets_more : (q k set row more : ℕ) → IsPacked links k → Gathers (subset_part q) k set → ((r : ℕ) → IsBitSet row r ↔ GivesPair t c team j k r q) → ((r : ℕ) → IsBitSet more r ↔ (IsBitSet set r ⊎ IsBitSet row r))
       → Gathers (subset_part q) (k + 1) more
   subsets_more q k set row more p g h m = gathers_more (subset_part q) k set more g (λ r. (
     λ b. elim ((m r).0 b) [ inl a ↦ inl a | inr x ↦ inr (p, (h r).0 x) ],

@@ -7,5 +7,5 @@ use Rattle.cn_choice.specs.OutcomeSets.{InOutcomeSet}
 use Rattle.cn_choice.specs.RawChoices.{RawChoice}
 
 -- each pair of the set is in the outcome set of the team for process j
-abbrev pub AreGiven : TypeTable → RawChoice → Team → ℕ → List ℕ → Type 0
-AreGiven t c team j set = (r q : ℕ) → Has set r q → InOutcomeSet t c team j (r, q)
+abbrev pub AreOutcomePairs : TypeTable → RawChoice → Team → ℕ → List ℕ → Type 0
+AreOutcomePairs t c team j set = (r q : ℕ) → Has set r q → InOutcomeSet t c team j (r, q)

@@ -1,10 +1,12 @@
 pub mod EarlyPairs
 pub mod Examination
 pub mod Images
-pub mod LedOrders
+pub mod ShortOrders
 pub mod OutcomeOrders
 pub mod PairSets
 pub mod ResponseRows
+pub mod RowSettings
+pub mod Subjects
 pub mod Subsets
 pub mod Tails
 pub mod Twins

@@ -17,13 +17,13 @@ pub record IsOrderOf (n subset : ℕ) (order : List ℕ) : Type 0 where
   pub exactly : (p : ℕ) → Contains order p ↔ IsBitSet subset p
 
 -- some order of exactly this subset, beginning in the team, leaves the object in this state
-abbrev pub Leaves : TypeTable → RawChoice → Team → ℕ → ℕ → Type 0
-Leaves t c team subset state =
+abbrev pub LeavesState : TypeTable → RawChoice → Team → ℕ → ℕ → Type 0
+LeavesState t c team subset state =
     (order : List ℕ) × IsOrderOf (length c.operations) subset order × BeginsIn c team order × (state_after t c.state (operations_of c order) ≡ state)
 
 -- some order of exactly this subset, beginning in the team, gives process j this response and leaves this state
-abbrev pub Gives : TypeTable → RawChoice → Team → ℕ → ℕ → ℕ → ℕ → Type 0
-Gives t c team j subset response state =
+abbrev pub GivesPair : TypeTable → RawChoice → Team → ℕ → ℕ → ℕ → ℕ → Type 0
+GivesPair t c team j subset response state =
     (order : List ℕ) × IsOrderOf (length c.operations) subset order × BeginsIn c team order × (pair_of t c order j ≡ Some (response, state))
 
 -- the subset with process p taken out
@@ -31,18 +31,22 @@ abbrev pub IsWithout : ℕ → ℕ → ℕ → Type 0
 IsWithout subset p rest = (i : ℕ) → IsBitSet rest i ↔ (IsBitSet subset i × (i ≢ p))
 
 -- the states in which process p may find the object where the others have moved: the start state if there are none and p is in the team
-abbrev pub Finds : TypeTable → RawChoice → Team → ℕ → ℕ → ℕ → Type 0
-Finds t c team p rest state = ((rest ≡ 0) × (slice_get c.marks p ≡ Some team) × (c.state ≡ state)) ⊎ Leaves t c team rest state
+abbrev pub FindsState : TypeTable → RawChoice → Team → ℕ → ℕ → ℕ → Type 0
+FindsState t c team p rest state = ((rest ≡ 0) × (slice_get c.marks p ≡ Some team) × (c.state ≡ state)) ⊎ LeavesState t c team rest state
 
 -- each number of the set is below the bound
 abbrev pub Below : ℕ → ℕ → Type 0
 Below bound set = (q : ℕ) → IsBitSet set q → q < bound
 
--- the row of each packed subset below the end is the set of the states in which orders of that subset leave the object
-pub record AreRows (t : TypeTable) (c : RawChoice) (team : Team) (links end : ℕ) (rows : List ℕ) : Type 0 where
-  pub same : (subset : ℕ) → subset < end → IsPacked links subset → (q : ℕ) → IsBitSet (slice_index rows subset) q ↔ Leaves t c team subset q
-  pub known : (subset : ℕ) → subset < end → IsPacked links subset → Below (length t.states) (slice_index rows subset)
+-- the row of each subset below the end that has one is the set of these states of it, which are below the bound
+pub record AreRowsOf (has_row : ℕ → Type 0) (states : ℕ → ℕ → Type 0) (bound end : ℕ) (rows : List ℕ) : Type 0 where
+  pub same : (subset : ℕ) → subset < end → has_row subset → (q : ℕ) → IsBitSet (slice_index rows subset) q ↔ states subset q
+  pub known : (subset : ℕ) → subset < end → has_row subset → Below bound (slice_index rows subset)
   pub long : length rows ≡ SUBSETS
+
+-- the rows of the packed subsets: the states in which orders of a subset leave the object
+abbrev pub AreRows : TypeTable → RawChoice → Team → ℕ → ℕ → List ℕ → Type 0
+AreRows t c team links end rows = AreRowsOf (IsPacked links) (LeavesState t c team) (length t.states) end rows
 
 -- it has a place for each state
 pub record IsRow (t : TypeTable) (row : List ℕ) : Type 0 where
@@ -51,21 +55,21 @@ pub record IsRow (t : TypeTable) (row : List ℕ) : Type 0 where
 -- process p moved last: it is j, or j moved before
 abbrev pub GivesLast : TypeTable → RawChoice → Team → ℕ → ℕ → ℕ → ℕ → ℕ → Type 0
 GivesLast t c team j p rest response state =
-    ((p ≡ j) × ((found : ℕ) × Finds t c team p rest found × (answer_of t c p found ≡ response) × (next_of t c p found ≡ state)))
-    ⊎ ((p ≢ j) × ((found : ℕ) × Gives t c team j rest response found × (next_of t c p found ≡ state)))
+    ((p ≡ j) × ((found : ℕ) × FindsState t c team p rest found × (answer_of t c p found ≡ response) × (next_of t c p found ≡ state)))
+    ⊎ ((p ≢ j) × ((found : ℕ) × GivesPair t c team j rest response found × (next_of t c p found ≡ state)))
 
 -- process j moved last of the subset
 abbrev pub OwnLast : TypeTable → RawChoice → Team → ℕ → ℕ → ℕ → ℕ → Type 0
 OwnLast t c team j subset response state =
-    (rest : ℕ) × IsWithout subset j rest × ((found : ℕ) × Finds t c team j rest found × (answer_of t c j found ≡ response) × (next_of t c j found ≡ state))
+    (rest : ℕ) × IsWithout subset j rest × ((found : ℕ) × FindsState t c team j rest found × (answer_of t c j found ≡ response) × (next_of t c j found ≡ state))
 
 -- process p moved last of the subset, and j before it
 abbrev pub OtherLast : TypeTable → RawChoice → Team → ℕ → ℕ → ℕ → ℕ → ℕ → Type 0
 OtherLast t c team j subset state p response =
-    (rest : ℕ) × IsWithout subset p rest × ((found : ℕ) × Gives t c team j rest response found × (next_of t c p found ≡ state))
+    (rest : ℕ) × IsWithout subset p rest × ((found : ℕ) × GivesPair t c team j rest response found × (next_of t c p found ≡ state))
 
 -- the row of each packed subset below the end has the pairs that orders of that subset give
 pub record ArePairRows (t : TypeTable) (c : RawChoice) (team : Team) (j links end : ℕ) (rows : List (List ℕ)) : Type 0 where
-  pub same : (subset : ℕ) → subset < end → IsPacked links subset → (r q : ℕ) → Has (slice_index_or rows subset []) r q ↔ Gives t c team j subset r q
+  pub same : (subset : ℕ) → subset < end → IsPacked links subset → (r q : ℕ) → Has (slice_index_or rows subset []) r q ↔ GivesPair t c team j subset r q
   pub row : (subset : ℕ) → subset < end → IsPacked links subset → IsRow t (slice_index_or rows subset [])
   pub long : length rows ≡ SUBSETS

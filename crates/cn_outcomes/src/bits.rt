@@ -35,21 +35,21 @@ pub(crate) fn share(a: u16, b: u16) -> bool
 }
 
 /// The numbers that are in both sets.
-pub(crate) fn common(a: u16, b: u16) -> u16
+pub(crate) fn intersection(a: u16, b: u16) -> u16
     ensures { (q : ℕ) → IsBitSet result q ↔ (IsBitSet a q × IsBitSet b q) }
 {
     a & b
 }
 
 /// The numbers of the first set that are not in the second.
-pub(crate) fn minus(a: u16, b: u16) -> u16
+pub(crate) fn difference(a: u16, b: u16) -> u16
     ensures { (q : ℕ) → IsBitSet result q ↔ (IsBitSet a q × ¬ IsBitSet b q) }
 {
     a & !b
 }
 
 /// The numbers that are in both sets, each less one; 0 is left out.
-pub(crate) fn lowered(a: u16, b: u16) -> u16
+pub(crate) fn common_predecessors(a: u16, b: u16) -> u16
     ensures { (q : ℕ) → IsBitSet result q ↔ (IsBitSet a (q + 1) × IsBitSet b (q + 1)) }
 {
     (a & b) >> 1

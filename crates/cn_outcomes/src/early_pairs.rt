@@ -2,7 +2,7 @@
 ghost use Rattle.std.specs.Prelude.{◌≡◌, ◌≤◌, ◌<◌, length, slice_get, IsTrue, Some};
 ghost use Rattle.cn_choice.specs.Discerning.{IsWitness};
 ghost use Rattle.cn_choice.specs.RawChoices.{IsRawChoice};
-ghost use Rattle.cn_outcomes.specs.EarlyPairs.{AreGiven};
+ghost use Rattle.cn_outcomes.specs.EarlyPairs.{AreOutcomePairs};
 ghost use Rattle.cn_choice.specs.declared.limits.TheConstants.{MOST_PROCESSES};
 
 use crate::bits::contains;
@@ -13,12 +13,12 @@ use cn_choice::{RawChoice, Team};
 use cn_table::Table;
 
 /// What the process gets where it moves first, and then another one or none.
-fn pairs_first(table: &Table, choice: &RawChoice, team: Team, j: u8) -> OutcomeSet
+fn pairs_of_first_move(table: &Table, choice: &RawChoice, team: Team, j: u8) -> OutcomeSet
     requires few { length choice.now.operations ≤ MOST_PROCESSES }
     requires fits { IsRawChoice table.now (length choice.now.operations) choice.now }
     requires j { j < length choice.now.operations }
     requires team { slice_get choice.now.marks j ≡ Some team }
-    ensures { AreGiven table.now choice.now team j result }
+    ensures { AreOutcomePairs table.now choice.now team j result }
 {
     let (_states, _responses) = (table.states(), table.responses());
     let (response, left) = table.apply(operation_of(choice, j), choice.state);
@@ -33,11 +33,11 @@ fn pairs_first(table: &Table, choice: &RawChoice, team: Team, j: u8) -> OutcomeS
 }
 
 /// What the process gets where one of the team moves first, and then itself.
-fn pairs_second(table: &Table, choice: &RawChoice, team: Team, j: u8) -> OutcomeSet
+fn pairs_of_second_move(table: &Table, choice: &RawChoice, team: Team, j: u8) -> OutcomeSet
     requires few { length choice.now.operations ≤ MOST_PROCESSES }
     requires fits { IsRawChoice table.now (length choice.now.operations) choice.now }
     requires j { j < length choice.now.operations }
-    ensures { AreGiven table.now choice.now team j result }
+    ensures { AreOutcomePairs table.now choice.now team j result }
 {
     let (_states, _responses) = (table.states(), table.responses());
     let mut set = OutcomeSet::none();
@@ -58,15 +58,15 @@ fn meets_soon(table: &Table, choice: &RawChoice, j: u8) -> bool
     requires j { j < length choice.now.operations }
     ensures { IsTrue result → ¬ IsWitness table.now choice.now }
 {
-    let from_a = pairs_second(table, choice, Team::A, j);
-    let from_b = pairs_second(table, choice, Team::B, j);
+    let from_a = pairs_of_second_move(table, choice, Team::A, j);
+    let from_b = pairs_of_second_move(table, choice, Team::B, j);
     if from_a.meets(&from_b) {
         return true;
     }
     if is_in(choice, j, Team::A) {
-        pairs_first(table, choice, Team::A, j).meets(&from_b)
+        pairs_of_first_move(table, choice, Team::A, j).meets(&from_b)
     } else {
-        pairs_first(table, choice, Team::B, j).meets(&from_a)
+        pairs_of_first_move(table, choice, Team::B, j).meets(&from_a)
     }
 }
 

@@ -1,28 +1,28 @@
 //! Whether a choice is a witness, and the collision that is recorded where it is none.
 ghost use Rattle.std.specs.Prelude.{◌≡◌, ◌<◌, ◌≤◌, ◌+◌, ◌↔◌, ℕ, List, length, ◌^◌, IsBitSet, IfNone, IfSome, IsFalse};
 ghost use Rattle.cn_table.specs.declared.limits.TheConstants.{MOST_RESPONSES, MOST_STATES};
-ghost use Rattle.cn_choice.specs.RawChoices.{IsRawChoice};
 ghost use Rattle.cn_outcomes.specs.Examination.{IsExamined};
-ghost use Rattle.cn_choice.specs.Canonical.{FitsTable, raw_choice_of};
+ghost use Rattle.cn_choice.specs.Canonical.{FitsTable};
 ghost use Rattle.cn_choice.specs.FirstCollision.{IsFirstCollision};
 ghost use Rattle.cn_outcomes.specs.OutcomeOrders.{IsFirstInto};
-ghost use Rattle.cn_outcomes.specs.PairSets.{Has};
-ghost use Rattle.cn_choice.specs.OutcomeSets.{InOutcomeSet};
+ghost use Rattle.cn_outcomes.specs.Subjects.{IsSubject, IsTargetOfA};
 ghost use Rattle.cn_outcomes.specs.Subsets.{AreRows};
 ghost use Rattle.cn_outcomes.specs.Twins.{AreLinks};
 ghost use Rattle.cn_choice.specs.declared.team.Team.TheVariants.{A, B};
 ghost use Rattle.cn_choice.specs.Collisions.{IsCollision, IsRecordedCollision};
 ghost use Rattle.cn_choice.specs.Discerning.{IsWitness};
-ghost use Rattle.cn_choice.specs.declared.limits.TheConstants.{MOST_PROCESSES};
 
 use crate::bits::contains;
 use crate::dead_ends::DeadEnds;
 use crate::first_orders::first_order_into;
 use crate::images::Images;
-use crate::led_collisions::led_collision;
 use crate::limits::SUBSETS;
 use crate::outcome_sets::{OutcomeSet, outcomes_from};
+use crate::row_setting::RowSetting;
+use crate::short_collisions::short_collision;
+use crate::subject::Subject;
 use crate::subset_rows::{least_size, rows};
+use crate::tails::Target;
 use crate::twins::links;
 use arrayvec::ArrayVec;
 use cn_choice::laws::{collision_or_witness, process_of_pair};
@@ -57,137 +57,118 @@ pub enum Examined {
     Meets(Collision),
 }
 
-/// Whether the process, the first of its twins, has a pair in the outcome sets of both teams; that for team B is known.
+/// Whether the target's process, the first of its twins, has a pair of the target's set in its outcome
+/// set for team A. The target's set is its outcome set for team B.
 fn meets(
-    table: &Table,
-    choice: &RawChoice,
-    process: u8,
+    subject: &Subject<'_>,
     links: u16,
-    from_b: &OutcomeSet,
+    target: &Target<'_>,
     pairs: &mut [[u16; MOST_STATES]; SUBSETS],
 ) -> bool
-    requires few { length choice.now.operations ≤ MOST_PROCESSES }
-    requires fits { IsRawChoice table.now (length choice.now.operations) choice.now }
-    requires process { process < length choice.now.operations }
-    requires first { ¬ IsBitSet links process }
-    requires links { AreLinks choice.now links }
-    requires from_b { (r q : ℕ) → Has from_b.now r q ↔ InOutcomeSet table.now choice.now B process (r, q) }
-    ensures none { IsFalse result → (alpha beta : List ℕ) → ¬ IsCollision table.now choice.now process alpha beta }
+    requires subject { IsSubject subject.now }
+    requires target { IsTargetOfA subject.now links target.now }
+    ensures none { IsFalse result → (alpha beta : List ℕ)
+        → ¬ IsCollision subject.now.table.now subject.now.raw.now target.now.process alpha beta }
 {
-    let rows_a = rows(table, choice, Team::A, links);
-    outcomes_from(table, choice, Team::A, process, links, &rows_a, pairs).meets(from_b)
+    let setting = RowSetting {
+        table: subject.table,
+        choice: subject.raw,
+        team: Team::A,
+        links,
+    };
+    let rows_a = rows(&setting);
+    outcomes_from(&setting, target.process, &rows_a, pairs).meets(target.set)
 }
 
-/// The first order that begins in team A and gives the process, the first of its twins, a pair that it
-/// also gets where team B begins, and that pair. Its outcome set for team B is known.
+/// The first order that begins in team A and leads to the target, and the pair that it gives. The
+/// target's process is the first of its twins, and its set is the outcome set for team B.
 fn first_alpha(
-    table: &Table,
-    choice: &Choice,
-    raw: &RawChoice,
-    process: u8,
+    subject: &Subject<'_>,
     links: u16,
-    from_b: &OutcomeSet,
+    target: &Target<'_>,
     pairs: &mut [[u16; MOST_STATES]; SUBSETS],
     dead: &mut DeadEnds,
 ) -> Option<(ArrayVec<u8, MOST_PROCESSES>, (u8, u8))>
-    requires few { length choice.now.a + length choice.now.b ≤ MOST_PROCESSES }
-    requires same { raw.now ≡ raw_choice_of choice.now }
-    requires short { length raw.now.operations ≤ MOST_PROCESSES }
-    requires fits { IsRawChoice table.now (length raw.now.operations) raw.now }
-    requires process { process < length raw.now.operations }
-    requires first { ¬ IsBitSet links process }
-    requires links { AreLinks raw.now links }
-    requires from_b { (r q : ℕ) → Has from_b.now r q ↔ InOutcomeSet table.now raw.now B process (r, q) }
-    ensures none { IfNone result ((alpha beta : List ℕ) → ¬ IsCollision table.now raw.now process alpha beta) }
-    ensures first { IfSome result (λ found. IsFirstInto table.now raw.now A process from_b.now found.0.items found.1) }
-    ensures in_range { IfSome result (λ found. (found.1.0 < MOST_RESPONSES) × (found.1.1 < MOST_STATES)) }
+    requires subject { IsSubject subject.now }
+    requires target { IsTargetOfA subject.now links target.now }
+
+    ensures none { IfNone result ((alpha beta : List ℕ)
+        → ¬ IsCollision subject.now.table.now subject.now.raw.now target.now.process alpha beta) }
+    ensures first { IfSome result (λ found.
+        IsFirstInto subject.now.table.now subject.now.raw.now A
+        target.now.process target.now.set.now found.0.items found.1) }
+    ensures in_range { IfSome result (λ found.
+        (found.1.0 < MOST_RESPONSES) × (found.1.1 < MOST_STATES)) }
 {
     // Mostly a list of one or two is found, and the rows of team A are not wanted.
-    let soon = first_order_into(table, choice, raw, Team::A, process, from_b, 0, 3, dead);
+    let soon = first_order_into(subject, Team::A, target, 0, 3, dead);
     if let Some((order, pair)) = soon {
         return Some((order, pair));
     }
-    if !meets(table, raw, process, links, from_b, pairs) {
+    if !meets(subject, links, target, pairs) {
         return None;
     }
+    let raw = subject.raw;
     let end = raw.operations.len() as u8 + 1;
-    let (order, pair) = first_order_into(
-        table,
-        choice,
-        raw,
-        Team::A,
-        process,
-        from_b,
-        3,
-        end,
-        dead,
-    )?;
+    let (order, pair) = first_order_into(subject, Team::A, target, 3, end, dead)?;
     Some((order, pair))
 }
 
 /// The first collision of the process, the first of its twins, if it has one: the one whose first order
 /// comes first, and of these the one whose second does.
 fn collision_of(
-    table: &Table,
-    choice: &Choice,
-    raw: &RawChoice,
+    subject: &Subject<'_>,
     process: u8,
     links: u16,
     rows_b: &[u16; SUBSETS],
     room: &mut Room,
 ) -> Option<(ArrayVec<u8, MOST_PROCESSES>, ArrayVec<u8, MOST_PROCESSES>)>
-    requires few { length choice.now.a + length choice.now.b ≤ MOST_PROCESSES }
-    requires same { raw.now ≡ raw_choice_of choice.now }
-    requires short { length raw.now.operations ≤ MOST_PROCESSES }
-    requires fits { IsRawChoice table.now (length raw.now.operations) raw.now }
-    requires process { process < length raw.now.operations }
+    requires subject { IsSubject subject.now }
+    requires process { process < length subject.now.raw.now.operations }
     requires first { ¬ IsBitSet links process }
-    requires links { AreLinks raw.now links }
-    requires rows_b { AreRows table.now raw.now B links (2 ^ length raw.now.operations) rows_b.now }
-    ensures none { IfNone result ((alpha beta : List ℕ) → ¬ IsCollision table.now raw.now process alpha beta) }
-    ensures first { IfSome result (λ found. IsFirstCollision table.now raw.now process found.0.items found.1.items) }
+    requires links { AreLinks subject.now.raw.now links }
+    requires rows_b { AreRows subject.now.table.now subject.now.raw.now B links
+        (2 ^ length subject.now.raw.now.operations) rows_b.now }
+
+    ensures none { IfNone result ((alpha beta : List ℕ)
+        → ¬ IsCollision subject.now.table.now subject.now.raw.now process alpha beta) }
+    ensures first { IfSome result (λ found.
+        IsFirstCollision subject.now.table.now subject.now.raw.now process
+        found.0.items found.1.items) }
 {
+    let raw = subject.raw;
     let n = raw.operations.len() as u8;
-    let from_b = outcomes_from(
-        table,
-        raw,
-        Team::B,
-        process,
+    let setting = RowSetting {
+        table: subject.table,
+        choice: raw,
+        team: Team::B,
         links,
-        rows_b,
-        &mut room.from_b,
-    );
+    };
+    let from_b = outcomes_from(&setting, process, rows_b, &mut room.from_b);
+    let target = Target {
+        process,
+        set: &from_b,
+    };
     let (alpha, (response, state)) = first_alpha(
-        table,
-        choice,
-        raw,
-        process,
+        subject,
         links,
-        &from_b,
+        &target,
         &mut room.from_a,
         &mut room.dead,
     )?;
     let pair = OutcomeSet::only(response, state);
     let least = least_size(links, n, &room.from_b, response, state);
-    let (beta, _) = first_order_into(
-        table,
-        choice,
-        raw,
-        Team::B,
+    let again = Target {
         process,
-        &pair,
-        least,
-        n + 1,
-        &mut room.dead,
-    )?;
+        set: &pair,
+    };
+    let (beta, _) = first_order_into(subject, Team::B, &again, least, n + 1, &mut room.dead)?;
     Some((alpha, beta))
 }
 
 /// The first collision of the least process that has one, by the rows of both teams.
 fn collision_by_rows(
-    table: &Table,
-    choice: &Choice,
-    raw: &RawChoice,
+    subject: &Subject<'_>,
     links: u16,
     room: &mut Room,
 ) -> Option<
@@ -196,22 +177,27 @@ fn collision_by_rows(
         (ArrayVec<u8, MOST_PROCESSES>, ArrayVec<u8, MOST_PROCESSES>),
     ),
 >
-    requires few { length choice.now.a + length choice.now.b ≤ MOST_PROCESSES }
-    requires same { raw.now ≡ raw_choice_of choice.now }
-    requires short { length raw.now.operations ≤ MOST_PROCESSES }
-    requires fits { IsRawChoice table.now (length raw.now.operations) raw.now }
-    requires links { AreLinks raw.now links }
-    ensures none { IfNone result (IsWitness table.now raw.now) }
-    ensures recorded { IfSome result (λ found. IsRecordedCollision table.now raw.now found.0 found.1.0.items found.1.1.items) }
+    requires subject { IsSubject subject.now }
+    requires links { AreLinks subject.now.raw.now links }
+    ensures none { IfNone result (IsWitness subject.now.table.now subject.now.raw.now) }
+    ensures recorded { IfSome result (λ found.
+        IsRecordedCollision subject.now.table.now subject.now.raw.now
+        found.0 found.1.0.items found.1.1.items) }
 {
     collision_or_witness();
     process_of_pair();
-    let rows_b = rows(table, raw, Team::B, links);
+    let raw = subject.raw;
+    let rows_b = rows(&RowSetting {
+        table: subject.table,
+        choice: raw,
+        team: Team::B,
+        links,
+    });
     for process in 0..raw.operations.len() as u8 {
         if contains(links, process) {
             continue;
         }
-        let found = collision_of(table, choice, raw, process, links, &rows_b, room);
+        let found = collision_of(subject, process, links, &rows_b, room);
         if let Some(found) = found {
             return Some((process, found));
         }
@@ -221,9 +207,7 @@ fn collision_by_rows(
 
 /// The first collision of the least process that has one.
 fn raw_collision(
-    table: &Table,
-    choice: &Choice,
-    raw: &RawChoice,
+    subject: &Subject<'_>,
     images: &Images,
     room: &mut Room,
 ) -> Option<
@@ -232,20 +216,19 @@ fn raw_collision(
         (ArrayVec<u8, MOST_PROCESSES>, ArrayVec<u8, MOST_PROCESSES>),
     ),
 >
-    requires images { images.now ≡ table.now }
-    requires some { 1 ≤ length choice.now.a + length choice.now.b }
-    requires few { length choice.now.a + length choice.now.b ≤ MOST_PROCESSES }
-    requires same { raw.now ≡ raw_choice_of choice.now }
-    requires short { length raw.now.operations ≤ MOST_PROCESSES }
-    requires fits { IsRawChoice table.now (length raw.now.operations) raw.now }
-    ensures none { IfNone result (IsWitness table.now raw.now) }
-    ensures recorded { IfSome result (λ found. IsRecordedCollision table.now raw.now found.0 found.1.0.items found.1.1.items) }
+    requires subject { IsSubject subject.now }
+    requires images { images.now ≡ subject.now.table.now }
+    requires some { 1 ≤ length subject.now.choice.now.a + length subject.now.choice.now.b }
+    ensures none { IfNone result (IsWitness subject.now.table.now subject.now.raw.now) }
+    ensures recorded { IfSome result (λ found.
+        IsRecordedCollision subject.now.table.now subject.now.raw.now
+        found.0 found.1.0.items found.1.1.items) }
 {
-    let links = links(raw);
-    if let Some(found) = led_collision(table, choice, raw, links, images, &mut room.dead) {
+    let links = links(subject.raw);
+    if let Some(found) = short_collision(subject, links, images, &mut room.dead) {
         return Some((0, found));
     }
-    let (process, found) = collision_by_rows(table, choice, raw, links, room)?;
+    let (process, found) = collision_by_rows(subject, links, room)?;
     Some((process, found))
 }
 
@@ -270,7 +253,12 @@ pub fn examine_in(table: &Table, choice: &Choice, images: &Images, room: &mut Ro
     ensures { IsExamined table.now choice.now result }
 {
     let raw = RawChoice::of(choice);
-    match raw_collision(table, choice, &raw, images, room) {
+    let subject = Subject {
+        table,
+        choice,
+        raw: &raw,
+    };
+    match raw_collision(&subject, images, room) {
         Some((process, (alpha, beta))) => Examined::Meets(Collision {
             choice: choice.copy(),
             process,

@@ -55,7 +55,8 @@ fn image_from(table: &Table, operation: Operation, first: u8, from: u16) -> u16
 fn images_from(table: &Table, operation: Operation, first: u8) -> [u16; 256]
     requires operation { operation.0 < length table.now.operations }
     requires first { first ≤ 8 }
-    ensures { (from : ℕ) → from < 256 → IsImageFrom table.now operation.0 first from (slice_index result from) }
+    ensures { (from : ℕ) → from < 256
+        → IsImageFrom table.now operation.0 first from (slice_index result from) }
 {
     let mut row = [0; 256];
     for from in 0..256u16 {
@@ -96,7 +97,9 @@ impl<'t> Images<'t> {
     pub(crate) fn of(&self, operation: Operation, from: u16) -> u16
         requires operation { operation.0 < length self.now.operations }
         requires known { Below (length self.now.states) from }
-        ensures same { (q : ℕ) → IsBitSet result q ↔ ((found : ℕ) × IsBitSet from found × ((transition self.now operation.0 found).1 ≡ q)) }
+        ensures same { (q : ℕ) → IsBitSet result q
+            ↔ ((found : ℕ) × IsBitSet from found
+            × ((transition self.now operation.0 found).1 ≡ q)) }
         ensures known { Below (length self.now.states) result }
     {
         let _operations = self.table.operations();

@@ -1,4 +1,5 @@
-//! Outcome sets: which pairs of its response and the last state a process can get where a team moves first.
+//! Outcome sets: which pairs of its response and the last state a process can get where a team moves
+//! first.
 ghost use Rattle.std.specs.Prelude.{◌≡◌, ◌≤◌, ◌<◌, ◌↔◌, ◌⊎◌, ◌+◌, ◌^◌, ℕ, length, IsBitSet, IsTrue};
 ghost use Rattle.cn_table.specs.declared.limits.TheConstants.{MOST_RESPONSES, MOST_STATES};
 ghost use Rattle.cn_choice.specs.RawChoices.{IsRawChoice};
@@ -6,13 +7,13 @@ ghost use Rattle.cn_choice.specs.Canonical.{FitsTable, raw_choice_of};
 ghost use Rattle.cn_choice.specs.Discerning.{IsWitness};
 ghost use Rattle.cn_outcomes.specs.PairSets.{Has, HaveCommonPair};
 ghost use Rattle.cn_choice.specs.OutcomeSets.{InOutcomeSet};
-ghost use Rattle.cn_outcomes.specs.Subsets.{ArePairRows, AreRows};
-ghost use Rattle.cn_outcomes.specs.Twins.{AreLinks};
+ghost use Rattle.cn_outcomes.specs.RowSettings.{HasPairRows, HasRows, IsRowSetting, subset_count};
 ghost use Rattle.cn_choice.specs.declared.limits.TheConstants.{MOST_PROCESSES};
 
 use crate::bits::{contains, least, share, union, with, without};
 use crate::early_pairs::some_meet_soon;
 use crate::limits::SUBSETS;
+use crate::row_setting::RowSetting;
 use crate::subset_rows::{outcome_row, rows};
 use crate::twins::{first_twin, links};
 use cn_choice::{Choice, RawChoice, Team};
@@ -51,7 +52,8 @@ impl OutcomeSet {
     pub(crate) fn add(&mut self, response: u8, state: u8)
         requires response { response < MOST_RESPONSES }
         requires state { state < MOST_STATES }
-        ensures { (r q : ℕ) → Has self.new r q ↔ (Has self.old r q ⊎ ((r ≡ response) × (q ≡ state))) }
+        ensures { (r q : ℕ) → Has self.new r q
+            ↔ (Has self.old r q ⊎ ((r ≡ response) × (q ≡ state))) }
     {
         let place = state as usize;
         self.row[place] = with(self.row[place], response);
@@ -123,27 +125,23 @@ impl OutcomeSet {
     }
 }
 
-/// The outcome set of the team for process j, the first of its twins, from the team's rows.
+/// The outcome set of the setting's team for process j, the first of its twins, from the rows.
 pub(crate) fn outcomes_from(
-    table: &Table,
-    choice: &RawChoice,
-    team: Team,
+    setting: &RowSetting<'_>,
     j: u8,
-    links: u16,
     rows: &[u16; SUBSETS],
     pairs: &mut [[u16; MOST_STATES]; SUBSETS],
 ) -> OutcomeSet
-    requires few { length choice.now.operations ≤ MOST_PROCESSES }
-    requires fits { IsRawChoice table.now (length choice.now.operations) choice.now }
-    requires j { j < length choice.now.operations }
-    requires first { ¬ IsBitSet links j }
-    requires links { AreLinks choice.now links }
-    requires rows { AreRows table.now choice.now team links (2 ^ length choice.now.operations) rows.now }
-    ensures set { (r q : ℕ) → Has result r q ↔ InOutcomeSet table.now choice.now team j (r, q) }
-    ensures pairs { ArePairRows table.now choice.now team j links (2 ^ length choice.now.operations) pairs.new }
+    requires setting { IsRowSetting setting.now }
+    requires j { j < length setting.now.choice.now.operations }
+    requires first { ¬ IsBitSet setting.now.links j }
+    requires rows { HasRows setting.now (subset_count setting.now) rows.now }
+    ensures set { (r q : ℕ) → Has result r q
+        ↔ InOutcomeSet setting.now.table.now setting.now.choice.now setting.now.team j (r, q) }
+    ensures pairs { HasPairRows setting.now j (subset_count setting.now) pairs.new }
 {
     OutcomeSet {
-        row: outcome_row(table, choice, team, j, links, rows, pairs),
+        row: outcome_row(setting, j, rows, pairs),
     }
 }
 
@@ -155,39 +153,49 @@ pub(crate) fn outcomes_from(
 pub fn outcomes(table: &Table, choice: &Choice, team: Team, process: u8) -> OutcomeSet
     requires fits { FitsTable table.now choice.now }
     requires process { process < length choice.now.a + length choice.now.b }
-    ensures { (r q : ℕ) → Has result r q ↔ InOutcomeSet table.now (raw_choice_of choice.now) team process (r, q) }
+    ensures { (r q : ℕ) → Has result r q
+        ↔ InOutcomeSet table.now (raw_choice_of choice.now) team process (r, q) }
 {
     let raw = RawChoice::of(choice);
     let links = links(&raw);
-    let rows = rows(table, &raw, team, links);
-    let first = first_twin(links, process);
-    outcomes_from(
+    let setting = RowSetting {
         table,
-        &raw,
+        choice: &raw,
         team,
-        first,
         links,
-        &rows,
-        &mut [[0; MOST_STATES]; SUBSETS],
-    )
+    };
+    let rows = rows(&setting);
+    let first = first_twin(links, process);
+    outcomes_from(&setting, first, &rows, &mut [[0; MOST_STATES]; SUBSETS])
 }
 
-/// Whether the raw choice is a witness, by the outcome sets of each process that is the first of its twins.
+/// Whether the raw choice is a witness, by the outcome sets of each process that is the first of its
+/// twins.
 fn is_witness_by_rows(table: &Table, choice: &RawChoice) -> bool
     requires few { length choice.now.operations ≤ MOST_PROCESSES }
     requires fits { IsRawChoice table.now (length choice.now.operations) choice.now }
     ensures { IsTrue result ↔ IsWitness table.now choice.now }
 {
     let links = links(choice);
-    let rows_a = rows(table, choice, Team::A, links);
-    let rows_b = rows(table, choice, Team::B, links);
+    let setting_a = RowSetting {
+        table,
+        choice,
+        team: Team::A,
+        links,
+    };
+    let setting_b = RowSetting {
+        team: Team::B,
+        ..setting_a
+    };
+    let rows_a = rows(&setting_a);
+    let rows_b = rows(&setting_b);
     let mut pairs = [[0; MOST_STATES]; SUBSETS];
     for j in 0..choice.operations.len() as u8 {
         if contains(links, j) {
             continue;
         }
-        let from_a = outcomes_from(table, choice, Team::A, j, links, &rows_a, &mut pairs);
-        let from_b = outcomes_from(table, choice, Team::B, j, links, &rows_b, &mut pairs);
+        let from_a = outcomes_from(&setting_a, j, &rows_a, &mut pairs);
+        let from_b = outcomes_from(&setting_b, j, &rows_b, &mut pairs);
         if from_a.meets(&from_b) {
             return false;
         }
@@ -195,7 +203,8 @@ fn is_witness_by_rows(table: &Table, choice: &RawChoice) -> bool
     true
 }
 
-/// Whether the raw choice is a witness. The arrays of the rows are cleared where their function is entered, so that the short look comes before it.
+/// Whether the raw choice is a witness. The arrays of the rows are cleared where their function is
+/// entered, so that the short look comes before it.
 fn raw_is_witness(table: &Table, choice: &RawChoice) -> bool
     requires few { length choice.now.operations ≤ MOST_PROCESSES }
     requires fits { IsRawChoice table.now (length choice.now.operations) choice.now }

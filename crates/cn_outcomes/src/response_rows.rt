@@ -3,25 +3,27 @@ ghost use Rattle.std.specs.Prelude.{◌≡◌, ◌<◌, ◌≤◌, ◌↔◌, �
 ghost use Rattle.cn_table.specs.TypeTable.{transition};
 ghost use Rattle.cn_table.specs.declared.limits.TheConstants.{MOST_RESPONSES, MOST_STATES};
 ghost use Rattle.cn_choice.specs.RawChoices.{IsRawChoice};
-ghost use Rattle.cn_outcomes.specs.ResponseRows.{AreAsked, AreGivenRows, AreRowsWithout, GivesWith};
+ghost use Rattle.cn_outcomes.specs.ResponseRows.{AreAskedStates, GivesWith};
 ghost use Rattle.cn_choice.specs.OutcomeSets.{InOutcomeSet};
-ghost use Rattle.cn_outcomes.specs.Subsets.{Below, Leaves};
+ghost use Rattle.cn_outcomes.specs.RowSettings.{HasGivenRows, HasRowsWithout, IsRowSetting, subset_count};
+ghost use Rattle.cn_outcomes.specs.Subsets.{Below, LeavesState};
 ghost use Rattle.cn_outcomes.specs.Tails.{count_below};
-ghost use Rattle.cn_outcomes.specs.Twins.{AreLinks, IsPacked};
+ghost use Rattle.cn_outcomes.specs.Twins.{IsPacked};
 ghost use Rattle.cn_choice.specs.declared.limits.TheConstants.{MOST_PROCESSES};
 ghost use Rattle.cn_outcomes.specs.declared.limits.TheConstants.{SUBSETS, TOO_LONG};
 
-use crate::bits::{common, contains, least, size, union, with, without};
+use crate::bits::{contains, intersection, least, size, union, with, without};
 use crate::images::Images;
 use crate::limits::{SUBSETS, TOO_LONG};
-use crate::subset_rows::{found, operation_of};
+use crate::row_setting::RowSetting;
+use crate::subset_rows::{found_states, operation_of};
 use crate::twins::{is_packed, movers};
-use cn_choice::{RawChoice, Team};
+use cn_choice::RawChoice;
 use cn_table::{Operation, Response, State, Table};
 
 /// A response of a process, and the states in which it gets it.
 #[derive(Clone, Copy)]
-pub(crate) struct Asked {
+pub(crate) struct AskedResponse {
     pub response: u8,
     pub states: u16,
 }
@@ -37,7 +39,9 @@ pub(crate) struct ResponseRows {
 /// The states in which the operation gives the response.
 fn states_with(table: &Table, operation: Operation, response: Response) -> u16
     requires operation { operation.0 < length table.now.operations }
-    ensures { (q : ℕ) → IsBitSet result q ↔ ((q < length table.now.states) × ((transition table.now operation.0 q).0 ≡ response.0)) }
+    ensures { (q : ℕ) → IsBitSet result q
+        ↔ ((q < length table.now.states)
+        × ((transition table.now operation.0 q).0 ≡ response.0)) }
 {
     let mut set = 0;
     for state in 0..table.states() {
@@ -50,18 +54,19 @@ fn states_with(table: &Table, operation: Operation, response: Response) -> u16
 }
 
 /// The response that the process gets in the start state, and the states in which it gets that.
-pub(crate) fn asked_first(table: &Table, choice: &RawChoice, j: u8) -> Asked
+pub(crate) fn start_response(table: &Table, choice: &RawChoice, j: u8) -> AskedResponse
     requires few { length choice.now.operations ≤ MOST_PROCESSES }
     requires fits { IsRawChoice table.now (length choice.now.operations) choice.now }
     requires j { j < length choice.now.operations }
-    ensures response { result.response ≡ (transition table.now (slice_index choice.now.operations j) choice.now.state).0 }
+    ensures response { result.response
+        ≡ (transition table.now (slice_index choice.now.operations j) choice.now.state).0 }
     ensures in_range { result.response < MOST_RESPONSES }
-    ensures states { AreAsked table.now choice.now j result.response result.states }
+    ensures states { AreAskedStates table.now choice.now j result.response result.states }
 {
     let _responses = table.responses();
     let operation = operation_of(choice, j);
     let (response, _) = table.apply(operation, choice.state);
-    Asked {
+    AskedResponse {
         response: response.0,
         states: states_with(table, operation, response),
     }
@@ -70,51 +75,51 @@ pub(crate) fn asked_first(table: &Table, choice: &RawChoice, j: u8) -> Asked
 /// The states in which orders of the packed subset leave the object, and those in which orders of it
 /// and of process j do that give j the response, from the rows of smaller subsets.
 fn both_rows(
-    table: &Table,
-    choice: &RawChoice,
-    team: Team,
+    setting: &RowSetting<'_>,
     j: u8,
-    asked: Asked,
-    links: u16,
+    asked: AskedResponse,
     rows: &[u16; SUBSETS],
     given: &[u16; SUBSETS],
     subset: u16,
     images: &Images,
 ) -> (u16, u16)
-    requires images { images.now ≡ table.now }
-    requires few { length choice.now.operations ≤ MOST_PROCESSES }
-    requires fits { IsRawChoice table.now (length choice.now.operations) choice.now }
-    requires j { j < length choice.now.operations }
-    requires other { ¬ (slice_get choice.now.marks j ≡ Some team) }
-    requires first { ¬ IsBitSet links j }
-    requires links { AreLinks choice.now links }
-    requires asked { AreAsked table.now choice.now j asked.response asked.states }
+    requires setting { IsRowSetting setting.now }
+    requires images { images.now ≡ setting.now.table.now }
+    requires j { j < length setting.now.choice.now.operations }
+    requires other { ¬ (slice_get setting.now.choice.now.marks j ≡ Some setting.now.team) }
+    requires first { ¬ IsBitSet setting.now.links j }
+    requires asked { AreAskedStates setting.now.table.now setting.now.choice.now j
+        asked.response asked.states }
     requires subset { subset < SUBSETS }
-    requires inside { subset < 2 ^ length choice.now.operations }
-    requires packed { IsPacked links subset }
+    requires inside { subset < subset_count setting.now }
+    requires packed { IsPacked setting.now.links subset }
     requires without { ¬ IsBitSet subset j }
-    requires rows { AreRowsWithout table.now choice.now team links j subset rows.now }
-    requires given { AreGivenRows table.now choice.now team links j asked.response subset given.now }
-    ensures row { (q : ℕ) → IsBitSet result.0 q ↔ Leaves table.now choice.now team subset q }
-    ensures known { Below (length table.now.states) result.0 }
-    ensures given { (q : ℕ) → IsBitSet result.1 q ↔ GivesWith table.now choice.now team j asked.response subset q }
-    ensures given_known { Below (length table.now.states) result.1 }
+    requires rows { HasRowsWithout setting.now j subset rows.now }
+    requires given { HasGivenRows setting.now j asked.response subset given.now }
+
+    ensures row { (q : ℕ) → IsBitSet result.0 q
+        ↔ LeavesState setting.now.table.now setting.now.choice.now setting.now.team subset q }
+    ensures known { Below (length setting.now.table.now.states) result.0 }
+    ensures given { (q : ℕ) → IsBitSet result.1 q
+        ↔ GivesWith setting.now.table.now setting.now.choice.now setting.now.team j
+        asked.response subset q }
+    ensures given_known { Below (length setting.now.table.now.states) result.1 }
 {
     let (mut row, mut gets) = (0, 0);
-    let mut left = movers(links, subset);
+    let mut left = movers(setting.links, subset);
     while left != 0 {
         let process = least(left);
         left = without(left, process);
         let rest = without(subset, process);
-        let operation = operation_of(choice, process);
-        let from = found(table, choice, team, rows, process, rest);
+        let operation = operation_of(setting.choice, process);
+        let from = found_states(setting, rows, process, rest);
         let moved = images.of(operation, from);
         row = union(row, moved);
         let passed = images.of(operation, given[rest as usize]);
         gets = union(gets, passed);
     }
-    let asking = common(row, asked.states);
-    let own = images.of(operation_of(choice, j), asking);
+    let asking = intersection(row, asked.states);
+    let own = images.of(operation_of(setting.choice, j), asking);
     (row, union(gets, own))
 }
 
@@ -122,38 +127,36 @@ fn both_rows(
 /// linked. The subsets of the other processes are the even numbers, and the count says how many
 /// there are.
 pub(crate) fn response_rows(
-    table: &Table,
-    choice: &RawChoice,
-    team: Team,
-    asked: Asked,
-    links: u16,
+    setting: &RowSetting<'_>,
+    asked: AskedResponse,
     count: u16,
     images: &Images,
 ) -> ResponseRows
-    requires images { images.now ≡ table.now }
-    requires some { 1 ≤ length choice.now.operations }
-    requires few { length choice.now.operations ≤ MOST_PROCESSES }
-    requires fits { IsRawChoice table.now (length choice.now.operations) choice.now }
-    requires other { ¬ (slice_get choice.now.marks 0 ≡ Some team) }
-    requires alone { ¬ IsBitSet links 1 }
-    requires links { AreLinks choice.now links }
-    requires asked { AreAsked table.now choice.now 0 asked.response asked.states }
-    requires count { 2 * count ≡ 2 ^ length choice.now.operations }
+    requires setting { IsRowSetting setting.now }
+    requires images { images.now ≡ setting.now.table.now }
+    requires some { 1 ≤ length setting.now.choice.now.operations }
+    requires other { ¬ (slice_get setting.now.choice.now.marks 0 ≡ Some setting.now.team) }
+    requires alone { ¬ IsBitSet setting.now.links 1 }
+    requires asked { AreAskedStates setting.now.table.now setting.now.choice.now 0
+        asked.response asked.states }
+    requires count { 2 * count ≡ subset_count setting.now }
     requires small { 2 * count ≤ SUBSETS }
-    ensures all { (q : ℕ) → IsBitSet result.all q ↔ InOutcomeSet table.now choice.now team 0 (asked.response, q) }
-    ensures given { AreGivenRows table.now choice.now team links 0 asked.response (2 ^ length choice.now.operations) result.given }
+
+    ensures all { (q : ℕ) → IsBitSet result.all q
+        ↔ InOutcomeSet setting.now.table.now setting.now.choice.now setting.now.team 0
+        (asked.response, q) }
+    ensures given { HasGivenRows setting.now 0 asked.response (subset_count setting.now)
+        result.given }
 {
     let mut rows = [0; SUBSETS];
     let mut given = [0; SUBSETS];
     let mut all = 0;
     for place in 1..count {
         let subset = 2 * place;
-        if !is_packed(links, subset) {
+        if !is_packed(setting.links, subset) {
             continue;
         }
-        let (row, gets) = both_rows(
-            table, choice, team, 0, asked, links, &rows, &given, subset, images,
-        );
+        let (row, gets) = both_rows(setting, 0, asked, &rows, &given, subset, images);
         rows[subset as usize] = row;
         given[subset as usize] = gets;
         all = union(all, gets);
@@ -161,12 +164,13 @@ pub(crate) fn response_rows(
     ResponseRows { given, all }
 }
 
-/// The size of the least subset without process 0 whose row has the state, or `TOO_LONG` if none has it. The
-/// count says how many such subsets there are.
+/// The size of the least subset without process 0 whose row has the state, or `TOO_LONG` if none has
+/// it. The count says how many such subsets there are.
 pub(crate) fn least_with(given: &[u16; SUBSETS], count: u16, state: u8) -> u8
     requires small { 2 * count ≤ SUBSETS }
     requires state { state < MOST_STATES }
-    ensures least { (subset : ℕ) → subset < 2 * count → ¬ IsBitSet subset 0 → IsBitSet (slice_index given.now subset) state
+    ensures least { (subset : ℕ) → subset < 2 * count → ¬ IsBitSet subset 0
+        → IsBitSet (slice_index given.now subset) state
         → result ≤ count_below MOST_PROCESSES subset }
     ensures most { result ≤ TOO_LONG }
 {

@@ -4,15 +4,16 @@ ghost use Rattle.cn_table.specs.TypeTable.{transition};
 ghost use Rattle.cn_table.specs.declared.limits.TheConstants.{MOST_RESPONSES, MOST_STATES};
 ghost use Rattle.cn_outcomes.specs.PairSets.{Has};
 ghost use Rattle.cn_choice.specs.OutcomeSets.{InOutcomeSet};
-ghost use Rattle.cn_choice.specs.RawChoices.{IsRawChoice};
-ghost use Rattle.cn_outcomes.specs.Subsets.{Leaves, Gives, Finds, Below, AreRows, ArePairRows, IsRow, OtherLast, OwnLast};
+ghost use Rattle.cn_outcomes.specs.RowSettings.{HasPairRows, HasRows, HasRowsBefore, IsRowSetting, subset_count};
+ghost use Rattle.cn_outcomes.specs.Subsets.{LeavesState, GivesPair, FindsState, Below, IsRow, OtherLast, OwnLast};
 ghost use Rattle.cn_outcomes.specs.Tails.{count_below};
-ghost use Rattle.cn_outcomes.specs.Twins.{AreLinks, IsMover, IsPacked};
+ghost use Rattle.cn_outcomes.specs.Twins.{IsMover, IsPacked};
 ghost use Rattle.cn_choice.specs.declared.limits.TheConstants.{MOST_PROCESSES};
 ghost use Rattle.cn_outcomes.specs.declared.limits.TheConstants.{SUBSETS};
 
 use crate::bits::{contains, least, size, union, with, without};
 use crate::limits::{SUBSETS, TOO_LONG};
+use crate::row_setting::RowSetting;
 use crate::twins::{is_packed, last_twin, movers};
 use cn_choice::{RawChoice, Team};
 use cn_table::{MOST_STATES, Operation, State, Table};
@@ -21,7 +22,8 @@ use cn_table::{MOST_STATES, Operation, State, Table};
 pub(crate) fn image(table: &Table, operation: Operation, from: u16) -> u16
     requires operation { operation.0 < length table.now.operations }
     requires known { Below (length table.now.states) from }
-    ensures same { (q : ℕ) → IsBitSet result q ↔ ((found : ℕ) × IsBitSet from found × ((transition table.now operation.0 found).1 ≡ q)) }
+    ensures same { (q : ℕ) → IsBitSet result q
+        ↔ ((found : ℕ) × IsBitSet from found × ((transition table.now operation.0 found).1 ≡ q)) }
     ensures known { Below (length table.now.states) result }
 {
     let _states = table.states();
@@ -37,11 +39,13 @@ pub(crate) fn image(table: &Table, operation: Operation, from: u16) -> u16
 }
 
 /// What a process gets by the operation, and the states that it leaves, from one of these states.
-fn answers(table: &Table, operation: Operation, from: u16) -> [u16; MOST_STATES]
+fn answer_row(table: &Table, operation: Operation, from: u16) -> [u16; MOST_STATES]
     requires operation { operation.0 < length table.now.operations }
     requires known { Below (length table.now.states) from }
     ensures same { (r q : ℕ) → Has result r q
-        ↔ ((found : ℕ) × IsBitSet from found × ((transition table.now operation.0 found).0 ≡ r) × ((transition table.now operation.0 found).1 ≡ q)) }
+        ↔ ((found : ℕ) × IsBitSet from found
+        × ((transition table.now operation.0 found).0 ≡ r)
+        × ((transition table.now operation.0 found).1 ≡ q)) }
     ensures row { IsRow table.now result }
 {
     let (_responses, _states) = (table.responses(), table.states());
@@ -72,26 +76,27 @@ pub(crate) fn operation_of(choice: &RawChoice, process: u8) -> Operation
 }
 
 /// The states in which the process may find the object where the rest moved.
-pub(crate) fn found(
-    table: &Table,
-    choice: &RawChoice,
-    team: Team,
+pub(crate) fn found_states(
+    setting: &RowSetting<'_>,
     rows: &[u16; SUBSETS],
     process: u8,
     rest: u16,
 ) -> u16
-    requires fits { IsRawChoice table.now (length choice.now.operations) choice.now }
-    requires process { process < length choice.now.operations }
+    requires setting { IsRowSetting setting.now }
+    requires process { process < length setting.now.choice.now.operations }
     requires rest { rest < SUBSETS }
-    requires row { (q : ℕ) → IsBitSet (slice_index rows.now rest) q ↔ Leaves table.now choice.now team rest q }
-    requires known { Below (length table.now.states) (slice_index rows.now rest) }
-    ensures same { (q : ℕ) → IsBitSet result q ↔ Finds table.now choice.now team process rest q }
-    ensures known { Below (length table.now.states) result }
+    requires row { (q : ℕ) → IsBitSet (slice_index rows.now rest) q
+        ↔ LeavesState setting.now.table.now setting.now.choice.now setting.now.team rest q }
+    requires known { Below (length setting.now.table.now.states) (slice_index rows.now rest) }
+    ensures same { (q : ℕ) → IsBitSet result q
+        ↔ FindsState setting.now.table.now setting.now.choice.now setting.now.team process rest q }
+    ensures known { Below (length setting.now.table.now.states) result }
 {
-    let _states = table.states();
+    let choice = setting.choice;
+    let _states = setting.table.states();
     if rest != 0 {
         rows[rest as usize]
-    } else if is_in(choice, process, team) {
+    } else if is_in(choice, process, setting.team) {
         with(0, choice.state.0)
     } else {
         0
@@ -99,50 +104,39 @@ pub(crate) fn found(
 }
 
 /// The row of the packed subset, from the rows of smaller ones.
-fn row(
-    table: &Table,
-    choice: &RawChoice,
-    team: Team,
-    links: u16,
-    rows: &[u16; SUBSETS],
-    subset: u16,
-) -> u16
-    requires few { length choice.now.operations ≤ MOST_PROCESSES }
-    requires fits { IsRawChoice table.now (length choice.now.operations) choice.now }
-    requires links { AreLinks choice.now links }
-    requires subset { subset < SUBSETS }
-    requires inside { subset < 2 ^ length choice.now.operations }
-    requires packed { IsPacked links subset }
-    requires rows { AreRows table.now choice.now team links subset rows.now }
-    ensures same { (q : ℕ) → IsBitSet result q ↔ Leaves table.now choice.now team subset q }
-    ensures known { Below (length table.now.states) result }
+fn row(setting: &RowSetting<'_>, rows: &[u16; SUBSETS], subset: u16) -> u16
+    requires setting { IsRowSetting setting.now }
+    requires rows { HasRowsBefore setting.now subset rows.now }
+    ensures same { (q : ℕ) → IsBitSet result q
+        ↔ LeavesState setting.now.table.now setting.now.choice.now setting.now.team subset q }
+    ensures known { Below (length setting.now.table.now.states) result }
 {
-    let _states = table.states();
+    let _states = setting.table.states();
     let mut set = 0;
-    let mut left = movers(links, subset);
+    let mut left = movers(setting.links, subset);
     while left != 0 {
         let process = least(left);
         left = without(left, process);
         let rest = without(subset, process);
-        let from = found(table, choice, team, rows, process, rest);
-        set = union(set, image(table, operation_of(choice, process), from));
+        let from = found_states(setting, rows, process, rest);
+        let moved = image(setting.table, operation_of(setting.choice, process), from);
+        set = union(set, moved);
     }
     set
 }
 
 /// A row for each packed subset: the states in which orders of that subset leave the object.
-pub(crate) fn rows(table: &Table, choice: &RawChoice, team: Team, links: u16) -> [u16; SUBSETS]
-    requires few { length choice.now.operations ≤ MOST_PROCESSES }
-    requires fits { IsRawChoice table.now (length choice.now.operations) choice.now }
-    requires links { AreLinks choice.now links }
-    ensures { AreRows table.now choice.now team links (2 ^ length choice.now.operations) result }
+pub(crate) fn rows(setting: &RowSetting<'_>) -> [u16; SUBSETS]
+    requires { IsRowSetting setting.now }
+    ensures { HasRows setting.now (subset_count setting.now) result }
 {
+    let choice = setting.choice;
     let mut rows = [0; SUBSETS];
     for subset in 1..1u16 << choice.operations.len() {
-        if !is_packed(links, subset) {
+        if !is_packed(setting.links, subset) {
             continue;
         }
-        rows[subset as usize] = row(table, choice, team, links, &rows, subset);
+        rows[subset as usize] = row(setting, &rows, subset);
     }
     rows
 }
@@ -157,7 +151,8 @@ fn images(
     requires operation { operation.0 < length table.now.operations }
     requires known { Below (length table.now.states) from }
     requires among { (r q : ℕ) → Has row.now r q → IsBitSet from q }
-    ensures same { (r q : ℕ) → Has result r q ↔ ((found : ℕ) × Has row.now r found × ((transition table.now operation.0 found).1 ≡ q)) }
+    ensures same { (r q : ℕ) → Has result r q
+        ↔ ((found : ℕ) × Has row.now r found × ((transition table.now operation.0 found).1 ≡ q)) }
     ensures row { IsRow table.now result }
 {
     let _states = table.states();
@@ -174,7 +169,7 @@ fn images(
 }
 
 /// The pairs of both rows.
-fn merged(table: &Table, a: &[u16; MOST_STATES], b: &[u16; MOST_STATES]) -> [u16; MOST_STATES]
+fn row_union(table: &Table, a: &[u16; MOST_STATES], b: &[u16; MOST_STATES]) -> [u16; MOST_STATES]
     requires a { IsRow table.now a.now }
     requires b { IsRow table.now b.now }
     ensures same { (r q : ℕ) → Has result r q ↔ (Has a.now r q ⊎ Has b.now r q) }
@@ -189,56 +184,42 @@ fn merged(table: &Table, a: &[u16; MOST_STATES], b: &[u16; MOST_STATES]) -> [u16
 
 /// What process j gets where it moves last of the packed subset, and the states that it leaves.
 fn own_row(
-    table: &Table,
-    choice: &RawChoice,
-    team: Team,
+    setting: &RowSetting<'_>,
     j: u8,
-    links: u16,
     rows: &[u16; SUBSETS],
     subset: u16,
 ) -> [u16; MOST_STATES]
-    requires few { length choice.now.operations ≤ MOST_PROCESSES }
-    requires fits { IsRawChoice table.now (length choice.now.operations) choice.now }
-    requires j { j < length choice.now.operations }
-    requires links { AreLinks choice.now links }
-    requires subset { subset < SUBSETS }
-    requires inside { subset < 2 ^ length choice.now.operations }
-    requires packed { IsPacked links subset }
+    requires setting { IsRowSetting setting.now }
+    requires j { j < length setting.now.choice.now.operations }
+    requires rows { HasRowsBefore setting.now subset rows.now }
     requires member { IsBitSet subset j }
-    requires rows { AreRows table.now choice.now team links subset rows.now }
-    ensures same { (r q : ℕ) → Has result r q ↔ OwnLast table.now choice.now team j subset r q }
-    ensures row { IsRow table.now result }
+    ensures same { (r q : ℕ) → Has result r q
+        ↔ OwnLast setting.now.table.now setting.now.choice.now setting.now.team j subset r q }
+    ensures row { IsRow setting.now.table.now result }
 {
-    let last = last_twin(links, subset, j);
+    let last = last_twin(setting.links, subset, j);
     let rest = without(subset, last);
-    let from = found(table, choice, team, rows, last, rest);
-    answers(table, operation_of(choice, j), from)
+    let from = found_states(setting, rows, last, rest);
+    answer_row(setting.table, operation_of(setting.choice, j), from)
 }
 
 /// The pairs that process j got before some other process moved last of the packed subset.
 fn others_row(
-    table: &Table,
-    choice: &RawChoice,
-    team: Team,
+    setting: &RowSetting<'_>,
     j: u8,
-    links: u16,
     rows: &[u16; SUBSETS],
     pairs: &[[u16; MOST_STATES]; SUBSETS],
     subset: u16,
 ) -> [u16; MOST_STATES]
-    requires few { length choice.now.operations ≤ MOST_PROCESSES }
-    requires fits { IsRawChoice table.now (length choice.now.operations) choice.now }
-    requires links { AreLinks choice.now links }
-    requires subset { subset < SUBSETS }
-    requires inside { subset < 2 ^ length choice.now.operations }
-    requires packed { IsPacked links subset }
-    requires rows { AreRows table.now choice.now team links subset rows.now }
-    requires pairs { ArePairRows table.now choice.now team j links subset pairs.now }
-    ensures same { (r q : ℕ) → Has result r q ↔ ((p : ℕ) × IsMover links subset p × OtherLast table.now choice.now team j subset q p r) }
-    ensures row { IsRow table.now result }
+    requires setting { IsRowSetting setting.now }
+    requires rows { HasRowsBefore setting.now subset rows.now }
+    requires pairs { HasPairRows setting.now j subset pairs.now }
+    ensures same { (r q : ℕ) → Has result r q ↔ ((p : ℕ) × IsMover setting.now.links subset p
+        × OtherLast setting.now.table.now setting.now.choice.now setting.now.team j subset q p r) }
+    ensures row { IsRow setting.now.table.now result }
 {
     let mut row = [0; MOST_STATES];
-    let mut left = movers(links, subset);
+    let mut left = movers(setting.links, subset);
     while left != 0 {
         let process = least(left);
         left = without(left, process);
@@ -247,85 +228,77 @@ fn others_row(
         }
         let rest = without(subset, process) as usize;
         let moved = images(
-            table,
-            operation_of(choice, process),
+            setting.table,
+            operation_of(setting.choice, process),
             &pairs[rest],
             rows[rest],
         );
-        row = merged(table, &row, &moved);
+        row = row_union(setting.table, &row, &moved);
     }
     row
 }
 
-/// The pairs that orders of the packed subset give to process j, from the rows of smaller ones.
+/// The pairs that orders of the packed subset give to process j, the first of its twins, from the rows
+/// of smaller ones.
 fn pair_row(
-    table: &Table,
-    choice: &RawChoice,
-    team: Team,
+    setting: &RowSetting<'_>,
     j: u8,
-    links: u16,
     rows: &[u16; SUBSETS],
     pairs: &[[u16; MOST_STATES]; SUBSETS],
     subset: u16,
 ) -> [u16; MOST_STATES]
-    requires few { length choice.now.operations ≤ MOST_PROCESSES }
-    requires fits { IsRawChoice table.now (length choice.now.operations) choice.now }
-    requires j { j < length choice.now.operations }
-    requires first { ¬ IsBitSet links j }
-    requires links { AreLinks choice.now links }
-    requires subset { subset < SUBSETS }
-    requires inside { subset < 2 ^ length choice.now.operations }
-    requires packed { IsPacked links subset }
+    requires setting { IsRowSetting setting.now }
+    requires j { j < length setting.now.choice.now.operations }
+    requires first { ¬ IsBitSet setting.now.links j }
+    requires rows { HasRowsBefore setting.now subset rows.now }
     requires member { IsBitSet subset j }
-    requires rows { AreRows table.now choice.now team links subset rows.now }
-    requires pairs { ArePairRows table.now choice.now team j links subset pairs.now }
-    ensures same { (r q : ℕ) → Has result r q ↔ Gives table.now choice.now team j subset r q }
-    ensures row { IsRow table.now result }
+    requires pairs { HasPairRows setting.now j subset pairs.now }
+    ensures same { (r q : ℕ) → Has result r q
+        ↔ GivesPair setting.now.table.now setting.now.choice.now setting.now.team j subset r q }
+    ensures row { IsRow setting.now.table.now result }
 {
-    let own = own_row(table, choice, team, j, links, rows, subset);
-    let others = others_row(table, choice, team, j, links, rows, pairs, subset);
-    merged(table, &own, &others)
+    let own = own_row(setting, j, rows, subset);
+    let others = others_row(setting, j, rows, pairs, subset);
+    row_union(setting.table, &own, &others)
 }
 
 /// The pairs that orders of any subset give to process j, which is the first of its twins. The rows
 /// for the pairs are made anew.
 pub(crate) fn outcome_row(
-    table: &Table,
-    choice: &RawChoice,
-    team: Team,
+    setting: &RowSetting<'_>,
     j: u8,
-    links: u16,
     rows: &[u16; SUBSETS],
     pairs: &mut [[u16; MOST_STATES]; SUBSETS],
 ) -> [u16; MOST_STATES]
-    requires few { length choice.now.operations ≤ MOST_PROCESSES }
-    requires fits { IsRawChoice table.now (length choice.now.operations) choice.now }
-    requires j { j < length choice.now.operations }
-    requires first { ¬ IsBitSet links j }
-    requires links { AreLinks choice.now links }
-    requires rows { AreRows table.now choice.now team links (2 ^ length choice.now.operations) rows.now }
-    ensures same { (r q : ℕ) → Has result r q ↔ InOutcomeSet table.now choice.now team j (r, q) }
-    ensures row { IsRow table.now result }
-    ensures pairs { ArePairRows table.now choice.now team j links (2 ^ length choice.now.operations) pairs.new }
+    requires setting { IsRowSetting setting.now }
+    requires j { j < length setting.now.choice.now.operations }
+    requires first { ¬ IsBitSet setting.now.links j }
+    requires rows { HasRows setting.now (subset_count setting.now) rows.now }
+    ensures same { (r q : ℕ) → Has result r q
+        ↔ InOutcomeSet setting.now.table.now setting.now.choice.now setting.now.team j (r, q) }
+    ensures row { IsRow setting.now.table.now result }
+    ensures pairs { HasPairRows setting.now j (subset_count setting.now) pairs.new }
 {
+    let choice = setting.choice;
     pairs[0] = [0; MOST_STATES];
     let mut all = [0; MOST_STATES];
     for subset in 1..1u16 << choice.operations.len() {
-        if !is_packed(links, subset) {
+        if !is_packed(setting.links, subset) {
             continue;
         }
         if !contains(subset, j) {
             pairs[subset as usize] = [0; MOST_STATES];
             continue;
         }
-        let row = pair_row(table, choice, team, j, links, rows, pairs, subset);
+        let row = pair_row(setting, j, rows, pairs, subset);
         pairs[subset as usize] = row;
-        all = merged(table, &all, &row);
+        all = row_union(setting.table, &all, &row);
     }
     all
 }
 
-/// The size of the least packed subset of n processes whose row has the pair, or `TOO_LONG` if none has it.
+/// The size of the least packed subset of n processes whose row has the pair, or `TOO_LONG` if none
+/// has it.
 pub(crate) fn least_size(
     links: u16,
     n: u8,
@@ -336,7 +309,8 @@ pub(crate) fn least_size(
     requires few { n ≤ MOST_PROCESSES }
     requires response { response < MOST_RESPONSES }
     requires state { state < MOST_STATES }
-    ensures { (subset : ℕ) → subset < 2 ^ n → IsPacked links subset → Has (slice_index_or pairs.now subset []) response state
+    ensures { (subset : ℕ) → subset < 2 ^ n → IsPacked links subset
+        → Has (slice_index_or pairs.now subset []) response state
         → result ≤ count_below MOST_PROCESSES subset }
 {
     let mut least = TOO_LONG;

@@ -18,14 +18,21 @@ use arrayvec::ArrayVec;
 use cn_choice::{MOST_PROCESSES, RawChoice};
 use cn_table::{Response, State, Table};
 
-/// Where an order has come to: the processes that have moved, how many are still to move, the state
-/// that was left, and the response that the process in question has got, if it has moved.
+/// What counts of the beginning of an order: the processes that have moved, how many are still to move,
+/// the state that was left, and the response that the process in question has got, if it has moved.
 #[derive(Clone, Copy)]
-pub(crate) struct Place {
+pub(crate) struct Prefix {
     pub used: u16,
     pub left: u8,
     pub state: State,
     pub seen: Option<u8>,
+}
+
+/// The end that is looked for: the process gets a pair of the set.
+#[derive(Clone, Copy)]
+pub(crate) struct Target<'s> {
+    pub process: u8,
+    pub set: &'s OutcomeSet,
 }
 
 /// The response that process j has got: the first.
@@ -38,55 +45,60 @@ fn seen_after(j: u8, process: u8, response: u8, seen: Option<u8>) -> Option<u8>
     }
 }
 
-/// The place to which the process comes.
-fn place_after(table: &Table, choice: &RawChoice, j: u8, place: Place, process: u8) -> Place
+/// The prefix to which the process comes.
+fn prefix_after(table: &Table, choice: &RawChoice, j: u8, prefix: Prefix, process: u8) -> Prefix
     requires fits { IsRawChoice table.now (length choice.now.operations) choice.now }
-    requires state { place.state.0 < length table.now.states }
+    requires state { prefix.state.0 < length table.now.states }
     requires process { process < length choice.now.operations }
     requires few { length choice.now.operations ≤ MOST_PROCESSES }
-    requires left { 1 ≤ place.left }
-    requires used { place.used < SUBSETS }
-    requires seen { IfSome place.seen (λ response. response < MOST_RESPONSES) }
-    ensures used { result.used ≡ bit_or place.used (2 ^ process) }
+    requires left { 1 ≤ prefix.left }
+    requires used { prefix.used < SUBSETS }
+    requires seen { IfSome prefix.seen (λ response. response < MOST_RESPONSES) }
+    ensures used { result.used ≡ bit_or prefix.used (2 ^ process) }
     ensures small { result.used < SUBSETS }
-    ensures left { result.left ≡ place.left - 1 }
-    ensures state { result.state.0 ≡ next_of table.now choice.now process place.state.0 }
+    ensures left { result.left ≡ prefix.left - 1 }
+    ensures state { result.state.0 ≡ next_of table.now choice.now process prefix.state.0 }
     ensures known { result.state.0 < length table.now.states }
-    ensures seen { result.seen ≡ seen_after j process (answer_of table.now choice.now process place.state.0) place.seen }
+    ensures seen { result.seen
+        ≡ seen_after j process (answer_of table.now choice.now process prefix.state.0) prefix.seen }
     ensures in_range { IfSome result.seen (λ response. response < MOST_RESPONSES) }
 {
     let _responses = table.responses();
-    let (response, state) = table.apply(operation_of(choice, process), place.state);
-    Place {
-        used: place.used | (1 << process),
-        left: place.left - 1,
+    let (response, state) = table.apply(operation_of(choice, process), prefix.state);
+    Prefix {
+        used: prefix.used | (1 << process),
+        left: prefix.left - 1,
         state,
-        seen: seen_after(j, process, response.0, place.seen),
+        seen: seen_after(j, process, response.0, prefix.seen),
     }
 }
 
-/// The empty list and the pair of the place, if the set has it.
-fn end_within(set: &OutcomeSet, place: Place) -> Option<(ArrayVec<u8, MOST_PROCESSES>, (u8, u8))>
-    ensures none { IfNone result ((response : ℕ) → place.seen ≡ Some response → ¬ Has set.now response place.state.0) }
+/// The empty list and the pair of the prefix, if the set has it.
+fn end_within(set: &OutcomeSet, prefix: Prefix) -> Option<(ArrayVec<u8, MOST_PROCESSES>, (u8, u8))>
+    ensures none { IfNone result ((response : ℕ) → prefix.seen ≡ Some response
+        → ¬ Has set.now response prefix.state.0) }
     ensures empty { IfSome result (λ found. found.0.items ≡ []) }
-    ensures ends { IfSome result (λ found. (place.seen ≡ Some found.1.0) × (place.state.0 ≡ found.1.1)) }
+    ensures ends { IfSome result (λ found.
+        (prefix.seen ≡ Some found.1.0) × (prefix.state.0 ≡ found.1.1)) }
     ensures has { IfSome result (λ found. Has set.now found.1.0 found.1.1) }
-    ensures in_range { IfSome result (λ found. (found.1.0 < MOST_RESPONSES) × (found.1.1 < MOST_STATES)) }
+    ensures in_range { IfSome result (λ found.
+        (found.1.0 < MOST_RESPONSES) × (found.1.1 < MOST_STATES)) }
 {
-    let response = place.seen?;
-    if set.has(Response(response), place.state) {
-        Some((ArrayVec::new(), (response, place.state.0)))
+    let response = prefix.seen?;
+    if set.has(Response(response), prefix.state) {
+        Some((ArrayVec::new(), (response, prefix.state.0)))
     } else {
         None
     }
 }
 
 /// Whether the set has no pair of the response that was got.
-fn is_unwanted(set: &OutcomeSet, place: Place) -> bool
-    requires { IfSome place.seen (λ response. response < MOST_RESPONSES) }
-    ensures { IsTrue result → (response : ℕ) × (place.seen ≡ Some response) × ((q : ℕ) → ¬ Has set.now response q) }
+fn is_unwanted(set: &OutcomeSet, prefix: Prefix) -> bool
+    requires { IfSome prefix.seen (λ response. response < MOST_RESPONSES) }
+    ensures { IsTrue result
+        → (response : ℕ) × (prefix.seen ≡ Some response) × ((q : ℕ) → ¬ Has set.now response q) }
 {
-    match place.seen {
+    match prefix.seen {
         None => false,
         Some(response) => !contains(set.responses(), response),
     }
@@ -94,20 +106,21 @@ fn is_unwanted(set: &OutcomeSet, place: Place) -> bool
 
 /// Whether the process is to move next: it has not moved, and it is j, or there is time for j and no
 /// process with its operation was tried.
-fn is_open(choice: &RawChoice, j: u8, place: Place, tried: u16, process: u8) -> bool
+fn is_open(choice: &RawChoice, j: u8, prefix: Prefix, tried: u16, process: u8) -> bool
     requires process { process < length choice.now.operations }
     requires few { length choice.now.operations ≤ MOST_PROCESSES }
     requires operation { slice_index choice.now.operations process < 16 }
-    ensures open { IsTrue result → ¬ IsBitSet place.used process }
-    ensures closed { IsFalse result → IsPassed choice.now j place.used place.left place.seen tried process }
+    ensures open { IsTrue result → ¬ IsBitSet prefix.used process }
+    ensures closed { IsFalse result
+        → IsPassed choice.now j prefix.used prefix.left prefix.seen tried process }
 {
-    if contains(place.used, process) {
+    if contains(prefix.used, process) {
         return false;
     }
     if process == j {
         return true;
     }
-    if place.left == 1 && place.seen.is_none() {
+    if prefix.left == 1 && prefix.seen.is_none() {
         return false;
     }
     !contains(tried, operation_of(choice, process).0)
@@ -117,7 +130,8 @@ fn is_open(choice: &RawChoice, j: u8, place: Place, tried: u16, process: u8) -> 
 fn tried_after(choice: &RawChoice, j: u8, tried: u16, process: u8) -> u16
     requires process { process < length choice.now.operations }
     requires operation { slice_index choice.now.operations process < 16 }
-    ensures { (o : ℕ) → IsBitSet result o → IsBitSet tried o ⊎ ((process ≢ j) × (o ≡ slice_index choice.now.operations process)) }
+    ensures { (o : ℕ) → IsBitSet result o
+        → IsBitSet tried o ⊎ ((process ≢ j) × (o ≡ slice_index choice.now.operations process)) }
 {
     if process == j {
         tried
@@ -128,10 +142,10 @@ fn tried_after(choice: &RawChoice, j: u8, tried: u16, process: u8) -> u16
 
 /// From which process on, and below which, the next one is tried: j alone where there is no time for
 /// another.
-fn turns(j: u8, place: Place, n: u8) -> (u8, u8)
-    ensures { IsTurn j place.left place.seen n result.0 result.1 }
+fn turns(j: u8, prefix: Prefix, n: u8) -> (u8, u8)
+    ensures { IsTurn j prefix.left prefix.seen n result.0 result.1 }
 {
-    if place.left == 1 && place.seen.is_none() && j < n {
+    if prefix.left == 1 && prefix.seen.is_none() && j < n {
         (j, j + 1)
     } else {
         (0, n)
@@ -144,46 +158,54 @@ fn turns(j: u8, place: Place, n: u8) -> (u8, u8)
 pub(crate) fn way_into(
     table: &Table,
     choice: &RawChoice,
-    j: u8,
-    set: &OutcomeSet,
+    target: &Target<'_>,
     dead: &mut DeadEnds,
     low: u8,
     high: u8,
-    place: Place,
+    prefix: Prefix,
 ) -> Option<(ArrayVec<u8, MOST_PROCESSES>, (u8, u8))>
     requires few { length choice.now.operations ≤ MOST_PROCESSES }
     requires fits { IsRawChoice table.now (length choice.now.operations) choice.now }
-    requires left { place.left ≤ MOST_PROCESSES }
+    requires left { prefix.left ≤ MOST_PROCESSES }
     requires high { high ≤ length choice.now.operations }
-    requires used { place.used < SUBSETS }
-    requires seen { IfSome place.seen (λ response. response < MOST_RESPONSES) }
-    requires state { place.state.0 < length table.now.states }
-    requires dead { 2 < place.left → AreDead table.now choice.now j set.now (place.left + count_moved place.used) dead.old }
-    ensures none { IfNone result (NoWay table.now choice.now j set.now place.left low high place.used place.state.0 place.seen) }
-    ensures first { IfSome result (λ f. IsFirstWay table.now choice.now j set.now place.left low high place.used place.state.0 place.seen f.0.items f.1) }
-    ensures in_range { IfSome result (λ found. (found.1.0 < MOST_RESPONSES) × (found.1.1 < MOST_STATES)) }
-    ensures dead { StayDead table.now choice.now j set.now (place.left + count_moved place.used) dead.old dead.new }
+    requires used { prefix.used < SUBSETS }
+    requires seen { IfSome prefix.seen (λ response. response < MOST_RESPONSES) }
+    requires state { prefix.state.0 < length table.now.states }
+    requires dead { 2 < prefix.left
+        → AreDead table.now choice.now target.now.process target.now.set.now
+        (prefix.left + count_moved prefix.used) dead.old }
+
+    ensures none { IfNone result
+        (NoWay table.now choice.now target.now.process target.now.set.now
+        prefix.left low high prefix.used prefix.state.0 prefix.seen) }
+    ensures first { IfSome result (λ found.
+        IsFirstWay table.now choice.now target.now.process target.now.set.now
+        prefix.left low high prefix.used prefix.state.0 prefix.seen found.0.items found.1) }
+    ensures in_range { IfSome result (λ found.
+        (found.1.0 < MOST_RESPONSES) × (found.1.1 < MOST_STATES)) }
+    ensures dead { StayDead table.now choice.now target.now.process target.now.set.now
+        (prefix.left + count_moved prefix.used) dead.old dead.new }
 {
-    if place.left == 0 {
-        return end_within(set, place);
+    if prefix.left == 0 {
+        return end_within(target.set, prefix);
     }
     let (_operations, _states) = (table.operations(), table.states());
     let n = choice.operations.len() as u8;
     let mut tried = 0;
     for process in low..high {
-        if !is_open(choice, j, place, tried, process) {
+        if !is_open(choice, target.process, prefix, tried, process) {
             continue;
         }
-        tried = tried_after(choice, j, tried, process);
-        let next = place_after(table, choice, j, place, process);
-        if process == j && is_unwanted(set, next) {
+        tried = tried_after(choice, target.process, tried, process);
+        let next = prefix_after(table, choice, target.process, prefix, process);
+        if process == target.process && is_unwanted(target.set, next) {
             continue;
         }
         if dead.has(next) {
             continue;
         }
-        let (from, end) = turns(j, next, n);
-        let found = way_into(table, choice, j, set, dead, from, end, next);
+        let (from, end) = turns(target.process, next, n);
+        let found = way_into(table, choice, target, dead, from, end, next);
         if let Some((mut tail, pair)) = found {
             tail.insert(0, process);
             return Some((tail, pair));

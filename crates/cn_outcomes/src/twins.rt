@@ -3,7 +3,7 @@ ghost use Rattle.std.specs.Prelude.{◌≡◌, ◌-◌, ◌<◌, ◌≤◌, ◌�
 ghost use Rattle.cn_outcomes.specs.Twins.{AreLinks, AreTwins, IsMover, IsPacked, IsRun};
 ghost use Rattle.cn_choice.specs.declared.limits.TheConstants.{MOST_PROCESSES};
 
-use crate::bits::{contains, lowered, minus, with};
+use crate::bits::{common_predecessors, contains, difference, with};
 use cn_choice::RawChoice;
 
 /// Whether the process and the one before it have the same operation, in the same team.
@@ -36,14 +36,14 @@ pub(crate) fn links(choice: &RawChoice) -> u16
 pub(crate) fn is_packed(links: u16, subset: u16) -> bool
     ensures { IsTrue result ↔ IsPacked links subset }
 {
-    minus(lowered(links, subset), subset) == 0
+    difference(common_predecessors(links, subset), subset) == 0
 }
 
 /// The processes of the subset with no linked one of it behind.
 pub(crate) fn movers(links: u16, subset: u16) -> u16
     ensures { (p : ℕ) → IsBitSet result p ↔ IsMover links subset p }
 {
-    minus(subset, lowered(links, subset))
+    difference(subset, common_predecessors(links, subset))
 }
 
 /// The last of the processes of the subset that are linked to process j, one to the next.
@@ -56,7 +56,7 @@ pub(crate) fn last_twin(links: u16, subset: u16, j: u8) -> u8
     ensures mover { IsMover links subset result }
     ensures run { IsRun links j result }
 {
-    let followed = lowered(links, subset);
+    let followed = common_predecessors(links, subset);
     let mut last = j;
     while contains(followed, last) {
         last += 1;

@@ -8,8 +8,8 @@ use Rattle.cn_outcomes.proofs.examination.collision_by_rows.Goals as goal
 pub returns-clause-none : goal.returns-clause-none
 returns-clause-none c =
     let seen = ap (λ (a : RawChoice). length a.operations) c.raw.view_is in
-    let t = c.args.table.now in
-    let raw = c.args.raw.now in
+    let t = c.args.subject.now.table.now in
+    let raw = c.args.subject.now.raw.now in
     elim (c.collision_or_witness.ensures.either t raw) [
       | inl w ↦ w
       | inr r ↦
@@ -21,4 +21,4 @@ returns-clause-none c =
 
 pub loop-process-preserved-then-contains : goal.loop-process-preserved-then-contains
 loop-process-preserved-then-contains c =
-    below_more _ _ c.loop-process.invariant (linked_collides c.args.table.now c.args.raw.now c.args.links c.requires.links c.loop-process.process (c.contains.ensures.0 c.if-contains.true) c.loop-process.invariant)
+    below_more _ _ c.loop-process.invariant (linked_collides c.args.subject.now.table.now c.args.subject.now.raw.now c.args.links c.requires.links c.loop-process.process (c.contains.ensures.0 c.if-contains.true) c.loop-process.invariant)

@@ -1,6 +1,6 @@
 use Rattle.std.proofs.Common.{arith, length-set, refl, ◌∙◌}
 use Rattle.cn_outcomes.specs.Images.{IsImageFrom}
-use Rattle.cn_outcomes.proofs.ImageLemmas.{at_more}
+use Rattle.cn_outcomes.proofs.Unions.{at_more}
 use Rattle.cn_outcomes.proofs.images.images_from.Goals as goal
 
 pub loop-from-init : goal.loop-from-init

@@ -7,4 +7,7 @@ use Rattle.cn_outcomes.proofs.response_rows.least_with.Given as goal
 
 -- no subset so far whose row has the state is smaller
 abbrev pub invariant-loop-place : goal.invariant-loop-place
-invariant-loop-place l = ((k : ℕ) → k < l.place → IsBitSet (get_or l.given (2 * k) 0) l.state → l.least ≤ count_below MOST_PROCESSES (2 * k)) × (l.least ≤ TOO_LONG)
+invariant-loop-place l =
+    ((k : ℕ) → k < l.place → IsBitSet (get_or l.given (2 * k) 0) l.state
+    → l.least ≤ count_below MOST_PROCESSES (2 * k))
+    × (l.least ≤ TOO_LONG)

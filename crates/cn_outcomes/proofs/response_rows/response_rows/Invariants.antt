@@ -1,11 +1,14 @@
 use Rattle.std.proofs.Common.{◌*◌}
-use Rattle.cn_outcomes.specs.ResponseRows.{AreGivenRows, AreRowsWithout, GivesWith, IsOthers}
+use Rattle.cn_outcomes.specs.ResponseRows.{GivesWith, IsOthers}
+use Rattle.cn_outcomes.specs.RowSettings.{HasGivenRows, HasRowsWithout}
 use Rattle.cn_outcomes.proofs.Unions.{Gathers}
 use Rattle.cn_outcomes.proofs.response_rows.response_rows.Given as goal
 
 -- the rows of the packed subsets so far, and what is given by these
 abbrev pub invariant-loop-place : goal.invariant-loop-place
 invariant-loop-place l =
-    AreRowsWithout l.table l.choice l.fn.team l.links 0 (2 * l.place) l.rows ×
-    AreGivenRows l.table l.choice l.fn.team l.links 0 l.asked.response (2 * l.place) l.given ×
-    Gathers (λ s q. IsOthers l.links 0 s × GivesWith l.table l.choice l.fn.team 0 l.asked.response s q) (2 * l.place) l.all
+    let s = l.setting in
+    let Gets = GivesWith s.table.now s.choice.now s.team 0 l.asked.response in
+    HasRowsWithout s 0 (2 * l.place) l.rows
+    × HasGivenRows s 0 l.asked.response (2 * l.place) l.given
+    × Gathers (λ subset q. IsOthers s.links 0 subset × Gets subset q) (2 * l.place) l.all

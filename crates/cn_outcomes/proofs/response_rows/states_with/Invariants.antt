@@ -5,4 +5,6 @@ use Rattle.cn_outcomes.proofs.response_rows.states_with.Given as goal
 
 -- those of the states so far
 abbrev pub invariant-loop-state : goal.invariant-loop-state
-invariant-loop-state l = (q : ℕ) → IsBitSet l.set q ↔ ((q < l.state) × ((transition l.table l.operation.0 q).0 ≡ l.response.0))
+invariant-loop-state l =
+    (q : ℕ) → IsBitSet l.set q
+    ↔ ((q < l.state) × ((transition l.table l.operation.0 q).0 ≡ l.response.0))

@@ -6,7 +6,9 @@ use Rattle.cn_outcomes.proofs.subset_rows.image.Given as goal
 
 -- the images of the states that are not left any more
 abbrev pub invariant-loop-left : goal.invariant-loop-left
-invariant-loop-left l = GathersFrom (λ i q. (transition l.table l.operation.0 i).1 ≡ q) l.from l.left l.set × Below (length l.table.states) l.set
+invariant-loop-left l =
+    GathersFrom (λ i q. (transition l.table l.operation.0 i).1 ≡ q) l.from l.left l.set
+    × Below (length l.table.states) l.set
 
 abbrev pub decreases-loop-left : goal.decreases-loop-left
 decreases-loop-left l = l.left

@@ -6,7 +6,10 @@ use Rattle.cn_outcomes.proofs.subset_rows.images.Given as goal
 
 -- the pairs of the states that are not left any more, moved
 abbrev pub invariant-loop-left : goal.invariant-loop-left
-invariant-loop-left l = ((q : ℕ) → GathersFrom (image_part (transition l.table l.operation.0) l.row q) l.from l.left (get_or l.moved q 0)) × IsRow l.table l.moved
+invariant-loop-left l =
+    let step = transition l.table l.operation.0 in
+    ((q : ℕ) → GathersFrom (image_part step l.row q) l.from l.left (get_or l.moved q 0))
+    × IsRow l.table l.moved
 
 abbrev pub decreases-loop-left : goal.decreases-loop-left
 decreases-loop-left l = l.left

@@ -5,7 +5,11 @@ use Rattle.cn_outcomes.proofs.subset_rows.others_row.Given as goal
 
 -- the pairs by those movers that moved last and are not left any more
 abbrev pub invariant-loop-left : goal.invariant-loop-left
-invariant-loop-left l = ((q : ℕ) → GathersFrom (OtherLast l.table l.choice l.fn.team l.fn.j l.subset q) l.initial.left l.left (get_or l.row q 0)) × IsRow l.table l.row
+invariant-loop-left l =
+    let s = l.setting in
+    let Moves = OtherLast s.table.now s.choice.now s.team l.fn.j l.subset in
+    ((q : ℕ) → GathersFrom (Moves q) l.initial.left l.left (get_or l.row q 0))
+    × IsRow s.table.now l.row
 
 abbrev pub decreases-loop-left : goal.decreases-loop-left
 decreases-loop-left l = l.left

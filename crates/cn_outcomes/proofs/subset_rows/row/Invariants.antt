@@ -5,7 +5,10 @@ use Rattle.cn_outcomes.proofs.subset_rows.row.Given as goal
 
 -- what is left by those movers that moved last and are not left any more
 abbrev pub invariant-loop-left : goal.invariant-loop-left
-invariant-loop-left l = GathersFrom (row_part l.table l.choice l.fn.team l.subset) l.initial.left l.left l.set × Below (length l.table.states) l.set
+invariant-loop-left l =
+    let s = l.setting in
+    GathersFrom (row_part s.table.now s.choice.now s.team l.subset) l.initial.left l.left l.set
+    × Below (length s.table.now.states) l.set
 
 abbrev pub decreases-loop-left : goal.decreases-loop-left
 decreases-loop-left l = l.left

@@ -1,5 +1,5 @@
-use Rattle.cn_outcomes.specs.Subsets.{AreRows}
+use Rattle.cn_outcomes.specs.RowSettings.{HasRows}
 use Rattle.cn_outcomes.proofs.subset_rows.rows.Given as goal
 
 abbrev pub invariant-loop-subset : goal.invariant-loop-subset
-invariant-loop-subset l = AreRows l.table l.choice l.fn.team l.links l.subset l.rows
+invariant-loop-subset l = HasRows l.setting l.subset l.rows

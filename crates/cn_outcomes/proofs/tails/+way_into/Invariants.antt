@@ -6,11 +6,18 @@ use Rattle.cn_outcomes.proofs.tails.+way_into.Given as goal
 
 -- no process so far leads into the set, and what was tried is the operation of one of them
 abbrev pub invariant-loop-process : goal.invariant-loop-process
-invariant-loop-process l = record {
-  dead : (p : ℕ) → l.fn.low ≤ p → p < l.process → Dead l.table l.choice l.j l.set l.place.left l.fn.low l.fn.high l.place.used l.place.state.0 l.place.seen p;
-  kept : AreDead l.table l.choice l.j l.set (l.place.left + count_moved l.place.used) l.fn.dead → AreDead l.table l.choice l.j l.set (l.place.left + count_moved l.place.used) l.dead;
-  tried : (o : ℕ) → IsBitSet l.tried o → IsTried l.choice l.j l.fn.low l.process l.place.used o;
-}
+invariant-loop-process l =
+    let j = l.target.process in
+    let set = l.target.set.now in
+    let at = l.prefix in
+    let long = at.left + count_moved at.used in
+    record {
+      dead : (p : ℕ) → l.fn.low ≤ p → p < l.process
+          → Dead l.table l.choice j set at.left l.fn.low l.fn.high at.used at.state.0 at.seen p;
+      kept : AreDead l.table l.choice j set long l.fn.dead
+          → AreDead l.table l.choice j set long l.dead;
+      tried : (o : ℕ) → IsBitSet l.tried o → IsTried l.choice j l.fn.low l.process at.used o;
+    }
 
 abbrev pub decreases-way_into : goal.decreases-way_into
-decreases-way_into l = l.place.left
+decreases-way_into l = l.prefix.left

@@ -7,7 +7,7 @@ use Rattle.cn_outcomes.proofs.twins.last_twin.Goals as goal
 pub loop-last-preserved : goal.loop-last-preserved
 loop-last-preserved c =
     let i = c.loop-last.invariant in
-    let both = (c.lowered-followed.ensures c.loop-last.last).0 (c.contains.ensures.0 c.loop-last-test.true) in
+    let both = (c.common_predecessors-followed.ensures c.loop-last.last).0 (c.contains.ensures.0 c.loop-last-test.true) in
     record {
       from = omega (arith, i.from);
       range = member_below 16 c.args.subset (c.loop-last.last + 1) (omega arith) both.1;

@@ -5,9 +5,9 @@ use Rattle.cn_outcomes.proofs.dead_ends.DeadEnds.add.Goals as goal
 
 pub returns : goal.returns
 returns c u q s h =
-    let added = rw c.rank_of-rank.ensures.place at c.with.ensures in
-    let kept = rw c.rank_of-rank.ensures.place at h in
-    elim (kept_more c.self.inside.begun c.self.inside.rows c.args.place.used c.args.place.state.0 c.with.result c.args.place.seen added u q s kept) [
+    let added = rw c.rank_of-rank.ensures.rank at c.with.ensures in
+    let kept = rw c.rank_of-rank.ensures.rank at h in
+    elim (kept_more c.self.inside.begun c.self.inside.rows c.args.prefix.used c.args.prefix.state.0 c.with.result c.args.prefix.seen added u q s kept) [
       | inl old ↦ inl (c.begin.ensures u q s (subst (λ (v : List Bool × List (List ℕ)). IsKept v u s q) c.self.view_is old))
       | inr new ↦ inr new
     ]

@@ -5,7 +5,9 @@ use Rattle.cn_outcomes.proofs.outcome_sets.OutcomeSet.of_response.Given as goal
 
 -- the pairs of the response and the states that are not left any more
 abbrev pub invariant-loop-left : goal.invariant-loop-left
-invariant-loop-left l = ((q : ℕ) → IsBitSet l.left q → IsBitSet l.states q) × ((r q : ℕ) → Has l.set r q ↔ ((r ≡ l.response) × IsBitSet l.states q × ¬ IsBitSet l.left q))
+invariant-loop-left l =
+    ((q : ℕ) → IsBitSet l.left q → IsBitSet l.states q)
+    × ((r q : ℕ) → Has l.set r q ↔ ((r ≡ l.response) × IsBitSet l.states q × ¬ IsBitSet l.left q))
 
 abbrev pub decreases-loop-left : goal.decreases-loop-left
 decreases-loop-left l = l.left

@@ -1,0 +1,42 @@
+-- What rows are made for, and the rows that are made.
+use Rattle.std.specs.Prelude.{ℕ, ◌^◌, ◌<◌, ◌≤◌, List, length}
+use Rattle.cn_choice.specs.RawChoices.{IsRawChoice}
+use Rattle.cn_choice.specs.declared.limits.TheConstants.{MOST_PROCESSES}
+use Rattle.cn_outcomes.specs.ResponseRows.{AreGivenRows, AreRowsWithout}
+use Rattle.cn_outcomes.specs.Subsets.{ArePairRows, AreRows}
+use Rattle.cn_outcomes.specs.Twins.{AreLinks, IsPacked}
+use Rattle.cn_outcomes.specs.declared.limits.TheConstants.{SUBSETS}
+use Rattle.cn_outcomes.specs.declared.row_setting.RowSetting.{RowSetting}
+
+-- the choice is one for the table, of few processes, and the links are between its processes
+pub record IsRowSetting (s : RowSetting) : Type 0 where
+  pub few : length s.choice.now.operations ≤ MOST_PROCESSES
+  pub fits : IsRawChoice s.table.now (length s.choice.now.operations) s.choice.now
+  pub linked : AreLinks s.choice.now s.links
+
+-- how many subsets the processes have
+abbrev pub subset_count : RowSetting → ℕ
+subset_count s = 2 ^ length s.choice.now.operations
+
+-- the rows of the packed subsets below the end
+abbrev pub HasRows : RowSetting → ℕ → List ℕ → Type 0
+HasRows s end rows = AreRows s.table.now s.choice.now s.team s.links end rows
+
+-- the subset is a packed one of the processes, and the packed ones below it have their rows
+pub record HasRowsBefore (s : RowSetting) (subset : ℕ) (rows : List ℕ) : Type 0 where
+  pub small : subset < SUBSETS
+  pub inside : subset < subset_count s
+  pub packed : IsPacked s.links subset
+  pub before : HasRows s subset rows
+
+-- the rows of the pairs that process j gets
+abbrev pub HasPairRows : RowSetting → ℕ → ℕ → List (List ℕ) → Type 0
+HasPairRows s j end rows = ArePairRows s.table.now s.choice.now s.team j s.links end rows
+
+-- the rows of the packed subsets without process j
+abbrev pub HasRowsWithout : RowSetting → ℕ → ℕ → List ℕ → Type 0
+HasRowsWithout s j end rows = AreRowsWithout s.table.now s.choice.now s.team s.links j end rows
+
+-- those where orders of the subset and j give j the response
+abbrev pub HasGivenRows : RowSetting → ℕ → ℕ → ℕ → List ℕ → Type 0
+HasGivenRows s j response end rows = AreGivenRows s.table.now s.choice.now s.team s.links j response end rows
