@@ -36,6 +36,11 @@ is_in_range c =
     is_byte c.limit && (is_number_in_range c.number && (is_witness_in_range c.witness
     && (list_all is_collision_in_range c.collisions && is_name c.type_name)))
 
+-- the same, but for the collisions
+abbrev pub is_head_in_range : Certificate → Bool
+is_head_in_range c =
+    is_byte c.limit && (is_number_in_range c.number && (is_witness_in_range c.witness && is_name c.type_name))
+
 -- the thing, where it passes the test
 abbrev pub within : {X : Type 0} → (X → Bool) → X → Option X
 within test x = if test x then Some x else None

@@ -1,9 +1,9 @@
 //! From a draft to a certificate: numbers within their ranges, and a name.
-ghost use Rattle.std.specs.Prelude.{◌≡◌, true};
+ghost use Rattle.std.specs.Prelude.{◌≡◌, Err, true, false};
 ghost use Rattle.cn_cert.specs.Certificate.{is_version};
 ghost use Rattle.cn_cert.specs.Ranges.{within, is_byte, is_short, is_choice_in_range};
-ghost use Rattle.cn_cert.specs.Ranges.{collision_within, collisions_within, is_witness_in_range, is_number_in_range, certificate_within};
-ghost use Rattle.cn_cert.specs.Reads.{Reads};
+ghost use Rattle.cn_cert.specs.Ranges.{collision_within, collisions_within, is_witness_in_range, is_number_in_range, is_head_in_range, certificate_within};
+ghost use Rattle.cn_cert.specs.Reads.{Converts, Reads};
 
 use crate::certificate::Certificate;
 use crate::draft::{Draft, DraftChoice, DraftCollision};
@@ -19,7 +19,7 @@ const GREATEST_STATE: u64 = MOST_STATES as u64 - 1;
 pub(crate) const GREATEST_NUMBER: u8 = MOST_PROCESSES as u8 - 1;
 
 fn byte(n: u64) -> Result<u8, CertFault>
-    ensures { Reads CertFault.Range (λ n. n) result (within is_byte n) }
+    ensures { Converts CertFault.Range (λ n. n) result (within is_byte n) }
 {
     if n > 255 {
         return Err(CertFault::Range);
@@ -28,7 +28,7 @@ fn byte(n: u64) -> Result<u8, CertFault>
 }
 
 fn number(n: Option<u64>) -> Result<Option<u8>, CertFault>
-    ensures { Reads CertFault.Range (λ n. n) result (within is_number_in_range n) }
+    ensures { Converts CertFault.Range (λ n. n) result (within is_number_in_range n) }
 {
     match n {
         Some(n) => Ok(Some(byte(n)?)),
@@ -37,7 +37,7 @@ fn number(n: Option<u64>) -> Result<Option<u8>, CertFault>
 }
 
 fn short_list(numbers: &[u64]) -> Result<ArrayVec<u8, MOST_PROCESSES>, CertFault>
-    ensures { Reads CertFault.Range (λ v. v.items) result (within is_short numbers.now) }
+    ensures { Converts CertFault.Range (λ v. v.items) result (within is_short numbers.now) }
 {
     if numbers.len() > MOST_PROCESSES {
         return Err(CertFault::Range);
@@ -53,7 +53,7 @@ fn short_list(numbers: &[u64]) -> Result<ArrayVec<u8, MOST_PROCESSES>, CertFault
 }
 
 fn choice(draft: &DraftChoice) -> Result<Choice, CertFault>
-    ensures { Reads CertFault.Range (λ c. c) result (within is_choice_in_range draft.now) }
+    ensures { Converts CertFault.Range (λ c. c) result (within is_choice_in_range draft.now) }
 {
     let a = short_list(draft.a.as_slice())?;
     let b = short_list(draft.b.as_slice())?;
@@ -68,7 +68,7 @@ fn choice(draft: &DraftChoice) -> Result<Choice, CertFault>
 }
 
 fn witness(draft: &Option<DraftChoice>) -> Result<Option<Choice>, CertFault>
-    ensures { Reads CertFault.Range (λ o. o) result (within is_witness_in_range draft.now) }
+    ensures { Converts CertFault.Range (λ o. o) result (within is_witness_in_range draft.now) }
 {
     match draft {
         Some(draft) => Ok(Some(choice(draft)?)),
@@ -78,7 +78,7 @@ fn witness(draft: &Option<DraftChoice>) -> Result<Option<Choice>, CertFault>
 
 #[tactic(auto, unfolding(crate::specs::Ranges::collision_within))]
 fn collision(draft: &DraftCollision) -> Result<Collision, CertFault>
-    ensures { Reads CertFault.Range (λ c. c) result (collision_within draft.now) }
+    ensures { Converts CertFault.Range (λ c. c) result (collision_within draft.now) }
 {
     let choice = choice(&draft.choice)?;
     let alpha = short_list(draft.alpha.as_slice())?;
@@ -104,19 +104,21 @@ fn collisions(alloc: Global, drafts: &[DraftCollision]) -> Result<Vec<Collision>
     Ok(out)
 }
 
-/// The certificate of a draft, where everything is within its range.
+/// The certificate of a draft, where everything is within its range. Everything but the collisions
+/// is looked at before memory is taken.
 #[tactic(auto, using(crate::proofs::RangeLemmas::each_within))]
 pub(crate) fn certificate(alloc: Global, draft: Draft) -> Result<Certificate, CertFault>
     requires { is_version draft.version ≡ true }
-    ensures { Reads CertFault.Range (λ c. c) result (certificate_within draft) }
+    ensures read { Reads CertFault.Range (λ c. c) result (certificate_within draft) }
+    ensures told { is_head_in_range draft ≡ false → result ≡ Err CertFault.Range }
 {
     let limit = byte(draft.limit)?;
     let number = number(draft.number)?;
     let witness = witness(&draft.witness)?;
-    let collisions = collisions(alloc, &draft.collisions)?;
     if !is_name(draft.type_name.as_str()) {
         return Err(CertFault::Range);
     }
+    let collisions = collisions(alloc, &draft.collisions)?;
     let Draft {
         version,
         type_name,

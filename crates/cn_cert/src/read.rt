@@ -1,6 +1,7 @@
 //! From bytes to a certificate, or to the first fault that the bytes have.
-ghost use Rattle.std.specs.Prelude.{◌≡◌, ◌⊎◌, Ok, Err, IfOk, IfErr, IsUtf8};
+ghost use Rattle.std.specs.Prelude.{◌≡◌, ◌⊎◌, ◌&&◌, Ok, Err, IfOk, IfErr, IsUtf8, false};
 ghost use Rattle.cn_cert.specs.Certificate.{is_version};
+ghost use Rattle.cn_cert.specs.Ranges.{is_head_in_range};
 ghost use Rattle.cn_cert.specs.Reading.{draft_reading, reading};
 ghost use Rattle.cn_cert.specs.declared.fault.CertFault.TheVariants.{NotJson, OutOfMemory};
 
@@ -19,10 +20,13 @@ fn is_version(version: u64) -> bool
     version == 1 || version == 2
 }
 
-/// The certificate of a draft, or the first fault that the draft has.
+/// The certificate of a draft, or the first fault that the draft has. A fault of anything but its
+/// collisions is told before memory is taken.
 fn certificate_of(alloc: Global, draft: Draft) -> Result<Certificate, CertFault>
     ensures certificate { IfOk result (λ c. draft_reading draft ≡ Ok c) }
     ensures fault { IfErr result (λ e. (e ≡ OutOfMemory) ⊎ (draft_reading draft ≡ Err e)) }
+    ensures told { (is_version draft.version && is_head_in_range draft) ≡ false
+        → result ≡ draft_reading draft }
 {
     if !is_version(draft.version) {
         return Err(CertFault::Version);

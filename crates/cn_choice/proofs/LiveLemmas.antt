@@ -8,19 +8,20 @@ use Rattle.std.proofs.lemmas.Option.{slice_get-get_or}
 use Rattle.cn_table.specs.TypeTable.{TypeTable, transition}
 use Rattle.cn_choice.specs.declared.team.Team.{Team}
 use Rattle.cn_choice.specs.declared.team.Team.TheVariants.{A, B}
-use Rattle.cn_choice.specs.Blocks.{Block, IsBlockOf, canonical_blocks, choices_of_block}
+use Rattle.cn_choice.specs.Blocks.{Block, BlockComesBefore, IsBlockOf, canonical_blocks, choices_of_block}
 use Rattle.cn_choice.specs.Canonical.{Choice, ChoiceComesBefore, IsCanonical, canonical_choices, raw_choice_of, second_lists}
 use Rattle.cn_choice.specs.Discerning.{IsDiscerning, IsWitness}
-use Rattle.cn_choice.specs.Live.{IsLive, all_move, is_live, live_blocks, live_choices, live_in}
+use Rattle.cn_choice.specs.Live.{IsLive, IsLiveBlock, all_move, is_live, live_blocks, live_choices, live_in}
 use Rattle.cn_choice.specs.RawChoices.{IsRawChoice, RawChoice}
 use Rattle.cn_choice.specs.OutcomeSets.{InOutcomeSet}
 use Rattle.cn_choice.specs.Moves.{answer_of, next_of}
-use Rattle.cn_choice.proofs.Ascending.{canonical_ascend}
-use Rattle.cn_choice.proofs.BlockLemmas.{blocks_are, blocks_cover, blocks_listed}
+use Rattle.cn_choice.proofs.Ascending.{blocks_ascend, canonical_ascend}
+use Rattle.cn_choice.proofs.BlockLemmas.{blocks_are, blocks_cover, blocks_listed, blocks_rise, to_blocks}
 use Rattle.cn_choice.proofs.CanonicalForms.{canonical_listed, coverage}
 use Rattle.cn_choice.proofs.EarlyLists.{alone_gets, second_gets}
 use Rattle.cn_choice.proofs.FilterLemmas.{kept, pairs_kept, was_in}
 use Rattle.cn_choice.proofs.Members.{AllPairs-from_Pairs, Contains-from_IsIn, IsIn, IsIn-from_Contains, each_at}
+use Rattle.cn_choice.proofs.NonDecreasing.{is_non_decreasing, never_falls}
 
 -- ---- the test
 
@@ -160,3 +161,29 @@ pub live_blocks_fit : (t : TypeTable) (n : ℕ) (k : Block) (d : Choice) → Con
 live_blocks_fit t n k d h i =
     let r = was_in (is_live t) d (choices_of_block (length t.operations) k) (IsIn-from_Contains d _ i) in
     ((canonical_listed t n d).0 (Contains-from_IsIn d _ (blocks_listed (length t.states) (length t.operations) n k d (was_block t n k h) r.0))).1
+
+-- the blocks are all that are live
+pub live_blocks_listed : (t : TypeTable) (n : ℕ) (k : Block) → n ≤ 8 → Contains (live_blocks t n) k ↔ IsLiveBlock t n k
+unfolding live_blocks
+live_blocks_listed t n k few = (
+  λ h.
+      let r = was_in (λ (k : Block). all_move t k.state k.a) k all (IsIn-from_Contains k _ h) in
+      let is = blocks_are (length t.states) (length t.operations) n k few r.0 in
+      record {
+        block = is.0;
+        for_n = is.1;
+        in_order = is_non_decreasing k.a (blocks_rise (length t.states) (length t.operations) n k r.0);
+        moves = All-from_recursion (λ o. (transition t o k.state).1 ≢ k.state) k.a (all_from t k.state k.a r.1);
+      },
+  λ h. Contains-from_IsIn k _ (kept (λ (k : Block). all_move t k.state k.a) k all
+      (to_blocks (length t.states) (length t.operations) n k h.block h.for_n (never_falls k.a h.in_order))
+      (all_to t k.state k.a (recursion_from_All (λ o. (transition t o k.state).1 ≢ k.state) k.a h.moves))),
+)
+  where
+    all : List Block
+    all = canonical_blocks (length t.states) (length t.operations) n
+
+pub live_blocks_ascend : (t : TypeTable) (n : ℕ) → AllPairs BlockComesBefore (live_blocks t n)
+unfolding live_blocks
+live_blocks_ascend t n =
+    AllPairs-from_Pairs BlockComesBefore _ (pairs_kept (λ (k : Block). all_move t k.state k.a) BlockComesBefore _ (blocks_ascend (length t.states) (length t.operations) n))

@@ -1,10 +1,11 @@
 //! From bytes to a table, or to the first fault that the bytes have.
-ghost use Rattle.std.specs.Prelude.{◌≡◌, ◌⊎◌, Ok, Err, IfOk, IfErr, IsUtf8};
+ghost use Rattle.std.specs.Prelude.{◌≡◌, ◌≢◌, ◌⊎◌, Ok, Err, IfOk, IfErr, IsUtf8};
 ghost use Rattle.toml.specs.View.{table_view};
 ghost use Rattle.cn_table.specs.DraftView.{draft_view};
 ghost use Rattle.cn_table.specs.Faults.{reading};
 ghost use Rattle.cn_table.specs.Reads.{document_reading, draft_reading};
-ghost use Rattle.cn_table.specs.declared.fault.TableFault.TheVariants.{NotToml, OutOfMemory};
+ghost use Rattle.cn_table.specs.declared.fault.TableFault.{TableFault as FaultOf};
+ghost use Rattle.cn_table.specs.declared.fault.TableFault.TheVariants.{NotToml, UnknownName, OutOfMemory};
 
 use crate::document::read_document;
 use crate::draft::{Draft, draft_from};
@@ -15,12 +16,15 @@ use crate::resolve::table_from;
 use crate::table::Table;
 use std::alloc::Global;
 
-/// The table of a draft, or the first fault that the draft has.
+/// The table of a draft, or the first fault that the draft has. A fault other than an unknown name
+/// is told before memory is taken.
 #[tactic(auto, unfolding(crate::specs::Reads::draft_reading))]
 fn table_of_draft(alloc: Global, draft: Draft) -> Result<Table, TableFault>
     ensures table { IfOk result (λ t. draft_reading (draft_view draft) ≡ Ok t) }
     ensures fault { IfErr result (λ e. (e ≡ OutOfMemory)
         ⊎ (draft_reading (draft_view draft) ≡ Err e)) }
+    ensures told { (e : FaultOf) → draft_reading (draft_view draft) ≡ Err e → e ≢ UnknownName
+        → result ≡ Err e }
 {
     if has_bad_name(&draft) {
         return Err(TableFault::BadName);
