@@ -12,7 +12,7 @@ use crate::given_list::GivenList;
 use crate::lazy_file::{LazyFile, file_text};
 use cn_app::commands::{self, NamedTable};
 use cn_app::readers::OpeningArguments;
-use cn_app::{AppFault, Outcome, Output, Part, Text};
+use cn_app::{AppFault, Outcome, Output, Argument, Text};
 use cn_hall::AlwaysOn;
 use cn_words::{Command, ListSource, OpeningWords, TableSource};
 use std::alloc::{AllocError, Global};
@@ -104,8 +104,8 @@ fn agree<T: Files, I: Read, O: Write>(
     requires table { IsUnread table.old }
     requires output { IsWritable output.old }
 {
-    let inputs = GivenList::read(rt, alloc, inputs, Part::Inputs)?;
-    let schedule = GivenList::read(rt, alloc, schedule, Part::Schedule)?;
+    let inputs = GivenList::read(rt, alloc, inputs, Argument::Inputs)?;
+    let schedule = GivenList::read(rt, alloc, schedule, Argument::Schedule)?;
     let certificate = &mut file_text(rt, alloc, certificate);
     commands::agree(
         alloc,
@@ -129,7 +129,7 @@ fn replay<T: Files, I: Read + Drop, O: Write>(
     requires table { IsUnread table }
     requires output { IsWritable output.old }
 {
-    let events = GivenList::read(rt, alloc, events, Part::Events)?;
+    let events = GivenList::read(rt, alloc, events, Argument::Events)?;
     let mut given = opening(rt, alloc, table, words);
     commands::replay(alloc, &mut given, output, events.text())
 }
@@ -146,7 +146,7 @@ fn serve<T: Threads + Wait + Sync + Files, I: Read + Drop, O: Write>(
     requires table { IsUnread table }
     requires output { IsWritable output.old }
 {
-    let calls = GivenList::read(rt, alloc, calls, Part::Calls)?;
+    let calls = GivenList::read(rt, alloc, calls, Argument::Calls)?;
     let mut given = opening(rt, alloc, table, words);
     commands::serve(rt, alloc, &mut given, output, calls.text(), |_| AlwaysOn)
 }
