@@ -2,7 +2,7 @@
 ghost use Rattle.cnum.specs.GivenLists.{GivesList, HasText};
 
 use crate::lazy_file::file_text;
-use cn_app::{AppFault, ListText, Argument, read_argument};
+use cn_app::{AppFault, Argument, ListText, read_argument};
 use cn_words::ListSource;
 use std::alloc::Global;
 use std::rt::Files;

@@ -7,12 +7,12 @@ ghost use Rattle.cn_app.specs.Streams.Writing.{IsWritable};
 ghost use Rattle.cn_app.specs.Texts.Openings.{AreUnread};
 
 use crate::faults::Faults;
-use crate::given::Given;
 use crate::given_list::GivenList;
 use crate::lazy_file::{LazyFile, file_text};
+use crate::table_reader::TableReader;
 use cn_app::commands::{self, NamedTable};
 use cn_app::readers::OpeningArguments;
-use cn_app::{AppFault, Outcome, Output, Argument, Text};
+use cn_app::{AppFault, Argument, Outcome, Output, Text};
 use cn_hall::AlwaysOn;
 use cn_words::{Command, ListSource, OpeningWords, TableSource};
 use std::alloc::{AllocError, Global};
@@ -27,12 +27,12 @@ fn named_table<'a, T: Files>(
     alloc: Global,
     stdin: &'a Stdin,
     source: TableSource<'a>,
-) -> NamedTable<'a, Given<'a, T>>
+) -> NamedTable<'a, TableReader<'a, T>>
     ensures { IsUnread result.text }
 {
     let (name, reader) = match source {
-        TableSource::StandardInput => ("-", Given::Standard(stdin)),
-        TableSource::File(path) => (path, Given::File(LazyFile::new(rt, path))),
+        TableSource::StandardInput => ("-", TableReader::Standard(stdin)),
+        TableSource::File(path) => (path, TableReader::File(LazyFile::new(rt, path))),
     };
     let text = Text::new(alloc, reader);
     NamedTable { name, text }
@@ -44,7 +44,7 @@ fn named_tables<'a, T: Files>(
     alloc: Global,
     stdin: &'a Stdin,
     sources: &[TableSource<'a>],
-) -> Result<Vec<NamedTable<'a, Given<'a, T>>>, AllocError>
+) -> Result<Vec<NamedTable<'a, TableReader<'a, T>>>, AllocError>
     ensures { IfOk result (λ tables. AllUnread tables.items) }
 {
     let mut tables = Vec::with_capacity(alloc, sources.len())?;

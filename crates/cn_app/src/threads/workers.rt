@@ -104,10 +104,10 @@ pub(crate) fn answer_each<R: Threads + Wait + Sync, G: Gate + Send + Drop>(
     requires rooms { HaveRoom calls.now rooms.items × (length rooms.items ≡ length seats.items) }
     requires gates { All (λ g. G.says g ≡ On) gates.items
         × (length gates.items ≡ length seats.items) }
-    ensures seats { IfSome result (λ r. (length r.0.items ≡ length seats.items)
-        × (vec_capacity r.0 ≡ vec_capacity seats)) }
-    ensures rooms { IfSome result (λ r. (length r.1.items ≡ length seats.items)
-        × (vec_capacity r.1 ≡ vec_capacity rooms)) }
+    ensures seats { IfSome result
+        (λ r. (length r.0.items ≡ length seats.items) × (vec_capacity r.0 ≡ vec_capacity seats)) }
+    ensures rooms { IfSome result
+        (λ r. (length r.1.items ≡ length seats.items) × (vec_capacity r.1 ≡ vec_capacity rooms)) }
     ensures worked { IfSome result (λ r. HaveAllWorked calls.now seats.items r.0.items r.1.items) }
     ensures asked { IfSome result (λ r. AllGatesWereAsked G.asks G.says seats.items gates.items
         r.0.items) }
