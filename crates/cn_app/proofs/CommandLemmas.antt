@@ -1,5 +1,5 @@
 -- Commands.
 pub mod Calls
 pub mod Lists
+pub mod Reports
 pub mod SeveralTables
-pub mod Silence

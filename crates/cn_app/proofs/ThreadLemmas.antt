@@ -1,6 +1,6 @@
 -- Threads that make the calls of the processes.
 pub mod CallLists
-pub mod Left
+pub mod ClosedLogs
 pub mod Places
 pub mod Seats
 pub mod Serving

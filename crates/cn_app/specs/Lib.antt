@@ -4,6 +4,7 @@ pub mod Commands
 pub mod FaultText
 pub mod Headline
 pub mod Lines
+pub mod Outcomes
 pub mod Steps
 pub mod Streams
 pub mod Texts

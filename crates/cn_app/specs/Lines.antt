@@ -1,2 +1,2 @@
--- The lines of what threads left.
+-- The lines of a service.
 pub mod Threads

@@ -15,7 +15,7 @@ use std::alloc::Global;
 
 /// The core in which the events happened, and how they ended calls, in order.
 #[derive(Drop)]
-pub(crate) struct Replayed {
+pub(crate) struct ReplayHistory {
     pub core: LogCore,
     pub ends: Vec<CallEnd>,
 }
@@ -23,10 +23,14 @@ pub(crate) struct Replayed {
 /// The event comes, if it can. If it ends a call, that goes behind the others.
 fn come(core: &mut LogCore, event: Event, ends: &mut Vec<CallEnd>) -> Result<(), ReplayFault>
     requires room { vec_len ends.old < vec_capacity ends.old }
-    ensures core { OnOk result (core.new ≡ record core.old { schedule = core.old.schedule ++ event ∷ [] }) }
-    ensures ends { OnOk result (ends.new.items ≡ ends.old.items ++ ends_by (setting core.old) core.old.schedule event) }
-    ensures responses { OnOk result (HaveResponses core.old.opening.object (ends_by (setting core.old) core.old.schedule event)) }
-    ensures first { IfErr result (λ fault. (rest : List EventOf) → IsFirstEventFault (setting core.old) (core.old.schedule ++ event ∷ rest) fault) }
+    ensures core { OnOk result
+        (core.new ≡ record core.old { schedule = core.old.schedule ++ event ∷ [] }) }
+    ensures ends { OnOk result
+        (ends.new.items ≡ ends.old.items ++ ends_by (setting core.old) core.old.schedule event) }
+    ensures responses { OnOk result (HaveResponses core.old.opening.object
+        (ends_by (setting core.old) core.old.schedule event)) }
+    ensures first { IfErr result (λ fault. (rest : List EventOf)
+        → IsFirstEventFault (setting core.old) (core.old.schedule ++ event ∷ rest) fault) }
     ensures few { length ends.new.items ≤ length ends.old.items + 1 }
     ensures room { vec_capacity ends.new ≡ vec_capacity ends.old }
 {
@@ -42,12 +46,14 @@ pub(crate) fn answers_of(
     alloc: Global,
     opening: Opening,
     events: &[Event],
-) -> Result<Replayed, ReplayFault>
+) -> Result<ReplayHistory, ReplayFault>
     ensures opening { IfOk result (λ replayed. replayed.core.opening ≡ opening) }
     ensures schedule { IfOk result (λ replayed. replayed.core.schedule ≡ events.now) }
-    ensures ends { IfOk result (λ replayed. replayed.ends.items ≡ ends_after (setting_of opening) [] events.now) }
+    ensures ends { IfOk result (λ replayed. replayed.ends.items
+        ≡ ends_after (setting_of opening) [] events.now) }
     ensures responses { IfOk result (λ replayed. HaveResponses opening.object replayed.ends.items) }
-    ensures fault { IfErr result (λ fault. fault ≢ OutOfMemory → IsFirstEventFault (setting_of opening) events.now fault) }
+    ensures fault { IfErr result (λ fault. fault ≢ OutOfMemory
+        → IsFirstEventFault (setting_of opening) events.now fault) }
     ensures events { OnOk result (IsEventList (setting_of opening) events.now) }
     ensures linearized { OnOk result (IsLinearized (setting_of opening) events.now) }
 {
@@ -57,5 +63,5 @@ pub(crate) fn answers_of(
         come(&mut core, *event, &mut ends)?;
     }
     logs_are_linearized(&core);
-    Ok(Replayed { core, ends })
+    Ok(ReplayHistory { core, ends })
 }

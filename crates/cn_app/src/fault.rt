@@ -24,12 +24,12 @@ pub enum Source {
     /// The table of the object that is served.
     Object,
     /// A file that holds the text of an argument.
-    Argument(Part),
+    Argument(Argument),
 }
 
 /// An argument that a command reads from its text.
 #[derive(Clone, Copy, Debug, PartialEq, Eq)]
-pub enum Part {
+pub enum Argument {
     /// The numbers that the processes begin with.
     Inputs,
     /// The processes in the order of their steps.
@@ -50,7 +50,7 @@ pub enum AppFault {
     /// The words of the command line were refused; made by the program alone.
     Words,
     /// An argument is not spelled as it should be.
-    Argument(Part),
+    Argument(Argument),
     /// The text of the type table was refused.
     Table(TableFault),
     /// The text of the object's table was refused.
@@ -79,110 +79,6 @@ pub enum AppFault {
     OutOfMemory,
 }
 
-impl<T: Drop> From<AllocFailed<T>> for AppFault {
-    ghost from_gives = { λ _ e. e ≡ OutOfMemory };
-
-    fn from(_e: AllocFailed<T>) -> AppFault {
-        AppFault::OutOfMemory
-    }
-}
-
-impl From<AllocError> for AppFault {
-    ghost from_gives = { λ _ e. e ≡ OutOfMemory };
-
-    fn from(_e: AllocError) -> AppFault {
-        AppFault::OutOfMemory
-    }
-}
-
-impl From<TableFault> for AppFault {
-    ghost use Rattle.cn_app.specs.FaultText.{of_table};
-
-    ghost from_gives = { λ fault e. e ≡ of_table fault };
-
-    fn from(fault: TableFault) -> AppFault {
-        match fault {
-            TableFault::OutOfMemory => AppFault::OutOfMemory,
-            fault => AppFault::Table(fault),
-        }
-    }
-}
-
-impl From<FindFault> for AppFault {
-    ghost use Rattle.cn_app.specs.FaultText.{of_find};
-
-    ghost from_gives = { λ fault e. e ≡ of_find fault };
-
-    fn from(fault: FindFault) -> AppFault {
-        match fault {
-            FindFault::OutOfMemory => AppFault::OutOfMemory,
-            fault => AppFault::Find(fault),
-        }
-    }
-}
-
-impl From<CertFault> for AppFault {
-    ghost use Rattle.cn_app.specs.FaultText.{of_certificate};
-
-    ghost from_gives = { λ fault e. e ≡ of_certificate fault };
-
-    fn from(fault: CertFault) -> AppFault {
-        match fault {
-            CertFault::OutOfMemory => AppFault::OutOfMemory,
-            fault => AppFault::Certificate(fault),
-        }
-    }
-}
-
-impl From<CheckFault> for AppFault {
-    ghost use Rattle.cn_app.specs.declared.fault.AppFault.TheVariants.{Check};
-
-    ghost from_gives = { λ fault e. e ≡ Check fault };
-
-    fn from(fault: CheckFault) -> AppFault {
-        AppFault::Check(fault)
-    }
-}
-
-impl From<ScheduleFault> for AppFault {
-    ghost use Rattle.cn_app.specs.FaultText.{of_schedule};
-
-    ghost from_gives = { λ fault e. e ≡ of_schedule fault };
-
-    fn from(fault: ScheduleFault) -> AppFault {
-        match fault {
-            ScheduleFault::OutOfMemory => AppFault::OutOfMemory,
-            fault => AppFault::Schedule(fault),
-        }
-    }
-}
-
-impl From<ReplayFault> for AppFault {
-    ghost use Rattle.cn_app.specs.FaultText.{of_replay};
-
-    ghost from_gives = { λ fault e. e ≡ of_replay fault };
-
-    fn from(fault: ReplayFault) -> AppFault {
-        match fault {
-            ReplayFault::OutOfMemory => AppFault::OutOfMemory,
-            fault => AppFault::Replay(fault),
-        }
-    }
-}
-
-impl From<ServeFault> for AppFault {
-    ghost use Rattle.cn_app.specs.FaultText.{of_serving};
-
-    ghost from_gives = { λ fault e. e ≡ of_serving fault };
-
-    fn from(fault: ServeFault) -> AppFault {
-        match fault {
-            ServeFault::Thread => AppFault::Thread,
-            ServeFault::OutOfMemory => AppFault::OutOfMemory,
-        }
-    }
-}
-
 impl Source {
     ghost use Rattle.cn_app.specs.FaultText.{source_text};
     ghost use Rattle.cn_app.specs.Streams.Reading.{most_of};
@@ -206,25 +102,25 @@ impl Source {
             Source::Table => "table",
             Source::Certificate => "certificate",
             Source::Object => "object",
-            Source::Argument(part) => part.name(),
+            Source::Argument(argument) => argument.name(),
         }
     }
 }
 
-impl Part {
-    ghost use Rattle.cn_app.specs.FaultText.{part_text};
+impl Argument {
+    ghost use Rattle.cn_app.specs.FaultText.{argument_text};
 
     /// The word for it in the text of a fault.
     pub fn name(&self) -> &'static str
-        ensures { result.now ≡ part_text self.now }
+        ensures { result.now ≡ argument_text self.now }
     {
         match self {
-            Part::Inputs => "INPUTS",
-            Part::Schedule => "SCHEDULE",
-            Part::Start => "START",
-            Part::Capacity => "CAPACITY",
-            Part::Events => "EVENTS",
-            Part::Calls => "CALLS",
+            Argument::Inputs => "INPUTS",
+            Argument::Schedule => "SCHEDULE",
+            Argument::Start => "START",
+            Argument::Capacity => "CAPACITY",
+            Argument::Events => "EVENTS",
+            Argument::Calls => "CALLS",
         }
     }
 }
@@ -239,10 +135,10 @@ impl fmt::Display for Source {
     }
 }
 
-impl fmt::Display for Part {
-    ghost use Rattle.cn_app.specs.FaultText.{part_text};
+impl fmt::Display for Argument {
+    ghost use Rattle.cn_app.specs.FaultText.{argument_text};
 
-    ghost output = { λ p. Some (part_text p) };
+    ghost output = { λ p. Some (argument_text p) };
 
     fn fmt<W: fmt::Write>(&self, f: &mut fmt::Formatter<W>) -> fmt::Result {
         f.write_str(self.name())
@@ -296,7 +192,7 @@ impl AppFault {
         ensures { result.now ≡ tail_of self.now }
     {
         match self {
-            AppFault::Argument(part) => part.name(),
+            AppFault::Argument(argument) => argument.name(),
             AppFault::TooLong(_) => ": too long",
             AppFault::Read(source) => source.name(),
             _ => "",
@@ -331,9 +227,9 @@ impl AppFault {
 }
 
 impl fmt::Display for AppFault {
-    ghost use Rattle.cn_app.specs.FaultText.{fault_text};
+    ghost use Rattle.cn_app.specs.FaultText.{app_fault_text};
 
-    ghost output = { λ e. Some (fault_text e) };
+    ghost output = { λ e. Some (app_fault_text e) };
 
     fn fmt<W: fmt::Write>(&self, f: &mut fmt::Formatter<W>) -> fmt::Result {
         let (head, tail) = (self.head(), self.tail());
@@ -350,3 +246,97 @@ impl fmt::Display for AppFault {
 }
 
 impl Error for AppFault {}
+
+impl<T: Drop> From<AllocFailed<T>> for AppFault {
+    ghost from_gives = { λ _ e. e ≡ OutOfMemory };
+
+    fn from(_e: AllocFailed<T>) -> AppFault {
+        AppFault::OutOfMemory
+    }
+}
+
+impl From<TableFault> for AppFault {
+    ghost use Rattle.cn_app.specs.FaultText.{plain_of};
+    ghost use Rattle.cn_app.specs.declared.fault.AppFault.TheVariants.{Table};
+
+    ghost from_gives = { λ fault e. e ≡ plain_of (Table fault) };
+
+    fn from(fault: TableFault) -> AppFault {
+        AppFault::Table(fault).plain()
+    }
+}
+
+impl From<FindFault> for AppFault {
+    ghost use Rattle.cn_app.specs.FaultText.{plain_of};
+    ghost use Rattle.cn_app.specs.declared.fault.AppFault.TheVariants.{Find};
+
+    ghost from_gives = { λ fault e. e ≡ plain_of (Find fault) };
+
+    fn from(fault: FindFault) -> AppFault {
+        AppFault::Find(fault).plain()
+    }
+}
+
+impl From<CertFault> for AppFault {
+    ghost use Rattle.cn_app.specs.FaultText.{plain_of};
+    ghost use Rattle.cn_app.specs.declared.fault.AppFault.TheVariants.{Certificate};
+
+    ghost from_gives = { λ fault e. e ≡ plain_of (Certificate fault) };
+
+    fn from(fault: CertFault) -> AppFault {
+        AppFault::Certificate(fault).plain()
+    }
+}
+
+impl From<CheckFault> for AppFault {
+    ghost use Rattle.cn_app.specs.declared.fault.AppFault.TheVariants.{Check};
+
+    ghost from_gives = { λ fault e. e ≡ Check fault };
+
+    fn from(fault: CheckFault) -> AppFault {
+        AppFault::Check(fault)
+    }
+}
+
+impl From<ScheduleFault> for AppFault {
+    ghost use Rattle.cn_app.specs.FaultText.{plain_of};
+    ghost use Rattle.cn_app.specs.declared.fault.AppFault.TheVariants.{Schedule};
+
+    ghost from_gives = { λ fault e. e ≡ plain_of (Schedule fault) };
+
+    fn from(fault: ScheduleFault) -> AppFault {
+        AppFault::Schedule(fault).plain()
+    }
+}
+
+impl From<ReplayFault> for AppFault {
+    ghost use Rattle.cn_app.specs.FaultText.{plain_of};
+    ghost use Rattle.cn_app.specs.declared.fault.AppFault.TheVariants.{Replay};
+
+    ghost from_gives = { λ fault e. e ≡ plain_of (Replay fault) };
+
+    fn from(fault: ReplayFault) -> AppFault {
+        AppFault::Replay(fault).plain()
+    }
+}
+
+impl From<ServeFault> for AppFault {
+    ghost use Rattle.cn_app.specs.FaultText.{of_serving};
+
+    ghost from_gives = { λ fault e. e ≡ of_serving fault };
+
+    fn from(fault: ServeFault) -> AppFault {
+        match fault {
+            ServeFault::Thread => AppFault::Thread,
+            ServeFault::OutOfMemory => AppFault::OutOfMemory,
+        }
+    }
+}
+
+impl From<AllocError> for AppFault {
+    ghost from_gives = { λ _ e. e ≡ OutOfMemory };
+
+    fn from(_e: AllocError) -> AppFault {
+        AppFault::OutOfMemory
+    }
+}

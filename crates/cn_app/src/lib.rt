@@ -24,7 +24,7 @@ pub use arguments::files::read_argument;
 pub use arguments::list_text::ListText;
 pub use arguments::lists::{read_inputs, read_schedule};
 pub use cn_forms::{Form, MOST_TOLD};
-pub use fault::{AppFault, Part, Source};
+pub use fault::{AppFault, Argument, Source};
 pub use limits::{
     MOST_ARGUMENT_BYTES, MOST_CALLS, MOST_CERTIFICATE_BYTES, MOST_DIGITS, MOST_FILE_ITEMS,
     MOST_ITEMS, MOST_TABLE_BYTES,

@@ -1,3 +1,3 @@
-//! The lines of what threads left.
+//! The lines of a service.
 
 pub mod threads;

@@ -15,6 +15,17 @@ pub enum Outcome {
     Refused(TableFault),
 }
 
+impl Outcome {
+    ghost use Rattle.cn_app.specs.Outcomes.{cut_if};
+
+    /// Cut where some call has no reply, and else whole.
+    pub(crate) fn cut_if(is_cut: bool) -> Outcome
+        ensures { result ≡ cut_if is_cut }
+    {
+        if is_cut { Outcome::Cut } else { Outcome::Whole }
+    }
+}
+
 /// What a command writes, and how it ends.
 #[derive(Drop)]
 pub struct Report {

@@ -1,7 +1,7 @@
 //! How each fault reads: its number, its name, and what it carries.
 use crate::hall::core_after;
 use cn_agree::ScheduleFault;
-use cn_app::{AppFault, Part, Source};
+use cn_app::{AppFault, Argument, Source};
 use cn_cert::CertFault;
 use cn_check::CheckFault;
 use cn_hall::{CallFault, OpenFault};
@@ -116,7 +116,7 @@ fn of_calls() -> [(CallFault, &'static str); 2] {
 fn of_commands() -> [(AppFault, &'static str); 14] {
     [
         (AppFault::Words, "words refused"),
-        (AppFault::Argument(Part::Inputs), "argument: INPUTS"),
+        (AppFault::Argument(Argument::Inputs), "argument: INPUTS"),
         (AppFault::Table(TableFault::NotToml), "table: 1 NotToml"),
         (
             AppFault::Object(TableFault::UnknownName),
@@ -127,7 +127,7 @@ fn of_commands() -> [(AppFault, &'static str); 14] {
             "certificate: 4 Range",
         ),
         (
-            AppFault::TooLong(Source::Argument(Part::Events)),
+            AppFault::TooLong(Source::Argument(Argument::Events)),
             "EVENTS: too long",
         ),
         (

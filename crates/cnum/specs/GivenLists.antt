@@ -7,8 +7,8 @@ use Rattle.cn_app.specs.declared.arguments.list_text.ListText.{ListText}
 use Rattle.cn_app.specs.declared.arguments.list_text.ListText.TheVariants as text
 use Rattle.cn_app.specs.declared.fault.AppFault.{AppFault}
 use Rattle.cn_app.specs.declared.fault.AppFault.TheVariants.{OutOfMemory, Read}
-use Rattle.cn_app.specs.declared.fault.Part.{Part}
-use Rattle.cn_app.specs.declared.fault.Source.TheVariants.{Argument}
+use Rattle.cn_app.specs.declared.fault.Argument.{Argument}
+use Rattle.cn_app.specs.declared.fault.Source.TheVariants as from_source
 use Rattle.cnum.specs.declared.given_list.GivenList.{GivenList}
 use Rattle.cnum.specs.declared.given_list.GivenList.TheVariants.{File, Word}
 
@@ -20,12 +20,13 @@ HasText (File held) (text.Word t) = ⊥
 HasText (File held) (text.File t) = t.now ≡ string_bytes held
 
 -- a file that holds an argument could not be read, or this is the first fault of what it holds
-abbrev pub IsFileFault : Part → AppFault → Type 0
-IsFileFault part e = (e ≡ OutOfMemory) ⊎ ((e ≡ Read (Argument part)) ⊎ ((bytes : List ℕ) × (argument_in part bytes ≡ Err e)))
+abbrev pub IsFileFault : Argument → AppFault → Type 0
+IsFileFault argument e = (e ≡ OutOfMemory) ⊎ ((e ≡ Read (from_source.Argument argument))
+    ⊎ ((bytes : List ℕ) × (argument_in argument bytes ≡ Err e)))
 
 -- reading a list from its source ends so: a word is the list itself; a file holds its text, or has a fault
-abbrev pub GivesList : ListSource → Part → Result GivenList AppFault → Type 0
-GivesList (source.Word word) part r = r ≡ Ok (Word word)
-GivesList (source.File path) part (Ok (Word word)) = ⊥
-GivesList (source.File path) part (Ok (File held)) = (bytes : List ℕ) × (argument_in part bytes ≡ Ok (string_bytes held))
-GivesList (source.File path) part (Err e) = IsFileFault part e
+abbrev pub GivesList : ListSource → Argument → Result GivenList AppFault → Type 0
+GivesList (source.Word word) argument r = r ≡ Ok (Word word)
+GivesList (source.File path) argument (Ok (Word word)) = ⊥
+GivesList (source.File path) argument (Ok (File held)) = (bytes : List ℕ) × (argument_in argument bytes ≡ Ok (string_bytes held))
+GivesList (source.File path) argument (Err e) = IsFileFault argument e

@@ -2,7 +2,7 @@
 ghost use Rattle.cnum.specs.GivenLists.{GivesList, HasText};
 
 use crate::lazy_file::file_text;
-use cn_app::{AppFault, ListText, Part, read_argument};
+use cn_app::{AppFault, Argument, ListText, read_argument};
 use cn_words::ListSource;
 use std::alloc::Global;
 use std::rt::Files;
@@ -20,15 +20,15 @@ impl<'a> GivenList<'a> {
         rt: &R,
         alloc: Global,
         source: ListSource<'a>,
-        part: Part,
+        argument: Argument,
     ) -> Result<GivenList<'a>, AppFault>
-        ensures { GivesList source.entry part result }
+        ensures { GivesList source.entry argument result }
     {
         match source {
             ListSource::Word(word) => Ok(GivenList::Word(word)),
             ListSource::File(path) => {
                 let mut text = file_text(rt, alloc, path);
-                Ok(GivenList::File(read_argument(alloc, &mut text, part)?))
+                Ok(GivenList::File(read_argument(alloc, &mut text, argument)?))
             }
         }
     }

@@ -2,11 +2,16 @@
 //! command line mean stands in the library `cn_words`, and what each command does in `cn_app`.
 #![tactic(auto)]
 
+ghost use Rattle.std.specs.Prelude.{◌≡◌};
+ghost use Rattle.std.specs.Process.{exit_status};
+ghost use Rattle.cn_app.specs.FaultText.{status_of};
+ghost use Rattle.cnum.specs.Exits.{classify_status, command_status};
+
 mod faults;
-mod given;
 mod given_list;
 mod lazy_file;
 mod runs;
+mod table_reader;
 
 use cn_app::commands::Tell;
 use cn_app::{AppFault, Outcome, Output};
@@ -21,28 +26,34 @@ use std::sync::Wait;
 use std::thread::Threads;
 
 // How the program ends after a fault, which it tells.
-fn refused(rt: &impl Eprint, fault: AppFault) -> ExitCode {
+fn fault_exit(rt: &impl Eprint, fault: AppFault) -> ExitCode
+    ensures { exit_status result ≡ status_of fault }
+{
     Faults { rt }.tell(None, fault);
     ExitCode::from(fault.status())
 }
 
 // How the program ends where a command has ended so. What lint says of a refused table is written,
 // and its fault is told as by every command.
-fn ended(rt: &impl Eprint, end: Result<Outcome, AppFault>) -> ExitCode {
+fn command_exit(rt: &impl Eprint, end: Result<Outcome, AppFault>) -> ExitCode
+    ensures { exit_status result ≡ command_status end }
+{
     match end {
         Ok(Outcome::Whole) => ExitCode::SUCCESS,
         Ok(Outcome::Cut) => ExitCode::FAILURE,
-        Ok(Outcome::Refused(fault)) => refused(rt, AppFault::from(fault)),
-        Err(fault) => refused(rt, fault),
+        Ok(Outcome::Refused(fault)) => fault_exit(rt, AppFault::from(fault)),
+        Err(fault) => fault_exit(rt, fault),
     }
 }
 
 // The same of several tables, of which the first fault is known and each is told.
-fn all_ended(rt: &impl Eprint, first: Result<Option<AppFault>, AppFault>) -> ExitCode {
+fn classify_exit(rt: &impl Eprint, first: Result<Option<AppFault>, AppFault>) -> ExitCode
+    ensures { exit_status result ≡ classify_status first }
+{
     match first {
         Ok(None) => ExitCode::SUCCESS,
         Ok(Some(fault)) => ExitCode::from(fault.status()),
-        Err(fault) => refused(rt, fault),
+        Err(fault) => fault_exit(rt, fault),
     }
 }
 
@@ -57,9 +68,9 @@ fn obey<T: Threads + Wait + Sync + Files + Eprint, O: Write + Drop>(
     let mut output = Output::new(alloc, stdout);
     if let Command::Classify { limit, tables } = command {
         let first = classify(rt, alloc, &stdin, &mut output, *limit, tables);
-        return all_ended(rt, first);
+        return classify_exit(rt, first);
     }
-    ended(rt, run(rt, alloc, stdin, &mut output, command))
+    command_exit(rt, run(rt, alloc, stdin, &mut output, command))
 }
 
 // Tells what there is to tell in place of a command; how the program ends.
@@ -67,14 +78,14 @@ fn answer(rt: &HostRuntime, reply: Reply) -> ExitCode {
     match reply {
         Reply::Help(text) => match print!(rt; "{text}") {
             Ok(()) => ExitCode::SUCCESS,
-            Err(_) => refused(rt, AppFault::Write),
+            Err(_) => fault_exit(rt, AppFault::Write),
         },
         Reply::Refusal(text) => {
             let _ = eprint!(rt; "{text}");
             ExitCode::from(AppFault::Words.status())
         }
-        Reply::Fault(CommandFault::Words) => refused(rt, AppFault::Words),
-        Reply::Fault(CommandFault::OutOfMemory) => refused(rt, AppFault::OutOfMemory),
+        Reply::Fault(CommandFault::Words) => fault_exit(rt, AppFault::Words),
+        Reply::Fault(CommandFault::OutOfMemory) => fault_exit(rt, AppFault::OutOfMemory),
     }
 }
 
@@ -89,7 +100,7 @@ fn given_words(rt: &HostRuntime) -> Result<Vec<String>, AppFault> {
 fn main(rt: HostRuntime) -> ExitCode {
     let given = match given_words(&rt) {
         Ok(given) => given,
-        Err(fault) => return refused(&rt, fault),
+        Err(fault) => return fault_exit(&rt, fault),
     };
     match cn_words::parse(rt.alloc(), given.as_slice()) {
         Ok(command) => obey(&rt, rt.alloc(), rt.stdin(), rt.stdout(), &command),

@@ -7,12 +7,12 @@ ghost use Rattle.cn_app.specs.Streams.Writing.{IsWritable};
 ghost use Rattle.cn_app.specs.Texts.Openings.{AreUnread};
 
 use crate::faults::Faults;
-use crate::given::Given;
 use crate::given_list::GivenList;
 use crate::lazy_file::{LazyFile, file_text};
+use crate::table_reader::TableReader;
 use cn_app::commands::{self, NamedTable};
 use cn_app::readers::OpeningArguments;
-use cn_app::{AppFault, Outcome, Output, Part, Text};
+use cn_app::{AppFault, Argument, Outcome, Output, Text};
 use cn_hall::AlwaysOn;
 use cn_words::{Command, ListSource, OpeningWords, TableSource};
 use std::alloc::{AllocError, Global};
@@ -27,12 +27,12 @@ fn named_table<'a, T: Files>(
     alloc: Global,
     stdin: &'a Stdin,
     source: TableSource<'a>,
-) -> NamedTable<'a, Given<'a, T>>
+) -> NamedTable<'a, TableReader<'a, T>>
     ensures { IsUnread result.text }
 {
     let (name, reader) = match source {
-        TableSource::StandardInput => ("-", Given::Standard(stdin)),
-        TableSource::File(path) => (path, Given::File(LazyFile::new(rt, path))),
+        TableSource::StandardInput => ("-", TableReader::Standard(stdin)),
+        TableSource::File(path) => (path, TableReader::File(LazyFile::new(rt, path))),
     };
     let text = Text::new(alloc, reader);
     NamedTable { name, text }
@@ -44,7 +44,7 @@ fn named_tables<'a, T: Files>(
     alloc: Global,
     stdin: &'a Stdin,
     sources: &[TableSource<'a>],
-) -> Result<Vec<NamedTable<'a, Given<'a, T>>>, AllocError>
+) -> Result<Vec<NamedTable<'a, TableReader<'a, T>>>, AllocError>
     ensures { IfOk result (λ tables. AllUnread tables.items) }
 {
     let mut tables = Vec::with_capacity(alloc, sources.len())?;
@@ -104,8 +104,8 @@ fn agree<T: Files, I: Read, O: Write>(
     requires table { IsUnread table.old }
     requires output { IsWritable output.old }
 {
-    let inputs = GivenList::read(rt, alloc, inputs, Part::Inputs)?;
-    let schedule = GivenList::read(rt, alloc, schedule, Part::Schedule)?;
+    let inputs = GivenList::read(rt, alloc, inputs, Argument::Inputs)?;
+    let schedule = GivenList::read(rt, alloc, schedule, Argument::Schedule)?;
     let certificate = &mut file_text(rt, alloc, certificate);
     commands::agree(
         alloc,
@@ -129,7 +129,7 @@ fn replay<T: Files, I: Read + Drop, O: Write>(
     requires table { IsUnread table }
     requires output { IsWritable output.old }
 {
-    let events = GivenList::read(rt, alloc, events, Part::Events)?;
+    let events = GivenList::read(rt, alloc, events, Argument::Events)?;
     let mut given = opening(rt, alloc, table, words);
     commands::replay(alloc, &mut given, output, events.text())
 }
@@ -146,7 +146,7 @@ fn serve<T: Threads + Wait + Sync + Files, I: Read + Drop, O: Write>(
     requires table { IsUnread table }
     requires output { IsWritable output.old }
 {
-    let calls = GivenList::read(rt, alloc, calls, Part::Calls)?;
+    let calls = GivenList::read(rt, alloc, calls, Argument::Calls)?;
     let mut given = opening(rt, alloc, table, words);
     commands::serve(rt, alloc, &mut given, output, calls.text(), |_| AlwaysOn)
 }

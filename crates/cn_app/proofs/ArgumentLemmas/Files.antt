@@ -8,13 +8,13 @@ use Rattle.cn_app.specs.Arguments.Files.{argument_in, without_line_feed}
 use Rattle.cn_app.specs.declared.limits.TheConstants.{MOST_ARGUMENT_BYTES}
 use Rattle.cn_app.specs.declared.fault.AppFault.{AppFault}
 use Rattle.cn_app.specs.declared.fault.AppFault.TheVariants as fault
-use Rattle.cn_app.specs.declared.fault.Part.{Part}
+use Rattle.cn_app.specs.declared.fault.Argument.{Argument}
 use Rattle.cn_app.specs.declared.fault.Source.TheVariants as source
 
 -- what a line comes to, by whether the bytes are too many
-abbrev spelled : Part → Bool → List ℕ → Result (List ℕ) AppFault
-spelled part long line =
-    if long then Err (fault.TooLong (source.Argument part)) else (if is_utf8 line then Ok line else Err (fault.Argument part))
+abbrev spelled : Argument → Bool → List ℕ → Result (List ℕ) AppFault
+spelled argument long line =
+    if long then Err (fault.TooLong (source.Argument argument)) else (if is_utf8 line then Ok line else Err (fault.Argument argument))
 
 no_text : (line : List ℕ) → (IsUtf8 line → ⊥) → is_utf8 line ≡ false
 no_text line bad = elim (cases_Bool (is_utf8 line)) [
@@ -22,20 +22,20 @@ no_text line bad = elim (cases_Bool (is_utf8 line)) [
   | inr other ↦ other
 ]
 
-line_read : (part : Part) (long : Bool) (line : List ℕ) → long ≡ false → IsUtf8 line → spelled part long line ≡ Ok line
-line_read part long line few valid = rw (few, is_utf8-from_IsUtf8 line valid) refl
+line_read : (argument : Argument) (long : Bool) (line : List ℕ) → long ≡ false → IsUtf8 line → spelled argument long line ≡ Ok line
+line_read argument long line few valid = rw (few, is_utf8-from_IsUtf8 line valid) refl
 
-line_refused : (part : Part) (long : Bool) (line : List ℕ) → long ≡ false → (IsUtf8 line → ⊥) → spelled part long line ≡ Err (fault.Argument part)
-line_refused part long line few bad = rw (few, no_text line bad) refl
+line_refused : (argument : Argument) (long : Bool) (line : List ℕ) → long ≡ false → (IsUtf8 line → ⊥) → spelled argument long line ≡ Err (fault.Argument argument)
+line_refused argument long line few bad = rw (few, no_text line bad) refl
 
 -- few enough bytes, and what they are without the line feed at the end
-module _ (part : Part) (bytes line : List ℕ) (few : length bytes ≤ MOST_ARGUMENT_BYTES) (line_is : line ≡ without_line_feed bytes) where
-  pub argument_read : (text : List ℕ) → IsUtf8 line → text ≡ line → argument_in part bytes ≡ Ok text
+module _ (argument : Argument) (bytes line : List ℕ) (few : length bytes ≤ MOST_ARGUMENT_BYTES) (line_is : line ≡ without_line_feed bytes) where
+  pub argument_read : (text : List ℕ) → IsUtf8 line → text ≡ line → argument_in argument bytes ≡ Ok text
   argument_read text valid same =
-      subst (λ (l : List ℕ). spelled part (nat_lt MOST_ARGUMENT_BYTES (length bytes)) l ≡ Ok text) line_is
-      (line_read part (nat_lt MOST_ARGUMENT_BYTES (length bytes)) line (le-ltb MOST_ARGUMENT_BYTES (length bytes) few) valid ∙ ap Ok (sym same))
+      subst (λ (l : List ℕ). spelled argument (nat_lt MOST_ARGUMENT_BYTES (length bytes)) l ≡ Ok text) line_is
+      (line_read argument (nat_lt MOST_ARGUMENT_BYTES (length bytes)) line (le-ltb MOST_ARGUMENT_BYTES (length bytes) few) valid ∙ ap Ok (sym same))
 
-  pub argument_refused : (IsUtf8 line → ⊥) → argument_in part bytes ≡ Err (fault.Argument part)
+  pub argument_refused : (IsUtf8 line → ⊥) → argument_in argument bytes ≡ Err (fault.Argument argument)
   argument_refused bad =
-      subst (λ (l : List ℕ). spelled part (nat_lt MOST_ARGUMENT_BYTES (length bytes)) l ≡ Err (fault.Argument part)) line_is
-      (line_refused part (nat_lt MOST_ARGUMENT_BYTES (length bytes)) line (le-ltb MOST_ARGUMENT_BYTES (length bytes) few) bad)
+      subst (λ (l : List ℕ). spelled argument (nat_lt MOST_ARGUMENT_BYTES (length bytes)) l ≡ Err (fault.Argument argument)) line_is
+      (line_refused argument (nat_lt MOST_ARGUMENT_BYTES (length bytes)) line (le-ltb MOST_ARGUMENT_BYTES (length bytes) few) bad)

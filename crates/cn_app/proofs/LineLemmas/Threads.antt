@@ -6,7 +6,7 @@ use Rattle.cn_table.specs.TypeTable.{TypeTable}
 use Rattle.cn_log.specs.Opening.{Log}
 use Rattle.cn_app.specs.Lines.Threads.{EachHasResponses, RepliesHaveResponses}
 use Rattle.cn_app.specs.Threads.Serving.{HasServed}
-use Rattle.cn_app.specs.declared.threads.workers.Worked.{Worked}
+use Rattle.cn_app.specs.declared.threads.workers.ProcessHistory.{ProcessHistory}
 
 -- the place of a list of calls is that of what it was made of
 at_place : {V : Type 0} (items : V → List ℕ) (calls : List V) (p : ℕ) (c : List ℕ) → slice_get (map items calls) p ≡ Some c → (v : V) × (slice_get calls p ≡ Some v) × (items v ≡ c)
@@ -17,18 +17,18 @@ at_place {V} items calls p c there = by_option (slice_get calls p) refl (sym (sl
     by_option (Some v) is h = (v, is, cc)
 
 -- what each process of a list of calls has made
-pub each_served : (core : Log) (calls : List (Vec ℕ Global)) (worked : List Worked)
-    → ((p : ℕ) (c : Vec ℕ Global) (w : Worked) → slice_get calls p ≡ Some c → slice_get worked p ≡ Some w → HasServed core p c.items w.replies.items w.end)
-    → (p : ℕ) (c : List ℕ) (w : Worked) → slice_get (map (λ list. list.items) calls) p ≡ Some c → slice_get worked p ≡ Some w → HasServed core p c w.replies.items w.end
+pub each_served : (core : Log) (calls : List (Vec ℕ Global)) (worked : List ProcessHistory)
+    → ((p : ℕ) (c : Vec ℕ Global) (w : ProcessHistory) → slice_get calls p ≡ Some c → slice_get worked p ≡ Some w → HasServed core p c.items w.replies.items w.end)
+    → (p : ℕ) (c : List ℕ) (w : ProcessHistory) → slice_get (map (λ list. list.items) calls) p ≡ Some c → slice_get worked p ≡ Some w → HasServed core p c w.replies.items w.end
 each_served core calls worked served p c w there done =
     let at = at_place (λ (list : Vec ℕ Global). list.items) calls p c there in
     subst (λ (x : List ℕ). HasServed core p x w.replies.items w.end) at.2 (served p at.0 w at.1 done)
 
 -- the responses of the replies that the processes have are the object's
-pub each_has_responses : (object : TypeTable) (calls : List (Vec ℕ Global)) (core : Log) (worked : List Worked) → core.opening.object ≡ object → length worked ≡ length calls
-    → ((p : ℕ) (c : Vec ℕ Global) (w : Worked) → slice_get calls p ≡ Some c → slice_get worked p ≡ Some w → HasServed core p c.items w.replies.items w.end)
+pub each_has_responses : (object : TypeTable) (calls : List (Vec ℕ Global)) (core : Log) (worked : List ProcessHistory) → core.opening.object ≡ object → length worked ≡ length calls
+    → ((p : ℕ) (c : Vec ℕ Global) (w : ProcessHistory) → slice_get calls p ≡ Some c → slice_get worked p ≡ Some w → HasServed core p c.items w.replies.items w.end)
     → EachHasResponses object worked
 each_has_responses object calls core worked same many served p d less =
-    let w : Worked = slice_index_or worked p d in
+    let w : ProcessHistory = slice_index_or worked p d in
     let at = there_is calls p (subst (λ (n : ℕ). p < n) many less) in
     subst (λ (o : TypeTable). RepliesHaveResponses o w.replies.items) same (served p at.0 w at.1 (slice_get-get_or worked p d less)).range

@@ -1,6 +1,7 @@
 -- What a text that was read spells.
 use Rattle.std.proofs.Common.{◌≡◌, inl, inr, ℕ, List, length, Result, Ok, Err, refl}
 use Rattle.std.proofs.lemmas.Bool.{le-ltb, lt-ltb}
+use Rattle.cn_app.specs.FaultText.{plain_of}
 use Rattle.cn_app.specs.Streams.Reading.{EndsText, Gives, IsWhole, most_of}
 use Rattle.cn_app.specs.Texts.Contents.{value_in}
 use Rattle.cn_app.specs.declared.fault.AppFault.{AppFault}
@@ -11,7 +12,7 @@ module _ {R X F : Type 0} (source : Source) (fault_of : F → AppFault) (reads :
   pub value_read : (x : X) → IsWhole source text → reads text.bytes.items ≡ Ok x → Gives source (value_in source fault_of reads) text (Ok x)
   value_read x whole is = (whole, rw (le-ltb (most_of source) (length text.bytes.items) whole.1, is) refl)
 
-  pub value_refused : (f : F) → IsWhole source text → reads text.bytes.items ≡ Err f → Gives source (value_in source fault_of reads) text (Err (fault_of f))
+  pub value_refused : (f : F) → IsWhole source text → reads text.bytes.items ≡ Err f → Gives source (value_in source fault_of reads) text (Err (plain_of (fault_of f)))
   value_refused f whole is = inr (inl whole, rw (le-ltb (most_of source) (length text.bytes.items) whole.1, is) refl)
 
   -- the text could not be read, or is too long

@@ -7,7 +7,7 @@ use Rattle.cn_table.proofs.Lists.{get_front, get_push_cases, get_push_new}
 use Rattle.cn_hall.specs.Seats.{HallId, SeatState}
 use Rattle.cn_hall.specs.declared.call.Go.{Go}
 use Rattle.cn_app.specs.Threads.Workers.{AllGatesWereAsked, GateWasAsked, HasRoom, HasWorked, HaveAllWorked, HaveRoom, MayAllWork, MayWork}
-use Rattle.cn_app.specs.declared.threads.workers.Worked.{Worked}
+use Rattle.cn_app.specs.declared.threads.workers.ProcessHistory.{ProcessHistory}
 
 -- the list at an index that is the length of another
 pub read_at : {A : Type 0} (cs : List A) (i j : ℕ) (x : A) → i ≡ j → j < length cs → x ≡ get_or cs i x → slice_get cs j ≡ Some x
@@ -21,14 +21,14 @@ module _ (calls : List (Vec ℕ Global)) where
     pub may_last : (c : Vec ℕ Global) → slice_get calls (length seats) ≡ Some c → MayWork hall c.items s
     may_last c got = may (length seats) c s got (ap (λ l. slice_get l (length seats)) is ∙ get_push_new seats s)
 
-  module _ (rooms more : List Worked) (w : Worked) (is : more ≡ rooms ++ w ∷ []) (room : HaveRoom calls more) where
+  module _ (rooms more : List ProcessHistory) (w : ProcessHistory) (is : more ≡ rooms ++ w ∷ []) (room : HaveRoom calls more) where
     pub room_front : HaveRoom calls rooms
     room_front p c v got at = room p c v got (ap (λ l. slice_get l p) is ∙ get_front rooms (w ∷ []) p v at)
 
     pub room_last : (n : ℕ) → n ≡ length rooms → (c : Vec ℕ Global) → slice_get calls n ≡ Some c → HasRoom c.items w
     room_last n e c got = room n c w got (ap (λ l. slice_get l n) is ∙ ap (slice_get (rooms ++ w ∷ [])) e ∙ get_push_new rooms w)
 
-  module _ (before after : List SeatState) (worked : List Worked) (s t : SeatState) (w : Worked) (count : length after ≡ length before) (also : length worked ≡ length before) where
+  module _ (before after : List SeatState) (worked : List ProcessHistory) (s t : SeatState) (w : ProcessHistory) (count : length after ≡ length before) (also : length worked ≡ length before) where
     pub one_more_worked : HaveAllWorked calls before after worked → ((c : Vec ℕ Global) → slice_get calls (length before) ≡ Some c → HasWorked c.items s t w.replies.items w.end)
         → HaveAllWorked calls (before ++ s ∷ []) (after ++ t ∷ []) (worked ++ w ∷ [])
     one_more_worked all last p c x y z got at_x at_y at_z = by_place (get_push_cases before s p x at_x) (get_push_cases after t p y at_y) (get_push_cases worked w p z at_z)
@@ -41,15 +41,15 @@ module _ (calls : List (Vec ℕ Global)) where
         by_place (inr a) (inl b) d = absurd (omega (arith, slice_get_within after p y b, a.0, count))
         by_place (inr a) b (inl d) = absurd (omega (arith, slice_get_within worked p z d, a.0, also))
         by_place (inr a) (inr b) (inr d) =
-            subst (λ (u : SeatState × SeatState × Worked). HasWorked c.items u.0 u.1 u.2.replies.items u.2.end) (λ i. (a.1 i, b.1 i, d.1 i)) (last c (ap (slice_get calls) (sym a.0) ∙ got))
+            subst (λ (u : SeatState × SeatState × ProcessHistory). HasWorked c.items u.0 u.1 u.2.replies.items u.2.end) (λ i. (a.1 i, b.1 i, d.1 i)) (last c (ap (slice_get calls) (sym a.0) ∙ got))
 
   -- and room for the replies to one list of calls more
-  pub room_pushed : (rooms : List Worked) (w : Worked) (d : Vec ℕ Global) → HaveRoom calls rooms → slice_get calls (length rooms) ≡ Some d → HasRoom d.items w → HaveRoom calls (rooms ++ w ∷ [])
+  pub room_pushed : (rooms : List ProcessHistory) (w : ProcessHistory) (d : Vec ℕ Global) → HaveRoom calls rooms → slice_get calls (length rooms) ≡ Some d → HasRoom d.items w → HaveRoom calls (rooms ++ w ∷ [])
   room_pushed rooms w d room there has p c v got at = by_place (get_push_cases rooms w p v at)
     where
       by_place : (slice_get rooms p ≡ Some v) ⊎ ((p ≡ length rooms) × (w ≡ v)) → HasRoom c.items v
       by_place (inl h) = room p c v got h
-      by_place (inr h) = let same : Some d ≡ Some c = sym there ∙ ap (slice_get calls) (sym h.0) ∙ got in let is : d ≡ c = cc in subst (λ (z : Vec ℕ Global × Worked). HasRoom z.0.items z.1) (λ i. (is i, h.1 i)) has
+      by_place (inr h) = let same : Some d ≡ Some c = sym there ∙ ap (slice_get calls) (sym h.0) ∙ got in let is : d ≡ c = cc in subst (λ (z : Vec ℕ Global × ProcessHistory). HasRoom z.0.items z.1) (λ i. (is i, h.1 i)) has
 
 -- the gate of one seat more was asked
 module _ {G : Type 0} (asks : G → SeatState → ℕ → G → Type 0) (says : G → Go) (before after : List SeatState) (gates : List G) (s t : SeatState) (g : G)

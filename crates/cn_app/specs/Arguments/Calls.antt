@@ -11,7 +11,7 @@ use Rattle.cn_app.specs.declared.arguments.list_text.ListText.{ListText}
 use Rattle.cn_app.specs.declared.limits.TheConstants.{MOST_CALLS}
 use Rattle.cn_app.specs.declared.fault.AppFault.{AppFault}
 use Rattle.cn_app.specs.declared.fault.AppFault.TheVariants.{Argument, OutOfMemory}
-use Rattle.cn_app.specs.declared.fault.Part.TheVariants.{Calls}
+use Rattle.cn_app.specs.declared.fault.Argument.TheVariants.{Calls}
 
 -- the calls of one process: operation numbers, of which there may be so many
 abbrev pub process_calls : List ℕ → Option (List ℕ)

@@ -9,7 +9,7 @@ use Rattle.cn_app.specs.Arguments.Lists.{GivesList, Spells, number_up_to, list_o
 use Rattle.cn_table.specs.Texts.{code_of}
 use Rattle.cn_app.specs.declared.arguments.list_text.ListText.{ListText}
 use Rattle.cn_app.specs.declared.fault.AppFault.{AppFault}
-use Rattle.cn_app.specs.declared.fault.Part.TheVariants.{Capacity, Events}
+use Rattle.cn_app.specs.declared.fault.Argument.TheVariants.{Capacity, Events}
 
 -- a process that takes a step: its number, behind an s
 abbrev pub step_of : List ℕ → Option Event

@@ -9,7 +9,7 @@ use Rattle.cn_app.specs.declared.streams.text.Text.{Text}
 use Rattle.cn_app.specs.declared.limits.TheConstants.{MOST_ARGUMENT_BYTES}
 use Rattle.cn_app.specs.declared.fault.AppFault.{AppFault}
 use Rattle.cn_app.specs.declared.fault.AppFault.TheVariants as fault
-use Rattle.cn_app.specs.declared.fault.Part.{Part}
+use Rattle.cn_app.specs.declared.fault.Argument.{Argument}
 use Rattle.cn_app.specs.declared.fault.Source.TheVariants as source
 
 -- without the line feed at the end, where there is one
@@ -17,12 +17,12 @@ abbrev pub without_line_feed : List ℕ → List ℕ
 without_line_feed bytes = strip_last (code_of (codes "\n")) bytes
 
 -- the text that stands in a file of these bytes, or its first fault: the bytes are too many, or they are no text
-abbrev pub argument_in : Part → List ℕ → Result (List ℕ) AppFault
-argument_in part bytes = if nat_lt MOST_ARGUMENT_BYTES (length bytes) then Err (fault.TooLong (source.Argument part))
-    else (if is_utf8 (without_line_feed bytes) then Ok (without_line_feed bytes) else Err (fault.Argument part))
+abbrev pub argument_in : Argument → List ℕ → Result (List ℕ) AppFault
+argument_in argument bytes = if nat_lt MOST_ARGUMENT_BYTES (length bytes) then Err (fault.TooLong (source.Argument argument))
+    else (if is_utf8 (without_line_feed bytes) then Ok (without_line_feed bytes) else Err (fault.Argument argument))
 
 -- reading the text of an argument ends so: the file is whole and holds this text; or reading fails; or this is the first fault of what it holds
-abbrev pub GivesArgument : {R : Type 0} → Part → Text R → Result (String Global) AppFault → Type 0
-GivesArgument part text (Ok s) = IsWhole (source.Argument part) text × (argument_in part text.bytes.items ≡ Ok (string_bytes s))
-GivesArgument part text (Err e) = FailsReading (source.Argument part) text e
-    ⊎ (IsKnown (source.Argument part) text × (argument_in part text.bytes.items ≡ Err e))
+abbrev pub GivesArgument : {R : Type 0} → Argument → Text R → Result (String Global) AppFault → Type 0
+GivesArgument argument text (Ok s) = IsWhole (source.Argument argument) text × (argument_in argument text.bytes.items ≡ Ok (string_bytes s))
+GivesArgument argument text (Err e) = FailsReading (source.Argument argument) text e
+    ⊎ (IsKnown (source.Argument argument) text × (argument_in argument text.bytes.items ≡ Err e))

@@ -12,9 +12,9 @@ use Rattle.cn_app.specs.declared.arguments.list_text.ListText.TheVariants.{File,
 use Rattle.cn_app.specs.declared.arguments.lists.RunLists.{RunLists}
 use Rattle.cn_app.specs.declared.limits.TheConstants.{MOST_DIGITS, MOST_FILE_ITEMS, MOST_ITEMS}
 use Rattle.cn_app.specs.declared.fault.AppFault.{AppFault}
-use Rattle.cn_app.specs.declared.fault.AppFault.TheVariants.{Argument, OutOfMemory}
-use Rattle.cn_app.specs.declared.fault.Part.{Part}
-use Rattle.cn_app.specs.declared.fault.Part.TheVariants.{Inputs, Schedule}
+use Rattle.cn_app.specs.declared.fault.AppFault.TheVariants as fault
+use Rattle.cn_app.specs.declared.fault.Argument.{Argument}
+use Rattle.cn_app.specs.declared.fault.Argument.TheVariants.{Inputs, Schedule}
 
 -- the number that decimal digits write, of which there may be so many; there is no sign, and zeros may stand first
 abbrev pub number_of : List ℕ → Option ℕ
@@ -53,17 +53,17 @@ abbrev pub schedule_of : ListText → Option (List ℕ)
 schedule_of list = list_of (number_up_to 255) list
 
 -- reading an argument ends so: it spells a value; or it spells none
-abbrev pub Spells : {X : Type 0} → Part → Option X → Result X AppFault → Type 0
-Spells part spelled (Ok x) = spelled ≡ Some x
-Spells part spelled (Err e) = (e ≡ Argument part) × (spelled ≡ None)
+abbrev pub Spells : {X : Type 0} → Argument → Option X → Result X AppFault → Type 0
+Spells argument spelled (Ok x) = spelled ≡ Some x
+Spells argument spelled (Err e) = (e ≡ fault.Argument argument) × (spelled ≡ None)
 
 -- the same of a list, for which memory may run out
-abbrev pub GivesList : {X : Type 0} → Part → Option (List X) → Result (Vec X Global) AppFault → Type 0
-GivesList part spelled (Ok items) = spelled ≡ Some items.items
-GivesList part spelled (Err e) = (e ≡ OutOfMemory) ⊎ ((e ≡ Argument part) × (spelled ≡ None))
+abbrev pub GivesList : {X : Type 0} → Argument → Option (List X) → Result (Vec X Global) AppFault → Type 0
+GivesList argument spelled (Ok items) = spelled ≡ Some items.items
+GivesList argument spelled (Err e) = (e ≡ fault.OutOfMemory) ⊎ ((e ≡ fault.Argument argument) × (spelled ≡ None))
 
 -- reading the inputs and then the schedule ends so
 abbrev pub GivesLists : ListText → ListText → Result RunLists AppFault → Type 0
 GivesLists inputs schedule (Ok lists) = (inputs_of inputs ≡ Some lists.inputs.items) × (schedule_of schedule ≡ Some lists.schedule.items)
-GivesLists inputs schedule (Err e) = (e ≡ OutOfMemory) ⊎ (((e ≡ Argument Inputs) × (inputs_of inputs ≡ None))
-    ⊎ ((e ≡ Argument Schedule) × (schedule_of schedule ≡ None) × ((xs : List ℕ) × (inputs_of inputs ≡ Some xs))))
+GivesLists inputs schedule (Err e) = (e ≡ fault.OutOfMemory) ⊎ (((e ≡ fault.Argument Inputs) × (inputs_of inputs ≡ None))
+    ⊎ ((e ≡ fault.Argument Schedule) × (schedule_of schedule ≡ None) × ((xs : List ℕ) × (inputs_of inputs ≡ Some xs))))

@@ -5,7 +5,7 @@ use Rattle.cn_agree.specs.Consensus.{IsConsensus}
 use Rattle.cn_agree.specs.Schedules.{decisions_after, schedule_fault}
 use Rattle.cn_lines.specs.Decisions.{decision_lines}
 use Rattle.cn_app.specs.Arguments.Lists.{GivesLists, inputs_of, schedule_of}
-use Rattle.cn_app.specs.FaultText.{of_schedule}
+use Rattle.cn_app.specs.FaultText.{plain_of}
 use Rattle.cn_app.specs.Steps.{Then}
 use Rattle.cn_app.specs.Texts.Checked.{GivesChecked}
 use Rattle.cn_app.specs.Texts.Plans.{GivesPlan}
@@ -15,7 +15,7 @@ use Rattle.cn_app.specs.declared.report.Outcome.TheVariants.{Whole}
 use Rattle.cn_app.specs.declared.report.Report.{Report}
 use Rattle.cn_app.specs.declared.streams.text.Text.{Text}
 use Rattle.cn_app.specs.declared.fault.AppFault.{AppFault}
-use Rattle.cn_app.specs.declared.fault.AppFault.TheVariants.{OutOfMemory}
+use Rattle.cn_app.specs.declared.fault.AppFault.TheVariants.{OutOfMemory, Schedule}
 
 -- the inputs and the schedule have no fault, what the schedule decides is consensus, and these are its lines
 pub record IsAgreed (plan : Plan) (inputs schedule lines : List ℕ) : Type 0 where
@@ -27,7 +27,7 @@ pub record IsAgreed (plan : Plan) (inputs schedule lines : List ℕ) : Type 0 wh
 abbrev pub IsRunReport : Plan → List ℕ → List ℕ → Result Report AppFault → Type 0
 IsRunReport plan inputs schedule (Ok report) = IsAgreed plan inputs schedule (string_bytes report.text) × (report.outcome ≡ Whole)
 IsRunReport plan inputs schedule (Err e) = (e ≡ OutOfMemory)
-    ⊎ IsSomeAnd (schedule_fault (processes_of plan) inputs schedule) (λ fault. e ≡ of_schedule fault)
+    ⊎ IsSomeAnd (schedule_fault (processes_of plan) inputs schedule) (λ fault. e ≡ plain_of (Schedule fault))
 
 -- with the plan of the certificate's witness
 abbrev pub IsAgreeReport : Checked → List ℕ → List ℕ → Result Report AppFault → Type 0

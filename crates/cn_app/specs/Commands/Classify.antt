@@ -4,14 +4,14 @@ use Rattle.std.specs.Fmt.{decimal}
 use Rattle.cn_table.specs.TypeTable.{TypeTable}
 use Rattle.cn_choice.specs.Discerning.{IsNumberUpTo}
 use Rattle.cn_search.specs.Faults.{number_fault}
-use Rattle.cn_app.specs.FaultText.{of_find}
+use Rattle.cn_app.specs.FaultText.{plain_of}
 use Rattle.cn_app.specs.Steps.{Then}
 use Rattle.cn_app.specs.Texts.Contents.{GivesTable}
 use Rattle.cn_app.specs.declared.report.Outcome.TheVariants.{Whole}
 use Rattle.cn_app.specs.declared.report.Report.{Report}
 use Rattle.cn_app.specs.declared.streams.text.Text.{Text}
 use Rattle.cn_app.specs.declared.fault.AppFault.{AppFault}
-use Rattle.cn_app.specs.declared.fault.AppFault.TheVariants.{OutOfMemory}
+use Rattle.cn_app.specs.declared.fault.AppFault.TheVariants.{Find, OutOfMemory}
 
 -- the number in words: 1 where there is none up to the limit, and that it is at least so much where it is the limit
 abbrev pub number_words : ℕ → Option ℕ → List ℕ
@@ -37,7 +37,7 @@ IsClassReport t limit (Err e) = e ≡ OutOfMemory
 -- a limit is looked at so: it has no fault, or this one
 abbrev pub GivesLimit : ℕ → Result Unit AppFault → Type 0
 GivesLimit limit (Ok done) = number_fault limit ≡ None
-GivesLimit limit (Err e) = IsSomeAnd (number_fault limit) (λ fault. e ≡ of_find fault)
+GivesLimit limit (Err e) = IsSomeAnd (number_fault limit) (λ fault. e ≡ plain_of (Find fault))
 
 -- what there is to say of a text whose limit has no fault
 abbrev pub ClassifiesText : {R : Type 0} → Text R → ℕ → Result Report AppFault → Type 0

@@ -7,14 +7,14 @@ use Rattle.cn_search.specs.Finding.{Finding}
 use Rattle.cn_search.specs.declared.fault.FindFault.{FindFault}
 use Rattle.cn_cert.specs.Certificate.{certificate_of}
 use Rattle.cn_cert.specs.CertificateText.{certificate_text}
-use Rattle.cn_app.specs.FaultText.{of_find}
+use Rattle.cn_app.specs.FaultText.{plain_of}
 use Rattle.cn_app.specs.Steps.{Then}
 use Rattle.cn_app.specs.Texts.Contents.{GivesTable}
 use Rattle.cn_app.specs.declared.report.Outcome.TheVariants.{Whole}
 use Rattle.cn_app.specs.declared.report.Report.{Report}
 use Rattle.cn_app.specs.declared.streams.text.Text.{Text}
 use Rattle.cn_app.specs.declared.fault.AppFault.{AppFault}
-use Rattle.cn_app.specs.declared.fault.AppFault.TheVariants.{OutOfMemory}
+use Rattle.cn_app.specs.declared.fault.AppFault.TheVariants.{Find, OutOfMemory}
 
 -- the first fault of the limit for the table
 abbrev pub limit_fault : TypeTable → ℕ → Option FindFault
@@ -30,7 +30,7 @@ pub record IsFound (t : TypeTable) (limit : ℕ) (text : List ℕ) : Type 0 wher
 -- the search ends so: with the text of what it found; or memory ran out, or this is the first fault of the limit
 abbrev pub IsFindReport : TypeTable → ℕ → Result Report AppFault → Type 0
 IsFindReport t limit (Ok report) = IsFound t limit (string_bytes report.text) × (report.outcome ≡ Whole)
-IsFindReport t limit (Err e) = (e ≡ OutOfMemory) ⊎ IsSomeAnd (limit_fault t limit) (λ fault. e ≡ of_find fault)
+IsFindReport t limit (Err e) = (e ≡ OutOfMemory) ⊎ IsSomeAnd (limit_fault t limit) (λ fault. e ≡ plain_of (Find fault))
 
 -- what `find` has to say of a text
 abbrev pub HasFindReport : {R : Type 0} → Text R → ℕ → Result Report AppFault → Type 0

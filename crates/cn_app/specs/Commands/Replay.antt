@@ -1,5 +1,5 @@
 -- What `replay` writes, by the opening of the log and the events.
-use Rattle.std.specs.Prelude.{List, if◌then◌else◌, ◌≡◌, ◌⊎◌, ℕ, [], ◌++◌, Result, Ok, Err, IsSome, string_bytes}
+use Rattle.std.specs.Prelude.{List, ◌≡◌, ◌⊎◌, ℕ, [], ◌++◌, Result, Ok, Err, IsSome, string_bytes}
 use Rattle.std.specs.List.{list_any}
 use Rattle.cn_log.specs.Log.{IsEventList, entries}
 use Rattle.cn_log.specs.Linearized.{IsLinearized, entry_slots}
@@ -11,19 +11,19 @@ use Rattle.cn_log.specs.declared.fault.ReplayFault.{ReplayFault}
 use Rattle.cn_lines.specs.Log.{answer_lines, entry_lines}
 use Rattle.cn_app.specs.Answers.{is_full, ends_after}
 use Rattle.cn_app.specs.Arguments.Events.{GivesCapacity, GivesEvents, capacity_of, events_of}
+use Rattle.cn_app.specs.Outcomes.{cut_if}
 use Rattle.cn_app.specs.Steps.{Then}
 use Rattle.cn_app.specs.Texts.Openings.{GivesOpening}
 use Rattle.cn_app.specs.declared.arguments.list_text.ListText.{ListText}
 use Rattle.cn_app.specs.declared.readers.opening.OpeningArguments.{OpeningArguments}
 use Rattle.cn_app.specs.declared.report.Outcome.{Outcome}
-use Rattle.cn_app.specs.declared.report.Outcome.TheVariants.{Cut, Whole}
 use Rattle.cn_app.specs.declared.report.Report.{Report}
 use Rattle.cn_app.specs.declared.fault.AppFault.{AppFault}
 use Rattle.cn_app.specs.declared.fault.AppFault.TheVariants.{OutOfMemory, Replay}
 
 -- cut where some call found no slot
 abbrev pub outcome_of_answers : List CallEnd → Outcome
-outcome_of_answers ends = if list_any is_full ends then Cut else Whole
+outcome_of_answers ends = cut_if (list_any is_full ends)
 
 -- each event can come where it stands, the log that they leave is linearized, these are the lines of its answers and then of its entries, and the command ends
 -- like this

@@ -1,6 +1,6 @@
 -- What `serve` writes, by the opening of the log and the calls, and by what the threads did.
-use Rattle.std.specs.Prelude.{Bool, true, false, List, if◌then◌else◌, ℕ, ◌≡◌, length, slice_get, Some, ◌⊎◌, map, Result, Ok, Err, IsSome, string_bytes}
-use Rattle.std.specs.List.{list_all}
+use Rattle.std.specs.Prelude.{Bool, true, false, List, ℕ, ◌≡◌, length, slice_get, Some, ◌⊎◌, map, Result, Ok, Err, IsSome, string_bytes}
+use Rattle.std.specs.List.{list_any}
 use Rattle.cn_log.specs.Opening.{Log, Opening, setting}
 use Rattle.cn_log.specs.Bypass.{IsBypassBounded}
 use Rattle.cn_log.specs.Linearized.{IsLinearized}
@@ -8,30 +8,31 @@ use Rattle.cn_log.specs.Log.{IsEventList}
 use Rattle.cn_log.specs.OwnSteps.{IsWaitFree}
 use Rattle.cn_app.specs.Arguments.Calls.{GivesCalls, calls_fit, calls_of}
 use Rattle.cn_app.specs.Arguments.Events.{GivesCapacity, capacity_of}
+use Rattle.cn_app.specs.Outcomes.{cut_if}
 use Rattle.cn_app.specs.Steps.{Then}
 use Rattle.cn_app.specs.Texts.Openings.{GivesOpening}
 use Rattle.cn_app.specs.declared.arguments.list_text.ListText.{ListText}
 use Rattle.cn_app.specs.declared.readers.opening.OpeningArguments.{OpeningArguments}
 use Rattle.cn_app.specs.declared.report.Report.{Report}
 use Rattle.cn_app.specs.Threads.Serving.{HasServed}
-use Rattle.cn_app.specs.Lines.Threads.{left_lines}
+use Rattle.cn_app.specs.Lines.Threads.{service_lines}
 use Rattle.cn_app.specs.declared.threads.workers.End.{End}
 use Rattle.cn_app.specs.declared.threads.workers.End.TheVariants.{Full, Stopped, Whole}
 use Rattle.cn_app.specs.declared.report.Outcome.{Outcome}
-use Rattle.cn_app.specs.declared.report.Outcome.TheVariants.{Cut, Whole as AllDone}
-use Rattle.cn_app.specs.declared.threads.workers.Worked.{Worked}
+use Rattle.cn_app.specs.declared.threads.workers.ProcessHistory.{ProcessHistory}
 use Rattle.cn_app.specs.declared.fault.AppFault.{AppFault}
 use Rattle.cn_app.specs.declared.fault.AppFault.TheVariants.{Argument, OutOfMemory, Thread}
-use Rattle.cn_app.specs.declared.fault.Part.TheVariants.{Calls}
+use Rattle.cn_app.specs.declared.fault.Argument.TheVariants.{Calls}
 
-abbrev pub is_whole : End → Bool
-is_whole Whole = true
-is_whole Full = false
-is_whole Stopped = false
+-- some call has no reply
+abbrev pub is_cut : End → Bool
+is_cut Whole = false
+is_cut Full = true
+is_cut Stopped = true
 
 -- cut where some call has no reply
-abbrev pub outcome_of_calls : List Worked → Outcome
-outcome_of_calls worked = if list_all (λ w. is_whole w.end) worked then AllDone else Cut
+abbrev pub outcome_of_calls : List ProcessHistory → Outcome
+outcome_of_calls worked = cut_if (list_any (λ w. is_cut w.end) worked)
 
 -- the calls are ones of the plan's processes and the object's operations; there is one log of this opening, linearized, with no call passed by for long and
 -- each over within so many steps of its process, in which each process has made its calls as far as they came, and of which this holds; the lines are those of
@@ -44,11 +45,11 @@ pub record IsServedByThreads (gates : Log → Type 0) (o : Opening) (calls : Lis
   pub linearized : IsLinearized (setting log) log.schedule
   pub bypass : IsBypassBounded (setting log) log.schedule
   pub wait_free : IsWaitFree (setting log) log.schedule
-  pub worked : List Worked
+  pub worked : List ProcessHistory
   pub each : length worked ≡ length calls
-  pub served : (p : ℕ) (c : List ℕ) (w : Worked) → slice_get calls p ≡ Some c → slice_get worked p ≡ Some w → HasServed log p c w.replies.items w.end
+  pub served : (p : ℕ) (c : List ℕ) (w : ProcessHistory) → slice_get calls p ≡ Some c → slice_get worked p ≡ Some w → HasServed log p c w.replies.items w.end
   pub gated : gates log
-  pub written : lines ≡ left_lines o.object o.start worked log
+  pub written : lines ≡ service_lines o.object o.start worked log
   pub ended : outcome ≡ outcome_of_calls worked
 
 -- serving an object by threads ends so: served; or memory ran out, or the calls are not ones of the plan's processes and the object's operations, or they are,

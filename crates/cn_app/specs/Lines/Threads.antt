@@ -1,4 +1,4 @@
--- The lines of what threads left: of the calls of each process, of the entries of the log, and of its events.
+-- The lines of a service: of the calls of each process, of the entries of the log, and of its events.
 use Rattle.std.specs.Prelude.{ℕ, ◌+◌, List, ◌++◌, codes, [], ◌∷◌, ◌<◌, All, length}
 use Rattle.std.specs.Fmt.{decimal}
 use Rattle.cn_table.specs.TypeTable.{TypeTable}
@@ -11,7 +11,7 @@ use Rattle.cn_lines.specs.Events.{events_line}
 use Rattle.cn_lines.specs.Log.{answer_line, entry_lines}
 use Rattle.cn_app.specs.declared.threads.workers.End.{End}
 use Rattle.cn_app.specs.declared.threads.workers.End.TheVariants.{Full, Stopped, Whole}
-use Rattle.cn_app.specs.declared.threads.workers.Worked.{Worked}
+use Rattle.cn_app.specs.declared.threads.workers.ProcessHistory.{ProcessHistory}
 
 -- the lines of the replies to the calls of a process, in order
 abbrev pub reply_lines : TypeTable → ℕ → List Reply → List ℕ
@@ -29,18 +29,18 @@ abbrev pub call_lines : TypeTable → ℕ → List Reply → End → List ℕ
 call_lines object p replies end = reply_lines object p replies ++ end_line object p end
 
 -- the lines of the calls of each process, from process p on
-abbrev pub worked_lines : TypeTable → ℕ → List Worked → List ℕ
-worked_lines object p [] = []
-worked_lines object p (w ∷ ws) = call_lines object p w.replies.items w.end ++ worked_lines object (p + 1) ws
+abbrev pub history_lines : TypeTable → ℕ → List ProcessHistory → List ℕ
+history_lines object p [] = []
+history_lines object p (w ∷ ws) = call_lines object p w.replies.items w.end ++ history_lines object (p + 1) ws
 
--- the lines of what threads have left: process by process of their calls, then of the entries of the log, and last of its events
-abbrev pub left_lines : TypeTable → ℕ → List Worked → Log → List ℕ
-left_lines object start worked core = worked_lines object 0 worked
+-- the lines of a service: process by process of their calls, then of the entries of the log, and last of its events
+abbrev pub service_lines : TypeTable → ℕ → List ProcessHistory → Log → List ℕ
+service_lines object start worked core = history_lines object 0 worked
     ++ entry_lines object start (entries (setting core) core.schedule) (entry_slots (setting core) core.schedule) ++ events_line core.schedule
 
 -- each reply's response is one of the object's
 abbrev pub RepliesHaveResponses : TypeTable → List Reply → Type 0
 RepliesHaveResponses object replies = All (λ r. r.response.0 < length object.responses) replies
 
-abbrev pub EachHasResponses : TypeTable → List Worked → Type 0
+abbrev pub EachHasResponses : TypeTable → List ProcessHistory → Type 0
 EachHasResponses object worked = All (λ w. RepliesHaveResponses object w.replies.items) worked

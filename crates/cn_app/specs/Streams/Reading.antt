@@ -14,7 +14,7 @@ abbrev pub most_of : Source → ℕ
 most_of Table = MOST_TABLE_BYTES
 most_of Certificate = MOST_CERTIFICATE_BYTES
 most_of Object = MOST_TABLE_BYTES
-most_of (Argument part) = MOST_ARGUMENT_BYTES
+most_of (Argument argument) = MOST_ARGUMENT_BYTES
 
 -- the reader has given nothing yet
 pub record IsUnread {R : Type 0} (text : Text R) : Type 0 where
@@ -52,5 +52,6 @@ Gives source reads text (Err e) = FailsReading source text e ⊎ (IsKnown source
 -- where the bytes that a reader has are known, what is read of them is what all of them spell, unless reading fails
 abbrev pub ReadsKnownBytes : {R X : Type 0} → Source → (List ℕ → Result X AppFault) → (R → Option (List ℕ)) → Type 0
 ReadsKnownBytes {R} {X} source reads remaining =
-    (old new : Text R) (known : List ℕ) (r : Result X AppFault) → remaining old.reader ≡ Some known → HasRead source remaining old new → Gives source reads new r
+    (old new : Text R) (known : List ℕ) (r : Result X AppFault) → remaining old.reader ≡ Some known
+    → HasRead source remaining old new → Gives source reads new r
     → MatchResult r (λ x. reads known ≡ Ok x) (λ e. FailsReading source new e ⊎ (reads known ≡ Err e))

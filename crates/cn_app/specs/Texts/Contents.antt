@@ -6,28 +6,29 @@ use Rattle.cn_table.specs.Faults as table
 use Rattle.cn_cert.specs.Certificate.{Certificate}
 use Rattle.cn_cert.specs.Reading as certificate
 use Rattle.cn_app.specs.Streams.Reading.{Gives, most_of}
-use Rattle.cn_app.specs.FaultText.{of_table, of_certificate, of_object}
+use Rattle.cn_app.specs.FaultText.{plain_of}
 use Rattle.cn_app.specs.declared.fault.AppFault.{AppFault}
-use Rattle.cn_app.specs.declared.fault.AppFault.TheVariants.{TooLong}
+use Rattle.cn_app.specs.declared.fault.AppFault.TheVariants as fault
 use Rattle.cn_app.specs.declared.fault.Source.{Source}
 use Rattle.cn_app.specs.declared.fault.Source.TheVariants as source
 use Rattle.cn_app.specs.declared.streams.text.Text.{Text}
 
 -- what a text of at most so many bytes spells, or its first fault: that it is too long, or one of its own
 abbrev pub value_in : {X F : Type 0} → Source → (F → AppFault) → (List ℕ → Result X F) → List ℕ → Result X AppFault
-value_in source fault_of reads bytes = if nat_lt (most_of source) (length bytes) then Err (TooLong source) else result_map_both (λ x. x) fault_of (reads bytes)
+value_in source fault_of reads bytes = if nat_lt (most_of source) (length bytes) then Err (fault.TooLong source)
+    else result_map_both (λ x. x) (λ f. plain_of (fault_of f)) (reads bytes)
 
 -- the table that the bytes spell, or their first fault
 abbrev pub table_in : List ℕ → Result TypeTable AppFault
-table_in bytes = value_in source.Table of_table table.reading bytes
+table_in bytes = value_in source.Table fault.Table table.reading bytes
 
 -- the certificate that the bytes spell, or their first fault
 abbrev pub certificate_in : List ℕ → Result Certificate AppFault
-certificate_in bytes = value_in source.Certificate of_certificate certificate.reading bytes
+certificate_in bytes = value_in source.Certificate fault.Certificate certificate.reading bytes
 
 -- the table of the object that the bytes spell, or their first fault
 abbrev pub object_in : List ℕ → Result TypeTable AppFault
-object_in bytes = value_in source.Object of_object table.reading bytes
+object_in bytes = value_in source.Object fault.Object table.reading bytes
 
 -- reading a table ends so, by what its text is then; so for a certificate and for an object
 abbrev pub GivesTable : {R : Type 0} → Text R → Result TypeTable AppFault → Type 0

@@ -13,7 +13,7 @@ use Rattle.cn_app.specs.Texts.Plans.{GivesPlan}
 use Rattle.cn_app.specs.declared.readers.opening.OpeningArguments.{OpeningArguments}
 use Rattle.cn_app.specs.declared.fault.AppFault.{AppFault}
 use Rattle.cn_app.specs.declared.fault.AppFault.TheVariants.{Argument}
-use Rattle.cn_app.specs.declared.fault.Part.TheVariants.{Start}
+use Rattle.cn_app.specs.declared.fault.Argument.TheVariants.{Start}
 use Rattle.cn_app.specs.declared.fault.Source.TheVariants as source
 
 -- opening a log of so many slots for an object ends so: the object starts in the state of this name; or it has none

@@ -16,7 +16,7 @@ use Rattle.cn_hall.specs.declared.call.Go.{Go}
 use Rattle.cn_app.specs.Threads.Serving.{operations_called}
 use Rattle.cn_app.specs.declared.threads.workers.End.{End}
 use Rattle.cn_app.specs.declared.threads.workers.End.TheVariants.{Full, Stopped, Whole}
-use Rattle.cn_app.specs.declared.threads.workers.Worked.{Worked}
+use Rattle.cn_app.specs.declared.threads.workers.ProcessHistory.{ProcessHistory}
 
 -- how the calls of a process end with a call that has no reply
 abbrev pub end_by : CallFault → End
@@ -28,7 +28,7 @@ abbrev pub MayWork : HallId → List ℕ → SeatState → Type 0
 MayWork hall calls s = IsSeatOf hall s × (s.core.schedule ≡ []) × All (λ o. o < length s.core.opening.object.operations) calls
 
 -- there is no reply yet, and room for one to each call
-abbrev pub HasRoom : List ℕ → Worked → Type 0
+abbrev pub HasRoom : List ℕ → ProcessHistory → Type 0
 HasRoom calls w = (w.replies.items ≡ []) × (length calls ≤ vec_capacity w.replies)
 
 -- how a seat is left by calls that have ended so: each was made and has its reply; or some call has none, and the seat has seen every slot; or one call more
@@ -51,13 +51,13 @@ abbrev pub MayAllWork : HallId → List (Vec ℕ Global) → List SeatState → 
 MayAllWork hall calls seats = (p : ℕ) (c : Vec ℕ Global) (s : SeatState) → slice_get calls p ≡ Some c → slice_get seats p ≡ Some s → MayWork hall c.items s
 
 -- at each place there is room for the replies to the calls at that place
-abbrev pub HaveRoom : List (Vec ℕ Global) → List Worked → Type 0
-HaveRoom calls worked = (p : ℕ) (c : Vec ℕ Global) (w : Worked) → slice_get calls p ≡ Some c → slice_get worked p ≡ Some w → HasRoom c.items w
+abbrev pub HaveRoom : List (Vec ℕ Global) → List ProcessHistory → Type 0
+HaveRoom calls worked = (p : ℕ) (c : Vec ℕ Global) (w : ProcessHistory) → slice_get calls p ≡ Some c → slice_get worked p ≡ Some w → HasRoom c.items w
 
 -- the seat at each place has made the first of the calls at its place
-abbrev pub HaveAllWorked : List (Vec ℕ Global) → List SeatState → List SeatState → List Worked → Type 0
+abbrev pub HaveAllWorked : List (Vec ℕ Global) → List SeatState → List SeatState → List ProcessHistory → Type 0
 HaveAllWorked calls before after worked =
-    (p : ℕ) (c : Vec ℕ Global) (s t : SeatState) (w : Worked) → slice_get calls p ≡ Some c → slice_get before p ≡ Some s → slice_get after p ≡ Some t
+    (p : ℕ) (c : Vec ℕ Global) (s t : SeatState) (w : ProcessHistory) → slice_get calls p ≡ Some c → slice_get before p ≡ Some s → slice_get after p ≡ Some t
     → slice_get worked p ≡ Some w
     → HasWorked c.items s t w.replies.items w.end
 

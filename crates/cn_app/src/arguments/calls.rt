@@ -3,12 +3,10 @@ ghost use Rattle.std.specs.Prelude.{◌≡◌, ◌⊎◌, ◌≤◌, length, map
 ghost use Rattle.std.specs.List.{list_all};
 ghost use Rattle.cn_table.specs.Draft.{all_some};
 ghost use Rattle.cn_app.specs.Arguments.Calls.{calls_fit, GivesCalls, GivesEach};
-ghost use Rattle.cn_app.specs.declared.fault.AppFault.TheVariants.{Argument, OutOfMemory};
-ghost use Rattle.cn_app.specs.declared.fault.Part.TheVariants.{Calls};
 
 use crate::arguments::list_text::ListText;
 use crate::arguments::lists::{pieces_of, read_up_to};
-use crate::fault::{AppFault, Part};
+use crate::fault::{AppFault, Argument};
 use crate::limits::MOST_CALLS;
 use cn_log::Opening;
 use std::alloc::Global;
@@ -18,7 +16,7 @@ fn read_each(alloc: Global, pieces: &[&str]) -> Result<Vec<Vec<u8>>, AppFault>
 {
     let mut calls = Vec::new(alloc);
     for piece in pieces {
-        let list = read_up_to::<u8>(alloc, piece, MOST_CALLS, Part::Calls)?;
+        let list = read_up_to::<u8>(alloc, piece, MOST_CALLS, Argument::Calls)?;
         calls.push(list)?;
     }
     Ok(calls)
@@ -49,7 +47,8 @@ fn all_known(calls: &[u8], operations: u8) -> bool
 
 /// Whether each number in each list is below that of the operations.
 fn each_known(calls: &[Vec<u8>], operations: u8) -> bool
-    ensures { result ≡ list_all (λ list. list_all (λ operation. nat_lt operation operations) list.items) calls.now }
+    ensures { result ≡ list_all
+        (λ list. list_all (λ operation. nat_lt operation operations) list.items) calls.now }
 {
     calls.iter().all(|list| all_known(list, operations))
 }

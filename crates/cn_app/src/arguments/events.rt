@@ -2,13 +2,11 @@
 ghost use Rattle.std.specs.Prelude.{◌≡◌, ◌⊎◌, ◌≤◌, IfOk, IfErr, Some, None};
 ghost use Rattle.cn_log.specs.declared.limits.TheConstants.{MOST_SLOTS};
 ghost use Rattle.cn_app.specs.Arguments.Events.{capacity_of, event_of, invoke_of, GivesCapacity, GivesEvents};
-ghost use Rattle.cn_app.specs.declared.fault.AppFault.TheVariants.{Argument, OutOfMemory};
-ghost use Rattle.cn_app.specs.declared.fault.Part.TheVariants.{Capacity, Events};
 
 use crate::arguments::list_text::ListText;
 use crate::arguments::lists::{Item, read_number, read_up_to};
 use crate::arguments::short::read_short;
-use crate::fault::{AppFault, Part};
+use crate::fault::{AppFault, Argument};
 use cn_log::{Event, MOST_SLOTS};
 use std::alloc::Global;
 
@@ -52,7 +50,7 @@ pub(crate) fn read_capacity(text: &str) -> Result<u16, AppFault>
     ensures capacity { GivesCapacity text.now result }
     ensures range { IfOk result (λ capacity. (1 ≤ capacity) × (capacity ≤ MOST_SLOTS)) }
 {
-    slots_of(text).ok_or(AppFault::Argument(Part::Capacity))
+    slots_of(text).ok_or(AppFault::Argument(Argument::Capacity))
 }
 
 /// Reads events of a log: `iP:O`, process P invokes operation number O, and `sP`, process P takes a
@@ -70,5 +68,5 @@ pub fn read_events(alloc: Global, list: ListText<'_>) -> Result<Vec<Event>, AppF
     if let Some(events) = read_short(alloc, text, most)? {
         return Ok(events);
     }
-    read_up_to::<Event>(alloc, text, most, Part::Events)
+    read_up_to::<Event>(alloc, text, most, Argument::Events)
 }

@@ -3,7 +3,7 @@ ghost use Rattle.std.specs.Prelude.{◌≡◌};
 ghost use Rattle.cn_app.specs.Arguments.Files.{without_line_feed, GivesArgument};
 ghost use Rattle.cn_app.specs.Streams.Reading.{HasRead, IsUnread};
 
-use crate::fault::{AppFault, Part, Source};
+use crate::fault::{AppFault, Argument, Source};
 use crate::streams::text::Text;
 use std::alloc::Global;
 use std::io::Read;
@@ -25,19 +25,19 @@ fn without_line_feed(bytes: &[u8]) -> &[u8]
 /// # Errors
 ///
 /// The first of these: the reader fails, or gives more bytes; they are no UTF-8, and then
-/// `Argument(part)`. Want of memory can stand in place of any answer.
+/// `Argument(argument)`. Want of memory can stand in place of any answer.
 pub fn read_argument<R: Read>(
     alloc: Global,
     text: &mut Text<R>,
-    part: Part,
+    argument: Argument,
 ) -> Result<String, AppFault>
     requires { IsUnread text.old }
-    ensures read { HasRead (Source.Argument part) R.remaining text.old text.new }
-    ensures text { GivesArgument part text.new result }
+    ensures read { HasRead (Source.Argument argument) R.remaining text.old text.new }
+    ensures text { GivesArgument argument text.new result }
 {
-    text.fill(Source::Argument(part))?;
+    text.fill(Source::Argument(argument))?;
     match str::from_utf8(without_line_feed(&text.bytes)) {
         Ok(written) => Ok(String::from_str(alloc, written)?),
-        Err(_) => Err(AppFault::Argument(part)),
+        Err(_) => Err(AppFault::Argument(argument)),
     }
 }

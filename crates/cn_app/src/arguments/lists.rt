@@ -4,11 +4,10 @@ ghost use Rattle.std.specs.List.{list_all, slice_split};
 ghost use Rattle.std.specs.Char.{is_ascii_digit};
 ghost use Rattle.cn_table.specs.Draft.{all_some};
 ghost use Rattle.cn_app.specs.Arguments.Lists.{number_up_to, list_of, list_up_to, inputs_of, schedule_of, GivesList, GivesLists};
-ghost use Rattle.cn_app.specs.declared.fault.AppFault.TheVariants.{Argument, OutOfMemory};
-ghost use Rattle.cn_app.specs.declared.fault.Part.TheVariants.{Inputs, Schedule};
+ghost use Rattle.cn_app.specs.declared.fault.Argument.TheVariants.{Inputs, Schedule};
 
 use crate::arguments::list_text::ListText;
-use crate::fault::{AppFault, Part};
+use crate::fault::{AppFault, Argument};
 use crate::limits::MOST_DIGITS;
 use std::alloc::{AllocError, Global};
 
@@ -57,7 +56,8 @@ pub(crate) fn read_number(text: &str) -> Option<u64>
 
 pub(crate) fn pieces_of(alloc: Global, text: &str, separator: char) -> Result<Vec<&str>, AllocError>
     requires { separator < 128 }
-    ensures { IfOk result (λ pieces. map (λ piece. piece.now) pieces.items ≡ slice_split (λ byte. byte == separator) text.now) }
+    ensures { IfOk result (λ pieces. map (λ piece. piece.now) pieces.items
+        ≡ slice_split (λ byte. byte == separator) text.now) }
 {
     text.split(separator).collect(alloc)
 }
@@ -66,9 +66,10 @@ pub(crate) fn pieces_of(alloc: Global, text: &str, separator: char) -> Result<Ve
 fn read_items<T: Item + Drop>(
     alloc: Global,
     pieces: &[&str],
-    argument: Part,
+    argument: Argument,
 ) -> Result<Vec<T>, AppFault>
-    ensures { GivesList argument (all_some (map T.item_of (map (λ piece. piece.now) pieces.now))) result }
+    ensures { GivesList argument (all_some (map T.item_of (map (λ piece. piece.now) pieces.now)))
+        result }
 {
     let mut items = Vec::new(alloc);
     for piece in pieces {
@@ -85,7 +86,7 @@ pub(crate) fn read_up_to<T: Item + Drop>(
     alloc: Global,
     text: &str,
     most: usize,
-    argument: Part,
+    argument: Argument,
 ) -> Result<Vec<T>, AppFault>
     ensures { GivesList argument (list_up_to most T.item_of text.now) result }
 {
@@ -103,7 +104,7 @@ pub(crate) fn read_up_to<T: Item + Drop>(
 fn read_list<T: Item + Drop>(
     alloc: Global,
     list: ListText<'_>,
-    argument: Part,
+    argument: Argument,
 ) -> Result<Vec<T>, AppFault>
     ensures { GivesList argument (list_of T.item_of list.entry) result }
 {
@@ -122,7 +123,7 @@ fn read_list<T: Item + Drop>(
 pub fn read_inputs(alloc: Global, list: ListText<'_>) -> Result<Vec<u64>, AppFault>
     ensures { GivesList Inputs (inputs_of list.entry) result }
 {
-    read_list::<u64>(alloc, list, Part::Inputs)
+    read_list::<u64>(alloc, list, Argument::Inputs)
 }
 
 /// Reads a schedule: the processes, from 0 to 255, in the order in which they take their steps.
@@ -135,7 +136,7 @@ pub fn read_inputs(alloc: Global, list: ListText<'_>) -> Result<Vec<u64>, AppFau
 pub fn read_schedule(alloc: Global, list: ListText<'_>) -> Result<Vec<u8>, AppFault>
     ensures { GivesList Schedule (schedule_of list.entry) result }
 {
-    read_list::<u8>(alloc, list, Part::Schedule)
+    read_list::<u8>(alloc, list, Argument::Schedule)
 }
 
 /// What the processes begin with, and the order of their steps.

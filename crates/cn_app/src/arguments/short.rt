@@ -37,7 +37,8 @@ fn short_event(text: &[u8]) -> Option<Event>
 
 /// The first event of a list, in its short form, and what stands behind the comma after it.
 fn first_event(list: &[u8]) -> Option<(Event, &[u8])>
-    ensures { IfSome result (λ r. (text : List ℕ) × (list.now ≡ text ++ code_of (codes ",") ∷ r.1.now)
+    ensures { IfSome result (λ r. (text : List ℕ)
+        × (list.now ≡ text ++ code_of (codes ",") ∷ r.1.now)
         × (event_of text ≡ Some r.0) × All (λ byte. byte ≢ code_of (codes ",")) text) }
 {
     let end = if list.len() > 2 && list[2] == b',' {
@@ -59,7 +60,8 @@ pub(crate) fn read_short(
     list: &str,
     most: usize,
 ) -> Result<Option<Vec<Event>>, AllocError>
-    ensures { IfOk result (λ found. IfSome found (λ events. list_up_to most event_of list.now ≡ Some events.items)) }
+    ensures { IfOk result (λ found. IfSome found
+        (λ events. list_up_to most event_of list.now ≡ Some events.items)) }
 {
     let mut events = Vec::new(alloc);
     let mut rest = list.as_bytes();

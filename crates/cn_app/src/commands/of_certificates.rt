@@ -33,17 +33,16 @@ pub fn check<R: Read, C: Read, W: Write>(
     certificate: &mut Text<C>,
     output: &mut Output<W>,
 ) -> Result<Outcome, AppFault>
-    requires table { IsUnread table.old }
-    requires certificate { IsUnread certificate.old }
+    requires texts { IsUnread table.old × IsUnread certificate.old }
     requires output { IsWritable output.old }
 
-    ensures read { HaveReadBoth R.remaining C.remaining table.old table.new certificate.old certificate.new }
+    ensures read { HaveReadBoth R.remaining C.remaining table.old table.new
+        certificate.old certificate.new }
     ensures checked { Reports W.contents (HasCheckReport table.new certificate.new)
         output.old output.new result }
 {
     let checked = read_checked(alloc, table, certificate)?;
-    let report = check_report(alloc, &checked)?;
-    output.write(report)
+    output.report(check_report(alloc, &checked))
 }
 
 /// Reads a type table and a certificate, checks the one against the other, and writes for people
@@ -59,17 +58,16 @@ pub fn explain<R: Read, C: Read, W: Write>(
     output: &mut Output<W>,
     all: bool,
 ) -> Result<Outcome, AppFault>
-    requires table { IsUnread table.old }
-    requires certificate { IsUnread certificate.old }
+    requires texts { IsUnread table.old × IsUnread certificate.old }
     requires output { IsWritable output.old }
 
-    ensures read { HaveReadBoth R.remaining C.remaining table.old table.new certificate.old certificate.new }
+    ensures read { HaveReadBoth R.remaining C.remaining table.old table.new
+        certificate.old certificate.new }
     ensures explained { Reports W.contents (HasExplainReport table.new certificate.new all)
         output.old output.new result }
 {
     let checked = read_checked(alloc, table, certificate)?;
-    let report = explain_report(alloc, &checked, all)?;
-    output.write(report)
+    output.report(explain_report(alloc, &checked, all))
 }
 
 /// Reads a type table and a certificate, checks the one against the other, and writes the plan of
@@ -85,17 +83,16 @@ pub fn show<R: Read, C: Read, W: Write>(
     output: &mut Output<W>,
     form: Form,
 ) -> Result<Outcome, AppFault>
-    requires table { IsUnread table.old }
-    requires certificate { IsUnread certificate.old }
+    requires texts { IsUnread table.old × IsUnread certificate.old }
     requires output { IsWritable output.old }
 
-    ensures read { HaveReadBoth R.remaining C.remaining table.old table.new certificate.old certificate.new }
+    ensures read { HaveReadBoth R.remaining C.remaining table.old table.new
+        certificate.old certificate.new }
     ensures shown { Reports W.contents (HasShowReport table.new certificate.new form)
         output.old output.new result }
 {
     let checked = read_checked(alloc, table, certificate)?;
-    let report = show_report(alloc, &checked, form)?;
-    output.write(report)
+    output.report(show_report(alloc, &checked, form))
 }
 
 /// Reads a type table and a certificate, checks the one against the other, runs the plan of the
@@ -119,18 +116,18 @@ pub fn agree<R: Read, C: Read, W: Write>(
     inputs: ListText<'_>,
     schedule: ListText<'_>,
 ) -> Result<Outcome, AppFault>
-    requires table { IsUnread table.old }
-    requires certificate { IsUnread certificate.old }
+    requires texts { IsUnread table.old × IsUnread certificate.old }
     requires output { IsWritable output.old }
 
-    ensures read { HaveReadBoth R.remaining C.remaining table.old table.new certificate.old certificate.new }
+    ensures read { HaveReadBoth R.remaining C.remaining table.old table.new
+        certificate.old certificate.new }
     ensures order { AreUntouched table.old table.new certificate.old certificate.new
         ⊎ SpellLists inputs.entry schedule.entry }
     ensures agreed { Reports W.contents
-        (HasAgreeReport table.new certificate.new inputs.entry schedule.entry) output.old output.new result }
+        (HasAgreeReport table.new certificate.new inputs.entry schedule.entry)
+        output.old output.new result }
 {
     let lists = read_run_lists(alloc, inputs, schedule)?;
     let checked = read_checked(alloc, table, certificate)?;
-    let report = agree_report(alloc, &checked, &lists.inputs, &lists.schedule)?;
-    output.write(report)
+    output.report(agree_report(alloc, &checked, &lists.inputs, &lists.schedule))
 }

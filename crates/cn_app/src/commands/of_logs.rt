@@ -48,8 +48,7 @@ pub fn replay<R: Read, C: Read, O: Read, W: Write>(
     let slots = read_capacity(given.capacity)?;
     let events = read_events(alloc, events)?;
     let opening = read_opening(alloc, given, slots)?;
-    let report = replay_report(alloc, opening, &events)?;
-    output.write(report)
+    output.report(replay_report(alloc, opening, &events))
 }
 
 /// Opens a log for an object, serves the object by threads that make the calls, and writes for each
@@ -83,12 +82,12 @@ where
     ensures read { HaveReadAll R.remaining C.remaining O.remaining given.old given.new }
     ensures order { (given.new ≡ given.old) ⊎ SpellCalls given.old.capacity.now calls.entry }
     ensures served { Reports W.contents
-        (HasServeReport (EachHasOneGate G.asks G.says (λ p g. F.post make_gate p g)) given.new calls.entry)
+        (HasServeReport (EachHasOneGate G.asks G.says (λ p g. F.post make_gate p g)) given.new
+        calls.entry)
         output.old output.new result }
 {
     let slots = read_capacity(given.capacity)?;
     let calls = read_calls(alloc, calls)?;
     let opening = read_opening(alloc, given, slots)?;
-    let report = serve_report(rt, alloc, opening, &calls, make_gate)?;
-    output.write(report)
+    output.report(serve_report(rt, alloc, opening, &calls, make_gate))
 }

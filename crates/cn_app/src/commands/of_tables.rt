@@ -35,11 +35,11 @@ pub fn find<T: Threads + Sync, R: Read, W: Write>(
     requires output { IsWritable output.old }
 
     ensures read { HasRead Source.Table R.remaining table.old table.new }
-    ensures found { Reports W.contents (HasFindReport table.new limit) output.old output.new result }
+    ensures found { Reports W.contents (HasFindReport table.new limit)
+        output.old output.new result }
 {
     let table = read_table(alloc, table)?;
-    let report = find_report(rt, alloc, &table, limit)?;
-    output.write(report)
+    output.report(find_report(rt, alloc, &table, limit))
 }
 
 /// Reads a type table and writes a line with its consensus number up to the limit
@@ -61,12 +61,12 @@ pub fn classify<T: Threads + Sync, R: Read, W: Write>(
 
     ensures read { HasRead Source.Table R.remaining table.old table.new }
     ensures order { (table.new ≡ table.old) ⊎ (number_fault limit ≡ None) }
-    ensures classified { Reports W.contents (HasClassReport table.new limit) output.old output.new result }
+    ensures classified { Reports W.contents (HasClassReport table.new limit)
+        output.old output.new result }
 {
     check_limit(limit)?;
     let table = read_table(alloc, table)?;
-    let report = class_report(rt, alloc, &table, limit)?;
-    output.write(report)
+    output.report(class_report(rt, alloc, &table, limit))
 }
 
 /// Reads a type table and writes what is to be said of it ([`lint_report`]). A refused table is no
@@ -89,8 +89,7 @@ pub fn lint<R: Read, W: Write>(
     ensures linted { Reports W.contents (HasLintReport table.new) output.old output.new result }
 {
     table.fill(Source::Table)?;
-    let report = lint_report(alloc, &table.bytes)?;
-    output.write(report)
+    output.report(lint_report(alloc, &table.bytes))
 }
 
 /// Reads a type table and writes a picture of it for Graphviz ([`draw_report`]).
@@ -110,6 +109,5 @@ pub fn draw<R: Read, W: Write>(
     ensures drawn { Reports W.contents (HasDrawReport table.new) output.old output.new result }
 {
     let table = read_table(alloc, table)?;
-    let report = draw_report(alloc, &table)?;
-    output.write(report)
+    output.report(draw_report(alloc, &table))
 }

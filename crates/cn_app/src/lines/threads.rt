@@ -1,10 +1,10 @@
-//! The lines of what threads left: of the calls of each process, of the entries of the log, and of
+//! The lines of a service: of the calls of each process, of the entries of the log, and of
 //! its events.
 ghost use Rattle.std.specs.Prelude.{◌≡◌, ◌≤◌, ◌<◌, ◌++◌, length, string_bytes, IfOk, OnOk};
-ghost use Rattle.cn_app.specs.Lines.Threads.{call_lines, end_line, reply_lines, worked_lines, EachHasResponses, RepliesHaveResponses, left_lines};
+ghost use Rattle.cn_app.specs.Lines.Threads.{call_lines, end_line, reply_lines, history_lines, EachHasResponses, RepliesHaveResponses, service_lines};
 
-use crate::threads::serving::Left;
-use crate::threads::workers::{End, Worked};
+use crate::threads::serving::ServiceHistory;
+use crate::threads::workers::{End, ProcessHistory};
 use cn_hall::Reply;
 use cn_lines::{entry_lines, events_line, put_answer_line, put_number};
 use cn_log::CallEnd;
@@ -19,7 +19,8 @@ fn reply_lines(
     replies: &[Reply],
 ) -> Result<String, AllocError>
     requires { RepliesHaveResponses object.now replies.now }
-    ensures { IfOk result (λ lines. string_bytes lines ≡ reply_lines object.now process replies.now) }
+    ensures { IfOk result (λ lines. string_bytes lines
+        ≡ reply_lines object.now process replies.now) }
 {
     let mut lines = String::new(alloc);
     for reply in replies {
@@ -35,7 +36,8 @@ fn reply_lines(
 
 /// The line of the call that has no reply goes behind the lines, if there is one.
 fn put_end_line(lines: &mut String, object: &Table, process: u8, end: End) -> Result<(), AllocError>
-    ensures { OnOk result (string_bytes lines.new ≡ string_bytes lines.old ++ end_line object.now process end) }
+    ensures { OnOk result (string_bytes lines.new ≡ string_bytes lines.old
+        ++ end_line object.now process end) }
 {
     match end {
         End::Whole => Ok(()),
@@ -56,21 +58,22 @@ fn call_lines(
     end: End,
 ) -> Result<String, AllocError>
     requires { RepliesHaveResponses object.now replies.now }
-    ensures { IfOk result (λ lines. string_bytes lines ≡ call_lines object.now process replies.now end) }
+    ensures { IfOk result (λ lines. string_bytes lines
+        ≡ call_lines object.now process replies.now end) }
 {
     let mut lines = reply_lines(alloc, object, process, replies)?;
     put_end_line(&mut lines, object, process, end)?;
     Ok(lines)
 }
 
-pub(crate) fn worked_lines(
+pub(crate) fn history_lines(
     alloc: Global,
     object: &Table,
-    worked: &[Worked],
+    worked: &[ProcessHistory],
 ) -> Result<String, AllocError>
     requires few { length worked.now ≤ 8 }
     requires range { EachHasResponses object.now worked.now }
-    ensures { IfOk result (λ lines. string_bytes lines ≡ worked_lines object.now 0 worked.now) }
+    ensures { IfOk result (λ lines. string_bytes lines ≡ history_lines object.now 0 worked.now) }
 {
     let mut lines = String::new(alloc);
     for (process, one) in worked.iter().enumerate() {
@@ -80,25 +83,26 @@ pub(crate) fn worked_lines(
     Ok(lines)
 }
 
-/// The lines of what threads left: of the calls of each process, of the entries of the log, and of
+/// The lines of a service: of the calls of each process, of the entries of the log, and of
 /// its events.
-pub(crate) fn left_lines(
+pub(crate) fn service_lines(
     alloc: Global,
     object: &Table,
     start: State,
-    left: &Left,
+    service: &ServiceHistory,
 ) -> Result<String, AllocError>
     requires start { start.0 < length object.now.states }
-    requires object { left.now.core.opening.object ≡ object.now }
-    requires few { length left.now.worked.items ≤ 8 }
-    requires range { EachHasResponses object.now left.now.worked.items }
-    ensures { IfOk result (λ lines. string_bytes lines ≡ left_lines object.now start.0 left.now.worked.items left.now.core) }
+    requires object { service.now.core.opening.object ≡ object.now }
+    requires few { length service.now.processes.items ≤ 8 }
+    requires range { EachHasResponses object.now service.now.processes.items }
+    ensures { IfOk result (λ lines. string_bytes lines
+        ≡ service_lines object.now start.0 service.now.processes.items service.now.core) }
 {
-    logs_are_linearized(&left.core);
-    let mut lines = worked_lines(alloc, object, &left.worked)?;
-    let entries = entry_lines(alloc, object, start, &left.core)?;
+    logs_are_linearized(&service.core);
+    let mut lines = history_lines(alloc, object, &service.processes)?;
+    let entries = entry_lines(alloc, object, start, &service.core)?;
     lines.push_str(&entries)?;
-    let events = events_line(alloc, left.core.schedule())?;
+    let events = events_line(alloc, service.core.schedule())?;
     lines.push_str(&events)?;
     Ok(lines)
 }

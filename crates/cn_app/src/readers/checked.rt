@@ -66,9 +66,9 @@ pub fn read_checked<R: Read, C: Read>(
     table: &mut Text<R>,
     certificate: &mut Text<C>,
 ) -> Result<Checked, AppFault>
-    requires table { IsUnread table.old }
-    requires certificate { IsUnread certificate.old }
-    ensures read { HaveReadBoth R.remaining C.remaining table.old table.new certificate.old certificate.new }
+    requires texts { IsUnread table.old × IsUnread certificate.old }
+    ensures read { HaveReadBoth R.remaining C.remaining table.old table.new
+        certificate.old certificate.new }
     ensures checked { GivesChecked table.new certificate.new result }
 {
     let table = read_table(alloc, table)?;

@@ -3,7 +3,7 @@ ghost use Rattle.std.specs.Prelude.{◌≤◌};
 ghost use Rattle.cn_log.specs.declared.limits.TheConstants.{MOST_SLOTS};
 ghost use Rattle.cn_app.specs.Texts.Openings.{AreUnread, GivesOpening, GivesStart, HaveReadAll, OpensWith};
 
-use crate::fault::{AppFault, Part};
+use crate::fault::{AppFault, Argument};
 use crate::readers::checked::Checked;
 use crate::readers::table::{read_certificate, read_object, read_table};
 use crate::streams::text::Text;
@@ -36,7 +36,7 @@ fn start_with(plan: Plan, object: Table, start: &str, slots: u16) -> Result<Open
     ensures { GivesStart plan object start.now slots result }
 {
     let Some(state) = object.find_state(start) else {
-        return Err(AppFault::Argument(Part::Start));
+        return Err(AppFault::Argument(Argument::Start));
     };
     Ok(Opening::new(plan, object, state, slots))
 }

@@ -2,7 +2,7 @@
 ghost use Rattle.std.specs.Prelude.{◌≡◌};
 ghost use Rattle.std.specs.List.{list_any};
 ghost use Rattle.cn_app.specs.Answers.{is_full};
-ghost use Rattle.cn_app.specs.Commands.Replay.{IsReplayReport, outcome_of_answers};
+ghost use Rattle.cn_app.specs.Commands.Replay.{IsReplayReport};
 
 use crate::answers::answers_of;
 use crate::fault::AppFault;
@@ -25,17 +25,6 @@ fn has_full(ends: &[CallEnd]) -> bool
     ends.iter().any(|end| is_full(*end))
 }
 
-/// Cut where some call found no slot.
-fn outcome_of_answers(ends: &[CallEnd]) -> Outcome
-    ensures { result ≡ outcome_of_answers ends.now }
-{
-    if has_full(ends) {
-        Outcome::Cut
-    } else {
-        Outcome::Whole
-    }
-}
-
 /// Serves the object of this opening by the events: a line for each call that is answered or that
 /// finds no slot, in the order of the events, and then a line for each entry of the log.
 ///
@@ -53,6 +42,6 @@ pub fn replay_report(alloc: Global, opening: Opening, events: &[Event]) -> Resul
     let mut text = answer_lines(alloc, opening.object(), &replayed.ends)?;
     let entries = entry_lines(alloc, opening.object(), opening.start(), &replayed.core)?;
     text.push_str(&entries)?;
-    let outcome = outcome_of_answers(&replayed.ends);
+    let outcome = Outcome::cut_if(has_full(&replayed.ends));
     Ok(Report { text, outcome })
 }

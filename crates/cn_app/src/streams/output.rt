@@ -1,6 +1,6 @@
 //! Writing what a command built.
 ghost use Rattle.std.specs.Prelude.{◌≡◌};
-ghost use Rattle.cn_app.specs.Streams.Writing.{HandsOver, IsUnwritten, IsWritable};
+ghost use Rattle.cn_app.specs.Streams.Writing.{HandsOver, IsUnwritten, IsWritable, Reports};
 
 use crate::fault::AppFault;
 use crate::report::{Outcome, Report};
@@ -54,6 +54,18 @@ impl<W: Write> Output<W> {
                 self.progress = Progress::Failed;
                 Err(AppFault::Write)
             }
+        }
+    }
+
+    /// Hands over the report of a command's work, as [`write`](Output::write) does, or answers the
+    /// fault of the work, and then nothing is handed over.
+    pub(crate) fn report(&mut self, work: Result<Report, AppFault>) -> Result<Outcome, AppFault>
+        requires { IsWritable self.old }
+        ensures { Reports W.contents (λ r. r ≡ work) self.old self.new result }
+    {
+        match work {
+            Ok(report) => self.write(report),
+            Err(fault) => Err(fault),
         }
     }
 }

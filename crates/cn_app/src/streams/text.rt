@@ -40,12 +40,14 @@ impl<R: Read> Text<R> {
         requires some { 0 < most }
         requires unfinished { self.old.progress ≡ Progress.Open }
         ensures given { (bytes : List ℕ) × (self.new.bytes.items ≡ self.old.bytes.items ++ bytes)
-            × (length bytes ≤ most) × Consumes (R.remaining self.old.reader) (R.remaining self.new.reader) bytes }
+            × (length bytes ≤ most) × Consumes (R.remaining self.old.reader)
+            (R.remaining self.new.reader) bytes }
         ensures some { OnOk result (((self.new.progress ≡ Progress.Open)
             × (length self.old.bytes.items < length self.new.bytes.items))
             ⊎ ((self.new.progress ≡ Progress.Done) × (self.new.bytes.items ≡ self.old.bytes.items)
             × IsAtEnd (R.remaining self.new.reader))) }
-        ensures failed { IfErr result (λ e. ((e ≡ AppFault.OutOfMemory) × (self.new.progress ≡ Progress.Open))
+        ensures failed { IfErr result (λ e. ((e ≡ AppFault.OutOfMemory)
+            × (self.new.progress ≡ Progress.Open))
             ⊎ ((e ≡ AppFault.Read source) × (self.new.progress ≡ Progress.Failed))) }
     {
         let mut buffer = [0u8; CHUNK];

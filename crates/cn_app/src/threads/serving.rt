@@ -6,7 +6,7 @@ ghost use Rattle.cn_app.specs.Threads.Serving.{HasServed};
 ghost use Rattle.cn_app.specs.Threads.Workers.{EachHasOneGate, HaveRoom};
 ghost use Rattle.cn_app.specs.declared.threads.serving.ServeFault.TheVariants.{OutOfMemory};
 
-use crate::threads::workers::{End, Worked, answer_each};
+use crate::threads::workers::{End, ProcessHistory, answer_each};
 use cn_hall::{Gate, open};
 use cn_log::LogCore;
 use std::alloc::{AllocError, Global};
@@ -15,9 +15,9 @@ use std::thread::Threads;
 
 /// What the threads leave: the replies to the calls of each process, and the log.
 #[derive(Drop)]
-pub(crate) struct Left {
+pub(crate) struct ServiceHistory {
     /// Place `p` holds those of process `p`.
-    pub worked: Vec<Worked>,
+    pub processes: Vec<ProcessHistory>,
     pub core: LogCore,
 }
 
@@ -30,23 +30,15 @@ pub(crate) enum ServeFault {
     OutOfMemory,
 }
 
-impl From<AllocError> for ServeFault {
-    ghost from_gives = { λ _ e. e ≡ OutOfMemory };
-
-    fn from(_e: AllocError) -> ServeFault {
-        ServeFault::OutOfMemory
-    }
-}
-
 /// Room for the replies to the calls of each process.
-fn make_rooms(alloc: Global, calls: &[Vec<u8>]) -> Result<Vec<Worked>, AllocError>
+fn make_rooms(alloc: Global, calls: &[Vec<u8>]) -> Result<Vec<ProcessHistory>, AllocError>
     ensures count { IfOk result (λ v. length v.items ≡ length calls.now) }
     ensures room { IfOk result (λ v. HaveRoom calls.now v.items) }
 {
     let mut rooms = Vec::with_capacity(alloc, calls.len())?;
     for operations in calls {
         let replies = Vec::with_capacity(alloc, operations.len())?;
-        rooms.push_reserved(Worked {
+        rooms.push_reserved(ProcessHistory {
             replies,
             end: End::Whole,
         });
@@ -64,7 +56,8 @@ fn make_gates<G: Gate + Drop, F: Fn(u8) -> G>(
     requires on { (p : ℕ) (g : _) → F.post make_gate p g → G.says g ≡ On }
     ensures count { IfOk result (λ v. length v.items ≡ processes) }
     ensures on { IfOk result (λ v. All (λ g. G.says g ≡ On) v.items) }
-    ensures made { IfOk result (λ v. (p : ℕ) (g : _) → slice_get v.items p ≡ Some g → F.post make_gate p g) }
+    ensures made { IfOk result (λ v. (p : ℕ) (g : _) → slice_get v.items p ≡ Some g
+        → F.post make_gate p g) }
 {
     let mut gates = Vec::with_capacity(alloc, usize::from(processes))?;
     for process in 0..processes {
@@ -81,27 +74,26 @@ fn make_gates<G: Gate + Drop, F: Fn(u8) -> G>(
 ///
 /// `Thread` where a thread could not be started: those that run finish first. `OutOfMemory` only
 /// before the first thread starts: no call takes memory.
-pub(crate) fn serve_calls<R, G, F>(
+pub(crate) fn serve_calls<R: Threads + Wait + Sync, G: Gate + Send + Drop, F: Fn(u8) -> G>(
     rt: &R,
     alloc: Global,
+    make_gate: F,
     core: LogCore,
     calls: &[Vec<u8>],
-    make_gate: F,
-) -> Result<Left, ServeFault>
-where
-    R: Threads + Wait + Sync,
-    G: Gate + Send + Drop,
-    F: Fn(u8) -> G,
+) -> Result<ServiceHistory, ServeFault>
     requires empty { core.schedule ≡ [] }
     requires processes { length calls.now ≡ processes_of core.opening.plan }
-    requires operations { All (λ c. All (λ o. o < length core.opening.object.operations) c.items) calls.now }
+    requires operations { All (λ c. All (λ o. o < length core.opening.object.operations) c.items)
+        calls.now }
     requires gates { F.IsAlwaysCallable make_gate }
     requires on { (p : ℕ) (g : _) → F.post make_gate p g → G.says g ≡ On }
     ensures opening { IfOk result (λ served. served.core.opening ≡ core.opening) }
-    ensures count { IfOk result (λ served. length served.worked.items ≡ length calls.now) }
-    ensures served { IfOk result (λ served. (p : ℕ) (c w : _) → slice_get calls.now p ≡ Some c → slice_get served.worked.items p ≡ Some w
+    ensures count { IfOk result (λ served. length served.processes.items ≡ length calls.now) }
+    ensures served { IfOk result (λ served. (p : ℕ) (c w : _) → slice_get calls.now p ≡ Some c
+        → slice_get served.processes.items p ≡ Some w
         → HasServed served.core p c.items w.replies.items w.end) }
-    ensures gates { IfOk result (λ served. EachHasOneGate G.asks G.says (λ p g. F.post make_gate p g) served.core) }
+    ensures gates { IfOk result (λ served. EachHasOneGate G.asks G.says
+        (λ p g. F.post make_gate p g) served.core) }
 {
     let rooms = make_rooms(alloc, calls)?;
     let gates = make_gates(alloc, core.processes(), make_gate)?;
@@ -112,5 +104,16 @@ where
         return Err(ServeFault::Thread);
     };
     let core = hall.close(rt, seats);
-    Ok(Left { worked, core })
+    Ok(ServiceHistory {
+        processes: worked,
+        core,
+    })
+}
+
+impl From<AllocError> for ServeFault {
+    ghost from_gives = { λ _ e. e ≡ OutOfMemory };
+
+    fn from(_e: AllocError) -> ServeFault {
+        ServeFault::OutOfMemory
+    }
 }

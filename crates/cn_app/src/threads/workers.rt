@@ -36,7 +36,7 @@ impl End {
 
 /// The replies to the calls of a process, in order, and how the calls ended.
 #[derive(Drop)]
-pub(crate) struct Worked {
+pub(crate) struct ProcessHistory {
     pub replies: Vec<Reply>,
     pub end: End,
 }
@@ -46,10 +46,10 @@ fn answer<R: Wait, G: Gate + Drop>(
     rt: &R,
     hall: &Hall,
     seat: Seat,
-    room: Worked,
+    room: ProcessHistory,
     gate: G,
     operations: &[u8],
-) -> (Seat, Worked)
+) -> (Seat, ProcessHistory)
     requires seat { MayWork hall.now operations.now seat }
     requires room { HasRoom operations.now room }
     requires gate { G.says gate ≡ On }
@@ -58,18 +58,18 @@ fn answer<R: Wait, G: Gate + Drop>(
 {
     let mut seat = seat;
     let mut gate = gate;
-    let Worked { mut replies, .. } = room;
+    let ProcessHistory { mut replies, .. } = room;
     for operation in operations {
         match hall.call(rt, &mut seat, Operation(*operation), &mut gate) {
             Ok(reply) => replies.push_reserved(reply),
             Err(fault) => {
                 let end = End::by(fault);
-                return (seat, Worked { replies, end });
+                return (seat, ProcessHistory { replies, end });
             }
         }
     }
     let end = End::Whole;
-    (seat, Worked { replies, end })
+    (seat, ProcessHistory { replies, end })
 }
 
 /// What the thread of a seat owes.
@@ -80,10 +80,11 @@ struct AnswerOf<G> {
     operations: Snapshot<Vec<u8>>,
 }
 
-impl<G: Gate> Promise<(Seat, Worked)> for AnswerOf<G> {
+impl<G: Gate> Promise<(Seat, ProcessHistory)> for AnswerOf<G> {
     ghost use Rattle.cn_app.specs.Threads.Workers.{GateWasAsked, HasWorked};
 
-    ghost kept_by = { λ p r. HasWorked p.operations.value.items p.seat.value r.0 r.1.replies.items r.1.end
+    ghost kept_by = { λ p r.
+        HasWorked p.operations.value.items p.seat.value r.0 r.1.replies.items r.1.end
         × GateWasAsked G.asks G.says p.seat.value p.gate.value r.0 };
 }
 
@@ -94,17 +95,22 @@ pub(crate) fn answer_each<R: Threads + Wait + Sync, G: Gate + Send + Drop>(
     rt: &R,
     hall: &Hall,
     seats: Vec<Seat>,
-    rooms: Vec<Worked>,
+    rooms: Vec<ProcessHistory>,
     gates: Vec<G>,
     calls: &[Vec<u8>],
-) -> Option<(Vec<Seat>, Vec<Worked>)>
-    requires seats { MayAllWork hall.now calls.now seats.items × (length seats.items ≤ length calls.now) }
+) -> Option<(Vec<Seat>, Vec<ProcessHistory>)>
+    requires seats { MayAllWork hall.now calls.now seats.items
+        × (length seats.items ≤ length calls.now) }
     requires rooms { HaveRoom calls.now rooms.items × (length rooms.items ≡ length seats.items) }
-    requires gates { All (λ g. G.says g ≡ On) gates.items × (length gates.items ≡ length seats.items) }
-    ensures seats { IfSome result (λ r. (length r.0.items ≡ length seats.items) × (vec_capacity r.0 ≡ vec_capacity seats)) }
-    ensures rooms { IfSome result (λ r. (length r.1.items ≡ length seats.items) × (vec_capacity r.1 ≡ vec_capacity rooms)) }
+    requires gates { All (λ g. G.says g ≡ On) gates.items
+        × (length gates.items ≡ length seats.items) }
+    ensures seats { IfSome result
+        (λ r. (length r.0.items ≡ length seats.items) × (vec_capacity r.0 ≡ vec_capacity seats)) }
+    ensures rooms { IfSome result
+        (λ r. (length r.1.items ≡ length seats.items) × (vec_capacity r.1 ≡ vec_capacity rooms)) }
     ensures worked { IfSome result (λ r. HaveAllWorked calls.now seats.items r.0.items r.1.items) }
-    ensures asked { IfSome result (λ r. AllGatesWereAsked G.asks G.says seats.items gates.items r.0.items) }
+    ensures asked { IfSome result (λ r. AllGatesWereAsked G.asks G.says seats.items gates.items
+        r.0.items) }
 {
     let mut seats = seats;
     let mut rooms = rooms;
@@ -119,17 +125,26 @@ pub(crate) fn answer_each<R: Threads + Wait + Sync, G: Gate + Send + Drop>(
     let both = thread::scope(
         thread::scope_env(),
         rt,
-        move |scope| -> Option<((Vec<Seat>, Vec<Worked>), (Seat, Worked))>
+        move |scope| -> Option<((Vec<Seat>, Vec<ProcessHistory>), (Seat, ProcessHistory))>
             requires rt { IsSync R.row }
-            requires mine { MayWork hall.now operations.now.items seat × HasRoom operations.now.items room × (G.says gate ≡ On) }
-            requires seats { MayAllWork hall.now calls.now seats.items × (length seats.items ≤ length calls.now) }
-            requires rooms { HaveRoom calls.now rooms.items × (length rooms.items ≡ length seats.items) }
-            requires gates { All (λ g. G.says g ≡ On) gates.items × (length gates.items ≡ length seats.items) }
-            ensures seats { IfSome result (λ r. (length r.0.0.items ≡ length seats.items) × (vec_capacity r.0.0 ≡ vec_capacity seats)) }
-            ensures rooms { IfSome result (λ r. (length r.0.1.items ≡ length seats.items) × (vec_capacity r.0.1 ≡ vec_capacity rooms)) }
-            ensures worked { IfSome result (λ r. HaveAllWorked calls.entry.now seats.items r.0.0.items r.0.1.items) }
-            ensures asked { IfSome result (λ r. AllGatesWereAsked G.asks G.says seats.items gates.items r.0.0.items) }
-            ensures last { IfSome result (λ r. HasWorked operations.entry.now.items seat r.1.0 r.1.1.replies.items r.1.1.end) }
+            requires mine { MayWork hall.now operations.now.items seat
+                × HasRoom operations.now.items room × (G.says gate ≡ On) }
+            requires seats { MayAllWork hall.now calls.now seats.items
+                × (length seats.items ≤ length calls.now) }
+            requires rooms { HaveRoom calls.now rooms.items
+                × (length rooms.items ≡ length seats.items) }
+            requires gates { All (λ g. G.says g ≡ On) gates.items
+                × (length gates.items ≡ length seats.items) }
+            ensures seats { IfSome result (λ r. (length r.0.0.items ≡ length seats.items)
+                × (vec_capacity r.0.0 ≡ vec_capacity seats)) }
+            ensures rooms { IfSome result (λ r. (length r.0.1.items ≡ length seats.items)
+                × (vec_capacity r.0.1 ≡ vec_capacity rooms)) }
+            ensures worked { IfSome result (λ r. HaveAllWorked calls.entry.now seats.items
+                r.0.0.items r.0.1.items) }
+            ensures asked { IfSome result (λ r. AllGatesWereAsked G.asks G.says seats.items
+                gates.items r.0.0.items) }
+            ensures last { IfSome result (λ r. HasWorked operations.entry.now.items seat r.1.0
+                r.1.1.replies.items r.1.1.end) }
             ensures last_asked { IfSome result (λ r. GateWasAsked G.asks G.says seat gate r.1.0) }
         {
             let promise = AnswerOf {
@@ -139,9 +154,11 @@ pub(crate) fn answer_each<R: Threads + Wait + Sync, G: Gate + Send + Drop>(
             };
             let child = scope.spawn_with(
                 promise,
-                move || -> (Seat, Worked)
-                    requires { MayWork hall.now operations.now.items seat × HasRoom operations.now.items room × (G.says gate ≡ On) }
-                    ensures worked { HasWorked operations.entry.now.items seat result.0 result.1.replies.items result.1.end }
+                move || -> (Seat, ProcessHistory)
+                    requires { MayWork hall.now operations.now.items seat
+                        × HasRoom operations.now.items room × (G.says gate ≡ On) }
+                    ensures worked { HasWorked operations.entry.now.items seat result.0
+                        result.1.replies.items result.1.end }
                     ensures asked { GateWasAsked G.asks G.says seat gate result.0 }
                 { answer(rt, hall, seat, room, gate, operations) },
             );

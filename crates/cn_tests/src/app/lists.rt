@@ -1,5 +1,5 @@
 //! A list of as many items as one may have, which is more than the words of a program may be long.
-use cn_app::{AppFault, ListText, Part, read_schedule};
+use cn_app::{AppFault, ListText, Argument, read_schedule};
 use std::alloc::Global;
 use std::process::Abort;
 
@@ -16,5 +16,5 @@ fn steps_of(alloc: Global, items: usize) -> Result<usize, AppFault> {
 fn a_list_has_its_limit(rt: HostRuntime) {
     let alloc = rt.alloc();
     assert!(rt; steps_of(alloc, 65_536) == Ok(65_536));
-    assert!(rt; steps_of(alloc, 65_537) == Err(AppFault::Argument(Part::Schedule)));
+    assert!(rt; steps_of(alloc, 65_537) == Err(AppFault::Argument(Argument::Schedule)));
 }

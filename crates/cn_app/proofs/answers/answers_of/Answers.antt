@@ -29,10 +29,8 @@ pub returns-in_err-come-clause-fault : goal.returns-in_err-come-clause-fault
 returns-in_err-come-clause-fault c =
     let p = err_from_is_err_and c.from_residual-in_err-come.result c.from_residual-in_err-come.ensures.1 in
     let i = c.loop-event.invariant in
-    let core = c.loop-event.core in
-    let fault = c.in_err-come.field-0.0 in
-    rw (p.1, p.2) (λ memory. subst (λ (o : Opening). IsFirstEventFault (setting_of o) c.args.events.now fault) i.opening
-    (first_in_list (setting core) c.args.events.now c.loop-event.event-index _ core.schedule fault i.schedule c.loop-event-test.true c.in_err-come.ensures.first))
+    rw (p.1, p.2) (λ memory. subst (λ (o : Opening). IsFirstEventFault (setting_of o) c.args.events.now c.in_err-come.field-0.0) i.opening
+    (first_in_list (setting c.loop-event.core) c.args.events.now c.loop-event.event-index _ c.loop-event.core.schedule c.in_err-come.field-0.0 i.schedule c.loop-event-test.true c.in_err-come.ensures.first))
 
 pub returns-clause-schedule : goal.returns-clause-schedule
 returns-clause-schedule c = c.loop-event.invariant.schedule ∙ take_all c.loop-event.event-index c.args.events.now c.loop-event-test.false
@@ -44,16 +42,16 @@ returns-clause-ends c =
     let ends = c.loop-event.ends.items in
     sym (append-nil ends) ∙ ap (λ (l : List Event). ends ++ ends_after (setting_of c.args.opening) (take k es) l) (sym (drop_all k es c.loop-event-test.false)) ∙ c.loop-event.invariant.ends
 
+-- what holds of the events of a log, by the names of its opening and of all events
+of_all_events : (P : Opening → List Event → Type 0) (o p : Opening) (es fs : List Event) → o ≡ p → es ≡ fs → P o es → P p fs
+of_all_events P o p es fs opening all h = subst (λ (q : Opening). P q fs) opening (subst (λ (l : List Event). P o l) all h)
+
 pub returns-clause-events : goal.returns-clause-events
 returns-clause-events c =
-    let i = c.loop-event.invariant in
-    let all : c.loop-event.core.schedule ≡ c.args.events.now = i.schedule ∙ take_all c.loop-event.event-index c.args.events.now c.loop-event-test.false in
-    subst (λ (o : Opening). IsEventList (setting_of o) c.args.events.now) i.opening
-    (subst (λ (es : List Event). IsEventList (setting c.loop-event.core) es) all c.logs_are_linearized.ensures.events)
+    of_all_events (λ o es. IsEventList (setting_of o) es) c.loop-event.core.opening c.args.opening c.loop-event.core.schedule c.args.events.now c.loop-event.invariant.opening
+    (c.loop-event.invariant.schedule ∙ take_all c.loop-event.event-index c.args.events.now c.loop-event-test.false) c.logs_are_linearized.ensures.events
 
 pub returns-clause-linearized : goal.returns-clause-linearized
 returns-clause-linearized c =
-    let i = c.loop-event.invariant in
-    let all : c.loop-event.core.schedule ≡ c.args.events.now = i.schedule ∙ take_all c.loop-event.event-index c.args.events.now c.loop-event-test.false in
-    subst (λ (o : Opening). IsLinearized (setting_of o) c.args.events.now) i.opening
-    (subst (λ (es : List Event). IsLinearized (setting c.loop-event.core) es) all c.logs_are_linearized.ensures.linearized)
+    of_all_events (λ o es. IsLinearized (setting_of o) es) c.loop-event.core.opening c.args.opening c.loop-event.core.schedule c.args.events.now c.loop-event.invariant.opening
+    (c.loop-event.invariant.schedule ∙ take_all c.loop-event.event-index c.args.events.now c.loop-event-test.false) c.logs_are_linearized.ensures.linearized

@@ -6,7 +6,7 @@ use Rattle.cn_app.proofs.arguments.files.read_argument.Goals as goal
 pub returns-in_ok-from_str-in-Ok-clause-text : goal.returns-in_ok-from_str-in-Ok-clause-text
 returns-in_ok-from_str-in-Ok-clause-text g c = (
   c.in_ok-fill.ensures.ended,
-  argument_read c.args.part c.fill.new.self.bytes.items c.without_line_feed.result.now c.in_ok-fill.ensures.ended.1 (c.without_line_feed.ensures ∙ ap without_line_feed c.deref.ensures.value)
+  argument_read c.args.argument c.fill.new.self.bytes.items c.without_line_feed.result.now c.in_ok-fill.ensures.ended.1 (c.without_line_feed.ensures ∙ ap without_line_feed c.deref.ensures.value)
       (string_bytes c.in_ok-from_str-in-Ok.field-0) c.in-Ok.ensures.cases.1 (c.in_ok-from_str-in-Ok.ensures.ok ∙ c.in-Ok.ensures.cases.0),
 )
 
@@ -14,6 +14,6 @@ pub returns-in-Err-clause-text : goal.returns-in-Err-clause-text
 returns-in-Err-clause-text g c =
     inr (
       inl c.in_ok-fill.ensures.ended,
-      argument_refused c.args.part c.fill.new.self.bytes.items c.without_line_feed.result.now c.in_ok-fill.ensures.ended.1 (c.without_line_feed.ensures ∙ ap without_line_feed c.deref.ensures.value)
+      argument_refused c.args.argument c.fill.new.self.bytes.items c.without_line_feed.result.now c.in_ok-fill.ensures.ended.1 (c.without_line_feed.ensures ∙ ap without_line_feed c.deref.ensures.value)
           c.in-Err.ensures.cases.0,
     )

@@ -1,13 +1,9 @@
-use Rattle.std.proofs.Common.{inl, inr, refl}
-use Rattle.std.proofs.lemmas.Result.{err_from_is_err_and}
-use Rattle.cn_app.proofs.CommandLemmas.Silence.{silent}
+use Rattle.std.proofs.Common.{inr}
+use Rattle.cn_app.specs.Commands.Show.{HasShowReport}
+use Rattle.cn_app.proofs.CommandLemmas.Reports.{reported}
 use Rattle.cn_app.proofs.commands.of_certificates.show.Goals as goal
-
-pub returns-in_err-report-clause-shown : goal.returns-in_err-report-clause-shown
-returns-in_err-report-clause-shown g c =
-    let p = err_from_is_err_and c.from_residual-in_err-report.result c.from_residual-in_err-report.ensures.1 in
-    rw (p.1, p.2) (inl (c.in_err-report.field-0.0, inr (c.in_ok-checked.checked, c.in_ok-checked.ensures.checked, c.in_err-report.ensures), refl, silent c.args.output.now))
 
 pub returns-clause-shown : goal.returns-clause-shown
 returns-clause-shown g c =
-    inr (c.in_ok-report.report, inr (c.in_ok-checked.checked, c.in_ok-checked.ensures.checked, c.in_ok-report.ensures), c.write.ensures)
+    reported g.W.Write.contents (HasShowReport c.read_checked.new.table c.read_checked.new.certificate c.args.form) c.args.output.now c.report.new.self c.show_report.result c.report.result
+    (inr (c.in_ok-checked.checked, c.in_ok-checked.ensures.checked, c.show_report.ensures)) c.report.ensures

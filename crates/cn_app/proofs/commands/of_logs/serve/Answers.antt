@@ -1,8 +1,10 @@
 use Rattle.std.proofs.Common.{inl, inr, refl, ap, ◌∙◌}
 use Rattle.std.proofs.lemmas.Result.{err_from_is_err_and}
 use Rattle.cn_app.specs.Arguments.Events.{capacity_of}
-use Rattle.cn_app.proofs.CommandLemmas.Calls.{not_served_as, served_as}
-use Rattle.cn_app.proofs.CommandLemmas.Silence.{silent}
+use Rattle.cn_app.specs.Commands.Serve.{HasServeReport}
+use Rattle.cn_app.specs.Threads.Workers.{EachHasOneGate}
+use Rattle.cn_app.proofs.CommandLemmas.Calls.{served_as}
+use Rattle.cn_app.proofs.CommandLemmas.Reports.{reported, silent}
 use Rattle.cn_app.proofs.commands.of_logs.serve.Goals as goal
 
 pub returns-in_err-calls-clause-served : goal.returns-in_err-calls-clause-served
@@ -15,11 +17,8 @@ returns-in_err-opening-clause-served g c =
     let p = err_from_is_err_and c.from_residual-in_err-opening.result c.from_residual-in_err-opening.ensures.1 in
     rw (p.1, p.2) (inl (c.in_err-opening.field-0.0, inr (c.in_ok-slots.slots, ap (λ word. capacity_of word.now) c.read_opening.ensures.read.capacity ∙ c.in_ok-slots.ensures.capacity, inr (c.in_ok-calls.calls, c.in_ok-calls.ensures, inl (c.in_err-opening.field-0.0, c.in_err-opening.ensures.opening, refl))), refl, silent c.args.output.now))
 
-pub returns-in_err-report-clause-served : goal.returns-in_err-report-clause-served
-returns-in_err-report-clause-served g c =
-    let p = err_from_is_err_and c.from_residual-in_err-report.result c.from_residual-in_err-report.ensures.1 in
-    rw (p.1, p.2) (inl (c.in_err-report.field-0.0, inr (c.in_ok-slots.slots, ap (λ word. capacity_of word.now) c.read_opening.ensures.read.capacity ∙ c.in_ok-slots.ensures.capacity, inr (c.in_ok-calls.calls, c.in_ok-calls.ensures, inr (c.in_ok-opening.opening, c.in_ok-opening.ensures.opening, not_served_as c.in_ok-opening.opening c.deref.result.now c.in_ok-calls.calls.items c.in_err-report.field-0.0 c.deref.ensures.value c.in_err-report.ensures))), refl, silent c.args.output.now))
-
 pub returns-clause-served : goal.returns-clause-served
 returns-clause-served g c =
-    inr (c.in_ok-report.report, inr (c.in_ok-slots.slots, ap (λ word. capacity_of word.now) c.read_opening.ensures.read.capacity ∙ c.in_ok-slots.ensures.capacity, inr (c.in_ok-calls.calls, c.in_ok-calls.ensures, inr (c.in_ok-opening.opening, c.in_ok-opening.ensures.opening, served_as c.in_ok-opening.opening c.deref.result.now c.in_ok-calls.calls.items c.in_ok-report.report c.deref.ensures.value c.in_ok-report.ensures))), c.write.ensures)
+    let gates = EachHasOneGate g.G.Gate.asks g.G.Gate.says (λ p x. goal.F-post g c.args.make_gate p x) in
+    reported g.W.Write.contents (HasServeReport gates c.read_opening.new.given c.args.calls) c.args.output.now c.report.new.self c.serve_report.result c.report.result
+    (inr (c.in_ok-slots.slots, ap (λ word. capacity_of word.now) c.read_opening.ensures.read.capacity ∙ c.in_ok-slots.ensures.capacity, inr (c.in_ok-calls.calls, c.in_ok-calls.ensures, inr (c.in_ok-opening.opening, c.in_ok-opening.ensures.opening, served_as gates c.in_ok-opening.opening c.deref.result.now c.in_ok-calls.calls.items c.serve_report.result c.deref.ensures.value c.serve_report.ensures)))) c.report.ensures

@@ -1,6 +1,7 @@
 use Rattle.std.proofs.Common.{inl, inr, refl}
 use Rattle.std.proofs.lemmas.Result.{err_from_is_err_and}
-use Rattle.cn_app.proofs.CommandLemmas.Silence.{silent}
+use Rattle.cn_app.specs.Commands.Classify.{HasClassReport}
+use Rattle.cn_app.proofs.CommandLemmas.Reports.{reported, silent}
 use Rattle.cn_app.proofs.commands.of_tables.classify.Goals as goal
 
 pub returns-in_err-table-clause-classified : goal.returns-in_err-table-clause-classified
@@ -8,11 +9,7 @@ returns-in_err-table-clause-classified g c =
     let p = err_from_is_err_and c.from_residual-in_err-table.result c.from_residual-in_err-table.ensures.1 in
     rw (p.1, p.2) (inl (c.in_err-table.field-0.0, inr (c.in_ok-check_limit.field-0, c.in_ok-check_limit.ensures, inl (c.in_err-table.field-0.0, c.in_err-table.ensures.table, refl)), refl, silent c.args.output.now))
 
-pub returns-in_err-report-clause-classified : goal.returns-in_err-report-clause-classified
-returns-in_err-report-clause-classified g c =
-    let p = err_from_is_err_and c.from_residual-in_err-report.result c.from_residual-in_err-report.ensures.1 in
-    rw (p.1, p.2) (inl (c.in_err-report.field-0.0, inr (c.in_ok-check_limit.field-0, c.in_ok-check_limit.ensures, inr (c.in_ok-table.table, c.in_ok-table.ensures.table, c.in_err-report.ensures)), refl, silent c.args.output.now))
-
 pub returns-clause-classified : goal.returns-clause-classified
 returns-clause-classified g c =
-    inr (c.in_ok-report.report, inr (c.in_ok-check_limit.field-0, c.in_ok-check_limit.ensures, inr (c.in_ok-table.table, c.in_ok-table.ensures.table, c.in_ok-report.ensures)), c.write.ensures)
+    reported g.W.Write.contents (HasClassReport c.read_table.new.text c.args.limit) c.args.output.now c.report.new.self c.class_report.result c.report.result
+    (inr (c.in_ok-check_limit.field-0, c.in_ok-check_limit.ensures, inr (c.in_ok-table.table, c.in_ok-table.ensures.table, c.class_report.ensures))) c.report.ensures

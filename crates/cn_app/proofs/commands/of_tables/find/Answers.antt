@@ -1,13 +1,9 @@
-use Rattle.std.proofs.Common.{inl, inr, refl}
-use Rattle.std.proofs.lemmas.Result.{err_from_is_err_and}
-use Rattle.cn_app.proofs.CommandLemmas.Silence.{silent}
+use Rattle.std.proofs.Common.{inr}
+use Rattle.cn_app.specs.Commands.Find.{HasFindReport}
+use Rattle.cn_app.proofs.CommandLemmas.Reports.{reported}
 use Rattle.cn_app.proofs.commands.of_tables.find.Goals as goal
-
-pub returns-in_err-report-clause-found : goal.returns-in_err-report-clause-found
-returns-in_err-report-clause-found g c =
-    let p = err_from_is_err_and c.from_residual-in_err-report.result c.from_residual-in_err-report.ensures.1 in
-    rw (p.1, p.2) (inl (c.in_err-report.field-0.0, inr (c.in_ok-table.table, c.in_ok-table.ensures.table, c.in_err-report.ensures), refl, silent c.args.output.now))
 
 pub returns-clause-found : goal.returns-clause-found
 returns-clause-found g c =
-    inr (c.in_ok-report.report, inr (c.in_ok-table.table, c.in_ok-table.ensures.table, c.in_ok-report.ensures), c.write.ensures)
+    reported g.W.Write.contents (HasFindReport c.read_table.new.text c.args.limit) c.args.output.now c.report.new.self c.find_report.result c.report.result
+    (inr (c.in_ok-table.table, c.in_ok-table.ensures.table, c.find_report.ensures)) c.report.ensures

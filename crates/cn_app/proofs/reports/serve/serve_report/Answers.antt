@@ -4,7 +4,8 @@ use Rattle.std.proofs.lemmas.Result.{err_from_is_err_and}
 use Rattle.cn_log.specs.Opening.{Opening}
 use Rattle.cn_app.specs.Arguments.Calls.{calls_fit}
 use Rattle.cn_app.specs.Commands.Serve.{outcome_of_calls}
-use Rattle.cn_app.specs.Lines.Threads.{left_lines}
+use Rattle.cn_app.specs.Outcomes.{cut_if}
+use Rattle.cn_app.specs.Lines.Threads.{service_lines}
 use Rattle.cn_app.proofs.ArgumentLemmas.Calls.{calls_of_operations}
 use Rattle.cn_app.proofs.LineLemmas.Threads.{each_has_responses, each_served}
 use Rattle.cn_app.proofs.reports.serve.serve_report.Goals as goal
@@ -17,16 +18,16 @@ serve_calls-requires-clause-operations g c κs within =
     let fit : calls_fit c.args.opening (lists_of c.args.calls.now) ≡ true = search rules in
     rw c.in_ok-core.ensures.opening (calls_of_operations (λ list. list.items) c.args.opening c.args.calls.now fit)
 
-pub left_lines-requires-clause-range : goal.left_lines-requires-clause-range
-left_lines-requires-clause-range g c =
-    each_has_responses c.object.result.now c.args.calls.now c.in_ok-left.left.core c.in_ok-left.left.worked.items (sym (c.object.ensures ∙ ap (λ (o : Opening). o.object) c.opening-opening.ensures))
-    c.in_ok-left.ensures.count c.in_ok-left.ensures.served
+pub service_lines-requires-clause-range : goal.service_lines-requires-clause-range
+service_lines-requires-clause-range g c =
+    each_has_responses c.object.result.now c.args.calls.now c.in_ok-service.service.core c.in_ok-service.service.processes.items (sym (c.object.ensures ∙ ap (λ (o : Opening). o.object) c.opening-opening.ensures))
+    c.in_ok-service.ensures.count c.in_ok-service.ensures.served
 
 pub returns : goal.returns
 returns g c =
-    let core = c.in_ok-left.left.core in
-    let worked = c.in_ok-left.left.worked.items in
-    let opened : core.opening ≡ c.args.opening = c.in_ok-left.ensures.opening ∙ c.in_ok-core.ensures.opening in
+    let core = c.in_ok-service.service.core in
+    let worked = c.in_ok-service.service.processes.items in
+    let opened : core.opening ≡ c.args.opening = c.in_ok-service.ensures.opening ∙ c.in_ok-core.ensures.opening in
     let object : c.object.result.now ≡ c.args.opening.object = c.object.ensures ∙ ap (λ (o : Opening). o.object) (c.opening-opening.ensures ∙ opened) in
     let start : c.start.result.0 ≡ c.args.opening.start = c.start.ensures.number ∙ ap (λ (o : Opening). o.start) (c.opening-opening.ensures ∙ opened) in
     let fit : calls_fit c.args.opening (lists_of c.args.calls.now) ≡ true = search rules in
@@ -39,11 +40,11 @@ returns g c =
       bypass = c.logs_are_linearized.ensures.bypass;
       wait_free = c.logs_are_linearized.ensures.wait_free;
       worked = worked;
-      each = c.in_ok-left.ensures.count ∙ sym (length-map c.args.calls.now (λ list. list.items));
-      served = each_served core c.args.calls.now worked c.in_ok-left.ensures.served;
-      gated = c.in_ok-left.ensures.gates;
-      written = c.in_ok-text.ensures ∙ (λ i. left_lines (object i) (start i) worked core);
-      ended = c.outcome_of_calls-outcome.ensures ∙ ap outcome_of_calls c.deref.ensures.value;
+      each = c.in_ok-service.ensures.count ∙ sym (length-map c.args.calls.now (λ list. list.items));
+      served = each_served core c.args.calls.now worked c.in_ok-service.ensures.served;
+      gated = c.in_ok-service.ensures.gates;
+      written = c.in_ok-text.ensures ∙ (λ i. service_lines (object i) (start i) worked core);
+      ended = c.cut_if-outcome.ensures ∙ ap cut_if c.has_cut.ensures ∙ ap outcome_of_calls c.deref.ensures.value;
     }
 
 pub returns-in_err-text : goal.returns-in_err-text

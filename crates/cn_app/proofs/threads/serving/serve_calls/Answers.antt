@@ -1,7 +1,7 @@
 use Rattle.std.proofs.Common.{◌≡◌, length, sym, ap, ◌∙◌, arith}
 use Rattle.cn_proto.specs.Plan.{processes_of}
 use Rattle.cn_log.specs.Opening.{Opening}
-use Rattle.cn_app.proofs.ThreadLemmas.Left.{left_of, may_all_work, one_gate_each, same_opening, serve_all}
+use Rattle.cn_app.proofs.ThreadLemmas.ClosedLogs.{left_of, may_all_work, one_gate_each, same_opening, serve_all}
 use Rattle.cn_app.proofs.threads.serving.serve_calls.Goals as goal
 
 -- src/serving.rt:113:33

@@ -4,7 +4,7 @@ use Rattle.std.specs.Global.{Global}
 use Rattle.cn_hall.specs.Seats.{SeatState}
 use Rattle.cn_hall.specs.declared.call.Go.TheVariants.{On}
 use Rattle.cn_app.specs.Threads.Workers.{AllGatesWereAsked, HasWorked, HaveAllWorked}
-use Rattle.cn_app.specs.declared.threads.workers.Worked.{Worked}
+use Rattle.cn_app.specs.declared.threads.workers.ProcessHistory.{ProcessHistory}
 use Rattle.cn_app.proofs.ThreadLemmas.Places.{may_all_front, may_last, one_more_asked, one_more_worked, read_at, room_front, room_last}
 use Rattle.cn_app.proofs.threads.workers.+answer_each+fn-answer_each-scope.Goals as goal
 
@@ -57,7 +57,7 @@ returns-clause-worked g t c =
     let less : length seats < length c.args.calls.now = omega (arith, longer, c.requires.seats.1, length-append seats (c.in-Some.seat ∷ [])) in
     let at : c.len.result ≡ length seats = search rules in
     let mine = read_at c.args.calls.now c.len.result (length seats) c.index-calls-len.result at less c.index-calls-len.is in
-    subst (λ (z : List SeatState × List SeatState × List Worked). HaveAllWorked c.args.calls.now z.0 z.1 z.2) (λ i. (sym c.in-Some.ensures.items i, sym c.push_reserved.ensures.items i, sym c.push_reserved-2.ensures.items i))
+    subst (λ (z : List SeatState × List SeatState × List ProcessHistory). HaveAllWorked c.args.calls.now z.0 z.1 z.2) (λ i. (sym c.in-Some.ensures.items i, sym c.push_reserved.ensures.items i, sym c.push_reserved-2.ensures.items i))
     (one_more_worked c.args.calls.now seats c.in_ok-seats.seats.items c.in_ok-seats.worked.items c.in-Some.seat c.in_ok-seats.seat c.in_ok-seats.last h.1.0.0 h.1.1.0.0 h.1.1.1.0
     (λ d got. let same : Some c.index-calls-len.result ≡ Some d = sym mine ∙ got in let is : c.index-calls-len.result ≡ d = cc in
     subst (λ (v : Vec ℕ Global). HasWorked v.items c.in-Some.seat c.in_ok-seats.seat c.in_ok-seats.last.replies.items c.in_ok-seats.last.end) is h.1.1.1.1.1.0))

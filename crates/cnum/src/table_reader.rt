@@ -6,16 +6,16 @@ use std::rt::Files;
 
 /// What reads a table that is named: standard input by the name `-`, else a file of the name.
 #[derive(Drop)]
-pub enum Given<'a, R: Files> {
+pub enum TableReader<'a, R: Files> {
     Standard(&'a Stdin),
     File(LazyFile<'a, R>),
 }
 
-impl<'a, R: Files> Read for Given<'a, R> {
+impl<'a, R: Files> Read for TableReader<'a, R> {
     fn read(&mut self, buffer: &mut [u8]) -> io::Result<usize> {
         match self {
-            Given::Standard(stdin) => stdin.read(buffer),
-            Given::File(file) => file.read(buffer),
+            TableReader::Standard(stdin) => stdin.read(buffer),
+            TableReader::File(file) => file.read(buffer),
         }
     }
 }

@@ -14,7 +14,7 @@ use Rattle.cn_proto.specs.Plan.{processes_of}
 use Rattle.cn_hall.specs.Seats.{HallId, IsSeatOf, SeatState, seat_state, slots_seen}
 use Rattle.cn_app.specs.Threads.Serving.{HasServed, replies_in}
 use Rattle.cn_app.specs.Threads.Workers.{AllGatesWereAsked, EachHasOneGate, HasWorked, HaveAllWorked, MayAllWork, MayWork}
-use Rattle.cn_app.specs.declared.threads.workers.Worked.{Worked}
+use Rattle.cn_app.specs.declared.threads.workers.ProcessHistory.{ProcessHistory}
 use Rattle.cn_app.proofs.ThreadLemmas.Serving.{has_served_at}
 
 all_at : {A : Type 0} (P : A → Type 0) (xs : List A) → ((k : ℕ) (x : A) → slice_get xs k ≡ Some x → P x) → All P xs
@@ -33,11 +33,11 @@ module _ (hall : HallId) (core : Log) (calls : List (Vec ℕ Global)) (before : 
       subst (λ (u : SeatState). MayWork hall c.items u) (sym (seat_at p s at)) ((refl, refl), empty, at_place (λ (d : Vec ℕ Global). All (λ o. o < length core.opening.object.operations) d.items) calls fit p c got)
 
   -- all have been at work
-  module _ (after : List SeatState) (worked : List Worked) (also : length after ≡ length before) (more : length worked ≡ length before) (all : HaveAllWorked calls before after worked) where
-    worked_at : (p : ℕ) (c : Vec ℕ Global) (t : SeatState) (w : Worked) → slice_get calls p ≡ Some c → slice_get after p ≡ Some t → slice_get worked p ≡ Some w → HasWorked c.items (seat_state hall p core) t w.replies.items w.end
+  module _ (after : List SeatState) (worked : List ProcessHistory) (also : length after ≡ length before) (more : length worked ≡ length before) (all : HaveAllWorked calls before after worked) where
+    worked_at : (p : ℕ) (c : Vec ℕ Global) (t : SeatState) (w : ProcessHistory) → slice_get calls p ≡ Some c → slice_get after p ≡ Some t → slice_get worked p ≡ Some w → HasWorked c.items (seat_state hall p core) t w.replies.items w.end
     worked_at p c t w got at_t at_w = all p c (seat_state hall p core) t w got (opened p (slice_get_within calls p c got)) at_t at_w
 
-    worked_there : (p : ℕ) (t : SeatState) → slice_get after p ≡ Some t → (c : Vec ℕ Global) × (w : Worked) × HasWorked c.items (seat_state hall p core) t w.replies.items w.end
+    worked_there : (p : ℕ) (t : SeatState) → slice_get after p ≡ Some t → (c : Vec ℕ Global) × (w : ProcessHistory) × HasWorked c.items (seat_state hall p core) t w.replies.items w.end
     worked_there p t at =
         let less = slice_get_within after p t at in
         let c = there_is calls p (omega (arith, less, also, count)) in
@@ -56,7 +56,7 @@ module _ (hall : HallId) (core : Log) (calls : List (Vec ℕ Global)) (before : 
           (at_place (λ (u : SeatState). Carries u.process u.core closed) after carried 0 t.0 t.1).0 ∙ h.2.same.2
 
       pub serve_all : All (λ (t : SeatState). BeginsWith (batches (setting closed) closed.schedule) (slots_seen t)) after → All (λ (t : SeatState). BeginsWith (replies_in closed t.process) (own t)) after
-          → (p : ℕ) (c : Vec ℕ Global) (w : Worked) → slice_get calls p ≡ Some c → slice_get worked p ≡ Some w → HasServed closed p c.items w.replies.items w.end
+          → (p : ℕ) (c : Vec ℕ Global) (w : ProcessHistory) → slice_get calls p ≡ Some c → slice_get worked p ≡ Some w → HasServed closed p c.items w.replies.items w.end
       serve_all begins answers p c w got at =
           let t = there_is after p (omega (arith, slice_get_within worked p w at, also, more)) in
           let h = worked_at p c t.0 w got t.1 at in
