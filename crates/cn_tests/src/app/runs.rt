@@ -8,6 +8,7 @@ use crate::types::*;
 use cn_app::readers::OpeningArguments;
 use cn_app::{AppFault, Form, ListText, Outcome, Output, Source, Text, commands};
 use cn_hall::AlwaysOn;
+use cn_words::{Command, ListSource, OpeningWords};
 use std::alloc::Global;
 use std::process::Abort;
 use std::sync::Wait;
@@ -34,27 +35,66 @@ entry 1 0 inc 1 2
 events i0:0,s0,s0,s0,s0,s0,s0,i0:0,s0,s0,s0,s0,s0,s0"#
 }
 
-/// The commands, each for the arguments of one worked run.
-#[derive(Clone, Copy)]
-pub(crate) enum Command {
-    Find,
-    Classify,
-    Check,
-    Show,
-    Agree,
-    Replay,
-    Serve,
+/// What `lint` says of test-and-set.
+fn test_and_set_grid() -> &'static str {
+    r#"test_and_set
+         zero        one
+  tas    zero>one    one>one            (response > next state)"#
 }
 
-pub(crate) fn all_commands() -> [Command; 7] {
+/// The picture of test-and-set.
+fn test_and_set_picture() -> &'static str {
+    r#"digraph "test_and_set" {
+  "zero";
+  "one";
+  "zero" -> "one" [label="tas/zero\l"];
+  "one" -> "one" [label="tas/one\l"];
+}"#
+}
+
+/// A worked example: a command, and the lines that it writes where nothing fails.
+#[derive(Drop)]
+pub(crate) struct Example {
+    pub command: Command<'static>,
+    pub lines: &'static str,
+}
+
+/// The words of the commands that serve the counter.
+fn opening() -> OpeningWords<'static> {
+    OpeningWords {
+        certificate: "CERT",
+        object: "OBJECT",
+        start: "0",
+        capacity: "4",
+    }
+}
+
+/// The examples. Their texts are given, whatever the names of files; `classify` names none.
+pub(crate) fn all_examples(alloc: Global) -> [Example; 9] {
+    let (certificate, form) = ("CERT", Form::Text);
+    let (inputs, schedule) = (ListSource::Word("10,20"), ListSource::Word("1,1,0,0,0,0"));
+    let (events, calls) = (ListSource::Word(HELPED), ListSource::Word("0,0/none"));
+    let (tables, opening) = (Vec::new(alloc), opening());
     [
-        Command::Find,
-        Command::Classify,
-        Command::Check,
-        Command::Show,
-        Command::Agree,
-        Command::Replay,
-        Command::Serve,
+        Example::new(Command::Find { limit: 3 }, found_test_and_set_at_3()),
+        Example::new(Command::Classify { limit: 8, tables }, "test_and_set: 2"),
+        Example::new(Command::Lint, test_and_set_grid()),
+        Example::new(Command::Draw, test_and_set_picture()),
+        Example::new(Command::Check { certificate }, "ok"),
+        Example::new(Command::Show { certificate, form }, test_and_set_shown()),
+        Example::new(
+            Command::Agree {
+                certificate,
+                inputs,
+                schedule,
+            },
+            "0: 20\n1: undecided",
+        ),
+        Example::new(
+            Command::Replay { opening, events },
+            "answer 1 0 1\nanswer 0 0 0\nentry 0 0 inc 0 1\nentry 0 1 inc 1 2",
+        ),
+        Example::new(Command::Serve { opening, calls }, test_and_set_served()),
     ]
 }
 
@@ -79,19 +119,69 @@ fn given_of(alloc: Global, failing: Option<Source>) -> Given
     let table = reader_of(test_and_set(), failing == Some(Source::Table));
     let certificate = reader_of(test_and_set_at_3(), failing == Some(Source::Certificate));
     let object = reader_of(counter_3(), failing == Some(Source::Object));
+    let words = opening();
     OpeningArguments {
         table: Text::new(alloc, table),
         certificate: Text::new(alloc, certificate),
         object: Text::new(alloc, object),
-        start: "0",
-        capacity: "4",
+        start: words.start,
+        capacity: words.capacity,
     }
 }
 
-impl Command {
+/// The text of a list.
+fn list_text(list: ListSource<'static>) -> ListText<'static> {
+    match list {
+        ListSource::Word(text) | ListSource::File(text) => ListText::Word(text),
+    }
+}
+
+/// Does a command with what it is given to read.
+fn run_command<T: Threads + Wait + Sync>(
+    rt: &T,
+    alloc: Global,
+    command: &Command<'static>,
+    given: &mut Given,
+    output: &mut Output<Page>,
+) -> Result<Outcome, AppFault>
+    requires given { AreUnread given.old }
+    requires output { IsWritable output.old }
+{
+    let (table, certificate) = (&mut given.table, &mut given.certificate);
+    match *command {
+        Command::Find { limit } => commands::find(rt, alloc, table, output, limit),
+        Command::Classify { limit, .. } => commands::classify(rt, alloc, table, output, limit),
+        Command::Lint => commands::lint(alloc, table, output),
+        Command::Draw => commands::draw(alloc, table, output),
+        Command::Check { .. } => commands::check(alloc, table, certificate, output),
+        Command::Explain { all, .. } => commands::explain(alloc, table, certificate, output, all),
+        Command::Show { form, .. } => commands::show(alloc, table, certificate, output, form),
+        Command::Agree {
+            inputs,
+            schedule,
+            ..
+        } => {
+            let (inputs, schedule) = (list_text(inputs), list_text(schedule));
+            commands::agree(alloc, table, certificate, output, inputs, schedule)
+        }
+        Command::Replay { events, .. } => {
+            commands::replay(alloc, given, output, list_text(events))
+        }
+        Command::Serve { calls, .. } => {
+            let calls = list_text(calls);
+            commands::serve(rt, alloc, given, output, calls, |_| AlwaysOn)
+        }
+    }
+}
+
+impl Example {
+    fn new(command: Command<'static>, lines: &'static str) -> Example {
+        Example { command, lines }
+    }
+
     /// Does the command, where one reader is to fail and the writer has so much room.
     pub(crate) fn run<T: Threads + Wait + Sync>(
-        self,
+        &self,
         rt: &T,
         alloc: Global,
         failing: Option<Source>,
@@ -99,82 +189,35 @@ impl Command {
     ) -> Ran {
         let mut given = given_of(alloc, failing);
         let mut output = Output::new(alloc, Page::new(room));
-        let ended = self.run_to(rt, alloc, &mut given, &mut output);
+        let ended = run_command(rt, alloc, &self.command, &mut given, &mut output);
         let Output { writer, .. } = output;
         (ended, writer)
     }
 
-    fn run_to<T: Threads + Wait + Sync>(
-        self,
-        rt: &T,
-        alloc: Global,
-        given: &mut Given,
-        output: &mut Output<Page>,
-    ) -> Result<Outcome, AppFault>
-        requires given { AreUnread given.old }
-        requires output { IsWritable output.old }
-    {
-        let (inputs, schedule) = (ListText::Word("10,20"), ListText::Word("1,1,0,0,0,0"));
-        let (events, calls) = (ListText::Word(HELPED), ListText::Word("0,0/none"));
-        match self {
-            Command::Find => commands::find(rt, alloc, &mut given.table, output, 3),
-            Command::Classify => commands::classify(rt, alloc, &mut given.table, output, 8),
-            Command::Check => {
-                commands::check(alloc, &mut given.table, &mut given.certificate, output)
-            }
-            Command::Show => commands::show(
-                alloc,
-                &mut given.table,
-                &mut given.certificate,
-                output,
-                Form::Text,
-            ),
-            Command::Agree => commands::agree(
-                alloc,
-                &mut given.table,
-                &mut given.certificate,
-                output,
-                inputs,
-                schedule,
-            ),
-            Command::Replay => commands::replay(alloc, given, output, events),
-            Command::Serve => commands::serve(rt, alloc, given, output, calls, |_| AlwaysOn),
-        }
-    }
-
     /// Whether the command reads this.
-    fn reads(self, source: Source) -> bool {
-        match source {
-            Source::Table => true,
-            Source::Certificate => !matches!(self, Command::Find | Command::Classify),
-            Source::Object => matches!(self, Command::Replay | Command::Serve),
-            Source::Argument(_) => false,
-        }
-    }
-
-    /// The lines that it writes where nothing fails.
-    pub(crate) fn lines(self) -> &'static str {
-        match self {
-            Command::Find => found_test_and_set_at_3(),
-            Command::Classify => "test_and_set: 2",
-            Command::Check => "ok",
-            Command::Show => test_and_set_shown(),
-            Command::Agree => "0: 20\n1: undecided",
-            Command::Replay => "answer 1 0 1\nanswer 0 0 0\nentry 0 0 inc 0 1\nentry 0 1 inc 1 2",
-            Command::Serve => test_and_set_served(),
+    fn reads(&self, source: Source) -> bool {
+        match self.command {
+            Command::Find { .. } | Command::Classify { .. } | Command::Lint | Command::Draw => {
+                source == Source::Table
+            }
+            Command::Check { .. }
+            | Command::Explain { .. }
+            | Command::Show { .. }
+            | Command::Agree { .. } => source != Source::Object,
+            Command::Replay { .. } | Command::Serve { .. } => true,
         }
     }
 }
 
 /// Whether the command tells of each reader that fails once it gave 40 bytes, but for those that it
 /// does not read.
-fn tells_readers<R: Threads + Wait + Sync>(rt: &R, alloc: Global, command: Command) -> bool {
+fn tells_readers<R: Threads + Wait + Sync>(rt: &R, alloc: Global, example: &Example) -> bool {
     for source in [Source::Table, Source::Certificate, Source::Object] {
-        let (ended, page) = command.run(rt, alloc, Some(source), 512);
-        let is_told = if command.reads(source) {
+        let (ended, page) = example.run(rt, alloc, Some(source), 512);
+        let is_told = if example.reads(source) {
             ended == Err(AppFault::Read(source)) && page.written.is_empty()
         } else {
-            ended == Ok(Outcome::Whole) && page.has(command.lines())
+            ended == Ok(Outcome::Whole) && page.has(example.lines)
         };
         if !is_told {
             return false;
@@ -184,15 +227,16 @@ fn tells_readers<R: Threads + Wait + Sync>(rt: &R, alloc: Global, command: Comma
 }
 
 /// Whether it tells of a writer that takes one byte and then fails.
-fn tells_a_writer<R: Threads + Wait + Sync>(rt: &R, alloc: Global, command: Command) -> bool {
-    let (ended, page) = command.run(rt, alloc, None, 1);
+fn tells_a_writer<R: Threads + Wait + Sync>(rt: &R, alloc: Global, example: &Example) -> bool {
+    let (ended, page) = example.run(rt, alloc, None, 1);
     ended == Err(AppFault::Write) && page.written.len() == 1
 }
 
 #[test]
 fn streams_that_fail_are_told(rt: HostRuntime) {
-    for command in all_commands() {
-        assert!(rt; tells_readers(&rt, rt.alloc(), command));
-        assert!(rt; tells_a_writer(&rt, rt.alloc(), command));
+    let examples = all_examples(rt.alloc());
+    for example in &examples {
+        assert!(rt; tells_readers(&rt, rt.alloc(), example));
+        assert!(rt; tells_a_writer(&rt, rt.alloc(), example));
     }
 }

@@ -1,9 +1,10 @@
 //! Arguments that are lists, and the commands over a caller's readers and writer.
 use super::protocol::helped;
 use super::*;
-use crate::app::runs::{Command, HELPED, Ran, all_commands};
+use crate::app::runs::{Example, HELPED, Ran, all_examples};
 use cn_app::{AppFault, ListText, Outcome, read_calls, read_events, read_inputs, read_schedule};
 use cn_log::Event;
+use cn_words::Command;
 use std::sync::Wait;
 use std::thread::Threads;
 
@@ -65,33 +66,35 @@ fn calls(rt: HostRuntime) {
 }
 
 /// How a command ended. Where a thread could not be started for want of memory, `serve` says so.
-fn run_ended(command: Command, run: Ran) -> Ended {
+fn run_ended(example: &Example, run: Ran) -> Ended {
     let (outcome, page) = run;
     match outcome {
-        Ok(outcome) => Ended::whole_if(outcome == Outcome::Whole && page.has(command.lines())),
+        Ok(outcome) => Ended::whole_if(outcome == Outcome::Whole && page.has(example.lines)),
         Err(fault) => {
-            let is_thread = matches!(command, Command::Serve) && fault == AppFault::Thread;
+            let is_thread = matches!(example.command, Command::Serve { .. })
+                && fault == AppFault::Thread;
             let is_out_of_memory = is_thread || fault == AppFault::OutOfMemory;
             Ended::out_of_memory_if(is_out_of_memory && page.written.is_empty())
         }
     }
 }
 
-fn runs_of<R>(rt: &R, alloc: Global, command: Command)
+fn runs_of<R>(rt: &R, alloc: Global, example: &Example)
 where
     R: Threads + Wait + Sync + Abort,
 {
     sweep!(
         rt,
         alloc,
-        run = command.run(rt, alloc, None, 512),
-        run_ended(command, run)
+        run = example.run(rt, alloc, None, 512),
+        run_ended(example, run)
     );
 }
 
 #[test]
 fn runs(rt: HostRuntime) {
-    for command in all_commands() {
-        runs_of(&rt, rt.alloc(), command);
+    let examples = all_examples(rt.alloc());
+    for example in &examples {
+        runs_of(&rt, rt.alloc(), example);
     }
 }
