@@ -62,4 +62,4 @@ pub witness_plan : ((t : TypeTable) (c : RawChoice) (team : Team) (j : ℕ) (pai
     → (t : TypeTable) (c : Choice) → IsTypeTable t → FitsTable t c → IsWitness t (raw_choice_of c) → (p : Plan) × IsPlan p × (p.table ≡ t) × (p.choice ≡ c)
 witness_plan decided t c is fits witness =
     let judged = judged_lists t (raw_choice_of c) is fits.fits.state_known (λ j r q. decided t (raw_choice_of c) A j (r, q)) (length c.a + length c.b) in
-    (record { table = t; choice = c; judged = judged.0 }, plan_from t c judged.0 is fits witness judged.1, refl, refl)
+    (record { table = t; choice = c; judged_pairs = judged.0 }, plan_from t c judged.0 is fits witness judged.1, refl, refl)
