@@ -86,15 +86,15 @@ app_fault_text f = head_of (plain_of f) ++ carried_text (plain_of f) ++ tail_of 
 
 -- the status of a fault that is plain
 abbrev pub plain_status : AppFault → ℕ
-plain_status fault.Words = 3
-plain_status (fault.Argument a) = 3
+plain_status (fault.Check f) = 1
+plain_status fault.NoWitness = 1
 plain_status (fault.Table f) = 2
 plain_status (fault.Object f) = 2
 plain_status (fault.Certificate f) = 2
 plain_status (fault.TooLong s) = 2
-plain_status (fault.Check f) = 1
-plain_status fault.NoWitness = 1
+plain_status (fault.Argument a) = 3
 plain_status (fault.Find f) = 3
+plain_status fault.Words = 3
 plain_status (fault.Schedule f) = 3
 plain_status (fault.Replay f) = 3
 plain_status (fault.Read s) = 4

@@ -74,10 +74,10 @@ where
     T: Threads + Wait + Sync,
     G: Gate + Send + Drop,
     F: Fn(u8) -> G,
-    requires gates { F.IsAlwaysCallable make_gate }
-    requires on { (p : ℕ) (g : _) → F.post make_gate p g → G.says g ≡ On }
     requires given { AreUnread given.old }
     requires output { IsWritable output.old }
+    requires gates { F.IsAlwaysCallable make_gate }
+    requires on { (p : ℕ) (g : _) → F.post make_gate p g → G.says g ≡ On }
 
     ensures read { HaveReadAll R.remaining C.remaining O.remaining given.old given.new }
     ensures order { (given.new ≡ given.old) ⊎ SpellCalls given.old.capacity.now calls.entry }

@@ -91,8 +91,8 @@ pub(crate) fn service_lines(
     start: State,
     service: &ServiceHistory,
 ) -> Result<String, AllocError>
-    requires start { start.0 < length object.now.states }
     requires object { service.now.core.opening.object ≡ object.now }
+    requires start { start.0 < length object.now.states }
     requires few { length service.now.processes.items ≤ 8 }
     requires range { EachHasResponses object.now service.now.processes.items }
     ensures { IfOk result (λ lines. string_bytes lines

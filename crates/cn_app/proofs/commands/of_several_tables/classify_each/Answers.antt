@@ -32,12 +32,12 @@ loop-table-preserved-in_default g c =
 
 pub loop-table-preserved : goal.loop-table-preserved
 loop-table-preserved g c =
-    let h = c.classify.ensures in
     let i = c.loop-table.table-index in
     let now = c.loop-table.tables in
     let less : i < length now = omega (arith, c.loop-table-test.true, c.loop-table.auto.tables) in
     let old = slice_index_or now i c.table-item.result in
     let new : NamedTable g.row.R.Denot = record { name = old.name; text = c.classify.new.table } in
+    let h = c.classify.ensures in
     let own = sym c.is_of_every_table.ensures ∙ c.if-is_of_every_table.false in
     record {
       leads = one_place_on g.R.Read.remaining g.W.Write.contents g.F.Tell.tells c.args.limit c.args.tables.now c.args.output.now c.args.faults.now c.or-first.result now i new
@@ -53,9 +53,9 @@ loop-table-preserved g c =
 
 pub returns-then-is_of_every_table : goal.returns-then-is_of_every_table
 returns-then-is_of_every_table g c =
-    let h = c.classify.ensures in
     let i = c.loop-table.table-index in
     let now = c.loop-table.tables in
+    let h = c.classify.ensures in
     let less : i < length now = omega (arith, c.loop-table-test.true, c.loop-table.auto.tables) in
     let old = slice_index_or now i c.table-item.result in
     let new : NamedTable g.row.R.Denot = record { name = old.name; text = c.classify.new.table } in
