@@ -1,5 +1,5 @@
 //! A list of as many items as one may have, which is more than the words of a program may be long.
-use cn_app::{AppFault, ListText, Argument, read_schedule};
+use cn_app::{AppFault, Argument, ListText, read_schedule};
 use std::alloc::Global;
 use std::process::Abort;
 
