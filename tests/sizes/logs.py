@@ -151,9 +151,25 @@ def together():
             yield f"{served.about}: {calls} calls, {capacity} slots", run, True
 
 
+def overfull():
+    """Each process makes more calls than there are slots, so that the last call of each is full."""
+    for served in (sticky(1, 1), sticky(2, 3), sticky(3, 3), sticky(1, 6), sticky(4, 4)):
+        for capacity in (1, 3):
+            log, counts = Log(served.plan, COUNTER, 0, capacity), [[0] * (capacity + 1)] * served.n
+            word = "/".join(",".join(map(str, it)) for it in counts)
+
+            def run(served=served, log=log, counts=counts, capacity=capacity, word=word):
+                ended = served.says("serve", capacity, word)
+                told = [line for line in ended[0].decode().splitlines() if line.startswith("full ")]
+                return log.is_served(counts, ended), told
+
+            yield f"{served.about}: {word}, {capacity} slots", run, (True, [f"full {p}" for p in range(served.n)])
+
+
 def cases():
     yield from replays()
     yield from full_logs()
     yield from numbers()
     yield from alone()
     yield from together()
+    yield from overfull()

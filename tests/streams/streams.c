@@ -8,7 +8,7 @@
      WRITER_STEP, WRITER_FAILS, WRITER_ERROR    the same of standard output
      WRITER_ONCE  where it is set, it fails once, and then goes on
      WRITER_ZERO  after how many bytes it takes none, and tells of no error
-     STREAMS_TELL where the number of reads, the bytes given and the number of writes go at the end */
+     STREAMS_TELL where the numbers of reads, of bytes given, of writes and of tries to open the reader go at the end */
 #define _GNU_SOURCE
 #include <dlfcn.h>
 #include <errno.h>
@@ -26,7 +26,7 @@ static long setting(const char *name, long otherwise) {
 }
 
 static int reader = -2;
-static long reads, given, step, fails, endless, writes, taken;
+static long reads, given, step, fails, endless, writes, taken, opens;
 
 static void begin(void) {
     const char *name = getenv("READER");
@@ -44,7 +44,10 @@ int open(const char *path, int flags, ...) {
     if (reader == -2) begin();
     int file = syscall(SYS_openat, AT_FDCWD, path, flags, mode);
     const char *name = getenv("READER");
-    if (file >= 0 && name && !strcmp(name, path)) reader = file;
+    if (name && !strcmp(name, path)) {
+        opens++;
+        if (file >= 0) reader = file;
+    }
     return file;
 }
 
@@ -87,8 +90,8 @@ ssize_t write(int file, const void *buffer, size_t size) {
 
 void _exit(int status) {
     long where = setting("STREAMS_TELL", -1);
-    char text[80];
-    int length = snprintf(text, sizeof text, "%ld %ld %ld", reads, given, writes);
+    char text[100];
+    int length = snprintf(text, sizeof text, "%ld %ld %ld %ld", reads, given, writes, opens);
     if (where >= 0 && syscall(SYS_write, where, text, length) != length) abort();
     for (;;) syscall(SYS_exit_group, status);
 }
