@@ -14,3 +14,4 @@ pub mod AtomicLemmas
 pub mod PlanRounds
 pub mod Running
 pub mod Turning
+pub mod Telling

@@ -57,19 +57,28 @@ stays_decided {V = V} plan p w found e f = go (local_at w p) (ap is_some (sym f)
     go (Active i x stage) h = absurd cc
     go (Decided z) h = refl
 
+-- a turn that is taken by a process of the plan
+pub turn_runs : {V : Type 0} (plan : Plan) (p : ℕ) (w w' : World V) → RunsBy plan w → AllHaveBegun (processes_of plan) w → p < processes_of plan → w' ≡ after_step (protocol_of plan) p w → RunsBy plan w'
+turn_runs {V = V} plan p w w' runs begun lt e =
+    let T : World V → Type 0 = IsRoundOf plan (runs.0 ++ p ∷ []) in
+    (runs.0 ++ p ∷ [], subst T (sym e) (round_steps plan runs.0 w runs.1 p lt (begun p lt)))
+
+pub turn_begun : {V : Type 0} (plan : Plan) (p : ℕ) (w w' : World V) → RunsBy plan w → AllHaveBegun (processes_of plan) w → p < processes_of plan → w' ≡ after_step (protocol_of plan) p w → AllHaveBegun (processes_of plan) w'
+turn_begun {V = V} plan p w w' runs begun lt e =
+    let r = runs.1 in
+    let B : World V → Type 0 = AllHaveBegun (processes_of plan) in
+    subst B (sym e) (λ q lq. begun_stays (protocol_of plan) (processes_of plan) (nodes_of plan) (team_of (length plan.choice.a)) r.sound r.reached p q lt (begun q lq))
+
 pub one_more_run : {V : Type 0} (plan : Plan) (from : World V) (schedule : List ℕ) (k p : ℕ) (w w' : World V) → k < length schedule → IsSchedule (processes_of plan) schedule → p ≡ get_or schedule k 0 → HasRun plan from schedule k w
     → w' ≡ after_step (protocol_of plan) p w → HasRun plan from schedule (k + 1) w'
-one_more_run {V = V} plan from schedule k p w w' less all read h e =
-    let r = h.runs.1 in
+one_more_run plan from schedule k p w w' less all read h e =
     let lt : p < processes_of plan = rw read (All-from_recursion (λ q. q < processes_of plan) schedule all k 0 less) in
     let suc_is : k + 1 ≡ suc k = omega arith in
-    let T : World V → Type 0 = IsRoundOf plan (h.runs.0 ++ p ∷ []) in
-    let B : World V → Type 0 = AllHaveBegun (processes_of plan) in
     record {
       rest = rw suc_is (ap (after_schedule (protocol_of plan) (drop (suc k) schedule)) e ∙ ap (λ q. after_schedule (protocol_of plan) (drop (suc k) schedule) (after_step (protocol_of plan) q w)) read
           ∙ sym (drop_schedule plan schedule k 0 less w) ∙ h.rest);
-      runs = (h.runs.0 ++ p ∷ [], subst T (sym e) (round_steps plan h.runs.0 w r p lt (h.begun p lt)));
-      begun = subst B (sym e) (λ q lq. begun_stays (protocol_of plan) (processes_of plan) (nodes_of plan) (team_of (length plan.choice.a)) r.sound r.reached p q lt (h.begun q lq));
+      runs = turn_runs plan p w w' h.runs h.begun lt e;
+      begun = turn_begun plan p w w' h.runs h.begun lt e;
     }
 
 -- the world that is made of full vectors is the first
@@ -124,10 +133,13 @@ pub many_are : {V : Type 0} (plan : Plan) (inputs : List V) (schedule : List ℕ
 many_are {V = V} plan inputs schedule w w' h e =
     ap (λ (u : World V). length u.locals) e ∙ locals_schedule plan schedule w ∙ processes_are plan [] w h.round
 
+pub begun_is : {V : Type 0} (plan : Plan) (inputs : List V) (w : World V) → length inputs ≡ processes_of plan → HaveBegun plan inputs (processes_of plan) w → w ≡ all_begun (protocol_of plan) (nodes_of plan) inputs
+begun_is plan inputs w many h = h.is ∙ all_is (protocol_of plan) (processes_of plan) (nodes_of plan) inputs many
+
 pub world_is : {V : Type 0} (plan : Plan) (inputs : List V) (schedule : List ℕ) (w w' : World V) → length inputs ≡ processes_of plan → HaveBegun plan inputs (processes_of plan) w → w' ≡ after_schedule (protocol_of plan) schedule w
     → w' ≡ after_schedule (protocol_of plan) schedule (all_begun (protocol_of plan) (nodes_of plan) inputs)
 world_is plan inputs schedule w w' many h e =
-    e ∙ ap (after_schedule (protocol_of plan) schedule) (h.is ∙ all_is (protocol_of plan) (processes_of plan) (nodes_of plan) inputs many)
+    e ∙ ap (after_schedule (protocol_of plan) schedule) (begun_is plan inputs w many h)
 
 pub right_count : {V : Type 0} (n : ℕ) (inputs : List V) (schedule : List ℕ) → schedule_fault n inputs schedule ≡ None → length inputs ≡ n
 right_count n inputs schedule h = by_count (nat_eq (length inputs) n) refl h

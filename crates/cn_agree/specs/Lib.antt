@@ -5,6 +5,7 @@ pub mod Reached
 pub mod Consensus
 pub mod Rounds
 pub mod Schedules
+pub mod Actions
 pub mod Beginning
 pub mod FaultText
 pub mod Turns

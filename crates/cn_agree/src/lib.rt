@@ -13,12 +13,14 @@ mod action;
 mod fault;
 pub mod laws;
 mod local;
+mod next_action;
 mod node;
 mod round;
 mod schedule;
 
 pub use fault::ScheduleFault;
 pub use local::{Local, Stage};
+pub use next_action::{Action, StepRecord};
 pub use node::Node;
 pub use round::Round;
-pub use schedule::{Decisions, run_schedule};
+pub use schedule::{Course, Decisions, run_schedule, run_steps};

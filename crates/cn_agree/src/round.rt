@@ -1,6 +1,7 @@
 //! One instance of consensus, one atomic step at a time.
-ghost use Rattle.std.specs.Prelude.{◌≡◌, ◌<◌, ◌≤◌, ◌*◌, ◌↔◌, ◌++◌, ◌∷◌, [], ℕ, List, length, replicate, IfOk, IfSome, IsSome, None, Some};
+ghost use Rattle.std.specs.Prelude.{◌≡◌, ◌<◌, ◌≤◌, ◌*◌, ◌↔◌, ◌++◌, ◌∷◌, [], ℕ, List, length, replicate, IfOk, IfSome, IsNone, IsSome, None, Some};
 ghost use Rattle.cn_proto.specs.Plan.{Plan as PlanOf, protocol_of, processes_of, nodes_of};
+ghost use Rattle.cn_agree.specs.Actions.{IsOfTable, action_of};
 ghost use Rattle.cn_agree.specs.Consensus.{IsParticipant, occurrences};
 ghost use Rattle.cn_agree.specs.Reached.{first_world, HasBegun};
 ghost use Rattle.cn_agree.specs.Rounds.{decision_at, fixed_value, IsAppliedAtRoot, IsRoundOf, RunsBy};
@@ -10,6 +11,7 @@ ghost use Rattle.cn_agree.specs.World.{local_at, input_at};
 
 use crate::action::{Turn, act, first_after};
 use crate::local::{Local, Stage};
+use crate::next_action::{Action, action_at};
 use crate::node::Node;
 use cn_choice::Team;
 use cn_proto::Plan;
@@ -131,6 +133,38 @@ impl<V: Copy> Round<V> {
             }
             // It has begun and not decided.
             None => unreachable!(),
+        }
+    }
+
+    /// What the next step of process `p`, which has begun, does in a round of this plan: none where
+    /// it has decided.
+    pub fn next_action(&self, plan: &Plan, p: u8) -> Option<Action<V>>
+        requires of_plan { RunsBy plan.now self.now }
+        requires process { p < processes_of plan.now }
+        requires begun { HasBegun self.now p }
+        ensures action { result ≡ action_of plan.now self.now p }
+        ensures decided { IsNone result ↔ IsSome (decision_at self.now p) }
+        ensures table { IfSome result (IsOfTable plan.now.table) }
+    {
+        plans_are_sound(plan);
+        match self.locals[usize::from(p)] {
+            Local::Active {
+                place,
+                value,
+                stage,
+            } => {
+                let path = plan.path(p);
+                let here = path[place];
+                let turn = Turn {
+                    here,
+                    place,
+                    places: path.len(),
+                    stage,
+                };
+                let node = &self.nodes[usize::from(here.node)];
+                action_at(plan, turn, value, node)
+            }
+            Local::NotBegun | Local::Decided(_) => None,
         }
     }
 

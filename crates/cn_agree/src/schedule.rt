@@ -1,15 +1,16 @@
 //! Whole schedules: lists of the processes that take the steps.
-ghost use Rattle.std.specs.Prelude.{◌≡◌, ◌⊎◌, length, Err, IfErr, IfOk, OnOk, None, Some, nat_le, position};
+ghost use Rattle.std.specs.Prelude.{◌≡◌, ◌⊎◌, ◌<◌, length, Err, IfErr, IfOk, OnOk, None, Some, nat_le, position};
 ghost use Rattle.cn_proto.specs.Plan.{protocol_of, processes_of, nodes_of};
+ghost use Rattle.cn_agree.specs.Actions.{AreOfTable, records_from, records_of};
 ghost use Rattle.cn_agree.specs.Beginning.{AllHaveBegun, HaveBegun};
 ghost use Rattle.cn_agree.specs.Consensus.{IsConsensus, IsSchedule};
 ghost use Rattle.cn_agree.specs.Rounds.{RunsBy};
 ghost use Rattle.cn_agree.specs.Schedules.{all_begun, decisions_of, decisions_after, schedule_fault};
-ghost use Rattle.cn_agree.specs.Steps.{after_schedule};
+ghost use Rattle.cn_agree.specs.Steps.{after_schedule, after_step};
 ghost use Rattle.cn_agree.specs.declared.fault.ScheduleFault.{ScheduleFault as FaultOf};
 ghost use Rattle.cn_agree.specs.declared.fault.ScheduleFault.TheVariants.{OutOfMemory};
 
-use crate::{Round, ScheduleFault, laws};
+use crate::{Round, ScheduleFault, StepRecord, laws};
 use cn_proto::Plan;
 use cn_proto::laws::plans_are_sound;
 use std::alloc::{AllocError, Global};
@@ -28,6 +29,23 @@ impl Model for Decisions {
     ghost Value = { Decisions };
 
     ghost view = { λ d. record { decisions = d.decisions.items } };
+}
+
+/// What the steps of a schedule do, and what it decides.
+#[derive(Drop)]
+pub struct Course {
+    /// Each step, in order.
+    pub records: Vec<StepRecord<u64>>,
+    /// By process the value that it has decided, or none.
+    pub decisions: Vec<Option<u64>>,
+}
+
+impl Model for Course {
+    ghost use Rattle.cn_agree.specs.Actions.{Course};
+
+    ghost Value = { Course };
+
+    ghost view = { λ c. record { records = c.records.items; decisions = c.decisions.items } };
 }
 
 /// The first place of a schedule that names none of so many processes.
@@ -61,6 +79,20 @@ fn begin_all<V: Copy>(plan: &Plan, round: &mut Round<V>, inputs: &[V])
     }
 }
 
+/// The step of a process that a schedule names; none where it has decided.
+fn take_turn<V: Copy>(plan: &Plan, round: &mut Round<V>, p: u8)
+    requires of_plan { RunsBy plan.now round.old }
+    requires begun { AllHaveBegun (processes_of plan.now) round.old }
+    requires process { p < processes_of plan.now }
+    ensures world { round.new ≡ after_step (protocol_of plan.now) p round.old }
+    ensures of_plan { RunsBy plan.now round.new }
+    ensures begun { AllHaveBegun (processes_of plan.now) round.new }
+{
+    if round.decision(p).is_none() {
+        round.step(plan, p);
+    }
+}
+
 /// The steps of a schedule. A process that it names after it has decided takes none.
 fn step_all<V: Copy>(plan: &Plan, round: &mut Round<V>, schedule: &[u8])
     requires of_plan { RunsBy plan.now round.old }
@@ -70,12 +102,37 @@ fn step_all<V: Copy>(plan: &Plan, round: &mut Round<V>, schedule: &[u8])
     ensures of_plan { RunsBy plan.now round.new }
     ensures begun { AllHaveBegun (processes_of plan.now) round.new }
 {
-    plans_are_sound(plan);
     for p in schedule {
-        if round.decision(*p).is_none() {
-            round.step(plan, *p);
-        }
+        take_turn(plan, round, *p);
     }
+}
+
+/// The same steps, with what each of them does.
+fn record_all(
+    alloc: Global,
+    plan: &Plan,
+    round: &mut Round<u64>,
+    schedule: &[u8],
+) -> Result<Vec<StepRecord<u64>>, AllocError>
+    requires of_plan { RunsBy plan.now round.old }
+    requires begun { AllHaveBegun (processes_of plan.now) round.old }
+    requires schedule { IsSchedule (processes_of plan.now) schedule.now }
+    ensures records { IfOk result (λ records. records.items
+        ≡ records_from plan.now schedule.now round.old) }
+    ensures table { IfOk result (λ records. AreOfTable plan.now.table records.items) }
+    ensures world { OnOk result (round.new
+        ≡ after_schedule (protocol_of plan.now) schedule.now round.old) }
+{
+    let mut records = Vec::new(alloc);
+    for p in schedule {
+        let action = round.next_action(plan, *p);
+        records.push(StepRecord {
+            process: *p,
+            action,
+        })?;
+        take_turn(plan, round, *p);
+    }
+    Ok(records)
 }
 
 /// What each of so many processes has decided.
@@ -94,24 +151,27 @@ fn decisions_of<V: Copy>(
     Ok(decisions)
 }
 
-/// The round after a schedule, where each process has begun with its input.
-fn round_after<V: Copy>(
+/// The round in which each process has begun with its input, where these and the schedule have no
+/// fault.
+fn begun_round(
     alloc: Global,
     plan: &Plan,
-    inputs: &[V],
+    inputs: &[u64],
     schedule: &[u8],
-) -> Result<Round<V>, AllocError>
-    requires inputs { length inputs.now ≡ processes_of plan.now }
-    requires schedule { IsSchedule (processes_of plan.now) schedule.now }
-    ensures world { IfOk result (λ round. round ≡ after_schedule (protocol_of plan.now) schedule.now
-        (all_begun (protocol_of plan.now) (nodes_of plan.now) inputs.now)) }
-    ensures processes { IfOk result (λ round. length round.locals ≡ processes_of plan.now) }
-    ensures of_plan { IfOk result (RunsBy plan.now) }
-    ensures begun { IfOk result (AllHaveBegun (processes_of plan.now)) }
+) -> Result<Round<u64>, ScheduleFault>
+    ensures begun { IfOk result (HaveBegun plan.now inputs.now (processes_of plan.now)) }
+    ensures run { OnOk result (schedule_fault (processes_of plan.now) inputs.now schedule.now
+        ≡ None) }
+    ensures told { (e : FaultOf)
+        → schedule_fault (processes_of plan.now) inputs.now schedule.now ≡ Some e → result ≡ Err e }
+    ensures refused { IfErr result (λ e. (e ≡ OutOfMemory)
+        ⊎ (schedule_fault (processes_of plan.now) inputs.now schedule.now ≡ Some e)) }
 {
+    if let Some(fault) = fault_of(plan, inputs, schedule) {
+        return Err(fault);
+    }
     let mut round = Round::new(alloc, plan)?;
     begin_all(plan, &mut round, inputs);
-    step_all(plan, &mut round, schedule);
     Ok(round)
 }
 
@@ -147,12 +207,47 @@ pub fn run_schedule(
     ensures refused { IfErr result (λ e. (e ≡ OutOfMemory)
         ⊎ (schedule_fault (processes_of plan.now) inputs.now schedule.now ≡ Some e)) }
 {
-    if let Some(fault) = fault_of(plan, inputs, schedule) {
-        return Err(fault);
-    }
     laws::every_schedule::<u64>(plan);
-    let round = round_after(alloc, plan, inputs, schedule)?;
+    let mut round = begun_round(alloc, plan, inputs, schedule)?;
+    step_all(plan, &mut round, schedule);
     Ok(Decisions {
+        decisions: decisions_of(alloc, &round, plan.processes())?,
+    })
+}
+
+/// What each step of a schedule does, and what each process has decided after it, where all have
+/// begun, process p with `inputs[p]`.
+///
+/// The decisions are those of [`run_schedule`]. A step has no action exactly where the schedule
+/// names a process that has decided before.
+///
+/// # Errors
+///
+/// Those of [`run_schedule`].
+pub fn run_steps(
+    alloc: Global,
+    plan: &Plan,
+    inputs: &[u64],
+    schedule: &[u8],
+) -> Result<Course, ScheduleFault>
+    ensures records { IfOk result (λ c. c.records ≡ records_of plan.now inputs.now schedule.now) }
+    ensures table { IfOk result (λ c. AreOfTable plan.now.table c.records) }
+    ensures decisions { IfOk result (λ c. c.decisions
+        ≡ decisions_after plan.now inputs.now schedule.now) }
+    ensures consensus { IfOk result (λ c. IsConsensus (protocol_of plan.now) (processes_of plan.now)
+        inputs.now schedule.now c.decisions) }
+    ensures run { OnOk result (schedule_fault (processes_of plan.now) inputs.now schedule.now
+        ≡ None) }
+    ensures told { (e : FaultOf)
+        → schedule_fault (processes_of plan.now) inputs.now schedule.now ≡ Some e → result ≡ Err e }
+    ensures refused { IfErr result (λ e. (e ≡ OutOfMemory)
+        ⊎ (schedule_fault (processes_of plan.now) inputs.now schedule.now ≡ Some e)) }
+{
+    laws::every_schedule::<u64>(plan);
+    let mut round = begun_round(alloc, plan, inputs, schedule)?;
+    let records = record_all(alloc, plan, &mut round, schedule)?;
+    Ok(Course {
+        records,
         decisions: decisions_of(alloc, &round, plan.processes())?,
     })
 }

@@ -1,3 +1,4 @@
 pub mod Decisions
 pub mod Events
 pub mod Log
+pub mod Steps

@@ -1,17 +1,19 @@
 //! The lines that tell what processes have decided, and what has happened in a log.
 //!
-//! [`decision_lines`] has a line for each process of a round. [`answer_lines`] has one for each call
-//! that ended, [`entry_lines`] one for each entry of a log, and [`events_line`] tells its events as a
-//! list of them is read. [`put_answer_line`] and [`put_number`] put a line or a number behind a text
-//! that is being made.
+//! [`decision_lines`] has a line for each process of a round, and [`step_lines`] one for each step of
+//! a schedule. [`answer_lines`] has one for each call that ended, [`entry_lines`] one for each entry
+//! of a log, and [`events_line`] tells its events as a list of them is read. [`put_answer_line`] and
+//! [`put_number`] put a line or a number behind a text that is being made.
 #![tactic(auto)]
 
 mod decisions;
 mod events;
 mod log;
 mod number;
+mod steps;
 
 pub use decisions::decision_lines;
 pub use events::events_line;
 pub use log::{answer_lines, entry_lines, put_answer_line};
 pub use number::put_number;
+pub use steps::step_lines;

@@ -1,0 +1,110 @@
+//! What the next step of a process does, told before it is taken.
+ghost use Rattle.std.specs.Prelude.{◌≡◌, ◌<◌, length, IfSome};
+ghost use Rattle.cn_proto.specs.Plan.{processes_of};
+ghost use Rattle.cn_agree.specs.Actions.{IsOfTable, action_at};
+
+use crate::action::Turn;
+use crate::local::Stage;
+use crate::node::Node;
+use cn_choice::Team;
+use cn_proto::Plan;
+use cn_table::{Operation, Response, State};
+
+/// What a step of a process does.
+#[derive(Clone, Copy, Debug, Drop)]
+pub enum Action<V> {
+    /// It writes its value to the register of its team at a node.
+    Write {
+        node: u8,
+        team: Team,
+        value: V,
+    },
+    /// It applies its operation to the object of a node, and gets this response.
+    Apply {
+        node: u8,
+        operation: Operation,
+        response: Response,
+    },
+    /// It reads this state of the object of a node, and judges this team to have come first there.
+    Read {
+        node: u8,
+        state: State,
+        team: Team,
+    },
+    /// It reads this value in the register of a team at a node, and goes on with it.
+    Take {
+        node: u8,
+        team: Team,
+        value: V,
+    },
+    /// It reads this value at the last node of its path, and decides it.
+    Decide {
+        value: V,
+    },
+}
+
+/// A step of a schedule: the process that it names, and what that does.
+#[derive(Clone, Copy, Debug, Drop)]
+pub struct StepRecord<V> {
+    /// The process.
+    pub process: u8,
+    /// Its action; none where it has decided before.
+    pub action: Option<Action<V>>,
+}
+
+/// What a process does at its turn with this value, at a node that is so; nothing where it finds
+/// the register empty that it takes its next value from.
+pub(crate) fn action_at<V: Copy>(
+    plan: &Plan,
+    turn: Turn,
+    value: V,
+    node: &Node<V>,
+) -> Option<Action<V>>
+    requires role { turn.here.role < processes_of plan.now }
+    requires place { turn.place < turn.places }
+    requires state { node.now.state.0 < length plan.now.table.states }
+    ensures action { result
+        ≡ action_at plan.now turn.places turn.place turn.here value turn.stage node.now }
+    ensures table { IfSome result (IsOfTable plan.now.table) }
+{
+    let Turn {
+        here,
+        place,
+        places,
+        stage,
+    } = turn;
+    let at = here.node;
+    match stage {
+        Stage::Write => Some(Action::Write {
+            node: at,
+            team: here.team,
+            value,
+        }),
+        Stage::Apply => {
+            let (response, _) = plan.act(here.role, node.state);
+            Some(Action::Apply {
+                node: at,
+                operation: plan.operation(here.role),
+                response,
+            })
+        }
+        Stage::Read(response) => Some(Action::Read {
+            node: at,
+            state: node.state,
+            team: plan.judge(here.role, response, node.state),
+        }),
+        Stage::Take(response, state) => {
+            let team = plan.judge(here.role, response, state);
+            let value = node.register(team)?;
+            Some(if place + 1 < places {
+                Action::Take {
+                    node: at,
+                    team,
+                    value,
+                }
+            } else {
+                Action::Decide { value }
+            })
+        }
+    }
+}
