@@ -16,6 +16,7 @@ use Rattle.cn_hall.specs.Gates.{HasTaken, IsAsked, steps_since}
 use Rattle.cn_hall.specs.Seats.{SeatState, IsInvoke, IsLog, IsStep, pending}
 use Rattle.cn_hall.specs.declared.call.Go.{Go}
 use Rattle.cn_hall.specs.declared.call.Go.TheVariants.{On}
+use Rattle.cn_hall.proofs.Callers.{begins_again}
 use Rattle.cn_hall.proofs.Calling.{same_again}
 use Rattle.cn_log.proofs.OwnLemmas.{steps_cons}
 
@@ -73,6 +74,9 @@ since_step p core now next x h k =
     let o = step_one p in
     (omega (arith, a, b, c, d, n, o), ((h.0 ++ r) ++ Step p ∷ [], e))
 
+pub core_later : (p : ℕ) (now next : Log) (x : StepAnswer) → IsStep p now x next → BeginsWith next.schedule now.schedule
+core_later p now next x k = (since_step p now now next x (later_same now) k).1
+
 -- a call is none
 since_invoke : (p operation : ℕ) (core mid now : Log) → IsInvoke p operation core mid → BeginsWith now.schedule mid.schedule → (steps_since p core now ≡ steps_since p mid now) × BeginsWith now.schedule core.schedule
 since_invoke p operation core mid now k h =
@@ -108,24 +112,34 @@ since_few room p core now log h =
     let e = room_few (processes_of now.opening.plan) now.opening.capacity log.opening.plan.fits.few log.opening.few in
     omega (arith, a, b, c, d, e)
 
-module _ {G : Type 0} (asks : G → SeatState → ℕ → G → Type 0) (says : G → Go) where
-  -- one question more
-  pub asked_next : (mine : Entry) (start seat : SeatState) (k : ℕ) (old mid new : G) → IsSameSeat start seat → BeginsWith seat.core.schedule start.core.schedule → pending seat ≡ Some mine → steps_since start.process start.core seat.core ≡ k
-      → IsAsked asks says mine start k old mid → says mid ≡ On → asks mid seat (k + 1) new → (m : ℕ) → m ≡ suc k → IsAsked asks says mine start m old new
-  asked_next mine start seat k old mid new same later is steps asked on asks_it m e =
-      let z : k + 1 ≡ suc k = omega arith in
-      subst (λ n. IsAsked asks says mine start n old new) (sym e) (mid, seat, asked, on, record { same = same; later = later; pending = is; steps = steps }, subst (λ n. asks mid seat n new) z asks_it)
+-- and the end may be later
+taken_later : (mine : Entry) (k : ℕ) (start seat : SeatState) (end now : Log) → BeginsWith now.schedule end.schedule → HasTaken mine k start end seat → HasTaken mine k start now seat
+taken_later mine k start seat end now more h =
+    record { same = h.same; later = h.later; history = begins_again seat.core.schedule end.schedule now.schedule h.history more; pending = h.pending; steps = h.steps }
 
-  taken_from : (a b seat : SeatState) (operation : ℕ) (mine : Entry) (k : ℕ) → IsSameSeat a b → IsInvoke a.process operation a.core b.core → HasTaken mine k b seat → HasTaken mine k a seat
-  taken_from a b seat operation mine k same invoke h =
+module _ {G : Type 0} (asks : G → SeatState → ℕ → G → Type 0) (says : G → Go) where
+  asked_later : (mine : Entry) (start : SeatState) (end now : Log) → BeginsWith now.schedule end.schedule → (k : ℕ) (old new : G) → IsAsked asks says mine start end k old new → IsAsked asks says mine start now k old new
+  asked_later mine start end now more zero old new h = h
+  asked_later mine start end now more (suc k) old new h = (h.0, h.1, asked_later mine start end now more k old h.0 h.2, h.3, taken_later mine k start h.1 end now more h.4, h.5)
+
+  -- one question more, about the step with which the seat's core has come so far
+  pub asked_next : (mine : Entry) (start seat : SeatState) (now : Log) (k : ℕ) (old mid new : G) → IsSameSeat start seat → BeginsWith seat.core.schedule start.core.schedule → BeginsWith now.schedule seat.core.schedule → pending seat ≡ Some mine
+      → steps_since start.process start.core seat.core ≡ k → IsAsked asks says mine start seat.core k old mid → says mid ≡ On → asks mid seat (k + 1) new → (m : ℕ) → m ≡ suc k → IsAsked asks says mine start now m old new
+  asked_next mine start seat now k old mid new same later more is steps asked on asks_it m e =
+      let z : k + 1 ≡ suc k = omega arith in
+      subst (λ n. IsAsked asks says mine start now n old new) (sym e)
+      (mid, seat, asked_later mine start seat.core now more k old mid asked, on, record { same = same; later = later; history = more; pending = is; steps = steps }, subst (λ n. asks mid seat n new) z asks_it)
+
+  taken_from : (a b seat : SeatState) (end : Log) (operation : ℕ) (mine : Entry) (k : ℕ) → IsSameSeat a b → IsInvoke a.process operation a.core b.core → HasTaken mine k b end seat → HasTaken mine k a end seat
+  taken_from a b seat end operation mine k same invoke h =
       let s = since_invoke a.process operation a.core b.core seat.core invoke h.later in
-      record { same = same_again a b seat same h.same; later = s.1; pending = h.pending; steps = s.0 ∙ ap (λ p. steps_since p b.core seat.core) (sym same.1) ∙ h.steps }
+      record { same = same_again a b seat same h.same; later = s.1; history = h.history; pending = h.pending; steps = s.0 ∙ ap (λ p. steps_since p b.core seat.core) (sym same.1) ∙ h.steps }
 
   -- a call is asked about from its beginning on
-  pub asked_from : (a b : SeatState) (operation : ℕ) (mine : Entry) → IsSameSeat a b → IsInvoke a.process operation a.core b.core → (k : ℕ) (old new : G) → IsAsked asks says mine b k old new → IsAsked asks says mine a k old new
-  asked_from a b operation mine same invoke zero old new h = h
-  asked_from a b operation mine same invoke (suc k) old new h =
-      (h.0, h.1, asked_from a b operation mine same invoke k old h.0 h.2, h.3, taken_from a b h.1 operation mine k same invoke h.4, h.5)
+  pub asked_from : (a b : SeatState) (end : Log) (operation : ℕ) (mine : Entry) → IsSameSeat a b → IsInvoke a.process operation a.core b.core → (k : ℕ) (old new : G) → IsAsked asks says mine b end k old new → IsAsked asks says mine a end k old new
+  asked_from a b end operation mine same invoke zero old new h = h
+  asked_from a b end operation mine same invoke (suc k) old new h =
+      (h.0, h.1, asked_from a b end operation mine same invoke k old h.0 h.2, h.3, taken_from a b h.1 end operation mine k same invoke h.4, h.5)
 
   pub since_call : (a b d : SeatState) (operation : ℕ) → IsSameSeat a b → IsInvoke a.process operation a.core b.core → GoesOn b.process b.core d.core → steps_since b.process b.core d.core ≡ steps_since a.process a.core d.core
   since_call a b d operation same invoke goes = ap (λ p. steps_since p b.core d.core) same.1 ∙ sym (since_invoke a.process operation a.core b.core d.core invoke (goes.1, goes.2)).0

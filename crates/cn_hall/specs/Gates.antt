@@ -16,19 +16,20 @@ use Rattle.cn_hall.specs.declared.call.Reply.{Reply}
 abbrev pub steps_since : ℕ → Log → Log → ℕ
 steps_since p before now = steps_of p (drop (length before.schedule) now.schedule)
 
--- the seat has come from there, is in this call, and has taken so many steps since
-pub record HasTaken (mine : Entry) (k : ℕ) (start seat : SeatState) : Type 0 where
+-- the seat has come from there, is in this call, and has taken so many steps since; and the call has ended in a core that goes on from the seat's
+pub record HasTaken (mine : Entry) (k : ℕ) (start : SeatState) (end : Log) (seat : SeatState) : Type 0 where
   pub same : IsSameSeat start seat
   pub later : BeginsWith seat.core.schedule start.core.schedule
+  pub history : BeginsWith end.schedule seat.core.schedule
   pub pending : pending seat ≡ Some mine
   pub steps : steps_since start.process start.core seat.core ≡ k
 
--- k times, in the call that the seat is in, a gate was asked: about step 1, before the seat had taken a step, and so on to step k, before the seat had
--- taken that; and it said On each time but perhaps the last
-abbrev pub IsAsked : {G : Type 0} → (G → SeatState → ℕ → G → Type 0) → (G → Go) → Entry → SeatState → ℕ → G → G → Type 0
-IsAsked asks says mine start zero old new = new ≡ old
-IsAsked {G} asks says mine start (suc k) old new = (mid : G) × (seat : SeatState) × IsAsked asks says mine start k old mid × (says mid ≡ On)
-    × HasTaken mine k start seat × asks mid seat (suc k) new
+-- k times, in the call that the seat is in and that ends in this core, a gate was asked: about step 1, before the seat had taken a step, and so on to step k,
+-- before the seat had taken that; and it said On each time but perhaps the last
+abbrev pub IsAsked : {G : Type 0} → (G → SeatState → ℕ → G → Type 0) → (G → Go) → Entry → SeatState → Log → ℕ → G → G → Type 0
+IsAsked asks says mine start end zero old new = new ≡ old
+IsAsked {G} asks says mine start end (suc k) old new = (mid : G) × (seat : SeatState) × IsAsked asks says mine start end k old mid × (says mid ≡ On)
+    × HasTaken mine k start end seat × asks mid seat (suc k) new
 
 -- how often a call with this answer asked that took so many steps: before each, and once more where it was stopped
 abbrev pub asked_times : Result Reply CallFault → ℕ → ℕ

@@ -102,7 +102,7 @@ impl Hall {
             < length seat.old.core.opening.object.responses) }
         ensures said { G.says gate.new ≡ go_after result }
         ensures asked { (mine : Entry) → pending seat.old ≡ Some mine
-            → IsAsked G.asks G.says mine seat.old
+            → IsAsked G.asks G.says mine seat.old seat.new.core
             (asked_times result (steps_since seat.old.process seat.old.core seat.new.core))
             gate.old gate.new }
     {
@@ -157,6 +157,7 @@ impl Hall {
             < length seat.old.core.opening.object.responses) }
         ensures said { G.says gate.new ≡ go_after result }
         ensures asked { IsAsked G.asks G.says (next_call seat.old operation.0) seat.old
+            seat.new.core
             (asked_times result (steps_since seat.old.process seat.old.core seat.new.core)) gate.old
             gate.new }
     {

@@ -8,8 +8,9 @@ use std::error::Error;
 use std::fmt;
 
 /// Why a list of events cannot be replayed: the place of the first event that cannot come, and
-/// why. Of several reasons, the one that stands first here is answered; want of memory can stand
-/// in place of any answer.
+/// why. Of several reasons, the one that stands first here is answered. Want of memory is told by
+/// callers alone that make a core, or keep something of the events: neither
+/// [`replay`](crate::replay) nor [`LogCore::take`](crate::LogCore::take) answers it.
 #[derive(Clone, Copy, Debug, PartialEq, Eq)]
 pub enum ReplayFault {
     /// The plan has no process of this number.

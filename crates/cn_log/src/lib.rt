@@ -10,8 +10,8 @@
 //!
 //! What happens is a list of [`Event`]s: a process makes a call, or takes one step. A core is what
 //! its own list of events makes of it; [`LogCore::take`] does one event, whatever it is, or says why
-//! it cannot come, and [`replay`] makes a core of a list. For every list the
-//! answers are those of one sequential run of the calls, in the order of the log ([`laws`]).
+//! it cannot come, and [`replay`] does a whole list on a new core. For every list the answers are
+//! those of one sequential run of the calls, in the order of the log ([`laws`]).
 #![tactic(auto)]
 
 mod batch;

@@ -34,7 +34,8 @@ pub(super) fn core_after(
     let plan = plan_for_two(rt, alloc)?;
     let object = table_of(alloc, counter_3())?;
     assert!(rt; object.states() >= 1);
-    let core = replay(alloc, &plan, &object, State(0), capacity, events)?;
+    let new = LogCore::new(alloc, &plan, &object, State(0), capacity)?;
+    let core = replay(new, events)?;
     assert!(rt; core.processes() == 2 && core.operations() == 1);
     Ok(core)
 }

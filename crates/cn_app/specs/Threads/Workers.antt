@@ -69,7 +69,8 @@ ComesBy operation t u = IsSameSeat t u × ((u ≡ t) ⊎ MakesCall t.process ope
 pub data HasAsked {G : Type 0} (asks : G → SeatState → ℕ → G → Type 0) (says : G → Go) (s : SeatState) (g : G) : SeatState → G → Type 0 where
   NoCall : HasAsked asks says s g s g
   OneCall : {t u : SeatState} {h k : G} (operation : ℕ) (answer : Result Reply CallFault) → HasAsked asks says s g t h → ComesBy operation t u
-      → IsAsked asks says (next_call t operation) t (asked_times answer (steps_since t.process t.core u.core)) h k → HasAsked asks says s g u k
+      → IsAsked asks says (next_call t operation) t u.core (asked_times answer (steps_since t.process t.core u.core)) h k
+      → HasAsked asks says s g u k
 
 -- the same of a gate that the thread of the seat has had
 abbrev pub GateWasAsked : {G : Type 0} → (G → SeatState → ℕ → G → Type 0) → (G → Go) → SeatState → G → SeatState → Type 0

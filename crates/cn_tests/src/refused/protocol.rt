@@ -8,7 +8,7 @@ use crate::types::*;
 use cn_agree::{Decisions, ScheduleFault, run_schedule};
 use cn_forms::{Form, plan_as};
 use cn_hall::{OpenFault, open};
-use cn_log::{Event, LogCore, ReplayFault, replay};
+use cn_log::{Event, LogCore};
 use cn_proto::{Plan, PlanFault};
 use cn_table::{State, Table};
 use std::alloc::AllocError;
@@ -162,29 +162,6 @@ fn new_logs(rt: HostRuntime) -> Result<(), Fail> {
         alloc,
         made = LogCore::new(alloc, &plan, &object, State(0), 4),
         new_log_ended(made)
-    );
-    Ok(())
-}
-
-fn log_ended(replayed: Result<LogCore, ReplayFault>, events: &[Event]) -> Ended {
-    match replayed {
-        Ok(core) => Ended::whole_if(is_helped(&core, events)),
-        Err(fault) => Ended::out_of_memory_if(fault == ReplayFault::OutOfMemory),
-    }
-}
-
-#[test]
-fn replayed_logs(rt: HostRuntime) -> Result<(), Fail> {
-    let alloc = rt.alloc();
-    let plan = plan_for_two(&rt, alloc)?;
-    let object = table_of(alloc, counter_3())?;
-    let events = helped(alloc)?;
-    assert!(rt; object.states() >= 1);
-    sweep!(
-        &rt,
-        alloc,
-        replayed = replay(alloc, &plan, &object, State(0), 4, &events),
-        log_ended(replayed, &events)
     );
     Ok(())
 }

@@ -55,11 +55,11 @@ pub returns-clause-asked : goal.returns-clause-asked
 returns-clause-asked g c = let a = c.args.seat.now in let b = c.invoke.new.seat in let d = c.resume.new.seat in let op = c.args.operation.0 in
     let mine = next_call a op in
     let times = asked_times c.resume.result (steps_since b.process b.core d.core) in
-    subst (λ k. IsAsked g.G.Gate.asks g.G.Gate.says mine a (asked_times c.resume.result k) c.args.gate.now c.resume.new.gate)
+    subst (λ k. IsAsked g.G.Gate.asks g.G.Gate.says mine a d.core (asked_times c.resume.result k) c.args.gate.now c.resume.new.gate)
     (since_call g.G.Gate.asks g.G.Gate.says a b d op c.invoke.ensures.same c.invoke.ensures.invoked c.resume.ensures.events)
-    (asked_from g.G.Gate.asks g.G.Gate.says a b op mine c.invoke.ensures.same c.invoke.ensures.invoked times c.args.gate.now c.resume.new.gate
+    (asked_from g.G.Gate.asks g.G.Gate.says a b d.core op mine c.invoke.ensures.same c.invoke.ensures.invoked times c.args.gate.now c.resume.new.gate
     (c.resume.ensures.asked mine (call_pending c.every_caller.ensures.stays c.every_caller.ensures.invoked a b op c.invoke.ensures.same c.invoke.ensures.invoked)))
 
 pub returns-then-seat-clause-asked : goal.returns-then-seat-clause-asked
-returns-then-seat-clause-asked g c = subst (λ k. IsAsked g.G.Gate.asks g.G.Gate.says (next_call c.args.seat.now c.args.operation.0) c.args.seat.now k c.args.gate.now c.args.gate.now)
+returns-then-seat-clause-asked g c = subst (λ k. IsAsked g.G.Gate.asks g.G.Gate.says (next_call c.args.seat.now c.args.operation.0) c.args.seat.now c.args.seat.now.core k c.args.gate.now c.args.gate.now)
     (sym (since_same c.args.seat.now.process c.args.seat.now.core)) refl
