@@ -97,7 +97,8 @@ pub fn show<R: Read, C: Read, W: Write>(
 
 /// Reads a type table and a certificate, checks the one against the other, runs the plan of the
 /// certificate's witness by a schedule, and writes for each process a line with what it has decided,
-/// or that it has not ([`agree_report`]).
+/// or that it has not, and where the `steps` are asked for, before these a line for each of them
+/// ([`agree_report`]).
 ///
 /// `inputs` are the numbers that the processes begin with, and `schedule` the processes in the order
 /// of their steps, written as for [`read_inputs`](crate::read_inputs) and
@@ -115,6 +116,7 @@ pub fn agree<R: Read, C: Read, W: Write>(
     output: &mut Output<W>,
     inputs: ListText<'_>,
     schedule: ListText<'_>,
+    steps: bool,
 ) -> Result<Outcome, AppFault>
     requires texts { IsUnread table.old × IsUnread certificate.old }
     requires output { IsWritable output.old }
@@ -124,10 +126,10 @@ pub fn agree<R: Read, C: Read, W: Write>(
     ensures order { AreUntouched table.old table.new certificate.old certificate.new
         ⊎ SpellLists inputs.entry schedule.entry }
     ensures agreed { Reports W.contents
-        (HasAgreeReport table.new certificate.new inputs.entry schedule.entry)
+        (HasAgreeReport table.new certificate.new inputs.entry schedule.entry steps)
         output.old output.new result }
 {
     let lists = read_run_lists(alloc, inputs, schedule)?;
     let checked = read_checked(alloc, table, certificate)?;
-    output.report(agree_report(alloc, &checked, &lists.inputs, &lists.schedule))
+    output.report(agree_report(alloc, &checked, &lists.inputs, &lists.schedule, steps))
 }

@@ -1,12 +1,13 @@
 //! What `agree` has to say.
+ghost use Rattle.std.specs.Prelude.{false, true};
 ghost use Rattle.cn_app.specs.Commands.Agree.{IsAgreeReport, IsRunReport};
 ghost use Rattle.cn_app.specs.Texts.Checked.{IsChecked};
 
 use crate::fault::AppFault;
 use crate::readers::checked::Checked;
 use crate::report::Report;
-use cn_agree::run_schedule;
-use cn_lines::decision_lines;
+use cn_agree::{run_schedule, run_steps};
+use cn_lines::{decision_lines, step_lines};
 use cn_proto::Plan;
 use std::alloc::Global;
 
@@ -17,14 +18,29 @@ fn run_report(
     inputs: &[u64],
     schedule: &[u8],
 ) -> Result<Report, AppFault>
-    ensures { IsRunReport plan.now inputs.now schedule.now result }
+    ensures { IsRunReport plan.now inputs.now schedule.now false result }
 {
     let run = run_schedule(alloc, plan, inputs, schedule)?;
     Ok(Report::whole(decision_lines(alloc, &run.decisions)?))
 }
 
+/// The same, behind a line for each step of the schedule.
+fn steps_report(
+    alloc: Global,
+    plan: &Plan,
+    inputs: &[u64],
+    schedule: &[u8],
+) -> Result<Report, AppFault>
+    ensures { IsRunReport plan.now inputs.now schedule.now true result }
+{
+    let run = run_steps(alloc, plan, inputs, schedule)?;
+    let mut lines = step_lines(alloc, plan.table(), &run.records)?;
+    lines.push_str(&decision_lines(alloc, &run.decisions)?)?;
+    Ok(Report::whole(lines))
+}
+
 /// Runs the plan of the certificate's witness by a schedule: for each process a line with what it
-/// has decided, or that it has not.
+/// has decided, or that it has not; where the `steps` are asked for, behind a line for each of them.
 ///
 /// Whatever the schedule, the decisions are equal, they are the input of a process that it names,
 /// and a process has decided exactly when it is named at least four times for each place of its
@@ -39,10 +55,15 @@ pub fn agree_report(
     checked: &Checked,
     inputs: &[u64],
     schedule: &[u8],
+    steps: bool,
 ) -> Result<Report, AppFault>
     requires { IsChecked checked.now }
-    ensures { IsAgreeReport checked.now inputs.now schedule.now result }
+    ensures { IsAgreeReport checked.now inputs.now schedule.now steps result }
 {
     let plan = checked.plan(alloc)?;
-    run_report(alloc, &plan, inputs, schedule)
+    if steps {
+        steps_report(alloc, &plan, inputs, schedule)
+    } else {
+        run_report(alloc, &plan, inputs, schedule)
+    }
 }
