@@ -64,20 +64,24 @@ module _ (hall : HallId) (core : Log) (calls : List (Vec ℕ Global)) (before : 
           (at_place (λ (u : SeatState). BeginsWith (batches (setting closed) closed.schedule) (slots_seen u)) after begins p t.0 t.1) (at_place (λ (u : SeatState). BeginsWith (replies_in closed u.process) (own u)) after answers p t.0 t.1)
 
       -- and each process has had the gate at its place
-      pub one_gate_each : {G : Type 0} (asks : G → SeatState → ℕ → G → Type 0) (says : G → Go) (made : ℕ → G → Type 0) (gates : List G) → length gates ≡ length before → AllGatesWereAsked asks says before gates after
-          → ((p : ℕ) (g : G) → slice_get gates p ≡ Some g → made p g) → core.schedule ≡ [] → processes_of closed.opening.plan ≡ length calls → EachHasOneGate asks says made closed
+      pub one_gate_each : {G : Type 0} (asks : G → SeatState → ℕ → G → Type 0) (says : G → Go) (made : ℕ → G → Type 0) (gates : List G) → length gates ≡ length before → AllGatesWereAsked asks says before gates after worked
+          → ((p : ℕ) (g : G) → slice_get gates p ≡ Some g → made p g) → core.schedule ≡ [] → processes_of closed.opening.plan ≡ length calls → EachHasOneGate asks says made closed worked
       one_gate_each asks says made gates many all made_for empty processes p less =
           let t = there_is after p (omega (arith, less, processes, also, count)) in
           let g = there_is gates p (omega (arith, less, processes, many, count)) in
+          let v = there_is worked p (omega (arith, less, processes, more, count)) in
           let w = worked_there p t.0 t.1 in
-          let is : t.0.process ≡ p = w.2.same.1 in
-          record {
-            gate = g.0;
-            before = seat_state hall p core;
-            after = t.0;
-            made_for = made_for p g.0 g.1;
-            process = (refl, is);
-            first = empty;
-            carried = subst (λ q. Carries q t.0.core closed) is (at_place (λ (u : SeatState). Carries u.process u.core closed) after carried p t.0 t.1);
-            asked = all p (seat_state hall p core) t.0 g.0 (opened p (omega (arith, less, processes))) g.1 t.1;
-          }
+          let is : t.0.process ≡ p = w.2.same.1 in (
+            v.0,
+            v.1,
+            record {
+              gate = g.0;
+              before = seat_state hall p core;
+              after = t.0;
+              made_for = made_for p g.0 g.1;
+              process = (refl, is);
+              first = empty;
+              carried = subst (λ q. Carries q t.0.core closed) is (at_place (λ (u : SeatState). Carries u.process u.core closed) after carried p t.0 t.1);
+              asked = all p (seat_state hall p core) t.0 g.0 v.0 (opened p (omega (arith, less, processes))) g.1 t.1 v.1;
+            },
+          )

@@ -52,16 +52,21 @@ module _ (calls : List (Vec ℕ Global)) where
       by_place (inr h) = let same : Some d ≡ Some c = sym there ∙ ap (slice_get calls) (sym h.0) ∙ got in let is : d ≡ c = cc in subst (λ (z : Vec ℕ Global × ProcessHistory). HasRoom z.0.items z.1) (λ i. (is i, h.1 i)) has
 
 -- the gate of one seat more was asked
-module _ {G : Type 0} (asks : G → SeatState → ℕ → G → Type 0) (says : G → Go) (before after : List SeatState) (gates : List G) (s t : SeatState) (g : G)
-    (count : length after ≡ length before) (also : length gates ≡ length before) where
-  pub one_more_asked : AllGatesWereAsked asks says before gates after → GateWasAsked asks says s g t → AllGatesWereAsked asks says (before ++ s ∷ []) (gates ++ g ∷ []) (after ++ t ∷ [])
-  one_more_asked all last p x y z at_x at_z at_y = by_place (get_push_cases before s p x at_x) (get_push_cases after t p y at_y) (get_push_cases gates g p z at_z)
+module _ {G : Type 0} (asks : G → SeatState → ℕ → G → Type 0) (says : G → Go) (before after : List SeatState) (gates : List G) (worked : List ProcessHistory) (s t : SeatState) (g : G) (w : ProcessHistory)
+    (count : length after ≡ length before) (also : length gates ≡ length before) (more : length worked ≡ length before) where
+  pub one_more_asked : AllGatesWereAsked asks says before gates after worked → GateWasAsked asks says s g t w.end
+      → AllGatesWereAsked asks says (before ++ s ∷ []) (gates ++ g ∷ []) (after ++ t ∷ []) (worked ++ w ∷ [])
+  one_more_asked all last p x y z v at_x at_z at_y at_v = by_place (get_push_cases before s p x at_x) (get_push_cases after t p y at_y) (get_push_cases gates g p z at_z) (get_push_cases worked w p v at_v)
     where
       by_place : (slice_get before p ≡ Some x) ⊎ ((p ≡ length before) × (s ≡ x)) → (slice_get after p ≡ Some y) ⊎ ((p ≡ length after) × (t ≡ y)) → (slice_get gates p ≡ Some z) ⊎ ((p ≡ length gates) × (g ≡ z))
-          → GateWasAsked asks says x z y
-      by_place (inl a) (inl b) (inl d) = all p x y z a d b
-      by_place (inl a) (inr b) d = absurd (omega (arith, slice_get_within before p x a, b.0, count))
-      by_place (inl a) b (inr d) = absurd (omega (arith, slice_get_within before p x a, d.0, also))
-      by_place (inr a) (inl b) d = absurd (omega (arith, slice_get_within after p y b, a.0, count))
-      by_place (inr a) b (inl d) = absurd (omega (arith, slice_get_within gates p z d, a.0, also))
-      by_place (inr a) (inr b) (inr d) = subst (λ (u : SeatState × SeatState × G). GateWasAsked asks says u.0 u.2 u.1) (λ i. (a.1 i, b.1 i, d.1 i)) last
+          → (slice_get worked p ≡ Some v) ⊎ ((p ≡ length worked) × (w ≡ v))
+          → GateWasAsked asks says x z y v.end
+      by_place (inl a) (inl b) (inl d) (inl e) = all p x y z v a d b e
+      by_place (inl a) (inr b) d e = absurd (omega (arith, slice_get_within before p x a, b.0, count))
+      by_place (inl a) b (inr d) e = absurd (omega (arith, slice_get_within before p x a, d.0, also))
+      by_place (inl a) b d (inr e) = absurd (omega (arith, slice_get_within before p x a, e.0, more))
+      by_place (inr a) (inl b) d e = absurd (omega (arith, slice_get_within after p y b, a.0, count))
+      by_place (inr a) b (inl d) e = absurd (omega (arith, slice_get_within gates p z d, a.0, also))
+      by_place (inr a) b d (inl e) = absurd (omega (arith, slice_get_within worked p v e, a.0, more))
+      by_place (inr a) (inr b) (inr d) (inr e) =
+          subst (λ (u : SeatState × SeatState × G × ProcessHistory). GateWasAsked asks says u.0 u.2 u.1 u.3.end) (λ i. (a.1 i, b.1 i, d.1 i, e.1 i)) last

@@ -1,14 +1,14 @@
 -- Seats at work.
-use Rattle.std.proofs.Common.{◌≡◌, ◌⊎◌, inl, inr, ℕ, ◌+◌, ◌<◌, List, [], ◌∷◌, ◌++◌, length, take, drop, sym, ap, ◌∙◌, subst, arith}
+use Rattle.std.proofs.Common.{◌≡◌, ◌⊎◌, inl, inr, ℕ, ◌+◌, ◌<◌, List, [], ◌∷◌, ◌++◌, length, take, drop, Err, refl, sym, ap, ◌∙◌, subst, arith}
 use Rattle.std.proofs.lemmas.List.{length-take-le, take-append-drop}
 use Rattle.cn_log.specs.Callers.{BeginsWith}
-use Rattle.cn_hall.specs.Calls.{CallFails, MakesCall, IsSameSeat}
+use Rattle.cn_hall.specs.Calls.{CallFails, MakesCall, IsSameSeat, go_after}
 use Rattle.cn_hall.specs.Seats.{SeatState}
 use Rattle.cn_hall.specs.declared.call.CallFault.{CallFault}
 use Rattle.cn_hall.specs.declared.call.CallFault.TheVariants.{LogFull, Stopped}
 use Rattle.cn_hall.specs.declared.call.Reply.{Reply}
 use Rattle.cn_app.specs.Threads.Serving.{operations_called}
-use Rattle.cn_app.specs.Threads.Workers.{EndsAt, end_by}
+use Rattle.cn_app.specs.Threads.Workers.{EndsAt, end_by, go_at}
 use Rattle.cn_app.proofs.ThreadLemmas.CallLists.{invoked_called}
 
 -- the calls made are so many of the list
@@ -18,8 +18,13 @@ HasMade calls s i = operations_called s.process s.core.schedule ≡ take i calls
 begins_taken : (calls : List ℕ) (s : SeatState) (i : ℕ) → HasMade calls s i → BeginsWith calls (operations_called s.process s.core.schedule)
 begins_taken calls s i made = (drop i calls, sym (take-append-drop i calls) ∙ ap (λ l. l ++ drop i calls) (sym made))
 
+-- a call without a reply ends the calls as the gate has said
+pub go_ended : (fault : CallFault) → go_after (Err fault) ≡ go_at (end_by fault)
+go_ended LogFull = refl
+go_ended Stopped = refl
+
 -- a call without a reply was made, or the seat is as it was
-pub made_or_not : (operation : ℕ) (s t : SeatState) (fault : CallFault) → CallFails operation fault s t → (t ≡ s) ⊎ MakesCall s.process operation s.core t.core
+made_or_not : (operation : ℕ) (s t : SeatState) (fault : CallFault) → CallFails operation fault s t → (t ≡ s) ⊎ MakesCall s.process operation s.core t.core
 made_or_not operation s t LogFull h = elim h.2 [
   | inl is ↦ inl is
   | inr made ↦ inr made.0

@@ -37,7 +37,8 @@ outcome_of_calls worked = cut_if (list_any (λ w. is_cut w.end) worked)
 -- the calls are ones of the plan's processes and the object's operations; there is one log of this opening, linearized, with no call passed by for long and
 -- each over within so many steps of its process, in which each process has made its calls as far as they came, and of which this holds; the lines are those of
 -- its replies, process by process, then of the entries of the log, and last of its events; and the command ends like this
-pub record IsServedByThreads (gates : Log → Type 0) (o : Opening) (calls : List (List ℕ)) (lines : List ℕ) (outcome : Outcome) : Type 0 where
+pub record IsServedByThreads (gates : Log → List ProcessHistory → Type 0) (o : Opening) (calls : List (List ℕ)) (lines : List ℕ) (outcome : Outcome)
+    : Type 0 where
   pub fit : calls_fit o calls ≡ true
   pub log : Log
   pub opened : log.opening ≡ o
@@ -48,18 +49,18 @@ pub record IsServedByThreads (gates : Log → Type 0) (o : Opening) (calls : Lis
   pub worked : List ProcessHistory
   pub each : length worked ≡ length calls
   pub served : (p : ℕ) (c : List ℕ) (w : ProcessHistory) → slice_get calls p ≡ Some c → slice_get worked p ≡ Some w → HasServed log p c w.replies.items w.end
-  pub gated : gates log
+  pub gated : gates log worked
   pub written : lines ≡ service_lines o.object o.start worked log
   pub ended : outcome ≡ outcome_of_calls worked
 
 -- serving an object by threads ends so: served; or memory ran out, or the calls are not ones of the plan's processes and the object's operations, or they are,
 -- and a thread could not be started
-abbrev pub IsServeReport : (Log → Type 0) → Opening → List (List ℕ) → Result Report AppFault → Type 0
+abbrev pub IsServeReport : (Log → List ProcessHistory → Type 0) → Opening → List (List ℕ) → Result Report AppFault → Type 0
 IsServeReport gates o calls (Ok report) = IsServedByThreads gates o calls (string_bytes report.text) report.outcome
 IsServeReport gates o calls (Err e) = (e ≡ OutOfMemory) ⊎ (((calls_fit o calls ≡ false) × (e ≡ Argument Calls)) ⊎ ((calls_fit o calls ≡ true) × (e ≡ Thread)))
 
 -- what `serve` has to say of its arguments: the number of slots and then the calls are read before the texts
-abbrev pub HasServeReport : {R C O : Type 0} → (Log → Type 0) → OpeningArguments R C O → ListText → Result Report AppFault → Type 0
+abbrev pub HasServeReport : {R C O : Type 0} → (Log → List ProcessHistory → Type 0) → OpeningArguments R C O → ListText → Result Report AppFault → Type 0
 HasServeReport gates given calls r = Then (GivesCapacity given.capacity.now) (λ slots. Then (GivesCalls calls)
     (λ lists. Then (GivesOpening given slots) (λ o. IsServeReport gates o (map (λ list. list.items) lists.items)))) r
 

@@ -1,18 +1,19 @@
 -- What the thread of one process has in hand, and what it hands back.
-use Rattle.std.specs.Prelude.{◌≡◌, ℕ, ◌<◌, List, [], All, length, ◌≤◌, vec_capacity, ◌+◌, Some, Vec, slice_get, ◌⊎◌, Result}
+use Rattle.std.specs.Prelude.{◌≡◌, ℕ, ◌<◌, List, [], All, length, ◌≤◌, vec_capacity, ◌+◌, Some, Vec, slice_get, Result, Ok, Err}
 use Rattle.std.specs.Global.{Global}
 use Rattle.cn_proto.specs.Plan.{processes_of}
 use Rattle.cn_log.specs.Callers.{BeginsWith}
 use Rattle.cn_log.specs.Opening.{Log}
 use Rattle.cn_hall.specs.Seats.{HallId, IsSeatOf, SeatState, slots_seen}
 use Rattle.cn_hall.specs.Answers.{own}
-use Rattle.cn_hall.specs.Calls.{IsSameSeat, MakesCall, next_call}
+use Rattle.cn_hall.specs.Calls.{CallFails, IsReply, IsSameSeat, MakesCall, go_after, next_call}
 use Rattle.cn_hall.specs.Gates.{IsAsked, asked_times, steps_since}
 use Rattle.cn_hall.specs.Rule.{Carries}
 use Rattle.cn_hall.specs.declared.call.CallFault.{CallFault}
 use Rattle.cn_hall.specs.declared.call.CallFault.TheVariants as fault
 use Rattle.cn_hall.specs.declared.call.Reply.{Reply}
 use Rattle.cn_hall.specs.declared.call.Go.{Go}
+use Rattle.cn_hall.specs.declared.call.Go.TheVariants.{On, Stop}
 use Rattle.cn_app.specs.Threads.Serving.{operations_called}
 use Rattle.cn_app.specs.declared.threads.workers.End.{End}
 use Rattle.cn_app.specs.declared.threads.workers.End.TheVariants.{Full, Stopped, Whole}
@@ -22,6 +23,12 @@ use Rattle.cn_app.specs.declared.threads.workers.ProcessHistory.{ProcessHistory}
 abbrev pub end_by : CallFault → End
 end_by fault.LogFull = Full
 end_by fault.Stopped = Stopped
+
+-- what the gate of a process has said last where its calls ended so
+abbrev pub go_at : End → Go
+go_at Whole = On
+go_at Full = On
+go_at Stopped = Stop
 
 -- the seat is one of the hall, in whose core nothing has happened, and these are operations of its object
 abbrev pub MayWork : HallId → List ℕ → SeatState → Type 0
@@ -61,28 +68,46 @@ HaveAllWorked calls before after worked =
     → slice_get worked p ≡ Some w
     → HasWorked c.items s t w.replies.items w.end
 
--- what a seat comes to by a call of this operation: it was made, or it was refused at once
-abbrev pub ComesBy : ℕ → SeatState → SeatState → Type 0
-ComesBy operation t u = IsSameSeat t u × ((u ≡ t) ⊎ MakesCall t.process operation t.core u.core)
+-- what a seat comes to by a call of this operation, by the answer: it was made and has this reply, or it failed so
+abbrev pub ComesBy : ℕ → Result Reply CallFault → SeatState → SeatState → Type 0
+ComesBy operation (Ok r) t u = MakesCall t.process operation t.core u.core × IsReply (next_call t operation) u r
+ComesBy operation (Err e) t u = CallFails operation e t u
 
--- what a seat comes to by calls with a gate, made one after the other, and what becomes of the gate: each call asks as `call` does
-pub data HasAsked {G : Type 0} (asks : G → SeatState → ℕ → G → Type 0) (says : G → Go) (s : SeatState) (g : G) : SeatState → G → Type 0 where
-  NoCall : HasAsked asks says s g s g
-  OneCall : {t u : SeatState} {h k : G} (operation : ℕ) (answer : Result Reply CallFault) → HasAsked asks says s g t h → ComesBy operation t u
-      → IsAsked asks says (next_call t operation) t u.core (asked_times answer (steps_since t.process t.core u.core)) h k
-      → HasAsked asks says s g u k
+-- a call of this operation with a gate and this answer leads from one seat and gate to another: before each step the gate was asked, as `call` does, and said
+-- On, but Stop at last where the call was stopped
+pub record IsCallWithGate {G : Type 0} (asks : G → SeatState → ℕ → G → Type 0) (says : G → Go) (operation : ℕ) (answer : Result Reply CallFault) (t : SeatState)
+    (h : G) (u : SeatState) (k : G) : Type 0 where
+  pub same : IsSameSeat t u
+  pub comes : ComesBy operation answer t u
+  pub asked : IsAsked asks says (next_call t operation) t u.core (asked_times answer (steps_since t.process t.core u.core)) h k
+  pub said : says k ≡ go_after answer
 
--- the same of a gate that the thread of the seat has had
-abbrev pub GateWasAsked : {G : Type 0} → (G → SeatState → ℕ → G → Type 0) → (G → Go) → SeatState → G → SeatState → Type 0
-GateWasAsked {G} asks says s g t = (last : G) × HasAsked asks says s g t last
+-- what a seat and a gate come to by calls that are made one after the other until one has no reply, and how the calls have ended. Nothing else is done with the
+-- gate
+pub data HasAsked {G : Type 0} (asks : G → SeatState → ℕ → G → Type 0) (says : G → Go) (s : SeatState) (g : G) : SeatState → G → End → Type 0 where
+  NoCall : HasAsked asks says s g s g Whole
+  Replied : {t u : SeatState} {h k : G} (operation : ℕ) (reply : Reply) → HasAsked asks says s g t h Whole
+      → IsCallWithGate asks says operation (Ok reply) t h u k
+      → HasAsked asks says s g u k Whole
+  Ended : {t u : SeatState} {h k : G} (operation : ℕ) (fault : CallFault) → HasAsked asks says s g t h Whole
+      → IsCallWithGate asks says operation (Err fault) t h u k
+      → HasAsked asks says s g u k (end_by fault)
 
--- the gate at each place was asked in the calls of the seat at its place
-abbrev pub AllGatesWereAsked : {G : Type 0} → (G → SeatState → ℕ → G → Type 0) → (G → Go) → List SeatState → List G → List SeatState → Type 0
-AllGatesWereAsked {G} asks says before gates after =
-    (p : ℕ) (s t : SeatState) (g : G) → slice_get before p ≡ Some s → slice_get gates p ≡ Some g → slice_get after p ≡ Some t → GateWasAsked asks says s g t
+-- the same of a gate that the thread of the seat has had: at last it has said Stop where a call was stopped, and else On
+abbrev pub GateWasAsked : {G : Type 0} → (G → SeatState → ℕ → G → Type 0) → (G → Go) → SeatState → G → SeatState → End → Type 0
+GateWasAsked {G} asks says s g t end = (last : G) × HasAsked asks says s g t last end × (says last ≡ go_at end)
 
--- what process p did in the log, from the first event on, it did in calls with one gate that was made for it
-pub record HasOneGate {G : Type 0} (asks : G → SeatState → ℕ → G → Type 0) (says : G → Go) (made : ℕ → G → Type 0) (core : Log) (p : ℕ) : Type 0 where
+-- the gate at each place was asked in the calls of the seat at its place, which ended as those at its place
+abbrev pub AllGatesWereAsked : {G : Type 0} → (G → SeatState → ℕ → G → Type 0) → (G → Go) → List SeatState → List G → List SeatState → List ProcessHistory
+    → Type 0
+AllGatesWereAsked {G} asks says before gates after worked =
+    (p : ℕ) (s t : SeatState) (g : G) (w : ProcessHistory) → slice_get before p ≡ Some s → slice_get gates p ≡ Some g → slice_get after p ≡ Some t
+    → slice_get worked p ≡ Some w
+    → GateWasAsked asks says s g t w.end
+
+-- what process p did in the log, from the first event on, it did in calls with one gate that was made for it, and they ended so
+pub record HasOneGate {G : Type 0} (asks : G → SeatState → ℕ → G → Type 0) (says : G → Go) (made : ℕ → G → Type 0) (core : Log) (p : ℕ) (end : End)
+    : Type 0 where
   pub gate : G
   pub before : SeatState
   pub after : SeatState
@@ -90,7 +115,9 @@ pub record HasOneGate {G : Type 0} (asks : G → SeatState → ℕ → G → Typ
   pub process : (before.process ≡ p) × (after.process ≡ p)
   pub first : before.core.schedule ≡ []
   pub carried : Carries p after.core core
-  pub asked : GateWasAsked asks says before gate after
+  pub asked : GateWasAsked asks says before gate after end
 
-abbrev pub EachHasOneGate : {G : Type 0} → (G → SeatState → ℕ → G → Type 0) → (G → Go) → (ℕ → G → Type 0) → Log → Type 0
-EachHasOneGate asks says made core = (p : ℕ) → p < processes_of core.opening.plan → HasOneGate asks says made core p
+-- each process of the log's plan has one gate, and place p of the list holds how the calls of process p ended
+abbrev pub EachHasOneGate : {G : Type 0} → (G → SeatState → ℕ → G → Type 0) → (G → Go) → (ℕ → G → Type 0) → Log → List ProcessHistory → Type 0
+EachHasOneGate asks says made core worked =
+    (p : ℕ) → p < processes_of core.opening.plan → (w : ProcessHistory) × (slice_get worked p ≡ Some w) × HasOneGate asks says made core p w.end

@@ -93,7 +93,7 @@ pub(crate) fn serve_calls<R: Threads + Wait + Sync, G: Gate + Send + Drop, F: Fn
         → slice_get served.processes.items p ≡ Some w
         → HasServed served.core p c.items w.replies.items w.end) }
     ensures gates { IfOk result (λ served. EachHasOneGate G.asks G.says
-        (λ p g. F.post make_gate p g) served.core) }
+        (λ p g. F.post make_gate p g) served.core served.processes.items) }
 {
     let rooms = make_rooms(alloc, calls)?;
     let gates = make_gates(alloc, core.processes(), make_gate)?;

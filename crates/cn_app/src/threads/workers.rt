@@ -54,7 +54,7 @@ fn answer<R: Wait, G: Gate + Drop>(
     requires room { HasRoom operations.now room }
     requires gate { G.says gate ≡ On }
     ensures worked { HasWorked operations.now seat result.0 result.1.replies.items result.1.end }
-    ensures asked { GateWasAsked G.asks G.says seat gate result.0 }
+    ensures asked { GateWasAsked G.asks G.says seat gate result.0 result.1.end }
 {
     let mut seat = seat;
     let mut gate = gate;
@@ -85,7 +85,7 @@ impl<G: Gate> Promise<(Seat, ProcessHistory)> for AnswerOf<G> {
 
     ghost kept_by = { λ p r.
         HasWorked p.operations.value.items p.seat.value r.0 r.1.replies.items r.1.end
-        × GateWasAsked G.asks G.says p.seat.value p.gate.value r.0 };
+        × GateWasAsked G.asks G.says p.seat.value p.gate.value r.0 r.1.end };
 }
 
 /// Makes the calls of all seats, each in a thread of a scope, and joins them. Each thread takes
@@ -110,7 +110,7 @@ pub(crate) fn answer_each<R: Threads + Wait + Sync, G: Gate + Send + Drop>(
         (λ r. (length r.1.items ≡ length seats.items) × (vec_capacity r.1 ≡ vec_capacity rooms)) }
     ensures worked { IfSome result (λ r. HaveAllWorked calls.now seats.items r.0.items r.1.items) }
     ensures asked { IfSome result (λ r. AllGatesWereAsked G.asks G.says seats.items gates.items
-        r.0.items) }
+        r.0.items r.1.items) }
 {
     let mut seats = seats;
     let mut rooms = rooms;
@@ -142,10 +142,11 @@ pub(crate) fn answer_each<R: Threads + Wait + Sync, G: Gate + Send + Drop>(
             ensures worked { IfSome result (λ r. HaveAllWorked calls.entry.now seats.items
                 r.0.0.items r.0.1.items) }
             ensures asked { IfSome result (λ r. AllGatesWereAsked G.asks G.says seats.items
-                gates.items r.0.0.items) }
+                gates.items r.0.0.items r.0.1.items) }
             ensures last { IfSome result (λ r. HasWorked operations.entry.now.items seat r.1.0
                 r.1.1.replies.items r.1.1.end) }
-            ensures last_asked { IfSome result (λ r. GateWasAsked G.asks G.says seat gate r.1.0) }
+            ensures last_asked { IfSome result (λ r. GateWasAsked G.asks G.says seat gate r.1.0
+                r.1.1.end) }
         {
             let promise = AnswerOf {
                 seat: Snapshot::of(&seat),
@@ -159,7 +160,7 @@ pub(crate) fn answer_each<R: Threads + Wait + Sync, G: Gate + Send + Drop>(
                         × HasRoom operations.now.items room × (G.says gate ≡ On) }
                     ensures worked { HasWorked operations.entry.now.items seat result.0
                         result.1.replies.items result.1.end }
-                    ensures asked { GateWasAsked G.asks G.says seat gate result.0 }
+                    ensures asked { GateWasAsked G.asks G.says seat gate result.0 result.1.end }
                 { answer(rt, hall, seat, room, gate, operations) },
             );
             let Ok(child) = child else {

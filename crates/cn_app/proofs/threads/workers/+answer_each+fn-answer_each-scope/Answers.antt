@@ -71,6 +71,7 @@ returns-clause-asked g t c =
     let longer = ap length c.in-Some.ensures.items in
     let shorter = ap length c.in-Some-Some.ensures'.items in
     let same : length gates ≡ length seats = omega (arith, longer, shorter, c.requires.gates.1, length-append seats (c.in-Some.seat ∷ []), length-append gates (c.in-Some-Some.gate ∷ [])) in
-    subst (λ (z : List SeatState × List g.row.G.Denot × List SeatState). AllGatesWereAsked g.G.Gate.asks g.G.Gate.says z.0 z.1 z.2)
-    (λ i. (sym c.in-Some.ensures.items i, sym c.in-Some-Some.ensures'.items i, sym c.push_reserved.ensures.items i))
-    (one_more_asked g.G.Gate.asks g.G.Gate.says seats c.in_ok-seats.seats.items gates c.in-Some.seat c.in_ok-seats.seat c.in-Some-Some.gate h.1.0.0 same h.1.1.1.1.0 h.1.1.1.1.1.1)
+    subst (λ (z : List SeatState × List g.row.G.Denot × List SeatState × List ProcessHistory). AllGatesWereAsked g.G.Gate.asks g.G.Gate.says z.0 z.1 z.2 z.3)
+    (λ i. (sym c.in-Some.ensures.items i, sym c.in-Some-Some.ensures'.items i, sym c.push_reserved.ensures.items i, sym c.push_reserved-2.ensures.items i))
+    (one_more_asked g.G.Gate.asks g.G.Gate.says seats c.in_ok-seats.seats.items gates c.in_ok-seats.worked.items c.in-Some.seat c.in_ok-seats.seat c.in-Some-Some.gate c.in_ok-seats.last h.1.0.0 same h.1.1.0.0
+    h.1.1.1.1.0 h.1.1.1.1.1.1)

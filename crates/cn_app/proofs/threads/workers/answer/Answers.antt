@@ -1,11 +1,11 @@
-use Rattle.std.proofs.Common.{◌<◌, inr, List, [], ◌∷◌, ◌++◌, All, Err, Ok, append-nil, length, sym, ap, ◌∙◌, subst, arith, rules}
+use Rattle.std.proofs.Common.{◌<◌, List, [], ◌∷◌, ◌++◌, All, append-nil, length, sym, ap, ◌∙◌, subst, arith, rules}
 use Rattle.std.proofs.lemmas.List.{take_all, take_more}
 use Rattle.std.proofs.lemmas.List.Elements.{All-push}
 use Rattle.cn_log.specs.Opening.{Opening}
 use Rattle.cn_hall.specs.declared.call.Reply.{Reply}
-use Rattle.cn_app.specs.Threads.Workers.{EndsAt, NoCall, OneCall}
+use Rattle.cn_app.specs.Threads.Workers.{EndsAt, Ended, GateWasAsked, NoCall, Replied}
 use Rattle.cn_app.specs.declared.threads.workers.End.{End}
-use Rattle.cn_app.proofs.ThreadLemmas.Seats.{begins_left, ends_left, made_or_not, one_more}
+use Rattle.cn_app.proofs.ThreadLemmas.Seats.{begins_left, ends_left, go_ended, one_more}
 use Rattle.cn_app.proofs.threads.workers.answer.Goals as goal
 
 -- src/workers.rt:69:17
@@ -37,7 +37,7 @@ loop-operation-preserved g c =
       range = subst (λ (z : Opening × List Reply). All (λ (r : Reply). r.response.0 < length z.0.object.responses) z.1) (λ k. (sym h.same.2 k, sym c.push_reserved.ensures.items k))
           (All-push (λ (r : Reply). r.response.0 < length c.loop-operation.seat.core.opening.object.responses) c.loop-operation.replies.items c.in-Ok.reply i.range h.range);
       says = h.said;
-      asked = OneCall _ (Ok c.in-Ok.reply) i.asked (h.same, inr h.reply.0) h.asked;
+      asked = Replied _ c.in-Ok.reply i.asked (record { same = h.same; comes = h.reply; asked = h.asked; said = h.said });
       count = search rules;
       room = search rules;
     }
@@ -47,11 +47,11 @@ pub returns-in-Err-clause-asked : goal.returns-in-Err-clause-asked
 returns-in-Err-clause-asked g c =
     let i = c.loop-operation.invariant in
     let h = c.in-Err.ensures in
-    let made = made_or_not _ c.loop-operation.seat c.call.new.seat c.in-Err.fault h.fault in
-    (c.call.new.gate, OneCall _ (Err c.in-Err.fault) i.asked (h.same, made) h.asked)
+    subst (λ (e : End). GateWasAsked g.G.Gate.asks g.G.Gate.says c.args.seat c.args.gate c.call.new.seat e) (sym c.by-end.ensures)
+    (c.call.new.gate, Ended _ c.in-Err.fault i.asked (record { same = h.same; comes = h.fault; asked = h.asked; said = h.said }), h.said ∙ go_ended c.in-Err.fault)
 
 pub returns-clause-asked : goal.returns-clause-asked
-returns-clause-asked g c = (c.loop-operation.gate, c.loop-operation.invariant.asked)
+returns-clause-asked g c = (c.loop-operation.gate, c.loop-operation.invariant.asked, c.loop-operation.invariant.says)
 
 pub returns-clause-worked : goal.returns-clause-worked
 returns-clause-worked g c =
