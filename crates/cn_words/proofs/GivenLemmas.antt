@@ -87,7 +87,7 @@ wants name rows Draw h = subst (λ n. Wants n rows) (sym h.0) tt
 wants name rows (Check certificate) h = subst (λ n. Wants n rows) (sym h.0) (certificate.now, h.1)
 wants name rows (Explain certificate all) h = subst (λ n. Wants n rows) (sym h.0) (certificate.now, h.1.0)
 wants name rows (Show certificate plan) h = subst (λ n. Wants n rows) (sym h.0) ((certificate.now, h.1.0), (plan, h.1.1))
-wants name rows (Agree certificate inputs schedule) h =
+wants name rows (Agree certificate inputs schedule steps) h =
     subst (λ n. Wants n rows) (sym h.0) ((certificate.now, h.1.0), (inputs, h.1.1), (schedule, h.1.2))
 wants name rows (Replay opening events) h = subst (λ n. Wants n rows) (sym h.0) ((opening, h.1.0), (events, h.1.1))
 wants name rows (Serve opening calls) h = subst (λ n. Wants n rows) (sym h.0) ((opening, h.1.0), (calls, h.1.1))

@@ -87,7 +87,8 @@ draw_words = command_with (codes "draw") []
 
 abbrev pub agree_words : Shape
 agree_words = command_with (codes "agree")
-    (certificate_word ∷ required_word (codes "INPUTS") ∷ required_word (codes "SCHEDULE") ∷ [])
+    (certificate_word ∷ required_word (codes "INPUTS") ∷ required_word (codes "SCHEDULE")
+    ∷ flag (codes "steps") ∷ [])
 
 abbrev pub replay_words : Shape
 replay_words = command_with (codes "replay") (opening_words ++ required_word (codes "EVENTS") ∷ [])

@@ -96,7 +96,7 @@ name_of Draw = codes "draw"
 name_of (Check certificate) = codes "check"
 name_of (Explain certificate all) = codes "explain"
 name_of (Show certificate plan) = codes "show"
-name_of (Agree certificate inputs schedule) = codes "agree"
+name_of (Agree certificate inputs schedule steps) = codes "agree"
 name_of (Replay opening events) = codes "replay"
 name_of (Serve opening calls) = codes "serve"
 
@@ -112,9 +112,9 @@ HasArguments rows (Explain certificate all) =
     HasWord (codes "CERT") rows certificate.now × HasFlag (codes "all") rows all
 HasArguments rows (Show certificate plan) =
     HasWord (codes "CERT") rows certificate.now × HasForm rows plan
-HasArguments rows (Agree certificate inputs schedule) =
+HasArguments rows (Agree certificate inputs schedule steps) =
     HasWord (codes "CERT") rows certificate.now × HasList (codes "INPUTS") rows inputs
-    × HasList (codes "SCHEDULE") rows schedule
+    × HasList (codes "SCHEDULE") rows schedule × HasFlag (codes "steps") rows steps
 HasArguments rows (Replay opening events) =
     HasOpening rows opening × HasList (codes "EVENTS") rows events
 HasArguments rows (Serve opening calls) =

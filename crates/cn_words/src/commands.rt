@@ -40,7 +40,7 @@ pub struct OpeningWords<'a> {
     pub capacity: &'a str,
 }
 
-/// A command, with the words for its arguments. Of these the limit, the form and the flag are read
+/// A command, with the words for its arguments. Of these the limit, the form and the flags are read
 /// by now; a list, a state or a number of slots is still as it was spelled. A certificate is the
 /// name of the file that holds it.
 #[derive(Drop)]
@@ -88,6 +88,8 @@ pub enum Command<'a> {
         inputs: ListSource<'a>,
         /// The processes in the order of their steps.
         schedule: ListSource<'a>,
+        /// Whether each step is told.
+        steps: bool,
     },
     /// Serves an object by a list of events.
     Replay {
@@ -265,6 +267,7 @@ fn agree<'a>(words: &ArgMatches<'a>) -> Option<Command<'a>>
         certificate: word(words, "CERT")?,
         inputs: list(words, "INPUTS")?,
         schedule: list(words, "SCHEDULE")?,
+        steps: words.get_flag("steps"),
     })
 }
 

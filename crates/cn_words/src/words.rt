@@ -187,6 +187,12 @@ step wherever SCHEDULE names it. Writes for each process P a line, P: V where it
 else P: undecided. Whatever the schedule, all decisions are equal and are the number of a process
 that the schedule names.
 
+With --steps writes before these a line for each item of SCHEDULE, with what its process P does:
+P: writes V to T of node N, where V is its value and T its team; P: applies O at node N: R, its
+operation with the response; P: reads S at node N: team T, the state, and the team that it judges
+to have come first; P: takes V from T of node N, the value of that team, with which it goes on;
+P: decides V, the same at the last node of its path; and P: has decided, where it takes no step.
+
 A list is numbers with a comma and no space between two, at most 65536 of them, or the word none.
 INPUTS are from 0 to 18446744073709551615, one for each process, SCHEDULE is processes from 0 on.
 @ and the name of a file stand for the list in that file: at most 1048576 bytes, with a line feed at
@@ -194,7 +200,7 @@ the end or none, and at most 303112 items.
 
 ",
     "  cnum agree tests/certificates/test_and_set_at_3.json 10,20 1,1,0,0,0,0 < types/test_and_set.toml
-writes 0: 20 and 1: undecided."
+writes 0: 20 and 1: undecided; with --steps, first 1: writes 20 to B of node 0."
 );
 
 const REPLAY_ABOUT: &str = "Serves an object by a list of events, with a certificate's witness";
@@ -312,13 +318,13 @@ fn files<'a>(alloc: Global) -> Arg<'a>
         .action(ArgAction::Set)
 }
 
-/// The flag by which `explain` tells all.
-fn all<'a>(alloc: Global) -> Arg<'a>
-    ensures { IsArgument (flag (codes "all")) result }
+/// A flag.
+fn flag<'a>(alloc: Global, id: &'a str, help: &'a str) -> Arg<'a>
+    ensures { IsArgument (flag id.entry.now) result }
 {
-    Arg::new(alloc, "all")
-        .long("all")
-        .help("Tells all choices that are refuted, not the first 12 alone")
+    Arg::new(alloc, id)
+        .long(id)
+        .help(help)
         .action(ArgAction::SetTrue)
 }
 
@@ -401,8 +407,9 @@ fn with_certificate<'a>(
 fn explain<'a>(alloc: Global) -> Result<Command<'a>, AllocError>
     ensures { IfOk result (IsCommand explain_words) }
 {
+    let all = "Tells all choices that are refuted, not the first 12 alone";
     let command = with_certificate(alloc, "explain", EXPLAIN_ABOUT, EXPLAIN_AFTER);
-    with_argument(command, all(alloc))
+    with_argument(command, flag(alloc, "all", all))
 }
 
 fn show<'a>(alloc: Global) -> Result<Command<'a>, AllocError>
@@ -423,9 +430,11 @@ fn agree<'a>(alloc: Global) -> Result<Command<'a>, AllocError>
 {
     let inputs = "The numbers that the processes begin with, or @FILE";
     let schedule = "The processes in the order of their steps, or @FILE";
+    let steps = "Tells what each step does, before the decisions";
     let command = with_certificate(alloc, "agree", AGREE_ABOUT, AGREE_AFTER);
     let command = with_argument(command, required_word(alloc, "INPUTS", inputs));
-    with_argument(command, required_word(alloc, "SCHEDULE", schedule))
+    let command = with_argument(command, required_word(alloc, "SCHEDULE", schedule));
+    with_argument(command, flag(alloc, "steps", steps))
 }
 
 /// A command that serves an object.

@@ -4,4 +4,5 @@ use Rattle.cn_words.proofs.words.agree.Goals as goal
 pub returns : goal.returns
 returns c =
     let with_inputs = argument_more _ c.with_argument-command.result _ _ _ c.with_certificate-command.ensures c.required_word.ensures c.with_argument-command.ensures in
-    argument_more _ c.with_argument.result _ _ _ with_inputs c.required_word-2.ensures c.with_argument.ensures
+    let with_schedule = argument_more _ c.with_argument-command-2.result _ _ _ with_inputs c.required_word-2.ensures c.with_argument-command-2.ensures in
+    argument_more _ c.with_argument.result _ _ _ with_schedule c.flag.ensures c.with_argument.ensures
