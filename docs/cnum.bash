@@ -29,7 +29,7 @@ _cnum() {
         options='-h --help' arguments=''
         ;;
     agree)
-        options='-h --help' arguments='CERT INPUTS SCHEDULE'
+        options='--steps -h --help' arguments='CERT INPUTS SCHEDULE'
         ;;
     replay)
         options='-h --help' arguments='CERT OBJECT START CAPACITY EVENTS'

@@ -92,6 +92,26 @@ class Round:
             mine = (taken,) if place + 1 == len(self.plan.paths[p]) else (place + 1, taken, 0)
         return nodes, changed(known, p, mine), first
 
+    def action(self, world, p):
+        """What the next step of a process that has begun does, in words."""
+        nodes, known, _ = world
+        mine = known[p]
+        if len(mine) == 1:
+            return "has decided"
+        place, value, stage = mine[:3]
+        at, team, role = self.plan.paths[p][place]
+        _, operation, judged = self.plan.roles[role]
+        kind, state = self.plan.kind, nodes[at][0]
+        if stage == 0:
+            return f"writes {value} to {TEAMS[team]} of node {at}"
+        if stage == 1:
+            return f"applies {kind.operations[operation]} at node {at}: {kind.responses[kind.act(operation, state)[0]]}"
+        if stage == 2:
+            return f"reads {kind.states[state]} at node {at}: team {TEAMS[self.judges(team, (mine[3], state), judged)]}"
+        first = self.judges(team, mine[3:], judged)
+        taken = nodes[at][1 + first]
+        return f"decides {taken}" if place + 1 == len(self.plan.paths[p]) else f"takes {taken} from {TEAMS[first]} of node {at}"
+
     def judges(self, team, pair, judged):
         """The team that is judged to have come first."""
         return 0 if pair in judged else 1

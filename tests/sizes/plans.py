@@ -1,4 +1,5 @@
-"""`show` in each form, and `agree`, for teams of every size from 1 to 7 and for roles of more than 100 pairs."""
+"""`show` in each form, and `agree` with its steps and without them, for teams of every size from 1 to 7 and for roles of more than
+100 pairs."""
 import json
 import random
 import tempfile
@@ -131,16 +132,17 @@ def with_certificate(certificate, command, table, *words):
         return called([*command, file.name, *words], table)
 
 
-def decided(plan, inputs, schedule):
-    """What `agree` prints of a schedule."""
-    rounds = Round(plan)
+def run_lines(plan, inputs, schedule):
+    """The lines of the steps of a schedule, as `agree --steps` prints them, and those of the decisions."""
+    rounds, steps = Round(plan), ""
     world = rounds.first_world
     for p, value in enumerate(inputs):
         world = rounds.begun(world, p, value)
     for p in schedule:
+        steps += f"{p}: {rounds.action(world, p)}\n"
         world = rounds.step(world, p)
     ends = [rounds.decision(world, p) for p in range(plan.n)]
-    return "".join(f"{p}: {end[0] if end else 'undecided'}\n" for p, end in enumerate(ends))
+    return steps, "".join(f"{p}: {end[0] if end else 'undecided'}\n" for p, end in enumerate(ends))
 
 
 def schedules(plan, chance):
@@ -165,8 +167,10 @@ def cases():
         for schedule in schedules(plan, chance):
             inputs = [chance.randrange(2**64) for _ in range(plan.n)]
             words = [",".join(map(str, it)) for it in (inputs, schedule)]
-            run = lambda words=words, certificate=certificate, table=table: with_certificate(certificate, ["agree"], table, *words)
-            yield f"{about}, {words[1]}", run, answer(decided(plan, inputs, schedule))
+            steps, decisions = run_lines(plan, inputs, schedule)
+            for command, wanted in ((["agree"], decisions), (["agree", "--steps"], steps + decisions)):
+                run = lambda words=words, command=command, certificate=certificate, table=table: with_certificate(certificate, command, table, *words)
+                yield f"{about}, {' '.join(command)}, {words[1]}", run, answer(wanted)
         words, count = [words[0], f"{words[1]},{plan.n}"], len(schedule)
         run = lambda words=words, certificate=certificate, table=table: with_certificate(certificate, ["agree"], table, *words)
         yield f"{about}, a step of process {plan.n}", run, fault(f"schedule: 2 NoSuchProcess {count}")

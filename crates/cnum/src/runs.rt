@@ -98,12 +98,13 @@ fn agree<T: Files, I: Read, O: Write>(
     table: &mut Text<I>,
     output: &mut Output<O>,
     certificate: &str,
-    inputs: ListSource<'_>,
-    schedule: ListSource<'_>,
+    lists: (ListSource<'_>, ListSource<'_>),
+    steps: bool,
 ) -> Result<Outcome, AppFault>
     requires table { IsUnread table.old }
     requires output { IsWritable output.old }
 {
+    let (inputs, schedule) = lists;
     let inputs = GivenList::read(rt, alloc, inputs, Argument::Inputs)?;
     let schedule = GivenList::read(rt, alloc, schedule, Argument::Schedule)?;
     let certificate = &mut file_text(rt, alloc, certificate);
@@ -114,6 +115,7 @@ fn agree<T: Files, I: Read, O: Write>(
         output,
         inputs.text(),
         schedule.text(),
+        steps,
     )
 }
 
@@ -194,7 +196,11 @@ pub fn run<T: Threads + Wait + Sync + Files, I: Read + Drop, O: Write>(
             certificate,
             inputs,
             schedule,
-        } => agree(rt, alloc, text, output, certificate, inputs, schedule),
+            steps,
+        } => {
+            let lists = (inputs, schedule);
+            agree(rt, alloc, text, output, certificate, lists, steps)
+        }
         Command::Replay { opening, events } => replay(rt, alloc, table, output, opening, events),
         Command::Serve { opening, calls } => serve(rt, alloc, table, output, opening, calls),
         Command::Classify { .. } => Err(AppFault::Words),
