@@ -13,6 +13,18 @@ pub(crate) fn sticky_bit_at_3() -> &'static str {
     r#"{"collisions":[],"limit":3,"number":3,"type":"sticky_bit","version":1,"witness":[0,[0],[1,1]]}"#
 }
 
+pub(crate) fn found_sticky_bit_at_5() -> &'static str {
+    r#"{"collisions":[],"limit":5,"number":5,"type":"sticky_bit","version":2,"witness":[0,[0],[1,1,1,1]]}"#
+}
+
+pub(crate) fn found_sticky_bit_at_6() -> &'static str {
+    r#"{"collisions":[],"limit":6,"number":6,"type":"sticky_bit","version":2,"witness":[0,[0],[1,1,1,1,1]]}"#
+}
+
+pub(crate) fn found_sticky_bit_at_7() -> &'static str {
+    r#"{"collisions":[],"limit":7,"number":7,"type":"sticky_bit","version":2,"witness":[0,[0],[1,1,1,1,1,1]]}"#
+}
+
 pub(crate) fn found_sticky_bit_at_8() -> &'static str {
     r#"{"collisions":[],"limit":8,"number":8,"type":"sticky_bit","version":2,"witness":[0,[0],[1,1,1,1,1,1,1]]}"#
 }

@@ -1,16 +1,19 @@
 //! The tests of all library crates: what no contract says.
 //!
-//! Each module is named after the crate that it tests; `faults` has the texts of all faults. A test
-//! calls the public functions on worked values, whose answers come from outside the program: numbers
-//! and texts of worked types, fakes that fail, and threads that overlap. What the program shows stands
-//! in `tests/rows`. `refused` has those in which allocations are refused, once `tests/memory` runs
-//! them.
+//! Each module is named after the crate that it tests; but `faults` has the texts of all faults, and
+//! `carried` those of faults with other numbers; `many` has halls of five to seven processes, and
+//! `wide` compares outcome sets with the definitions. A test calls the public functions on worked
+//! values, whose answers come from outside the program: numbers and texts of worked types, fakes that
+//! fail, and threads that overlap. What the program shows stands in `tests/rows`. `refused` has those
+//! in which allocations are refused, once `tests/memory` runs them.
 #![tactic(auto)]
 
 #[cfg(test)]
 mod agree;
 #[cfg(test)]
 mod app;
+#[cfg(test)]
+mod carried;
 #[cfg(test)]
 mod certificates;
 #[cfg(test)]
@@ -28,6 +31,8 @@ mod hall;
 #[cfg(test)]
 mod log;
 #[cfg(test)]
+mod many;
+#[cfg(test)]
 mod proto;
 #[cfg(test)]
 mod refused;
@@ -37,3 +42,5 @@ mod search;
 mod table;
 #[cfg(test)]
 mod types;
+#[cfg(test)]
+mod wide;

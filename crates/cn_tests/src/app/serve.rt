@@ -113,10 +113,13 @@ fn are_in_one_slot(written: &[u8], entries: usize) -> bool {
 /// Each finds the calls of all, which go into one slot: none takes a step until all are in a call.
 #[test]
 fn all_processes_are_in_a_call_at_once(rt: HostRuntime) {
-    let sticky = (sticky_bit(), found_sticky_bit_at_8());
+    let sticky = sticky_bit();
     for (texts, calls, processes) in [
         ((test_and_set(), test_and_set_at_3()), "0/0", 2),
-        (sticky, "0/0/0/0/0/0/0/0", 8u8),
+        ((sticky, found_sticky_bit_at_5()), "0/0/0/0/0", 5),
+        ((sticky, found_sticky_bit_at_6()), "0/0/0/0/0/0", 6),
+        ((sticky, found_sticky_bit_at_7()), "0/0/0/0/0/0/0", 7),
+        ((sticky, found_sticky_bit_at_8()), "0/0/0/0/0/0/0/0", 8u8),
     ] {
         let steps = [(1, 1), (1, 1)];
         let (ended, written) = held(&rt, rt.alloc(), texts, calls, steps, u32::from(processes));

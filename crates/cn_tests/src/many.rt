@@ -1,0 +1,105 @@
+//! Halls of five, six and seven processes, on one thread.
+ghost use Rattle.std.specs.Prelude.{◌≤◌, ◌<◌, length, IfOk};
+ghost use Rattle.cn_proto.specs.Plan.{processes_of};
+ghost use Rattle.cn_hall.specs.Seats.{IsSeatOf};
+
+use crate::fixtures::{events_of, plan_of, table_of};
+use crate::gates::StopsAt;
+use crate::hall::{call, one_within_another, reply, resume};
+use crate::types::*;
+use cn_hall::{AlwaysOn, CallFault, Go, Hall, Seat, open};
+use cn_log::LogCore;
+use cn_table::State;
+use std::alloc::Global;
+use std::cmp::Ordering as Order;
+use std::process::Abort;
+use std::sync::Wait;
+use std::test::Fail;
+
+/// A core for so many processes, in which the counter starts at 0 and nothing has happened.
+fn core_for(rt: &impl Abort, alloc: Global, n: u8) -> Result<LogCore, Fail>
+    requires some { 2 ≤ n }
+    requires few { n ≤ 8 }
+    ensures processes { IfOk result (λ core. 2 ≤ processes_of core.opening.plan) }
+    ensures operation { IfOk result (λ core. 0 < length core.opening.object.operations) }
+{
+    let others = [1u8; 7];
+    let plan = plan_of(rt, alloc, sticky_bit(), &[0], &others[..usize::from(n) - 1])?;
+    let object = table_of(alloc, counter_3())?;
+    assert!(rt; object.states() >= 1);
+    let core = LogCore::new(alloc, &plan, &object, State(0), 4)?;
+    assert!(rt; core.processes() == n && core.operations() == 1);
+    Ok(core)
+}
+
+/// A hall for so many processes, and the seats of the last two.
+fn opened<R: Wait + Abort>(rt: &R, alloc: Global, n: u8) -> Result<(Hall, Seat, Seat), Fail>
+    requires some { 2 ≤ n }
+    requires few { n ≤ 8 }
+    ensures of { IfOk result (λ r. IsSeatOf r.0 r.1 × IsSeatOf r.0 r.2) }
+    ensures operation { IfOk result (λ r. (0 < length r.1.core.opening.object.operations)
+        × (0 < length r.2.core.opening.object.operations)) }
+{
+    let core = core_for(rt, alloc, n)?;
+    let Ok((hall, mut seats)) = open(rt, alloc, core) else {
+        panic!(rt; "no memory")
+    };
+    let Some(last) = seats.pop() else {
+        unreachable!()
+    };
+    let Some(other) = seats.pop() else {
+        unreachable!()
+    };
+    assert!(rt; last.process() == n - 1 && other.process() == n - 2);
+    Ok((hall, other, last))
+}
+
+/// Whether the hall, closed with these two seats, has these events: the call of the last process with
+/// so many steps before the other, all those of the other, and then the rest.
+fn has_closed<R: Wait>(
+    rt: &R,
+    alloc: Global,
+    hall: Hall,
+    other: Seat,
+    last: Seat,
+    n: u8,
+) -> Result<bool, Fail>
+    requires of { IsSeatOf hall other × IsSeatOf hall last }
+    requires some { 2 ≤ n }
+    requires few { n ≤ 8 }
+{
+    let mut seats = Vec::with_capacity(alloc, 2)?;
+    seats.push_reserved(other);
+    seats.push_reserved(last);
+    let core = hall.close(rt, seats);
+    let parts = one_within_another(n - 1, n - 1, n - 2, 5 * n - 4, 4 * n - 3);
+    let events = events_of(alloc, &parts)?;
+    Ok(core.schedule() == events.as_slice())
+}
+
+/// The gate stops the call of the last process before its last look. Then the one before it calls, and
+/// brings both calls into the first slot; each is the deepest in the tournament.
+fn brings_a_stopped_call<R: Wait + Abort>(rt: &R, alloc: Global, n: u8) -> Result<(), Fail>
+    requires some { 2 ≤ n }
+    requires few { n ≤ 8 }
+{
+    let (hall, mut other, mut last) = opened(rt, alloc, n)?;
+    let mut gate = StopsAt {
+        stop: u32::from(n),
+        last: Go::On,
+    };
+    assert!(rt; call(rt, &hall, &mut last, &mut gate) == Err(CallFault::Stopped));
+    assert!(rt; call(rt, &hall, &mut other, &mut AlwaysOn) == reply(0, 0));
+    assert!(rt; resume(rt, &hall, &mut last, &mut AlwaysOn) == reply(0, 1));
+    assert!(rt; hall.meet(rt, &mut other, &mut last) == Order::Equal);
+    assert!(rt; has_closed(rt, alloc, hall, other, last, n)?);
+    Ok(())
+}
+
+#[test]
+fn five_to_seven_processes_open_a_hall(rt: HostRuntime) -> Result<(), Fail> {
+    for n in 5..8u8 {
+        brings_a_stopped_call(&rt, rt.alloc(), n)?;
+    }
+    Ok(())
+}

@@ -1,0 +1,88 @@
+//! What outcome sets say of choices for two to four processes, beside the definitions: also of the
+//! type with the most states and operations, of which none changes anything.
+ghost use Rattle.std.specs.Prelude.{◌≤◌, ◌<◌, ◌+◌, length};
+ghost use Rattle.cn_choice.specs.Canonical.{FitsTable};
+
+use crate::fixtures::{choice_of, table_of};
+use crate::types::*;
+use cn_choice::reference::raw_splits;
+use cn_choice::{Choice, RawChoice};
+use cn_outcomes::{Examined, examine, is_witness};
+use cn_table::Table;
+use std::alloc::Global;
+use std::process::Abort;
+use std::test::Fail;
+
+/// Whether the choice for n processes is a witness, by the orders. The outcome sets and the
+/// examination have to say the same.
+fn splits(
+    rt: &impl Abort,
+    alloc: Global,
+    table: &Table,
+    choice: &Choice,
+    n: u8,
+) -> Result<bool, Fail>
+    requires fits { FitsTable table.now choice.now }
+    requires some { 2 ≤ length choice.now.a + length choice.now.b }
+    requires few { length choice.now.a + length choice.now.b ≤ 8 }
+{
+    let raw = RawChoice::of(choice);
+    assert!(rt; raw.is_for(table, n));
+    let splits = raw_splits(alloc, table, &raw)?;
+    assert!(rt; is_witness(table, choice) == splits);
+    assert!(rt; matches!(examine(table, choice), Examined::Splits) == splits);
+    Ok(splits)
+}
+
+/// How many witnesses there are among some choices for n processes with this start state: for each
+/// size of team A one.
+fn witnesses_from(
+    rt: &impl Abort,
+    alloc: Global,
+    table: &Table,
+    state: u8,
+    n: u8,
+) -> Result<u32, Fail>
+    requires state { state < 16 }
+    requires some { 2 ≤ n }
+    requires few { n ≤ 4 }
+{
+    let count = table.operations();
+    let last = count - 1;
+    let operations = [state % count, last, last, last - state / 2 % count];
+    let mut found = 0u32;
+    for size in 1..n {
+        let (a, b) = operations[..usize::from(n)].split_at(usize::from(size));
+        let choice = choice_of(rt, table, state, a, b);
+        if splits(rt, alloc, table, &choice, n)? {
+            found = found.saturating_add(1);
+        }
+    }
+    Ok(found)
+}
+
+/// How many there are for two, three and four processes, with each start state.
+fn witnesses(rt: &impl Abort, alloc: Global, text: &str) -> Result<[u32; 3], Fail> {
+    let table = table_of(alloc, text)?;
+    let mut found = [0u32; 3];
+    for state in 0..table.states() {
+        for n in 2..5u8 {
+            let more = witnesses_from(rt, alloc, &table, state, n)?;
+            let place = &mut found[usize::from(n) - 2];
+            *place = place.saturating_add(more);
+        }
+    }
+    Ok(found)
+}
+
+#[test]
+fn outcome_sets_say_what_the_orders_say(rt: HostRuntime) -> Result<(), Fail> {
+    for (text, expected) in [
+        (wide(), [0, 0, 0]),
+        (sticky_bit(), [1, 1, 1]),
+        (three_shot(), [3, 1, 0]),
+    ] {
+        assert!(rt; witnesses(&rt, rt.alloc(), text)? == expected);
+    }
+    Ok(())
+}
