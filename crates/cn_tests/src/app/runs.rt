@@ -35,6 +35,18 @@ entry 1 0 inc 1 2
 events i0:0,s0,s0,s0,s0,s0,s0,i0:0,s0,s0,s0,s0,s0,s0"#
 }
 
+/// What `agree` says of the steps, where process 1 comes first and process 0 runs alone after it.
+fn test_and_set_steps() -> &'static str {
+    r#"1: writes 20 to B of node 0
+1: applies tas at node 0: zero
+0: writes 10 to A of node 0
+0: applies tas at node 0: one
+0: reads one at node 0: team B
+0: decides 20
+0: 20
+1: undecided"#
+}
+
 /// What `lint` says of test-and-set.
 fn test_and_set_grid() -> &'static str {
     r#"test_and_set
@@ -70,7 +82,7 @@ fn opening() -> OpeningWords<'static> {
 }
 
 /// The examples. Their texts are given, whatever the names of files; `classify` names none.
-pub(crate) fn all_examples(alloc: Global) -> [Example; 9] {
+pub(crate) fn all_examples(alloc: Global) -> [Example; 10] {
     let (certificate, form) = ("CERT", Form::Text);
     let (inputs, schedule) = (ListSource::Word("10,20"), ListSource::Word("1,1,0,0,0,0"));
     let (events, calls) = (ListSource::Word(HELPED), ListSource::Word("0,0/none"));
@@ -87,8 +99,18 @@ pub(crate) fn all_examples(alloc: Global) -> [Example; 9] {
                 certificate,
                 inputs,
                 schedule,
+                steps: false,
             },
             "0: 20\n1: undecided",
+        ),
+        Example::new(
+            Command::Agree {
+                certificate,
+                inputs,
+                schedule,
+                steps: true,
+            },
+            test_and_set_steps(),
         ),
         Example::new(
             Command::Replay { opening, events },
@@ -159,10 +181,11 @@ fn run_command<T: Threads + Wait + Sync>(
         Command::Agree {
             inputs,
             schedule,
+            steps,
             ..
         } => {
             let (inputs, schedule) = (list_text(inputs), list_text(schedule));
-            commands::agree(alloc, table, certificate, output, inputs, schedule)
+            commands::agree(alloc, table, certificate, output, inputs, schedule, steps)
         }
         Command::Replay { events, .. } => {
             commands::replay(alloc, given, output, list_text(events))

@@ -5,7 +5,7 @@ use crate::app::runs::test_and_set_shown;
 use crate::fixtures::{choice_of, events_of, plan_for_two, table_of};
 use crate::hall::core_after;
 use crate::types::*;
-use cn_agree::{Decisions, ScheduleFault, run_schedule};
+use cn_agree::{Course, Decisions, ScheduleFault, run_schedule, run_steps};
 use cn_forms::{Form, plan_as};
 use cn_hall::{OpenFault, open};
 use cn_log::{Event, LogCore};
@@ -123,6 +123,29 @@ fn schedules(rt: HostRuntime) -> Result<(), Fail> {
         alloc,
         ran = run_schedule(alloc, &plan, &INPUTS, &STEPS),
         schedule_ended(ran)
+    );
+    Ok(())
+}
+
+fn course_ended(ran: Result<Course, ScheduleFault>) -> Ended {
+    match ran {
+        Ok(course) => Ended::whole_if(
+            course.records.len() == STEPS.len()
+                && course.decisions.as_slice() == [Some(20), None].as_slice(),
+        ),
+        Err(fault) => Ended::out_of_memory_if(fault == ScheduleFault::OutOfMemory),
+    }
+}
+
+#[test]
+fn steps(rt: HostRuntime) -> Result<(), Fail> {
+    let alloc = rt.alloc();
+    let plan = plan_for_two(&rt, alloc)?;
+    sweep!(
+        &rt,
+        alloc,
+        ran = run_steps(alloc, &plan, &INPUTS, &STEPS),
+        course_ended(ran)
     );
     Ok(())
 }
