@@ -10,9 +10,11 @@ var Cnum = globalThis.Cnum || {};
 
     const GAP = 6; // between a label and what is near
     const MARGIN = 14; // around the whole
+    const FOR_LAYERS = 20; // what it counts that all can be read downwards, in layers
     const LOOP = { half: 11, reach: 34 }; // of an arrow from a node to itself
-    const WIDER = 1.18;
+    const WIDER = 1.22;
     const MOST_TRIES = 24;
+    const MOST_SHEETS = 3; // how many widths are compared, of those that have room for all labels
     const SAMPLES = 20;
     const BOWS = [0, 0.14, -0.14, 0.26, -0.26, 0.42, -0.42, 0.65, -0.65];
     const BOWS_OF_PAIR = [0.13, 0.24, 0.38, 0.6, 0.85];
@@ -23,11 +25,19 @@ var Cnum = globalThis.Cnum || {};
     const meets = (a, b, gap) => a.left < b.right + gap && b.left < a.right + gap && a.top < b.bottom + gap && b.top < a.bottom + gap;
     const holds = (box, [x, y], gap) => x > box.left - gap && x < box.right + gap && y > box.top - gap && y < box.bottom + gap;
 
-    // A Bezier curve by its points: the point and the direction at a share of it, and a part of it.
+    // A Bezier curve by its three or four points: the point and the direction at a share of it, and a part
+    // of a curve of three.
     function pointOn(curve, share) {
-        let points = curve;
-        while (points.length > 1) points = points.slice(1).map((it, index) => mixed(points[index], it, share));
-        return points[0];
+        const rest = 1 - share;
+        const weights = curve.length === 3
+            ? [rest * rest, 2 * rest * share, share * share]
+            : [rest ** 3, 3 * rest * rest * share, 3 * rest * share * share, share ** 3];
+        let [x, y] = [0, 0];
+        for (let index = 0; index < curve.length; index++) {
+            x += weights[index] * curve[index][0];
+            y += weights[index] * curve[index][1];
+        }
+        return [x, y];
     }
 
     function directionOn(curve, share) {
@@ -41,6 +51,18 @@ var Cnum = globalThis.Cnum || {};
         return [at(from, from), at(from, to), at(to, to)];
     }
 
+    // The least box that holds these points.
+    function boxAround(points) {
+        const box = { left: Infinity, right: -Infinity, top: Infinity, bottom: -Infinity };
+        for (const [x, y] of points) {
+            box.left = Math.min(box.left, x);
+            box.right = Math.max(box.right, x);
+            box.top = Math.min(box.top, y);
+            box.bottom = Math.max(box.bottom, y);
+        }
+        return box;
+    }
+
     const samplesOf = curve => Array.from({ length: SAMPLES + 1 }, (_, index) => pointOn(curve, index / SAMPLES));
 
     // Whether a point lies in a node, which has round ends.
@@ -52,7 +74,7 @@ var Cnum = globalThis.Cnum || {};
 
     // The share of a curve at which it leaves a node or comes to one.
     function edgeShare(curve, node, inside, outside) {
-        for (let turn = 0; turn < 20; turn++) {
+        for (let turn = 0; turn < 12; turn++) {
             const middle = (inside + outside) / 2;
             if (isIn(node, pointOn(curve, middle))) inside = middle;
             else outside = middle;
@@ -66,8 +88,9 @@ var Cnum = globalThis.Cnum || {};
             this.nodes = picture.nodes.map((it, index) => ({ ...it, x: points[index][0] * scale * 1.2, y: points[index][1] * scale }));
             this.boxes = this.nodes.map(it => boxAt([it.x, it.y], it.width, it.height));
             this.arrows = picture.arrows;
-            this.labels = [];
+            this.labels = []; // the box of each
             this.bows = 0;
+            this.covers = 0;
         }
 
         hasRoom() {
@@ -78,6 +101,7 @@ var Cnum = globalThis.Cnum || {};
         draw() {
             this.curves = this.arrows.map(it => (it.from === it.to ? null : this.curve(it)));
             this.samples = this.curves.map(it => it && samplesOf(it));
+            this.extents = this.samples.map(it => it && boxAround(it));
             const straight = this.arrows.map((_, index) => index).filter(it => this.curves[it]);
             const free = it => this.length(this.samples[it]) - this.arrows[it].width;
             straight.sort((a, b) => free(a) - free(b));
@@ -115,7 +139,11 @@ var Cnum = globalThis.Cnum || {};
 
         // How many points of arrows lie under a box.
         covered(box, but) {
-            return this.samples.reduce((sum, points, index) => (points && index !== but ? sum + points.filter(it => holds(box, it, 2)).length : sum), 0);
+            let count = 0;
+            this.samples.forEach((points, index) => {
+                if (points && index !== but && meets(box, this.extents[index], 2)) count += points.filter(it => holds(box, it, 2)).length;
+            });
+            return count;
         }
 
         placeLabel(index) {
@@ -133,8 +161,10 @@ var Cnum = globalThis.Cnum || {};
                     if (!best || cost < best.cost) best = { box, cost };
                 }
             }
-            if (best) this.labels[index] = best.box;
-            return Boolean(best);
+            if (!best) return false;
+            this.labels[index] = best.box;
+            this.covers += best.cost;
+            return true;
         }
 
         // An arrow from a node to itself, at the side of the node where it disturbs least.
@@ -157,32 +187,43 @@ var Cnum = globalThis.Cnum || {};
             }
             if (!best) return false;
             [this.curves[index], this.samples[index], this.labels[index]] = [best.curve, best.points, best.box];
+            this.extents[index] = boxAround(best.points);
+            this.covers += best.cost;
             return true;
         }
 
         crossings() {
             const lines = this.samples.map(points => points.filter((_, index) => index % 4 === 0));
             let count = 0;
-            lines.forEach((a, i) => lines.slice(i + 1).forEach(b => (count += crossingsOf(a, b))));
+            for (let i = 0; i < lines.length; i++) {
+                for (let j = 0; j < i; j++) {
+                    if (meets(this.extents[i], this.extents[j], 0)) count += crossingsOf(lines[i], lines[j]);
+                }
+            }
             return count;
         }
 
         bounds() {
-            const boxes = [...this.boxes, ...this.labels];
-            const points = this.samples.flat();
-            return {
-                left: Math.min(...boxes.map(it => it.left), ...points.map(it => it[0])) - MARGIN,
-                top: Math.min(...boxes.map(it => it.top), ...points.map(it => it[1])) - MARGIN,
-                right: Math.max(...boxes.map(it => it.right), ...points.map(it => it[0])) + MARGIN,
-                bottom: Math.max(...boxes.map(it => it.bottom), ...points.map(it => it[1])) + MARGIN,
-            };
+            const boxes = [...this.boxes, ...this.labels, ...this.extents];
+            const { left, right, top, bottom } = boxAround(boxes.flatMap(it => [[it.left, it.top], [it.right, it.bottom]]));
+            return { left: left - MARGIN, right: right + MARGIN, top: top - MARGIN, bottom: bottom + MARGIN };
         }
 
-        // The less, the better the picture: crossings, bows and size.
+        // The share of the arrows that lead down.
+        down() {
+            const between = this.arrows.filter(it => it.from !== it.to);
+            const leading = between.filter(it => this.nodes[it.to].y > this.nodes[it.from].y + 1);
+            return leading.length / Math.max(1, between.length);
+        }
+
+        // The less, the better the picture: crossings (where there are many, one more hardly counts), bows,
+        // labels on arrows, size, and how much longer it is than wide.
         cost() {
             const { left, top, right, bottom } = this.bounds();
             const [width, height] = [right - left, bottom - top];
-            return 3 * this.crossings() + 4 * this.bows + (width * height) / 25000 + width / 150 + height / 120;
+            const slender = Math.max(width / height, height / width);
+            const shape = (width * height) / 25000 + 30 * Math.max(0, slender - 1.9);
+            return 8 * Math.sqrt(this.crossings()) + 4 * this.bows + this.covers / 3 + shape;
         }
     }
 
@@ -198,21 +239,22 @@ var Cnum = globalThis.Cnum || {};
         return count;
     }
 
-    // The picture with its nodes at these points, as near to each other as the labels permit.
+    // The picture with its nodes at these points, as near to each other as the labels permit, and somewhat wider.
     function drawn(picture, points) {
-        let scale = 70;
-        for (let tries = 0; tries < MOST_TRIES; tries++, scale *= WIDER) {
+        const sheets = [];
+        for (let tries = 0, scale = 70; tries < MOST_TRIES && sheets.length < MOST_SHEETS; tries++, scale *= WIDER) {
             const sheet = new Sheet(picture, points, scale);
-            if (sheet.hasRoom() && sheet.draw()) return sheet;
+            if (sheet.hasRoom() && sheet.draw()) sheets.push(sheet);
         }
-        return null;
+        return sheets;
     }
 
     // The nodes with their places, and for each arrow its curve and the box of its label; and the bounds.
     Cnum.layOut = function (picture) {
         const ways = Cnum.pointsOf(picture.nodes.length, picture.arrows.map(it => [it.from, it.to]), picture.start);
-        const sheets = ways.map(points => drawn(picture, points)).filter(Boolean);
-        const costs = sheets.map(it => it.cost());
+        const [layers, ...others] = ways.map(points => drawn(picture, points));
+        const sheets = [...layers, ...others.flat()];
+        const costs = sheets.map((it, index) => it.cost() - (index < layers.length ? FOR_LAYERS * it.down() : 0));
         const best = sheets[costs.indexOf(Math.min(...costs))];
         const arrows = picture.arrows.map((it, index) => ({ ...it, curve: best.curves[index], label: best.labels[index] }));
         return { nodes: best.nodes, arrows, bounds: best.bounds() };

@@ -7,6 +7,7 @@ var Cnum = globalThis.Cnum || {};
 
     const { element } = Cnum;
     const AFTER_TYPING = 150;
+    const BEFORE_TEAMS = 400;
     const FIRST_EXAMPLE = 'types/test_and_set';
     const FIRST_LIMIT = '4';
     const HEAD = /: consensus number ((?:at least )?)(\d+)/;
@@ -157,6 +158,7 @@ var Cnum = globalThis.Cnum || {};
 
         // Takes away what was said of another table.
         forget(why) {
+            clearTimeout(this.early);
             this.certificate = '';
             at('number').textContent = '–';
             at('meaning').textContent = why;
@@ -171,7 +173,14 @@ var Cnum = globalThis.Cnum || {};
         async find(linked) {
             const draw = await this.ask(this.quick, ['draw']);
             if (!draw) return;
-            this.draw(draw.stdout, null);
+            this.dot = draw.stdout;
+            // Where the search takes long, the picture comes before it, with no teams.
+            this.early = setTimeout(() => this.draw(null), BEFORE_TEAMS);
+            await this.showNumber(linked);
+        }
+
+        // Finds the number, and shows it, why it is so, and the protocol.
+        async showNumber(linked) {
             const find = await this.timed(this.ask(this.search, ['find', '--limit', at('limit').value]));
             if (!find) return;
             if (find.status !== 0) {
@@ -182,9 +191,9 @@ var Cnum = globalThis.Cnum || {};
             at('download').disabled = false;
             const explain = await this.ask(this.search, ['explain', CERTIFICATE], this.files());
             if (!explain) return;
-            this.showNumber(HEAD.exec(explain.stdout));
+            this.tellNumber(HEAD.exec(explain.stdout));
             Cnum.showExplanation(at('why'), explain.stdout, () => this.explainAll());
-            await this.showProtocol(draw.stdout, linked);
+            await this.showProtocol(linked);
         }
 
         files() {
@@ -193,9 +202,10 @@ var Cnum = globalThis.Cnum || {};
 
         // The protocol is that of the certificate for the number alone, which has the same witness and no
         // collisions: each step has it checked anew, and so takes no longer where there are many.
-        async showProtocol(dot, linked) {
+        async showProtocol(linked) {
             const { number } = JSON.parse(this.certificate);
             if (number === null) {
+                this.draw(null);
                 this.protocol.clear('One process alone has nobody to agree with.');
                 return;
             }
@@ -205,12 +215,14 @@ var Cnum = globalThis.Cnum || {};
             const show = await this.ask(this.search, ['show', '--as', 'json', CERTIFICATE], this.witness);
             if (!show) return;
             const plan = JSON.parse(show.stdout);
-            this.draw(dot, plan);
+            this.draw(plan);
             await this.protocol.show(plan, linked.inputs, linked.acts);
         }
 
-        draw(dot, plan) {
-            at('picture').replaceChildren(Cnum.pictureOf(dot, plan));
+        // The picture, with the start and the teams of this plan, if there is one.
+        draw(plan) {
+            clearTimeout(this.early);
+            at('picture').replaceChildren(Cnum.pictureOf(this.dot, plan));
             at('legend').hidden = !plan;
             at('download-picture').disabled = false;
         }
@@ -242,12 +254,13 @@ var Cnum = globalThis.Cnum || {};
         async classify(why) {
             const answer = await this.timed(this.ask(this.search, ['classify', '--limit', at('limit').value, '-']));
             if (!answer) return;
-            if (answer.status === 0) this.showNumber(CLASS.exec(answer.stdout));
+            this.draw(null);
+            if (answer.status === 0) this.tellNumber(CLASS.exec(answer.stdout));
             at('why').replaceChildren(element('p', {}, answer.status === 0 ? why : answer.stderr));
             this.protocol.clear(why);
         }
 
-        showNumber([, atLeast, number]) {
+        tellNumber([, atLeast, number]) {
             const all = number === '1' ? 'One process alone decides.' : `${number} processes can agree through objects of this type and registers, however fast each of them is and wherever the others stop.`;
             const more = Number(number) + 1;
             at('number').textContent = atLeast + number;

@@ -12,8 +12,17 @@ var Cnum = globalThis.Cnum || {};
     const FONT = `${SIZE}px ui-monospace, "DejaVu Sans Mono", Menlo, Consolas, monospace`;
     const BADGE = 17; // the width that the letter of a team takes before a line of a label
     // What the picture looks like where it is saved; on the page the style sheet has other colours for the dark.
-    const STYLE = `text{font:${FONT};fill:#1a1a1a}.node rect{fill:#fff;stroke:#444;stroke-width:1.3}.start rect{stroke-width:3}
-        .arrow{fill:none;stroke:#666;stroke-width:1.3}.tip{fill:#666}.label rect{fill:none}.team-A{fill:#0060a8}.team-B{fill:#b34700}.badge{fill:#fff;font-weight:bold}`;
+    const STYLE = `
+        text { font: ${FONT}; fill: #1a1a1a }
+        .node rect { fill: #fff; stroke: #444; stroke-width: 1.3 }
+        .start rect { stroke-width: 3 }
+        .arrow { fill: none; stroke: #666; stroke-width: 1.3 }
+        .tip { fill: #666 }
+        .label rect { fill: none }
+        .label text:not(.badge) { paint-order: stroke; stroke: #fff; stroke-width: 4px }
+        .label .team-A { fill: #0060a8 }
+        .label .team-B { fill: #b34700 }
+        .label .badge { fill: #fff; font-weight: bold; font-size: 11px }`;
 
     const measuring = document.createElement('canvas').getContext('2d');
 

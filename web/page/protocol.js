@@ -225,6 +225,7 @@ var Cnum = globalThis.Cnum || {};
             let count = 0;
             const items = this.acts.map(({ process, stops }) => (stops ? `${process}: stops for good` : steps[count++]));
             this.log.replaceChildren(...items.map(it => element('li', {}, `process ${it}`)));
+            this.log.scrollTop = this.log.scrollHeight;
             this.say(items.length ? `process ${items[items.length - 1]}` : '');
         }
     }
