@@ -6,7 +6,10 @@ var Cnum = globalThis.Cnum || {};
 Cnum.compare = async function () {
     'use strict';
     const bytesOf = text => Uint8Array.from(text, letter => letter.charCodeAt(0));
-    const digestOf = async bytes => [...new Uint8Array(await crypto.subtle.digest('SHA-256', bytes))].map(it => it.toString(16).padStart(2, '0')).join('');
+    async function digestOf(bytes) {
+        const digest = new Uint8Array(await crypto.subtle.digest('SHA-256', bytes));
+        return [...digest].map(it => it.toString(16).padStart(2, '0')).join('');
+    }
     const stream = new Blob([bytesOf(atob(Cnum.packedModule))]).stream().pipeThrough(new DecompressionStream('gzip'));
     const run = Cnum.makeHost(await WebAssembly.compile(await new Response(stream).arrayBuffer()));
     const differing = [];

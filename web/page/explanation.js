@@ -5,7 +5,8 @@ var Cnum = globalThis.Cnum || {};
 (() => {
     'use strict';
 
-    const { button, element } = Cnum;
+    const { button, element, tableOf, wide } = Cnum;
+    const PAIRS = 'what each process gets and reads';
     const AT_ONCE = 100; // how many collisions are shown more at each demand
     const COLLISION = /^ +(\d+)\. (start .*?) {2,}(p\d+) cannot tell:$/;
     const RUN = /^ +([AB]) first: +(.*?) {2,}(p\d+ got .*)$/;
@@ -53,26 +54,27 @@ var Cnum = globalThis.Cnum || {};
         if (!rest.length) return [element('p', {}, title)];
         const told = rest.slice(0, -1);
         const list = its => element('ul', {}, ...its.map(it => element('li', {}, it)));
-        const rows = pairs(told).map(it => element('tr', {}, element('th', { scope: 'row' }, it.process), element('td', {}, list(it.A)), element('td', {}, list(it.B))));
-        const heads = ['Process', 'Team A first', 'Team B first'].map(it => element('th', { scope: 'col' }, it));
-        const table = element('table', { class: 'pairs' }, element('thead', {}, element('tr', {}, ...heads)), element('tbody', {}, ...rows));
-        return [element('h3', {}, title), element('div', { class: 'wide', tabindex: 0, role: 'region', 'aria-label': 'what each process gets and reads' }, table), element('p', {}, rest[rest.length - 1].trim())];
+        const rows = pairs(told).map(it => [it.process, list(it.A), list(it.B)]);
+        const table = tableOf(['Process', 'Team A first', 'Team B first'], rows, { class: 'pairs' });
+        return [element('h3', {}, title), wide(PAIRS, table), element('p', {}, rest[rest.length - 1].trim())];
     }
 
     // A run of a collision: the states in a row, an arrow with what is done between two of them.
     function run(line, doubting) {
         const [, team, steps, end] = RUN.exec(line);
-        const state = name => element('span', { class: 'state' }, name);
-        const parts = [...steps.matchAll(STEP)].flatMap(([, process, operation, response, next]) => [
-            element('span', { class: process === doubting ? 'step doubting' : 'step' }, `${process} ${operation}`, element('span', { class: 'hidden' }, ' answers '), element('span', { class: 'response' }, response)),
-            state(next),
-        ]);
-        return element('div', { class: 'run' }, element('span', { class: `first team-${team}` }, `${team} first`), state(steps.split(' ')[0]), ...parts, element('span', { class: 'end' }, end));
+        const part = (kind, ...content) => element('span', { class: kind }, ...content);
+        const parts = [...steps.matchAll(STEP)].flatMap(([, process, operation, response, next]) => {
+            const kind = process === doubting ? 'step doubting' : 'step';
+            return [part(kind, `${process} ${operation}`, part('hidden', ' answers '), part('response', response)), part('state', next)];
+        });
+        const first = part(`first team-${team}`, `${team} first`);
+        return element('div', { class: 'run' }, first, part('state', steps.split(' ')[0]), ...parts, part('end', end));
     }
 
     function collision([head, ...runs]) {
         const [, number, choice, doubting] = COLLISION.exec(head);
-        return element('li', { value: number }, element('p', {}, choice, element('strong', {}, `${doubting} cannot tell`)), ...runs.map(it => run(it, doubting)));
+        const title = element('p', {}, choice, element('strong', {}, `${doubting} cannot tell`));
+        return element('li', { value: number }, title, ...runs.map(it => run(it, doubting)));
     }
 
     // Shows an explanation in this place. `tellAll` gives the text with all collisions, on demand.

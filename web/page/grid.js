@@ -6,24 +6,29 @@ var Cnum = globalThis.Cnum || {};
     'use strict';
 
     const { button, edits, element } = Cnum;
+    const NO_GRID = 'The grid comes back once each operation has a response and a next state for each state.';
+    const STEPS = { ArrowUp: [-1, 0], ArrowDown: [1, 0], ArrowLeft: [0, -1], ArrowRight: [0, 1] };
 
     // A choice among names, as a cell has two. A name that is none of them is shown too.
     function choice(label, names, chosen, choose) {
-        const options = names.includes(chosen) ? names : [...names, chosen];
-        const select = element('select', { 'aria-label': label, title: label }, ...options.map(it => element('option', { value: it }, it)));
+        const isKnown = names.includes(chosen);
+        const options = (isKnown ? names : [...names, chosen]).map(it => element('option', { value: it }, it));
+        const select = element('select', { 'aria-label': label, title: label }, ...options);
         select.value = chosen;
-        if (options !== names) select.setAttribute('aria-invalid', 'true');
+        if (!isKnown) select.setAttribute('aria-invalid', 'true');
         select.addEventListener('change', () => choose(select.value));
         return select;
     }
 
-    // A name that can be changed. Its width is that of the name.
+    // A name that can be changed. Its field is as wide as the name.
     function nameField(label, name, change) {
-        const field = element('input', { 'aria-label': label, title: label, value: name, size: Math.max(2, name.length), maxlength: 32, spellcheck: 'false', autocomplete: 'off' });
+        const size = Math.max(2, name.length);
+        const field = element('input', { 'aria-label': label, title: label, value: name, size, spellcheck: 'false', autocomplete: 'off' });
         field.addEventListener('change', () => change(field.value));
         return field;
     }
 
+    // A button that takes away what has a name; the last one of its kind stays.
     function removal(label, isPossible, remove) {
         const made = button('×', remove, { class: 'small', 'aria-label': label, title: label });
         made.disabled = !isPossible;
@@ -39,63 +44,83 @@ var Cnum = globalThis.Cnum || {};
         }
 
         show(text) {
-            const table = new Cnum.TableText(text);
             const focused = this.focusedPlace();
-            if (!table.isGrid()) {
-                this.place.replaceChildren(element('p', { class: 'quiet' }, 'The grid comes back once each operation has a response and a next state for each state.'));
-                return;
+            this.table = new Cnum.TableText(text);
+            if (this.table.isGrid()) {
+                this.place.replaceChildren(this.cells(), this.responses(), this.additions());
+                if (focused) this.focus(focused);
+            } else {
+                this.place.replaceChildren(element('p', { class: 'quiet' }, NO_GRID));
             }
-            this.place.replaceChildren(this.cells(table), this.responses(table), this.additions(table));
-            if (focused) this.focus(focused);
         }
 
-        cells(table) {
-            const states = table.items('states').map(it => it.text);
+        // The names of a list of the table.
+        names(list) {
+            return this.table.items(list).map(it => it.text);
+        }
+
+        cells() {
+            const table = this.table;
+            const type = nameField('name of the type', table.entry('name').value.text, name => this.change(edits.renameType(table, name)));
             const corner = element('th', { scope: 'col' }, element('span', { class: 'hidden' }, 'Operation'));
-            const heads = states.map((name, state) =>
-                element('th', { scope: 'col' }, ...this.named('state', name, states.length > 1, text => edits.rename(table, 'states', state, text), () => edits.removeState(table, state))),
+            const heads = this.listed('state', 'states', edits.removeState).map(its => element('th', { scope: 'col' }, ...its));
+            return element(
+                'table',
+                {},
+                element('caption', {}, 'Name of the type: ', type),
+                element('thead', {}, element('tr', {}, corner, ...heads)),
+                element('tbody', {}, ...table.operations.map((operation, index) => this.row(operation, index))),
             );
-            const rows = table.operations.map((operation, index) => this.row(table, operation, index));
-            const caption = element('caption', {}, 'Name of the type: ', nameField('name of the type', table.entry('name').value.text, name => this.change(edits.renameType(table, name))));
-            return element('table', {}, caption, element('thead', {}, element('tr', {}, corner, ...heads)), element('tbody', {}, ...rows));
         }
 
-        row(table, operation, index) {
-            const states = table.items('states').map(it => it.text);
-            const responses = table.items('responses').map(it => it.text);
+        row(operation, index) {
+            const table = this.table;
             const name = operation.name.text;
-            const head = element('th', { scope: 'row' }, ...this.named('operation', name, table.operations.length > 1, text => edits.renameOperation(table, index, text), () => edits.removeOperation(table, index)));
-            const cell = (of, state) =>
-                element(
-                    'td',
-                    {},
-                    choice(`response of ${name} in ${of}`, responses, operation.response[state].text, it => this.change(edits.entry(table, index, 'response', state, it))),
-                    element('span', { 'aria-hidden': 'true' }, '→'),
-                    choice(`state after ${name} in ${of}`, states, operation.next[state].text, it => this.change(edits.entry(table, index, 'next', state, it))),
-                );
-            return element('tr', {}, head, ...states.map(cell));
+            const rename = text => edits.renameOperation(table, index, text);
+            const remove = () => edits.removeOperation(table, index);
+            const head = this.named('operation', name, table.operations.length > 1, rename, remove);
+            return element('tr', {}, element('th', { scope: 'row' }, ...head), ...this.names('states').map((_, state) => this.cell(index, state)));
         }
 
-        // A name with a button that takes away what has it.
-        named(kind, name, canRemove, rename, remove) {
-            return [nameField(`name of ${kind} ${name}`, name, text => this.change(rename(text))), removal(`remove ${kind} ${name}`, canRemove, () => this.change(remove()))];
-        }
-
-        responses(table) {
-            const names = table.items('responses').map(it => it.text);
-            const each = names.map((name, index) =>
-                element('li', {}, ...this.named('response', name, names.length > 1, text => edits.rename(table, 'responses', index, text), () => edits.removeResponse(table, index))),
+        cell(index, state) {
+            const table = this.table;
+            const operation = table.operations[index];
+            const about = `${operation.name.text} in ${this.names('states')[state]}`;
+            const put = row => name => this.change(edits.entry(table, index, row, state, name));
+            return element(
+                'td',
+                {},
+                choice(`response of ${about}`, this.names('responses'), operation.response[state].text, put('response')),
+                element('span', { 'aria-hidden': 'true' }, '→'),
+                choice(`state after ${about}`, this.names('states'), operation.next[state].text, put('next')),
             );
-            return element('div', { class: 'responses' }, element('span', { id: 'responses-label' }, 'Responses: '), element('ul', { 'aria-labelledby': 'responses-label' }, ...each));
         }
 
-        additions(table) {
-            const kinds = [
-                ['Add a state', edits.addState],
-                ['Add an operation', edits.addOperation],
-                ['Add a response', edits.addResponse],
-            ];
-            const buttons = kinds.map(([label, add]) => button(label, () => this.change(add(table))));
+        // The field and the button of each name of a list.
+        listed(kind, list, remove) {
+            const table = this.table;
+            const names = this.names(list);
+            return names.map((name, index) => {
+                const rename = text => edits.rename(table, list, index, text);
+                return this.named(kind, name, names.length > 1, rename, () => remove(table, index));
+            });
+        }
+
+        named(kind, name, canRemove, rename, remove) {
+            const about = `${kind} ${name}`;
+            const field = nameField(`name of ${about}`, name, text => this.change(rename(text)));
+            return [field, removal(`remove ${about}`, canRemove, () => this.change(remove()))];
+        }
+
+        responses() {
+            const items = this.listed('response', 'responses', edits.removeResponse).map(its => element('li', {}, ...its));
+            const label = element('span', { id: 'responses-label' }, 'Responses: ');
+            return element('div', { class: 'responses' }, label, element('ul', { 'aria-labelledby': 'responses-label' }, ...items));
+        }
+
+        additions() {
+            const kinds = { 'Add a state': edits.addState, 'Add an operation': edits.addOperation, 'Add a response': edits.addResponse };
+            const buttons = Object.keys(kinds).map(label => button(label, () => this.change(kinds[label](this.table))));
             return element('div', { class: 'buttons' }, ...buttons);
         }
 
@@ -117,11 +142,10 @@ var Cnum = globalThis.Cnum || {};
 
         // With the key Alt the arrows go from cell to cell.
         move(event) {
-            const steps = { ArrowUp: [-1, 0], ArrowDown: [1, 0], ArrowLeft: [0, -1], ArrowRight: [0, 1] };
             const cell = event.target.closest('th, td');
-            if (!event.altKey || !steps[event.key] || !cell) return;
+            if (!event.altKey || !STEPS[event.key] || !cell) return;
             event.preventDefault();
-            const [down, right] = steps[event.key];
+            const [down, right] = STEPS[event.key];
             const row = this.place.querySelectorAll('tr')[cell.parentNode.rowIndex + down];
             const next = row && row.cells[cell.cellIndex + right];
             const field = next && next.querySelector('input, select');

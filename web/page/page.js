@@ -13,6 +13,10 @@ var Cnum = globalThis.Cnum || {};
     const HEAD = /: consensus number ((?:at least )?)(\d+)/;
     const CLASS = /: ((?:at least )?)(\d+)\n$/;
     const CERTIFICATE = 'certificate';
+    // What a number means.
+    const ALONE = 'One process alone decides.';
+    const TOGETHER =
+        'processes can agree through objects of this type and registers, however fast each of them is and wherever the others stop.';
 
     const at = id => document.getElementById(id);
     const examples = new Map(Cnum.examples.flatMap(group => group.types).map(it => [it.path, it]));
@@ -53,9 +57,12 @@ var Cnum = globalThis.Cnum || {};
             at('limit').addEventListener('change', () => this.refresh());
             at('undo').addEventListener('click', () => this.undo());
             at('break-off').addEventListener('click', () => this.breakOff());
-            at('download').addEventListener('click', () => Cnum.offer(`${this.plainName()}.json`, this.certificate, 'application/json'));
-            at('download-table').addEventListener('click', () => Cnum.offer(`${this.plainName()}.toml`, this.text, 'application/toml'));
-            at('download-picture').addEventListener('click', () => Cnum.offer(`${this.plainName()}.svg`, Cnum.savedPicture(at('picture').firstElementChild), 'image/svg+xml'));
+            const offers = {
+                download: () => ['json', this.certificate, 'application/json'],
+                'download-table': () => ['toml', this.text, 'application/toml'],
+                'download-picture': () => ['svg', Cnum.savedPicture(at('picture').firstElementChild), 'image/svg+xml'],
+            };
+            for (const id of Object.keys(offers)) at(id).addEventListener('click', () => this.offer(...offers[id]()));
             at('copy-link').addEventListener('click', () => this.copyLink());
             at('claim-file').addEventListener('change', () => this.check(at('claim-file').files[0]));
             this.listenToDrops(at('claim'));
@@ -73,10 +80,11 @@ var Cnum = globalThis.Cnum || {};
             }
         }
 
-        // A name for files: that of the type as far as the text tells it.
-        plainName() {
+        // Offers a file under the name of the type, as far as the text tells it.
+        offer(ending, content, kind) {
             const name = new Cnum.TableText(this.text).entry('name');
-            return (name && /^\w+$/.test(name.value.text) && name.value.text) || 'type';
+            const isPlain = name && /^\w+$/.test(name.value.text);
+            Cnum.offer(`${isPlain ? name.value.text : 'type'}.${ending}`, content, kind);
         }
 
         // The path of the example that the text is, or an empty one.
@@ -261,10 +269,10 @@ var Cnum = globalThis.Cnum || {};
         }
 
         tellNumber([, atLeast, number]) {
-            const all = number === '1' ? 'One process alone decides.' : `${number} processes can agree through objects of this type and registers, however fast each of them is and wherever the others stop.`;
-            const more = Number(number) + 1;
+            const can = number === '1' ? ALONE : `${number} ${TOGETHER}`;
+            const more = atLeast ? 'More were not asked for.' : `${Number(number) + 1} cannot be shown to.`;
             at('number').textContent = atLeast + number;
-            at('meaning').textContent = `${all} ${atLeast ? 'More were not asked for.' : `${more} cannot be shown to.`}`;
+            at('meaning').textContent = `${can} ${more}`;
         }
 
         async explainAll() {

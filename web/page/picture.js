@@ -39,7 +39,9 @@ var Cnum = globalThis.Cnum || {};
             const node = NODE.exec(line);
             const arrow = ARROW.exec(line);
             if (node) names.push(node[1]);
-            if (arrow) arrows.push({ from: names.indexOf(arrow[1]), to: names.indexOf(arrow[2]), lines: arrow[3].split('\\l').filter(Boolean) });
+            if (!arrow) continue;
+            const [from, to] = arrow.slice(1, 3).map(name => names.indexOf(name));
+            arrows.push({ from, to, lines: arrow[3].split('\\l').filter(Boolean) });
         }
         return { names, arrows };
     }
@@ -69,19 +71,21 @@ var Cnum = globalThis.Cnum || {};
     function node(it, name, isStart) {
         const { x, y, width, height } = it;
         const frame = svgElement('rect', { x: x - width / 2, y: y - height / 2, width, height, rx: height / 2 });
-        return svgElement('g', { class: isStart ? 'node start' : 'node' }, frame, svgElement('text', { x, y: y + 4, 'text-anchor': 'middle' }, isStart ? `▶ ${name}` : name));
+        const text = svgElement('text', { x, y: y + 4, 'text-anchor': 'middle' }, name);
+        return svgElement('g', { class: isStart ? 'node start' : 'node' }, frame, text);
     }
 
     const point = ([x, y]) => `${x.toFixed(1)},${y.toFixed(1)}`;
 
     function arrow({ curve: [first, ...rest] }) {
-        return svgElement('path', { class: 'arrow', d: `M${point(first)} ${'LQC'[rest.length - 1]}${rest.map(point).join(' ')}`, 'marker-end': 'url(#tip)' });
+        const d = `M${point(first)} ${rest.length === 2 ? 'Q' : 'C'}${rest.map(point).join(' ')}`;
+        return svgElement('path', { class: 'arrow', d, 'marker-end': 'url(#tip)' });
     }
 
     function tip() {
-        const marker = svgElement('marker', { id: 'tip', viewBox: '0 0 10 10', refX: 9, refY: 5, markerWidth: 8, markerHeight: 8, orient: 'auto' });
-        marker.append(svgElement('path', { class: 'tip', d: 'M0,1L10,5L0,9z' }));
-        return svgElement('defs', {}, marker);
+        const size = { viewBox: '0 0 10 10', refX: 9, refY: 5, markerWidth: 8, markerHeight: 8 };
+        const shape = svgElement('path', { class: 'tip', d: 'M0,1L10,5L0,9z' });
+        return svgElement('defs', {}, svgElement('marker', { id: 'tip', ...size, orient: 'auto' }, shape));
     }
 
     // The picture that the text of `draw` describes, as an element. The plan of a witness, what `show --as
@@ -95,17 +99,19 @@ var Cnum = globalThis.Cnum || {};
             width: Math.max(...it.lines.map(line => widthOf(line) + BADGE * teamsOf(line, roles).length)),
             height: LINE * it.lines.length,
         }));
-        const nodes = names.map((name, index) => ({ width: widthOf(index === start ? `▶ ${name}` : name) + 26, height: 32 }));
+        const shown = names.map((name, index) => (index === start ? `▶ ${name}` : name));
+        const nodes = shown.map(it => ({ width: widthOf(it) + 26, height: 32 }));
         const laid = Cnum.layOut({ nodes, arrows: sized, start: Math.max(start, 0) });
         const { left, top, right, bottom } = laid.bounds;
         const [width, height] = [right - left, bottom - top].map(Math.ceil);
-        const about = plan ? `The states of ${plan.type}; the witness starts in ${plan.start}.` : 'The states, and where the operations lead.';
+        const about = `The states, and where the operations lead${plan ? `; the witness starts in ${plan.start}` : ''}.`;
+        const viewBox = `${left.toFixed(1)} ${top.toFixed(1)} ${width} ${height}`;
         return svgElement(
             'svg',
-            { viewBox: `${left.toFixed(1)} ${top.toFixed(1)} ${width} ${height}`, width, height, role: 'img', 'aria-label': about },
+            { viewBox, width, height, role: 'img', 'aria-label': about },
             tip(),
             ...laid.arrows.map(arrow),
-            ...laid.nodes.map((it, index) => node(it, names[index], index === start)),
+            ...laid.nodes.map((it, index) => node(it, shown[index], index === start)),
             ...laid.arrows.map(it => label(it, roles)),
         );
     };

@@ -6,14 +6,14 @@ var Cnum = globalThis.Cnum || {};
 (() => {
     'use strict';
 
-    const { button, element } = Cnum;
+    const { button, element, tableOf, wide } = Cnum;
     const STOPS = 1 / 14; // how often, in a random run, a process stops in the place of a step
     const UNDECIDED = 'undecided';
 
     // The lines of steps that say what became of a node.
     const SEEN = [
         [/^\d+: writes (\d+) to ([AB]) of node (\d+)$/, ([, value, team, node], nodes) => (nodes[node][team] = value)],
-        [/^\d+: applies (\w+) at node (\d+): (\w+)$/, ([, operation, node, response], nodes) => (nodes[node].object = `${operation} answered ${response}`)],
+        [/^\d+: applies (\w+) at node (\d+): (\w+)$/, ([, name, node, response], nodes) => (nodes[node].object = `${name} answered ${response}`)],
         [/^\d+: reads (\w+) at node (\d+)\b/, ([, state, node], nodes) => (nodes[node].object = `read as ${state}`)],
     ];
 
@@ -63,35 +63,37 @@ var Cnum = globalThis.Cnum || {};
                 button('Let all run', () => this.runAll()),
                 button('Random run', () => this.runRandomly()),
             ];
-            this.nodes = element('tbody');
-            const registers = this.tellsSteps() ? ['Register A', 'Register B'] : [];
-            const heads = ['Node', 'Object', ...registers, 'Who comes here'].map(it => element('th', { scope: 'col' }, it));
-            const caption = element('caption', {}, 'The nodes, each with an object and two registers');
-            const nodes = element('table', {}, caption, element('thead', {}, element('tr', {}, ...heads)), this.nodes);
+            this.nodes = wide('nodes', '');
             this.trouble = element('p', { class: 'trouble', role: 'alert' });
             this.log = element('ol', { class: 'log' });
             this.place.replaceChildren(
                 element('div', { class: 'buttons' }, ...all),
                 element('div', { class: 'processes' }, ...this.columns.map(it => it.whole)),
                 this.trouble,
-                element('div', { class: 'wide', tabindex: 0, role: 'region', 'aria-label': 'nodes' }, nodes),
+                element('h3', {}, 'The nodes, each with an object and two registers'),
+                this.nodes,
                 element('h3', {}, 'What happened'),
                 this.log,
             );
         }
 
         column(path, process) {
-            const input = element('input', { id: `input-${process}`, inputmode: 'numeric', value: this.inputs[process], size: 6, maxlength: 20, autocomplete: 'off' });
+            const id = `input-${process}`;
+            const input = element('input', { id, inputmode: 'numeric', value: this.inputs[process], size: 6, maxlength: 20, autocomplete: 'off' });
             input.addEventListener('change', () => this.act(() => (this.inputs[process] = input.value.trim())));
-            const step = button('Take a step', () => this.act(() => this.acts.push({ process, stops: false })), { 'aria-label': `process ${process} takes a step` });
-            const stop = button('Stop for good', () => this.act(() => this.acts.push({ process, stops: true })), { 'aria-label': `process ${process} stops for good` });
-            const places = path.map(it => element('li', {}, `node ${it.node}: `, element('span', { class: `team-${it.team}` }, `team ${it.team}`), `, ${this.plan.roles[it.role].operation}`));
+            const act = stops => () => this.act(() => this.acts.push({ process, stops }));
+            const step = button('Take a step', act(false), { 'aria-label': `process ${process} takes a step` });
+            const stop = button('Stop for good', act(true), { 'aria-label': `process ${process} stops for good` });
+            const places = path.map(({ node, team, role }) => {
+                const mark = element('span', { class: `team-${team}` }, `team ${team}`);
+                return element('li', {}, `node ${node}: `, mark, `, ${this.plan.roles[role].operation}`);
+            });
             const decision = element('p', { class: 'decision' });
             const whole = element(
                 'section',
                 { class: 'process', 'aria-labelledby': `process-${process}` },
                 element('h3', { id: `process-${process}` }, `Process ${process}`),
-                element('label', { for: `input-${process}` }, 'proposes '),
+                element('label', { for: id }, 'proposes '),
                 input,
                 element('ul', {}, ...places),
                 element('div', { class: 'buttons' }, step, stop),
@@ -207,17 +209,16 @@ var Cnum = globalThis.Cnum || {};
                     if (found) see(found, nodes);
                 }
             }
-            const row = (it, node) => {
-                const cells = [it.object, ...(this.tellsSteps() ? [it.A, it.B] : []), this.comers(node)];
-                return element('tr', {}, element('th', { scope: 'row' }, `node ${node}`), ...cells.map(text => element('td', {}, text)));
-            };
-            this.nodes.replaceChildren(...nodes.map(row));
+            const registers = (a, b) => (this.tellsSteps() ? [a, b] : []);
+            const heads = ['Node', 'Object', ...registers('Register A', 'Register B'), 'Who comes here'];
+            const rows = nodes.map((it, node) => [`node ${node}`, it.object, ...registers(it.A, it.B), this.comers(node)]);
+            this.nodes.replaceChildren(tableOf(heads, rows));
         }
 
         // Who comes to a node, and in which team.
         comers(node) {
-            const all = this.plan.paths.flatMap((path, process) => path.filter(it => it.node === node).map(it => `process ${process} (${it.team})`));
-            return all.join(', ');
+            const places = this.plan.paths.flatMap((path, process) => path.map(it => ({ ...it, process })));
+            return places.filter(it => it.node === node).map(it => `process ${it.process} (${it.team})`).join(', ');
         }
 
         // The lines of the steps, and between them who stopped where.

@@ -8,6 +8,7 @@ var Cnum = globalThis.Cnum || {};
     const quoted = name => `"${name}"`;
     const replaced = (place, text) => ({ from: place.from, to: place.to, text });
     const behind = (place, text) => ({ from: place.to, to: place.to, text });
+    const added = (items, name) => behind(items[items.length - 1], `, ${quoted(name)}`);
 
     // An item of an array taken away, with the comma that is left over.
     function removed(items, index) {
@@ -39,7 +40,9 @@ var Cnum = globalThis.Cnum || {};
 
     Cnum.edits = {
         // The entry of an operation in a state: its response, or the next state.
-        entry: (table, operation, row, state, name) => edited(table.text, [replaced(table.operations[operation][row][state], quoted(name))]),
+        entry(table, operation, row, state, name) {
+            return edited(table.text, [replaced(table.operations[operation][row][state], quoted(name))]);
+        },
 
         // Another name for a state or a response, everywhere in the table.
         rename(table, list, index, name) {
@@ -56,8 +59,8 @@ var Cnum = globalThis.Cnum || {};
             const states = table.items('states');
             const name = freshName(states, 's');
             const response = table.items('responses')[0].text;
-            const rows = table.operations.flatMap(it => [behind(it.response.at(-1), `, ${quoted(response)}`), behind(it.next.at(-1), `, ${quoted(name)}`)]);
-            return edited(table.text, [behind(states.at(-1), `, ${quoted(name)}`), ...rows]);
+            const rows = table.operations.flatMap(it => [added(it.response, response), added(it.next, name)]);
+            return edited(table.text, [added(states, name), ...rows]);
         },
 
         // A state less; what led to it leads to the first one that is left.
@@ -66,13 +69,14 @@ var Cnum = globalThis.Cnum || {};
             const other = states[index ? 0 : 1];
             const rows = table.operations.flatMap(it => [removed(it.response, index), removed(it.next, index)]);
             const away = new Set(table.operations.map(it => it.next[index]));
-            const turned = uses(table, 'states', states[index].text).filter(it => !away.has(it)).map(it => replaced(it, quoted(other.text)));
+            const left = uses(table, 'states', states[index].text).filter(it => !away.has(it));
+            const turned = left.map(it => replaced(it, quoted(other.text)));
             return edited(table.text, [removed(states, index), ...rows, ...turned]);
         },
 
         addResponse(table) {
             const responses = table.items('responses');
-            return edited(table.text, [behind(responses.at(-1), `, ${quoted(freshName(responses, 'r'))}`)]);
+            return edited(table.text, [added(responses, freshName(responses, 'r'))]);
         },
 
         // A response less; where it was given the first one that is left is given.
@@ -90,7 +94,7 @@ var Cnum = globalThis.Cnum || {};
             const responses = states.map(() => quoted(table.items('responses')[0].text));
             const parts = [`name = ${quoted(name)}`, `response = [${responses.join(', ')}]`, `next = [${states.join(', ')}]`];
             const list = table.list('operation');
-            if (!list.isOfHeaders) return edited(table.text, [behind(list.items.at(-1), `, { ${parts.join(', ')} }`)]);
+            if (!list.isOfHeaders) return edited(table.text, [behind(list.items[list.items.length - 1], `, { ${parts.join(', ')} }`)]);
             const line = table.text.endsWith('\n') ? '' : '\n';
             return `${table.text}${line}[[operation]]\n${parts.join('\n')}\n`;
         },

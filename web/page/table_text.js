@@ -147,12 +147,10 @@ var Cnum = globalThis.Cnum || {};
         // Whether it can be shown as a grid: each of its operations has an entry for each state.
         isGrid() {
             const areTexts = items => items.length > 0 && items.every(it => it.kind === 'text');
-            const states = this.items('states');
-            const name = this.entry('name');
-            return (
-                Boolean(name) && name.value.kind === 'text' && areTexts(states) && areTexts(this.items('responses')) && this.operations.length > 0 &&
-                this.operations.every(it => it.name && it.rows.every(row => areTexts(row) && row.length === states.length))
-            );
+            const [states, responses, name] = [this.items('states'), this.items('responses'), this.entry('name')];
+            const isWhole = it => it.name && it.rows.every(row => areTexts(row) && row.length === states.length);
+            const hasNames = Boolean(name) && name.value.kind === 'text' && areTexts(states) && areTexts(responses);
+            return hasNames && this.operations.length > 0 && this.operations.every(isWhole);
         }
     }
 
