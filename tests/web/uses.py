@@ -242,6 +242,7 @@ def grid(use):
         yield "the focus stays", use.value(f"document.activeElement.getAttribute('aria-label') === {label!r}"), ""
     wanted = SLOT.replace('"a", "a", "a"', '"a", "a", "b"').replace('"b", "b", "b"', '"b", "a", "b"')
     yield "the text follows", use.table() == wanted, use.table()
+    yield "it is no example any more", use.value("document.getElementById('example').value") == "", ""
     use.value("document.getElementById('undo').click()")
     yield "a change is undone", use.has_number("1"), use.text("number")
     for kind, count in (("State", 3), ("Operation", 2), ("Response", 1)):
@@ -378,6 +379,18 @@ def searches(use):
     yield "another table breaks it off too", use.text("number") == "1" and use.is_hidden("running"), use.text("number")
 
 
+def without(use):
+    """A browser that lacks what the program wants gets a sentence."""
+    for name in ("WebAssembly", "DecompressionStream", "Worker"):
+        script = use.call("Page.addScriptToEvaluateOnNewDocument", source=f"delete globalThis.{name};")["identifier"]
+        use.browser.open("about:blank")
+        use.browser.open(PAGE)
+        well = use.until("document.getElementById('trouble') && document.getElementById('trouble').textContent", 10)
+        told = use.text("trouble")
+        yield f"without {name}", well and told.startswith("This browser cannot run the program"), told
+        use.call("Page.removeScriptToEvaluateOnNewDocument", identifier=script)
+
+
 def for_all(use):
     """Keyboard, screen readers, contrast, a phone, paper."""
     shown = "#example=types/three_shot&run=0,1,x1"
@@ -426,4 +439,4 @@ def quiet(use):
     yield "no error is logged", logged == [], logged
 
 
-ALL = (first_answer, flaws, examples, pictures, grid, schedules, links, certificates, explanations, searches, for_all, quiet)
+ALL = (first_answer, flaws, examples, pictures, grid, schedules, links, certificates, explanations, searches, without, for_all, quiet)

@@ -51,6 +51,7 @@ var Cnum = globalThis.Cnum || {};
             let typed;
             at('table').addEventListener('input', () => {
                 clearTimeout(typed);
+                this.undone = [];
                 typed = setTimeout(() => this.refresh(), AFTER_TYPING);
             });
             at('example').addEventListener('change', () => this.choose(at('example').value));
@@ -87,13 +88,13 @@ var Cnum = globalThis.Cnum || {};
             Cnum.offer(`${isPlain ? name.value.text : 'type'}.${ending}`, content, kind);
         }
 
-        // The path of the example that the text is, or an empty one.
+        // The example that the text is, if it is one.
         example() {
-            const it = examples.get(at('example').value);
-            return it && it.text === this.text ? it.path : '';
+            return [...examples.values()].find(it => it.text === this.text);
         }
 
         choose(path) {
+            if (!examples.has(path)) return undefined;
             this.text = examples.get(path).text;
             this.undone = [];
             return this.refresh();
@@ -115,7 +116,6 @@ var Cnum = globalThis.Cnum || {};
             if (location.hash === this.link) return;
             const linked = await Cnum.linkedBy(location.hash);
             const path = examples.has(linked.example) ? linked.example : FIRST_EXAMPLE;
-            at('example').value = path;
             at('limit').value = [...at('limit').options].some(it => it.value === linked.limit) ? linked.limit : FIRST_LIMIT;
             this.text = linked.text === undefined ? examples.get(path).text : linked.text;
             await this.refresh(linked);
@@ -123,7 +123,8 @@ var Cnum = globalThis.Cnum || {};
 
         async keepLink() {
             const { inputs, acts } = this.protocol;
-            const link = await Cnum.linkOf({ example: this.example(), text: this.text, limit: at('limit').value, inputs, acts });
+            const example = this.example();
+            const link = await Cnum.linkOf({ example: example && example.path, text: this.text, limit: at('limit').value, inputs, acts });
             this.link = link;
             history.replaceState(null, '', link);
         }
@@ -149,8 +150,10 @@ var Cnum = globalThis.Cnum || {};
         async refresh(linked = { inputs: [], acts: [] }) {
             this.round++;
             this.search.breakOff();
+            const example = this.example();
             at('undo').disabled = !this.undone.length;
-            at('about').textContent = this.example() ? examples.get(this.example()).about : '';
+            at('example').value = example ? example.path : '';
+            at('about').textContent = example ? example.about : '';
             this.grid.show(this.text);
             const lint = await this.ask(this.quick, ['lint']);
             if (!lint) return;
@@ -294,7 +297,7 @@ var Cnum = globalThis.Cnum || {};
         }
 
         async begin() {
-            at('example').append(...Cnum.examples.map(exampleGroup));
+            at('example').append(element('option', { value: '' }, 'a table of your own'), ...Cnum.examples.map(exampleGroup));
             await this.follow();
             const version = await this.quick.run(['--version']);
             at('version').textContent = version.stdout;
