@@ -101,9 +101,10 @@ class Browser:
             time.sleep(0.02)
         return False
 
-    def picture(self, whole=True):
-        """A PNG of the page."""
-        return base64.b64decode(self.call("Page.captureScreenshot", format="png", captureBeyondViewport=whole)["data"])
+    def picture(self, selector="body"):
+        """A PNG of a part of the page, somewhat smaller."""
+        box = self.value(f"(({{ x, y, width, height }}) => ({{ x, y, width, height }}))(document.querySelector({selector!r}).getBoundingClientRect())")
+        return base64.b64decode(self.call("Page.captureScreenshot", format="png", captureBeyondViewport=True, clip={**box, "scale": 0.8})["data"])
 
     def told(self, method):
         """What the browser has told of this kind."""

@@ -300,7 +300,7 @@ var Cnum = globalThis.Cnum || {};
             at('example').append(element('option', { value: '' }, 'a table of your own'), ...Cnum.examples.map(exampleGroup));
             await this.follow();
             const version = await this.quick.run(['--version']);
-            at('version').textContent = version.stdout;
+            at('version').textContent = version.stdout.trim();
         }
     }
 
