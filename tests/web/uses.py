@@ -332,15 +332,17 @@ def certificates(use):
     with tempfile.TemporaryDirectory() as room:
         whole = pathlib.Path(found("test_and_set", 4, room)).read_text()
     yield "the certificate is the program's", use.value("Cnum.page.certificate") == whole, ""
-    drop = """(text => {
+    drop = """((name, text) => {
         const dataTransfer = new DataTransfer();
-        dataTransfer.items.add(new File([text], 'claim.json'));
+        dataTransfer.items.add(new File([text], name));
         document.getElementById('claim').dispatchEvent(new DragEvent('drop', { dataTransfer, bubbles: true, cancelable: true }));
     })(%s)"""
     for text, told in ((whole, "ok\n"), (whole.replace('"number":2', '"number":3'), "cnum: check: "), ("{", "cnum: certificate: ")):
-        use.value(drop % json.dumps(text))
+        use.value(drop % f"'claim.json', {json.dumps(text)}")
         well = use.until(f"document.getElementById('claim-said').textContent.startsWith({json.dumps('claim.json: ' + told)})", 10)
         yield f"a certificate that is dropped: {told.strip()}", well, use.text("claim-said")
+    use.value(drop % f"'slot.toml', {json.dumps(SLOT)}")
+    yield "a table that is dropped", use.until(f"Cnum.page.text === {json.dumps(SLOT)}", 10) and use.has_number("1"), use.table()
 
 
 def explanations(use):

@@ -66,19 +66,29 @@ var Cnum = globalThis.Cnum || {};
             for (const id of Object.keys(offers)) at(id).addEventListener('click', () => this.offer(...offers[id]()));
             at('copy-link').addEventListener('click', () => this.copyLink());
             at('claim-file').addEventListener('change', () => this.check(at('claim-file').files[0]));
-            this.listenToDrops(at('claim'));
+            this.listenToDrops();
             window.addEventListener('hashchange', () => this.follow());
         }
 
-        listenToDrops(place) {
-            const mark = isOver => place.classList.toggle('over', isOver);
+        // A file can be dropped anywhere: a table comes to be the text, any other is checked as a certificate.
+        listenToDrops() {
             for (const [name, isOver] of [['dragover', true], ['dragleave', false], ['drop', false]]) {
-                place.addEventListener(name, event => {
+                document.body.addEventListener(name, event => {
                     event.preventDefault();
-                    mark(isOver);
-                    if (name === 'drop') this.check(event.dataTransfer.files[0]);
+                    document.body.classList.toggle('over', isOver);
+                    if (name === 'drop') this.take(event.dataTransfer.files[0]);
                 });
             }
+        }
+
+        async take(file) {
+            if (!file || !file.name.endsWith('.toml')) {
+                await this.check(file);
+                return;
+            }
+            this.text = await file.text();
+            this.undone = [];
+            await this.refresh();
         }
 
         // Offers a file under the name of the type, as far as the text tells it.
