@@ -1,6 +1,10 @@
 // Arithmetic on numbers of 128 bits, by the names under which the compiler asks for it.
 #include "types.h"
 
+// The compiler knows arithmetic on halves for one on the whole, and would have these functions call
+// themselves.
+#pragma clang optimize off
+
 typedef unsigned __int128 wide;
 typedef __int128 signed_wide;
 
