@@ -26,6 +26,8 @@ response = ["done", "done", "done"]
 next = ["b", "b", "b"]
 """
 
+LONG = TYPES["late_sticky_14_8"]  # at the limit 8 the number takes a second natively, on one processor
+
 # What the page is asked in its own language.
 
 READY = "document.documentElement.dataset.ready === 'yes'"
@@ -368,14 +370,14 @@ def explanations(use):
 def searches(use):
     use.open()
     use.value("document.getElementById('limit').value = '8'")
-    use.begin(TYPES["shots_16_6"])
+    use.begin(LONG)
     yield "a long search shows that it runs", use.until("!document.getElementById('running').hidden", 20), use.text("meaning")
     use.value("document.getElementById('break-off').click()")
     well = use.until("document.getElementById('running').hidden", 5)
     yield "it can be broken off", well and "broken off" in use.text("meaning"), use.text("meaning")
     use.choose("types/test_and_set")
     yield "and the page goes on", use.text("number") == "2", use.text("number")
-    use.begin(TYPES["shots_16_6"])
+    use.begin(LONG)
     use.until("!document.getElementById('running').hidden", 20)
     use.choose("types/idle")
     yield "another table breaks it off too", use.text("number") == "1" and use.is_hidden("running"), use.text("number")
