@@ -217,6 +217,15 @@ var Cnum = globalThis.Cnum || {};
             await this.showProtocol(linked);
         }
 
+        // Learns from the help whether `agree` can tell the steps of a schedule; false where another table
+        // has come since.
+        async learnSteps() {
+            if (this.knowsSteps !== undefined) return true;
+            const help = await this.ask(this.quick, ['agree', '--help']);
+            if (help) this.knowsSteps = help.stdout.includes('--steps');
+            return Boolean(help);
+        }
+
         files() {
             return { [CERTIFICATE]: this.certificate };
         }
@@ -235,6 +244,7 @@ var Cnum = globalThis.Cnum || {};
             this.witness = { [CERTIFICATE]: find.stdout };
             const show = await this.ask(this.search, ['show', '--as', 'json', CERTIFICATE], this.witness);
             if (!show) return;
+            if (!(await this.learnSteps())) return;
             const plan = JSON.parse(show.stdout);
             this.draw(plan);
             await this.protocol.show(plan, linked.inputs, linked.acts);
@@ -328,8 +338,6 @@ var Cnum = globalThis.Cnum || {};
             return;
         }
         Cnum.page = new Page(module);
-        const help = await Cnum.page.quick.run(['agree', '--help']);
-        Cnum.page.knowsSteps = help.stdout.includes('--steps');
         await Cnum.page.begin();
         document.documentElement.dataset.ready = 'yes';
     }

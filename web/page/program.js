@@ -9,7 +9,9 @@ var Cnum = globalThis.Cnum || {};
     const BROKEN_OFF = 'broken off';
 
     async function unpacked(packed) {
-        const bytes = Uint8Array.from(atob(packed), letter => letter.charCodeAt(0));
+        const letters = atob(packed);
+        const bytes = new Uint8Array(letters.length);
+        for (let at = 0; at < letters.length; at++) bytes[at] = letters.charCodeAt(at);
         const stream = new Blob([bytes]).stream().pipeThrough(new DecompressionStream('gzip'));
         return new Response(stream).arrayBuffer();
     }
