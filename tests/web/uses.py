@@ -1,0 +1,446 @@
+"""The page in a browser, used as a person uses it: each function here is a part of tests/web/run, and gives cases,
+(about, whether it is well, what was seen) each.
+"""
+import json
+import pathlib
+import random
+import tempfile
+import time
+
+import jobs
+from calls import TOP, TYPES, called, found
+
+PAGE = (TOP / "web/index.html").as_uri()
+FIRST = 1.0  # seconds to the first number
+PHONE = {"width": 360, "height": 740, "deviceScaleFactor": 2, "mobile": True}
+SLOT = """name = "slot"
+states = ["empty", "a", "b"]
+responses = ["done"]
+[[operation]]
+name = "put_a"
+response = ["done", "done", "done"]
+next = ["a", "a", "a"]
+[[operation]]
+name = "put_b"
+response = ["done", "done", "done"]
+next = ["b", "b", "b"]
+"""
+
+LONG = TYPES["late_sticky_14_8"]  # at the limit 8 the number takes a second natively, on one processor
+
+# What the page is asked in its own language.
+
+READY = "document.documentElement.dataset.ready === 'yes'"
+DECIDED = """[...document.querySelectorAll('.process')].every(it => /decided|stopped/.test(it.className))
+    && document.querySelectorAll('.log li').length > 0"""
+OVERLAPS = """(() => {
+    const boxes = [...document.querySelectorAll('#picture .label, #picture .node')].map(it => [it.textContent, it.getBBox()]);
+    const meets = (p, q) => p.x < q.x + q.width && q.x < p.x + p.width && p.y < q.y + q.height && q.y < p.y + p.height;
+    return boxes.flatMap(([a, p], i) => boxes.slice(i + 1).filter(([, q]) => meets(p, q)).map(([b]) => [a, b]));
+})()"""
+CELLS = """[...document.querySelectorAll('#grid tbody tr')].map(row =>
+    [...row.cells].slice(1).map(cell => [...cell.querySelectorAll('select')].map(it => it.value).join('>')))"""
+ACTS = """(async acts => {
+    const columns = [...document.querySelectorAll('.process')];
+    for (const [process, stops] of acts) columns[process].querySelectorAll('.buttons button')[stops ? 1 : 0].click();
+    await Cnum.page.protocol.update();
+})(%s)"""
+FOCUSABLE = "a[href], button:not(:disabled), input, select, textarea, [tabindex='0'], summary"
+MARK_FOCUSED = """(it => {
+    window.reached = window.reached || new Map();
+    if (!window.reached.has(it)) window.reached.set(it, window.reached.size);
+    return window.reached.get(it);
+})(document.activeElement)"""
+CONTRAST = """(() => {
+    const numbers = text => text.match(/[\\d.]+/g).map(Number);
+    const light = color => {
+        const part = it => (it <= 0.03928 ? it / 12.92 : ((it + 0.055) / 1.055) ** 2.4);
+        const [r, g, b] = numbers(color).map(it => part(it / 255));
+        return 0.2126 * r + 0.7152 * g + 0.0722 * b;
+    };
+    const ground = it => {
+        for (; it; it = it.parentElement) {
+            const color = getComputedStyle(it).backgroundColor;
+            if (!color.startsWith('rgba') || numbers(color)[3] === 1) return color;
+        }
+        return 'rgb(255, 255, 255)';
+    };
+    const hasText = it => [...it.childNodes].some(one => one.nodeType === 3 && one.textContent.trim());
+    const texts = [...document.querySelectorAll('body *')].filter(it => hasText(it) && it.checkVisibility());
+    return texts.filter(it => !it.closest('svg, :disabled, option, #marks, noscript')).map(it => {
+        const [a, b] = [light(getComputedStyle(it).color), light(ground(it))];
+        return [(Math.max(a, b) + 0.05) / (Math.min(a, b) + 0.05), it.outerHTML.slice(0, 80)];
+    });
+})()"""
+
+
+class Use:
+    """The page in a browser, and how a person uses it."""
+
+    def __init__(self, browser):
+        self.browser, self.value, self.until, self.call = browser, browser.value, browser.until, browser.call
+
+    def open(self, link=""):
+        """Opens the page anew, and waits until all is there."""
+        self.browser.open("about:blank")
+        self.browser.open(PAGE + link)
+        return self.until(READY)
+
+    def text(self, name):
+        return self.value(f"document.getElementById('{name}').textContent")
+
+    def texts(self, selector):
+        return self.value(f"[...document.querySelectorAll({json.dumps(selector)})].map(it => it.textContent)")
+
+    def count(self, selector):
+        return self.value(f"document.querySelectorAll({json.dumps(selector)}).length")
+
+    def is_hidden(self, name):
+        return self.value(f"document.getElementById('{name}').hidden")
+
+    def has_number(self, number):
+        """Whether the page comes to show this number."""
+        return self.until(f"document.getElementById('number').textContent === {json.dumps(number)}")
+
+    def do(self, action):
+        """Does something in the page, and waits until it has ended."""
+        self.value(f"(async () => {{ {action} }})()")
+
+    def give(self, table):
+        self.do(f"Cnum.page.text = {json.dumps(table)}; await Cnum.page.refresh();")
+
+    def begin(self, table):
+        """Gives a table, and does not wait for what comes of it."""
+        self.value(f"(() => {{ Cnum.page.text = {json.dumps(table)}; Cnum.page.refresh(); }})()")
+
+    def choose(self, path):
+        self.do(f"document.getElementById('example').value = {json.dumps(path)}; await Cnum.page.choose({json.dumps(path)});")
+
+    def limit(self, limit):
+        self.do(f"document.getElementById('limit').value = '{limit}'; await Cnum.page.refresh();")
+
+    def edit(self, change, *words):
+        """Changes the table by one of Cnum.edits."""
+        given = "".join(f", {json.dumps(it)}" for it in words)
+        self.do(f"await Cnum.page.edit(Cnum.edits.{change}(new Cnum.TableText(Cnum.page.text){given}));")
+
+    def table(self):
+        return self.value("Cnum.page.text")
+
+    def press(self, label):
+        """Presses a button of the protocol."""
+        self.value(f"[...document.querySelectorAll('#protocol > .buttons button')].find(it => it.textContent === {label!r}).click()")
+
+    def key(self, key, code, alt=False):
+        for kind in ("rawKeyDown", "keyUp"):
+            self.call("Input.dispatchKeyEvent", type=kind, key=key, code=key, windowsVirtualKeyCode=code, modifiers=int(alt))
+
+
+def native_number(table, limit=4):
+    """The number that the program itself prints."""
+    return called(["classify", "--limit", str(limit), "-"], table)[0].decode().partition(": ")[2].strip()
+
+
+def first_answer(use):
+    times = []
+    for _ in range(3):
+        use.browser.open("about:blank")
+        began = time.monotonic()
+        use.browser.open(PAGE)
+        yield "the first answer comes", use.has_number("2"), ""
+        times.append(time.monotonic() - began)
+    print(f"tests/web: the first number after {min(times):.2f} s")
+    yield f"and under {FIRST} s", min(times) < FIRST, times
+
+
+def flaws(use):
+    table = TYPES["test_and_set"]
+    place = table.rindex('"one"')
+    use.open()
+    use.value(f"(() => {{ const it = document.getElementById('table'); it.focus(); it.setSelectionRange({place}, {place + 5}); }})()")
+    use.call("Input.insertText", text='"onee"')
+    yield "a flaw while one types", use.until("document.querySelectorAll('#flaws li').length === 1"), use.text("flaws")
+    lint = called(["lint"], table[:place] + '"onee"' + table[place + 5 :])
+    yield "it reads as lint has it", (use.text("flaws") + "\n", use.text("fault")) == (lint[0].decode(), lint[1].decode()), use.text("flaws")
+    yield "it is marked in the text", use.texts("#marks mark") == ['"onee"'], use.texts("#marks mark")
+    yield "there is no number", use.text("number") == "–", use.text("number")
+    use.value("document.querySelector('#flaws button').click()")
+    selected = use.value("(it => it.value.slice(it.selectionStart, it.selectionEnd))(document.getElementById('table'))")
+    yield "its button leads there", selected == '"onee"', selected
+    yield "the field says that it is not right", use.value("document.getElementById('table').getAttribute('aria-invalid')") == "true", ""
+    for given, marked in flawed(table):
+        use.give(given)
+        lines = "".join(f"{it}\n" for it in use.texts("#flaws li"))
+        yield f"the flaws of {given!r}", lines == called(["lint"], given)[0].decode(), lines
+        yield f"what is marked of {given!r}", use.texts("#marks mark") == marked, use.texts("#marks mark")
+    use.give("\xe9" * 40000)
+    yield "a table that is too long", (use.text("fault"), use.text("number")) == ("cnum: table: too long\n", "–"), use.text("fault")
+
+
+def flawed(table):
+    """Tables with one flaw or more, and which parts of the text are marked then."""
+    number = table.replace("[[operation]]\n", "operation = [3]\n# ").replace("\nresponse =", "\n# ").replace("\nnext", "\n# next")
+    return [
+        (table.replace('next = ["one"', "next = one"), ["o"]),
+        (table.replace("next =", "then ="), ["[[operation]]", "then"]),
+        (table.replace('name = "tas"', 'name = "Tas"'), ['"Tas"']),
+        (table.replace('"zero", "one"]\nresp', '"zero", "zero"]\nresp'), ['"zero"', '"one"', '"one"']),
+        (table.replace('next = ["one", "one"]', 'next = ["one"]'), ['["one"]']),
+        (table.replace('name = "test_and_set"', "name = 7"), ["7"]),
+        (table.replace('responses = ["zero", "one"]', "responses = []"), ["[]", '"zero"', '"one"']),
+        (table + 'color = "red"\n', ["color"]),
+        (number, ["3"]),
+    ]
+
+
+def examples(use):
+    use.open()
+    paths = use.value("Cnum.examples.flatMap(it => it.types).map(it => it.path)")
+    yield "all types are offered", sorted(paths) == sorted(it for it in jobs.TABLES if not it.startswith("tests/")), paths
+    for path in paths:
+        use.choose(path)
+        table = jobs.TABLES[path].decode()
+        yield f"the number of {path}", use.text("number") == native_number(table), use.text("number")
+        grid = called(["lint"], table)[0].decode().splitlines()[2:]
+        cells, shown = [line.split()[1:] for line in grid if line.startswith("  ")], use.value(CELLS)
+        yield f"the grid of {path}", shown == [row[: len(shown[0])] for row in cells], shown
+        yield f"the picture of {path}", use.value(OVERLAPS) == [], use.value(OVERLAPS)
+        arrows = called(["draw"], table)[0].decode().count("->")
+        yield f"each arrow of {path}", use.count("#picture .label") == arrows, arrows
+
+
+def pictures(use):
+    """Tables made at random, and the greatest one, up to 16 states and 8 operations."""
+    use.open()
+    use.limit(2)
+    source = random.Random(7)
+    sizes = [(3, 2), (5, 3), (8, 3), (8, 8), (12, 2), (12, 4), (16, 2), (16, 4), (16, 8)]
+    for table in [TYPES["greatest"], *(random_table(source, *size) for size in sizes)]:
+        began = time.monotonic()
+        use.give(table)
+        about = f"a picture of {table.count('[[')} operations, {time.monotonic() - began:.1f} s"
+        yield about, use.value(OVERLAPS) == [] and use.count("#picture svg") == 1, use.value(OVERLAPS)
+
+
+def random_table(source, states, operations):
+    names = [f"s{k}" if source.random() < 0.8 else f"state_with_a_long_name_{k}" for k in range(states)]
+    text = f'name = "random"\nstates = {json.dumps(names)}\nresponses = ["yes", "no"]\n'
+    for k in range(operations):
+        rows = [json.dumps([source.choice(its) for _ in names]) for its in (["yes", "no"], names)]
+        text += f'[[operation]]\nname = "op_{k}"\nresponse = {rows[0]}\nnext = {rows[1]}\n'
+    return text
+
+
+def grid(use):
+    """The slot of the README, changed cell by cell."""
+    use.open()
+    use.give(SLOT)
+    yield "a slot", use.text("number") == "1", use.text("number")
+    for label, name, number in (("state after put_a in b", "b", "1"), ("state after put_b in a", "a", "at least 4")):
+        field = f"[...document.querySelectorAll('#grid select')].find(it => it.getAttribute('aria-label') === {label!r})"
+        use.value(f"(it => {{ it.focus(); it.value = {name!r}; it.dispatchEvent(new Event('change')); }})({field})")
+        well = use.until("/processes|alone/.test(document.getElementById('meaning').textContent)") and use.has_number(number)
+        yield f"{label} is {name}", well, use.text("number")
+        yield "the focus stays", use.value(f"document.activeElement.getAttribute('aria-label') === {label!r}"), ""
+    wanted = SLOT.replace('"a", "a", "a"', '"a", "a", "b"').replace('"b", "b", "b"', '"b", "a", "b"')
+    yield "the text follows", use.table() == wanted, use.table()
+    yield "it is no example any more", use.value("document.getElementById('example').value") == "", ""
+    use.value("document.getElementById('undo').click()")
+    yield "a change is undone", use.has_number("1"), use.text("number")
+    for kind, count in (("State", 3), ("Operation", 2), ("Response", 1)):
+        before = use.table()
+        use.edit(f"add{kind}")
+        yield f"the table stays right with one {kind} more", use.text("fault") == "" and use.table() != before, use.text("fault")
+        use.edit(f"remove{kind}", count)
+        yield f"and is as before with one {kind} less", use.table() == before, use.table()
+    use.edit("rename", "states", 0, "none_yet")
+    yield "a state has another name", '"none_yet"' in use.table() and use.text("fault") == "", use.text("fault")
+    use.edit("removeState", 1)
+    yield "a state in the middle is taken away", use.text("fault") == "" and '"a"' not in use.table(), use.table()
+
+
+def schedules(use):
+    """The protocol stepped by hand: what the page tells is what the program says of the same schedule."""
+    source = random.Random(4)
+    use.open()
+    with tempfile.TemporaryDirectory() as room:
+        for name in ("test_and_set", "three_shot", "sticky_bit", "counter_3"):
+            use.choose(f"types/{name}")
+            certificate = found(name, 4, room)
+            n = json.loads(pathlib.Path(certificate).read_text())["number"]
+            inputs = ",".join(str(10 * (p + 1)) for p in range(n))
+            for turn in range(25):
+                acts = random_acts(source, n)
+                use.do("Cnum.page.protocol.acts = []; await Cnum.page.protocol.update();")
+                use.value(ACTS % json.dumps(acts))
+                schedule = ",".join(str(p) for p, stops in acts if not stops) or "none"
+                wanted = called(["agree", certificate, inputs, schedule], TYPES[name])[0].decode().splitlines()
+                told = [it.split(", ")[1].removeprefix("decides ") for it in use.texts(".decision")]
+                yield f"{name}, schedule {turn}: the decisions", [f"{p}: {it}" for p, it in enumerate(told)] == wanted, (told, wanted)
+                going = [told[p] for p in range(n) if [p, True] not in acts]
+                yield f"{name}, schedule {turn}: agreement", len({*told} - {"undecided"}) == 1 and "undecided" not in going, told
+                yield f"{name}, schedule {turn}: a line for each act", use.count(".log li") == len(acts), use.texts(".log li")
+            yield from steps(use, name, certificate, inputs, schedule)
+    use.press("Undo")
+    yield "undo takes an act back", use.until(f"document.querySelectorAll('.log li').length === {len(acts) - 1}"), ""
+    for label in ("Let all run", "Random run"):
+        use.press("Start over")
+        use.until("document.querySelectorAll('.log li').length === 0")
+        use.press(label)
+        yield label, use.until(DECIDED), use.texts(".decision")
+    use.do("Cnum.page.protocol.inputs[0] = 'x'; await Cnum.page.protocol.update();")
+    yield "a refused input is told", "argument" in use.texts("#protocol .trouble")[0], use.texts("#protocol .trouble")
+
+
+def random_acts(source, n):
+    """Steps and stops of n processes, [process, whether it stops] each, long enough that all who go on decide."""
+    acts, going = [], list(range(n))
+    while len(acts) < 8 * n * n:
+        process = source.choice(going)
+        stops = len(going) > 1 and source.random() < 0.04
+        acts.append([process, stops])
+        if stops:
+            going.remove(process)
+    return acts
+
+
+def steps(use, name, certificate, inputs, schedule):
+    """Where the program tells the steps, the page shows its lines."""
+    if not use.value("Cnum.page.knowsSteps"):
+        return
+    lines = called(["agree", "--steps", certificate, inputs, schedule], TYPES[name])[0].decode().splitlines()
+    shown = [it.removeprefix("process ") for it in use.texts(".log li") if not it.endswith("stops for good")]
+    yield f"{name}: the lines of the steps", shown == lines[: len(shown)], (shown, lines)
+
+
+def links(use):
+    use.open("#example=types/three_shot&limit=3&inputs=7,8,9&run=2,2,x2,0,0,0,0")
+    yield "a link shows an example", use.text("number") == "at least 3", use.text("number")
+    told = use.texts(".decision")
+    yield "and its run", told[0].startswith("4 steps, decides") and told[2] == "2 steps, undecided, stopped", told
+    use.open()
+    use.give(SLOT.replace('"b", "b", "b"', '"b", "a", "b"'))
+    kept = use.until("location.hash.startsWith('#table=')")
+    link, text = use.value("location.hash"), use.table()
+    use.open(link)
+    yield "a link holds a table", kept and use.table() == text, link
+    for broken in ("#table=%%%", "#table=AAAA", "#limit=99&run=q,1,x", "#example=nosuch&run=9"):
+        use.open(broken)
+        yield f"a broken link {broken}", use.text("number") == "2", use.text("number")
+
+
+def certificates(use):
+    use.open()
+    with tempfile.TemporaryDirectory() as room:
+        whole = pathlib.Path(found("test_and_set", 4, room)).read_text()
+    yield "the certificate is the program's", use.value("Cnum.page.certificate") == whole, ""
+    drop = """((name, text) => {
+        const dataTransfer = new DataTransfer();
+        dataTransfer.items.add(new File([text], name));
+        document.getElementById('claim').dispatchEvent(new DragEvent('drop', { dataTransfer, bubbles: true, cancelable: true }));
+    })(%s)"""
+    for text, told in ((whole, "ok\n"), (whole.replace('"number":2', '"number":3'), "cnum: check: "), ("{", "cnum: certificate: ")):
+        use.value(drop % f"'claim.json', {json.dumps(text)}")
+        well = use.until(f"document.getElementById('claim-said').textContent.startsWith({json.dumps('claim.json: ' + told)})", 10)
+        yield f"a certificate that is dropped: {told.strip()}", well, use.text("claim-said")
+    use.value(drop % f"'slot.toml', {json.dumps(SLOT)}")
+    yield "a table that is dropped", use.until(f"Cnum.page.text === {json.dumps(SLOT)}", 10) and use.has_number("1"), use.table()
+
+
+def explanations(use):
+    use.open()
+    with tempfile.TemporaryDirectory() as room:
+        for name in ("test_and_set", "sticky_bit", "idle", "counter_3", "three_shot"):
+            use.choose(f"types/{name}")
+            wanted = called(["explain", found(name, 4, room)], TYPES[name])[0].decode()
+            yield f"the explanation of {name}", use.texts("#why details pre") == [wanted], use.texts("#why details pre")
+            shown = use.value("document.getElementById('why').innerText")
+            words = wanted.partition("\n\nWhy")[2].replace("(--all tells them)", "").split()
+            missing = [it for it in words if it.isalnum() and it not in shown]
+            yield f"all of it is shown for {name}", missing == [], missing
+    use.limit(5)
+    while not use.value("document.querySelector('#why > button').hidden"):
+        before = use.count(".collisions > li")
+        use.value("document.querySelector('#why > button').click()")
+        use.until(f"document.querySelectorAll('.collisions > li').length > {before}")
+    count = use.value("JSON.parse(Cnum.page.certificate).collisions.length")
+    yield "all collisions on demand", use.count(".collisions > li") == count > 12, count
+
+
+def searches(use):
+    use.open()
+    use.value("document.getElementById('limit').value = '8'")
+    use.begin(LONG)
+    yield "a long search shows that it runs", use.until("!document.getElementById('running').hidden", 20), use.text("meaning")
+    use.value("document.getElementById('break-off').click()")
+    well = use.until("document.getElementById('running').hidden", 5)
+    yield "it can be broken off", well and "broken off" in use.text("meaning"), use.text("meaning")
+    use.choose("types/test_and_set")
+    yield "and the page goes on", use.text("number") == "2", use.text("number")
+    use.begin(LONG)
+    use.until("!document.getElementById('running').hidden", 20)
+    use.choose("types/idle")
+    yield "another table breaks it off too", use.text("number") == "1" and use.is_hidden("running"), use.text("number")
+
+
+def without(use):
+    """A browser that lacks what the program wants gets a sentence."""
+    for name in ("WebAssembly", "DecompressionStream", "Worker"):
+        script = use.call("Page.addScriptToEvaluateOnNewDocument", source=f"delete globalThis.{name};")["identifier"]
+        use.browser.open("about:blank")
+        use.browser.open(PAGE)
+        well = use.until("document.getElementById('trouble') && document.getElementById('trouble').textContent", 10)
+        told = use.text("trouble")
+        yield f"without {name}", well and told.startswith("This browser cannot run the program"), told
+        use.call("Page.removeScriptToEvaluateOnNewDocument", identifier=script)
+
+
+def for_all(use):
+    """Keyboard, screen readers, contrast, a phone, paper."""
+    shown = "#example=types/three_shot&run=0,1,x1"
+    use.open(shown)
+    wants_name = {"button", "combobox", "textbox", "link", "region", "img", "spinbutton"}
+    nodes = [it for it in use.call("Accessibility.getFullAXTree")["nodes"] if not it.get("ignored") and it["role"]["value"] in wants_name]
+    nameless = [it for it in nodes if not it.get("name", {}).get("value")]
+    yield "each control has a name", nodes and nameless == [], nameless[:3]
+    count = use.value(f"[...document.querySelectorAll({json.dumps(FOCUSABLE)})].filter(it => it.checkVisibility()).length")
+    reached = set()
+    for _ in range(count + 5):
+        use.key("Tab", 9)
+        reached.add(use.value(MARK_FOCUSED))
+    yield "the key Tab leads to each", len(reached) >= count, f"{len(reached)} of {count}"
+    use.value("document.querySelector('#grid td select').focus()")
+    use.key("ArrowRight", 39, alt=True)
+    there = use.value("document.activeElement.getAttribute('aria-label')")
+    yield "Alt and an arrow lead to the next cell", there == "response of x in a1", there
+    for mode in ("light", "dark"):
+        use.call("Emulation.setEmulatedMedia", features=[{"name": "prefers-color-scheme", "value": mode}])
+        use.open(shown)
+        for about in ("with a number", "with a flaw"):
+            contrasts = use.value(CONTRAST)
+            faint = [it for it in contrasts if it[0] < 4.5]
+            yield f"contrast {about}, {mode}", len(contrasts) > 20 and faint == [], faint
+            use.give('name = "X"\n')
+    use.call("Emulation.setEmulatedMedia", features=[])
+    use.call("Emulation.setDeviceMetricsOverride", **PHONE)
+    for path in ("types/test_and_set", "types/three_shot", "types/wide", "catalogue/ll_sc_2"):
+        use.open(f"#example={path}")
+        width = use.value("document.documentElement.scrollWidth")
+        yield f"{path} on a phone", width <= PHONE["width"], width
+    use.call("Emulation.clearDeviceMetricsOverride")
+    use.open()
+    yield "on paper", len(use.call("Page.printToPDF")["data"]) > 10000, ""
+
+
+def quiet(use):
+    """What the browser told in all of this."""
+    asked = [it["request"]["url"] for it in use.browser.told("Network.requestWillBeSent")]
+    away = {it for it in asked if not it.startswith(((TOP / "web").as_uri() + "/", "blob:", "data:", "about:"))}
+    yield "no request to anywhere", not away and asked, away
+    thrown = [it["exceptionDetails"].get("exception", {}).get("description", it) for it in use.browser.told("Runtime.exceptionThrown")]
+    yield "no exception", thrown == [], thrown
+    logged = [it["entry"]["text"] for it in use.browser.told("Log.entryAdded") if it["entry"]["level"] == "error"]
+    yield "no error is logged", logged == [], logged
+
+
+ALL = (first_answer, flaws, examples, pictures, grid, schedules, links, certificates, explanations, searches, without, for_all, quiet)

@@ -1,0 +1,54 @@
+// The text of the table: where one types, with the places of its flaws marked, and the list of the flaws,
+// each of which leads to its place.
+var Cnum = globalThis.Cnum || {};
+
+(() => {
+    'use strict';
+
+    const { button, element } = Cnum;
+
+    class Editor {
+        // `text` is the field, `marks` lies behind it, and `list` takes the flaws.
+        constructor(text, marks, list) {
+            Object.assign(this, { text, marks, list });
+            text.addEventListener('scroll', () => this.follow());
+        }
+
+        follow() {
+            this.marks.scrollTop = this.text.scrollTop;
+            this.marks.scrollLeft = this.text.scrollLeft;
+        }
+
+        // Shows flaws, a line of `lint` each.
+        show(flaws) {
+            const text = this.text.value;
+            const places = Cnum.placesOf(flaws, text);
+            this.text.setAttribute('aria-invalid', String(flaws.length > 0));
+            this.list.replaceChildren(...flaws.map((flaw, index) => element('li', {}, this.flaw(flaw, places[index]))));
+            this.mark(text, places.filter(Boolean));
+        }
+
+        flaw(flaw, place) {
+            if (!place) return flaw;
+            return button(flaw, () => {
+                this.text.focus();
+                this.text.setSelectionRange(place.from, place.to);
+            });
+        }
+
+        // The marks are made of the same text, which is not seen, with these places marked in it.
+        mark(text, places) {
+            let at = 0;
+            const parts = [];
+            for (const { from, to } of [...places].sort((a, b) => a.from - b.from)) {
+                if (from < at) continue;
+                parts.push(text.slice(at, from), element('mark', {}, text.slice(from, to)));
+                at = to;
+            }
+            this.marks.replaceChildren(...parts, `${text.slice(at)}\n`);
+            this.follow();
+        }
+    }
+
+    Cnum.Editor = Editor;
+})();

@@ -1,0 +1,43 @@
+// Makes elements of the page.
+var Cnum = globalThis.Cnum || {};
+
+(() => {
+    'use strict';
+
+    const SVG = 'http://www.w3.org/2000/svg';
+
+    function filled(made, attributes, children) {
+        for (const name of Object.keys(attributes)) made.setAttribute(name, attributes[name]);
+        made.append(...children);
+        return made;
+    }
+
+    Cnum.element = (name, attributes = {}, ...children) => filled(document.createElement(name), attributes, children);
+    Cnum.svgElement = (name, attributes = {}, ...children) => filled(document.createElementNS(SVG, name), attributes, children);
+
+    // A table with these heads, each row as its cells; the first one is the head of its row.
+    Cnum.tableOf = (heads, rows, attributes = {}) => {
+        const { element } = Cnum;
+        const row = ([first, ...cells]) => element('tr', {}, element('th', { scope: 'row' }, first), ...cells.map(it => element('td', {}, it)));
+        const top = element('tr', {}, ...heads.map(it => element('th', { scope: 'col' }, it)));
+        return element('table', attributes, element('thead', {}, top), element('tbody', {}, ...rows.map(row)));
+    };
+
+    // What may be wider than the page, so that it scrolls by itself, with the keyboard too.
+    Cnum.wide = (label, content) => Cnum.element('div', { class: 'wide', tabindex: 0, role: 'region', 'aria-label': label }, content);
+
+    // A button that does something.
+    Cnum.button = (label, act, attributes = {}) => {
+        const made = Cnum.element('button', { type: 'button', ...attributes }, label);
+        made.addEventListener('click', act);
+        return made;
+    };
+
+    // Hands a text or a blob to the reader as a file.
+    Cnum.offer = (name, content, type) => {
+        const place = URL.createObjectURL(new Blob([content], { type }));
+        const link = Cnum.element('a', { href: place, download: name });
+        link.click();
+        setTimeout(() => URL.revokeObjectURL(place), 10000);
+    };
+})();

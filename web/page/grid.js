@@ -1,0 +1,157 @@
+// The table as a grid: a row for each operation, a column for each state, and in each cell the response
+// and the next state, which can be chosen there. A change is made in the text.
+var Cnum = globalThis.Cnum || {};
+
+(() => {
+    'use strict';
+
+    const { button, edits, element } = Cnum;
+    const NO_GRID = 'The grid comes back once each operation has a response and a next state for each state.';
+    const STEPS = { ArrowUp: [-1, 0], ArrowDown: [1, 0], ArrowLeft: [0, -1], ArrowRight: [0, 1] };
+
+    // A choice among names, as a cell has two. A name that is none of them is shown too.
+    function choice(label, names, chosen, choose) {
+        const isKnown = names.includes(chosen);
+        const options = (isKnown ? names : [...names, chosen]).map(it => element('option', { value: it }, it));
+        const select = element('select', { 'aria-label': label, title: label }, ...options);
+        select.value = chosen;
+        if (!isKnown) select.setAttribute('aria-invalid', 'true');
+        select.addEventListener('change', () => choose(select.value));
+        return select;
+    }
+
+    // A name that can be changed. Its field is as wide as the name.
+    function nameField(label, name, change) {
+        const size = Math.max(2, name.length);
+        const field = element('input', { 'aria-label': label, title: label, value: name, size, spellcheck: 'false', autocomplete: 'off' });
+        field.addEventListener('change', () => change(field.value));
+        return field;
+    }
+
+    // A button that takes away what has a name; the last one of its kind stays.
+    function removal(label, isPossible, remove) {
+        const made = button('×', remove, { class: 'small', 'aria-label': label, title: label });
+        made.disabled = !isPossible;
+        return made;
+    }
+
+    class Grid {
+        // Shows a grid in this place, and hands each changed text on.
+        constructor(place, change) {
+            this.place = place;
+            this.change = change;
+            place.addEventListener('keydown', event => this.move(event));
+        }
+
+        show(text) {
+            const focused = this.focusedPlace();
+            this.table = new Cnum.TableText(text);
+            if (this.table.isGrid()) {
+                this.place.replaceChildren(this.cells(), this.responses(), this.additions());
+                if (focused) this.focus(focused);
+            } else {
+                this.place.replaceChildren(element('p', { class: 'quiet' }, NO_GRID));
+            }
+        }
+
+        // The names of a list of the table.
+        names(list) {
+            return this.table.items(list).map(it => it.text);
+        }
+
+        cells() {
+            const table = this.table;
+            const type = nameField('name of the type', table.entry('name').value.text, name => this.change(edits.renameType(table, name)));
+            const corner = element('th', { scope: 'col' }, element('span', { class: 'hidden' }, 'Operation'));
+            const heads = this.listed('state', 'states', edits.removeState).map(its => element('th', { scope: 'col' }, ...its));
+            return element(
+                'table',
+                {},
+                element('caption', {}, 'Name of the type: ', type),
+                element('thead', {}, element('tr', {}, corner, ...heads)),
+                element('tbody', {}, ...table.operations.map((operation, index) => this.row(operation, index))),
+            );
+        }
+
+        row(operation, index) {
+            const table = this.table;
+            const name = operation.name.text;
+            const rename = text => edits.renameOperation(table, index, text);
+            const remove = () => edits.removeOperation(table, index);
+            const head = this.named('operation', name, table.operations.length > 1, rename, remove);
+            return element('tr', {}, element('th', { scope: 'row' }, ...head), ...this.names('states').map((_, state) => this.cell(index, state)));
+        }
+
+        cell(index, state) {
+            const table = this.table;
+            const operation = table.operations[index];
+            const about = `${operation.name.text} in ${this.names('states')[state]}`;
+            const put = row => name => this.change(edits.entry(table, index, row, state, name));
+            return element(
+                'td',
+                {},
+                choice(`response of ${about}`, this.names('responses'), operation.response[state].text, put('response')),
+                element('span', { 'aria-hidden': 'true' }, '→'),
+                choice(`state after ${about}`, this.names('states'), operation.next[state].text, put('next')),
+            );
+        }
+
+        // The field and the button of each name of a list.
+        listed(kind, list, remove) {
+            const table = this.table;
+            const names = this.names(list);
+            return names.map((name, index) => {
+                const rename = text => edits.rename(table, list, index, text);
+                return this.named(kind, name, names.length > 1, rename, () => remove(table, index));
+            });
+        }
+
+        named(kind, name, canRemove, rename, remove) {
+            const about = `${kind} ${name}`;
+            const field = nameField(`name of ${about}`, name, text => this.change(rename(text)));
+            return [field, removal(`remove ${about}`, canRemove, () => this.change(remove()))];
+        }
+
+        responses() {
+            const items = this.listed('response', 'responses', edits.removeResponse).map(its => element('li', {}, ...its));
+            const label = element('span', { id: 'responses-label' }, 'Responses: ');
+            return element('div', { class: 'responses' }, label, element('ul', { 'aria-labelledby': 'responses-label' }, ...items));
+        }
+
+        additions() {
+            const kinds = { 'Add a state': edits.addState, 'Add an operation': edits.addOperation, 'Add a response': edits.addResponse };
+            const buttons = Object.keys(kinds).map(label => button(label, () => this.change(kinds[label](this.table))));
+            return element('div', { class: 'buttons' }, ...buttons);
+        }
+
+        // The fields of the grid, row by row. A table that is shown anew has the focus where it was.
+        fields() {
+            return [...this.place.querySelectorAll('input, select, button')];
+        }
+
+        focusedPlace() {
+            const at = this.fields().indexOf(document.activeElement);
+            return at < 0 ? null : { at, label: document.activeElement.getAttribute('aria-label') };
+        }
+
+        focus({ at, label }) {
+            const fields = this.fields();
+            const same = label && fields.find(it => it.getAttribute('aria-label') === label);
+            (same || fields[Math.min(at, fields.length - 1)]).focus();
+        }
+
+        // With the key Alt the arrows go from cell to cell.
+        move(event) {
+            const cell = event.target.closest('th, td');
+            if (!event.altKey || !STEPS[event.key] || !cell) return;
+            event.preventDefault();
+            const [down, right] = STEPS[event.key];
+            const row = this.place.querySelectorAll('tr')[cell.parentNode.rowIndex + down];
+            const next = row && row.cells[cell.cellIndex + right];
+            const field = next && next.querySelector('input, select');
+            if (field) field.focus();
+        }
+    }
+
+    Cnum.Grid = Grid;
+})();

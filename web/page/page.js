@@ -1,0 +1,346 @@
+// The page: hands what is typed or chosen to the program, and what the program says to the parts that
+// show it. Every number and text on the subject comes from a command of the program.
+var Cnum = globalThis.Cnum || {};
+
+(() => {
+    'use strict';
+
+    const { element } = Cnum;
+    const AFTER_TYPING = 150;
+    const BEFORE_TEAMS = 400;
+    const FIRST_EXAMPLE = 'types/test_and_set';
+    const FIRST_LIMIT = '4';
+    const HEAD = /: consensus number ((?:at least )?)(\d+)/;
+    const CLASS = /: ((?:at least )?)(\d+)\n$/;
+    const CERTIFICATE = 'certificate';
+    // What a number means.
+    const ALONE = 'One process alone decides.';
+    const TOGETHER =
+        'processes can agree through objects of this type and registers, however fast each of them is and wherever the others stop.';
+
+    const at = id => document.getElementById(id);
+    const examples = new Map(Cnum.examples.flatMap(group => group.types).map(it => [it.path, it]));
+
+    class Page {
+        constructor(module) {
+            this.quick = new Cnum.Runner(module);
+            this.search = new Cnum.Runner(module);
+            this.round = 0;
+            this.undone = [];
+            this.certificate = '';
+            this.editor = new Cnum.Editor(at('table'), at('marks'), at('flaws'));
+            this.grid = new Cnum.Grid(at('grid'), text => this.edit(text));
+            this.protocol = new Cnum.Protocol(at('protocol'), {
+                agree: words => this.agree(words),
+                tellsSteps: () => this.knowsSteps,
+                changed: () => this.keepLink(),
+                say: text => (at('step-said').textContent = text),
+            });
+            this.listen();
+        }
+
+        get text() {
+            return at('table').value;
+        }
+
+        set text(text) {
+            at('table').value = text;
+        }
+
+        listen() {
+            let typed;
+            at('table').addEventListener('input', () => {
+                clearTimeout(typed);
+                this.undone = [];
+                typed = setTimeout(() => this.refresh(), AFTER_TYPING);
+            });
+            at('example').addEventListener('change', () => this.choose(at('example').value));
+            at('limit').addEventListener('change', () => this.refresh());
+            at('undo').addEventListener('click', () => this.undo());
+            at('break-off').addEventListener('click', () => this.breakOff());
+            const offers = {
+                download: () => ['json', this.certificate, 'application/json'],
+                'download-table': () => ['toml', this.text, 'application/toml'],
+                'download-picture': () => ['svg', Cnum.savedPicture(at('picture').firstElementChild), 'image/svg+xml'],
+            };
+            for (const id of Object.keys(offers)) at(id).addEventListener('click', () => this.offer(...offers[id]()));
+            at('copy-link').addEventListener('click', () => this.copyLink());
+            at('claim-file').addEventListener('change', () => this.check(at('claim-file').files[0]));
+            this.listenToDrops();
+            window.addEventListener('hashchange', () => this.follow());
+        }
+
+        // A file can be dropped anywhere: a table comes to be the text, any other is checked as a certificate.
+        listenToDrops() {
+            for (const [name, isOver] of [['dragover', true], ['dragleave', false], ['drop', false]]) {
+                document.body.addEventListener(name, event => {
+                    event.preventDefault();
+                    document.body.classList.toggle('over', isOver);
+                    if (name === 'drop') this.take(event.dataTransfer.files[0]);
+                });
+            }
+        }
+
+        async take(file) {
+            if (!file || !file.name.endsWith('.toml')) {
+                await this.check(file);
+                return;
+            }
+            this.text = await file.text();
+            this.undone = [];
+            await this.refresh();
+        }
+
+        // Offers a file under the name of the type, as far as the text tells it.
+        offer(ending, content, kind) {
+            const name = new Cnum.TableText(this.text).entry('name');
+            const isPlain = name && /^\w+$/.test(name.value.text);
+            Cnum.offer(`${isPlain ? name.value.text : 'type'}.${ending}`, content, kind);
+        }
+
+        // The example that the text is, if it is one.
+        example() {
+            return [...examples.values()].find(it => it.text === this.text);
+        }
+
+        choose(path) {
+            if (!examples.has(path)) return undefined;
+            this.text = examples.get(path).text;
+            this.undone = [];
+            return this.refresh();
+        }
+
+        // A change in the grid; it can be undone.
+        edit(text) {
+            this.undone.push(this.text);
+            this.text = text;
+            return this.refresh();
+        }
+
+        undo() {
+            this.text = this.undone.pop();
+            return this.refresh();
+        }
+
+        async follow() {
+            if (location.hash === this.link) return;
+            const linked = await Cnum.linkedBy(location.hash);
+            const path = examples.has(linked.example) ? linked.example : FIRST_EXAMPLE;
+            at('limit').value = [...at('limit').options].some(it => it.value === linked.limit) ? linked.limit : FIRST_LIMIT;
+            this.text = linked.text === undefined ? examples.get(path).text : linked.text;
+            await this.refresh(linked);
+        }
+
+        async keepLink() {
+            const { inputs, acts } = this.protocol;
+            const example = this.example();
+            const link = await Cnum.linkOf({ example: example && example.path, text: this.text, limit: at('limit').value, inputs, acts });
+            this.link = link;
+            history.replaceState(null, '', link);
+        }
+
+        async copyLink() {
+            await this.keepLink();
+            try {
+                await navigator.clipboard.writeText(location.href);
+                at('link-said').textContent = 'Copied.';
+            } catch {
+                at('link-said').textContent = 'The address of this page is the link.';
+            }
+        }
+
+        // Runs a command on the table; null where another table has come since.
+        async ask(runner, words, files) {
+            const round = this.round;
+            const answer = await runner.run(words, this.text, files);
+            return round === this.round && !answer.isBrokenOff ? answer : null;
+        }
+
+        // Shows all anew: the flaws, the picture, the number, why, and the protocol, after this run of it.
+        async refresh(linked = { inputs: [], acts: [] }) {
+            this.round++;
+            this.search.breakOff();
+            const example = this.example();
+            at('undo').disabled = !this.undone.length;
+            at('example').value = example ? example.path : '';
+            at('about').textContent = example ? example.about : '';
+            this.grid.show(this.text);
+            const lint = await this.ask(this.quick, ['lint']);
+            if (!lint) return;
+            const lines = lint.stdout.trimEnd().split('\n');
+            const isTable = lint.status === 0;
+            this.editor.show(isTable || !lint.stdout ? [] : lines);
+            at('fault').textContent = lint.stderr;
+            at('notes').textContent = isTable ? lines.filter(it => /^(state|operation) \w+: /.test(it)).join('\n') : '';
+            this.forget(isTable ? '' : 'A number comes once the table has no flaw.');
+            if (isTable) await this.find(linked);
+            this.keepLink();
+        }
+
+        // Takes away what was said of another table.
+        forget(why) {
+            clearTimeout(this.early);
+            this.certificate = '';
+            at('number').textContent = '–';
+            at('meaning').textContent = why;
+            at('why').replaceChildren();
+            at('picture').replaceChildren();
+            at('claim-said').textContent = '';
+            at('claim-file').value = '';
+            at('download').disabled = at('download-picture').disabled = true;
+            this.protocol.clear(why);
+        }
+
+        async find(linked) {
+            const draw = await this.ask(this.quick, ['draw']);
+            if (!draw) return;
+            this.dot = draw.stdout;
+            // Where the search takes long, the picture comes before it, with no teams.
+            this.early = setTimeout(() => this.draw(null), BEFORE_TEAMS);
+            await this.showNumber(linked);
+        }
+
+        // Finds the number, and shows it, why it is so, and the protocol.
+        async showNumber(linked) {
+            const find = await this.timed(this.ask(this.search, ['find', '--limit', at('limit').value]));
+            if (!find) return;
+            if (find.status !== 0) {
+                await this.classify(find.stderr);
+                return;
+            }
+            this.certificate = find.stdout;
+            at('download').disabled = false;
+            const explain = await this.ask(this.search, ['explain', CERTIFICATE], this.files());
+            if (!explain) return;
+            this.tellNumber(HEAD.exec(explain.stdout));
+            Cnum.showExplanation(at('why'), explain.stdout, () => this.explainAll());
+            await this.showProtocol(linked);
+        }
+
+        // Learns from the help whether `agree` can tell the steps of a schedule; false where another table
+        // has come since.
+        async learnSteps() {
+            if (this.knowsSteps !== undefined) return true;
+            const help = await this.ask(this.quick, ['agree', '--help']);
+            if (help) this.knowsSteps = help.stdout.includes('--steps');
+            return Boolean(help);
+        }
+
+        files() {
+            return { [CERTIFICATE]: this.certificate };
+        }
+
+        // The protocol is that of the certificate for the number alone, which has the same witness and no
+        // collisions: each step has it checked anew, and so takes no longer where there are many.
+        async showProtocol(linked) {
+            const { number } = JSON.parse(this.certificate);
+            if (number === null) {
+                this.draw(null);
+                this.protocol.clear('One process alone has nobody to agree with.');
+                return;
+            }
+            const find = await this.ask(this.search, ['find', '--limit', String(number)]);
+            if (!find) return;
+            this.witness = { [CERTIFICATE]: find.stdout };
+            const show = await this.ask(this.search, ['show', '--as', 'json', CERTIFICATE], this.witness);
+            if (!show) return;
+            if (!(await this.learnSteps())) return;
+            const plan = JSON.parse(show.stdout);
+            this.draw(plan);
+            await this.protocol.show(plan, linked.inputs, linked.acts);
+        }
+
+        // The picture, with the start and the teams of this plan, if there is one.
+        draw(plan) {
+            clearTimeout(this.early);
+            at('picture').replaceChildren(Cnum.pictureOf(this.dot, plan));
+            at('legend').hidden = !plan;
+            at('download-picture').disabled = false;
+        }
+
+        // Shows that a search runs, and for how long, until it ends.
+        async timed(search) {
+            const began = performance.now();
+            const seconds = () => ((performance.now() - began) / 1000).toFixed(1);
+            at('meaning').textContent = 'Searching.';
+            const tick = setInterval(() => {
+                at('running').hidden = false;
+                at('elapsed').textContent = `${seconds()} s`;
+            }, 100);
+            const round = this.round;
+            try {
+                return await search;
+            } finally {
+                clearInterval(tick);
+                if (round === this.round) at('running').hidden = true;
+            }
+        }
+
+        breakOff() {
+            this.search.breakOff();
+            at('meaning').textContent = 'The search was broken off.';
+        }
+
+        // The number alone, where find refuses to look for evidence.
+        async classify(why) {
+            const answer = await this.timed(this.ask(this.search, ['classify', '--limit', at('limit').value, '-']));
+            if (!answer) return;
+            this.draw(null);
+            if (answer.status === 0) this.tellNumber(CLASS.exec(answer.stdout));
+            at('why').replaceChildren(element('p', {}, answer.status === 0 ? why : answer.stderr));
+            this.protocol.clear(why);
+        }
+
+        tellNumber([, atLeast, number]) {
+            const can = number === '1' ? ALONE : `${number} ${TOGETHER}`;
+            const more = atLeast ? 'More were not asked for.' : `${Number(number) + 1} cannot be shown to.`;
+            at('number').textContent = atLeast + number;
+            at('meaning').textContent = `${can} ${more}`;
+        }
+
+        async explainAll() {
+            const answer = await this.ask(this.search, ['explain', '--all', CERTIFICATE], this.files());
+            return answer && answer.stdout;
+        }
+
+        agree(words) {
+            const steps = this.knowsSteps ? ['--steps'] : [];
+            return this.quick.run(['agree', ...steps, CERTIFICATE, ...words], this.text, this.witness);
+        }
+
+        // Checks a certificate that somebody else made, by the table that is here.
+        async check(file) {
+            if (!file) return;
+            const claim = new Uint8Array(await file.arrayBuffer());
+            const answer = await this.ask(this.quick, ['check', CERTIFICATE], { [CERTIFICATE]: claim });
+            if (answer) at('claim-said').textContent = `${file.name}: ${answer.stdout}${answer.stderr}`;
+        }
+
+        async begin() {
+            at('example').append(element('option', { value: '' }, 'a table of your own'), ...Cnum.examples.map(exampleGroup));
+            await this.follow();
+            const version = await this.quick.run(['--version']);
+            at('version').textContent = version.stdout.trim();
+        }
+    }
+
+    function exampleGroup(group) {
+        const options = group.types.map(it => element('option', { value: it.path }, it.path.split('/').pop()));
+        return element('optgroup', { label: group.name }, ...options);
+    }
+
+    async function begin() {
+        let module;
+        try {
+            module = await Cnum.load();
+        } catch (error) {
+            at('trouble').textContent = error.message;
+            return;
+        }
+        Cnum.page = new Page(module);
+        await Cnum.page.begin();
+        document.documentElement.dataset.ready = 'yes';
+    }
+
+    begin();
+})();
