@@ -1,3 +1,5 @@
 pub mod Exits
 pub mod GivenLists
-pub mod Openings
+pub mod NamedTables
+pub mod Runs
+pub mod Texts

@@ -1,11 +1,12 @@
 //! The lists that the command line gives.
 ghost use Rattle.cnum.specs.GivenLists.{GivesList, HasText};
+ghost use Rattle.cnum.specs.Texts.{left_in};
 
+use crate::disk::Disk;
 use crate::lazy_file::file_text;
 use cn_app::{AppFault, Argument, ListText, read_argument};
 use cn_words::ListSource;
 use std::alloc::Global;
-use std::rt::Files;
 
 /// The text of a list: a word of the command line, or what a file holds.
 #[derive(Drop)]
@@ -16,18 +17,19 @@ pub enum GivenList<'a> {
 
 impl<'a> GivenList<'a> {
     /// The list from its source: the word itself, or what the file of this name holds.
-    pub fn read<R: Files>(
-        rt: &R,
+    pub fn read<D: Disk>(
+        disk: &D,
         alloc: Global,
         source: ListSource<'a>,
         argument: Argument,
     ) -> Result<GivenList<'a>, AppFault>
-        ensures { GivesList source.entry argument result }
+        ensures { GivesList (left_in D.contents D.Reader.remaining) (D.contents disk.now)
+            source.entry argument result }
     {
         match source {
             ListSource::Word(word) => Ok(GivenList::Word(word)),
             ListSource::File(path) => {
-                let mut text = file_text(rt, alloc, path);
+                let mut text = file_text(disk, alloc, path);
                 Ok(GivenList::File(read_argument(alloc, &mut text, argument)?))
             }
         }

@@ -1,44 +1,48 @@
 //! Files that are opened late.
 ghost use Rattle.std.specs.Prelude.{◌≡◌, None};
-ghost use Rattle.cn_app.specs.Streams.Reading.{IsUnread};
+ghost use Rattle.cnum.specs.Texts.{IsTextOf, left_in};
 
+use crate::disk::Disk;
 use cn_app::Text;
 use std::alloc::Global;
-use std::fs::File;
 use std::io;
 use std::io::Read;
-use std::rt::Files;
 
 /// A file that is opened at its first read, so that it is not touched where an earlier text is
 /// refused. A fault of opening it is a fault of that read.
 #[derive(Drop)]
-pub struct LazyFile<'a, R: Files> {
+pub struct LazyFile<'a, D: Disk> {
     /// What opens it.
-    pub rt: &'a R,
+    pub disk: &'a D,
     /// The name of the file.
     pub path: &'a str,
     /// The file, once it is open.
-    pub file: Option<R::File>,
+    pub file: Option<D::Reader>,
 }
 
-impl<'a, R: Files> LazyFile<'a, R> {
+impl<'a, D: Disk> LazyFile<'a, D> {
     /// The file of this name, not yet open.
-    pub fn new(rt: &'a R, path: &'a str) -> LazyFile<'a, R>
+    pub fn new(disk: &'a D, path: &'a str) -> LazyFile<'a, D>
+        ensures disk { result.disk ≡ disk.entry }
         ensures path { result.path ≡ path.entry }
         ensures closed { result.file ≡ None }
     {
         LazyFile {
-            rt,
+            disk,
             path,
             file: None,
         }
     }
 }
 
-impl<'a, R: Files> Read for LazyFile<'a, R> {
+impl<'a, D: Disk> Read for LazyFile<'a, D> {
+    ghost use Rattle.cnum.specs.Texts.{left_in};
+
+    ghost remaining = { left_in D.contents D.Reader.remaining };
+
     fn read(&mut self, buffer: &mut [u8]) -> io::Result<usize> {
         if self.file.is_none() {
-            self.file = Some(File::open(self.rt, self.path)?);
+            self.file = Some(self.disk.open(self.path)?);
         }
         match &mut self.file {
             Some(file) => file.read(buffer),
@@ -48,9 +52,9 @@ impl<'a, R: Files> Read for LazyFile<'a, R> {
 }
 
 /// The text of the file of this name, of which nothing was read.
-pub fn file_text<'a, R: Files>(rt: &'a R, alloc: Global, path: &'a str) -> Text<LazyFile<'a, R>>
-    ensures path { result.reader.path ≡ path.entry }
-    ensures unread { IsUnread result }
+pub fn file_text<'a, D: Disk>(disk: &'a D, alloc: Global, path: &'a str) -> Text<LazyFile<'a, D>>
+    ensures { IsTextOf (left_in D.contents D.Reader.remaining)
+        (D.contents disk.now path.now) result }
 {
-    Text::new(alloc, LazyFile::new(rt, path))
+    Text::new(alloc, LazyFile::new(disk, path))
 }

@@ -7,6 +7,7 @@ ghost use Rattle.std.specs.Process.{exit_status};
 ghost use Rattle.cn_app.specs.FaultText.{status_of};
 ghost use Rattle.cnum.specs.Exits.{classify_status, command_status};
 
+mod disk;
 mod faults;
 mod given_list;
 mod lazy_file;
@@ -16,12 +17,12 @@ mod table_reader;
 use cn_app::commands::Tell;
 use cn_app::{AppFault, Outcome, Output};
 use cn_words::{Command, CommandFault, Reply};
+use disk::Disk;
 use faults::Faults;
 use runs::{classify, run};
 use std::alloc::Global;
-use std::io::{ErrorKind, Stdin, Write};
+use std::io::{ErrorKind, Read, Write};
 use std::process::ExitCode;
-use std::rt::Files;
 use std::sync::Wait;
 use std::thread::Threads;
 
@@ -58,16 +59,17 @@ fn classify_exit(rt: &impl Eprint, first: Result<Option<AppFault>, AppFault>) ->
 }
 
 // Does a command; how the program ends.
-fn obey<T: Threads + Wait + Sync + Files + Eprint, O: Write + Drop>(
+fn obey<T: Threads + Wait + Sync + Disk + Eprint, I: Read + Copy + Drop, O: Write + Drop>(
     rt: &T,
     alloc: Global,
-    stdin: Stdin,
+    stdin: I,
     stdout: O,
     command: &Command<'_>,
 ) -> ExitCode {
     let mut output = Output::new(alloc, stdout);
     if let Command::Classify { limit, tables } = command {
-        let first = classify(rt, alloc, &stdin, &mut output, *limit, tables);
+        let mut faults = Faults { rt };
+        let first = classify(rt, alloc, stdin, &mut output, &mut faults, *limit, tables);
         return classify_exit(rt, first);
     }
     command_exit(rt, run(rt, alloc, stdin, &mut output, command))
@@ -103,7 +105,7 @@ fn main(rt: HostRuntime) -> ExitCode {
         Err(fault) => return fault_exit(&rt, fault),
     };
     match cn_words::parse(rt.alloc(), given.as_slice()) {
-        Ok(command) => obey(&rt, rt.alloc(), rt.stdin(), rt.stdout(), &command),
+        Ok(command) => obey(&rt, rt.alloc(), &rt.stdin(), rt.stdout(), &command),
         Err(reply) => answer(&rt, reply),
     }
 }

@@ -1,17 +1,21 @@
 //! The tables that the command line names.
+use crate::disk::Disk;
 use crate::lazy_file::LazyFile;
 use std::io;
-use std::io::{Read, Stdin};
-use std::rt::Files;
+use std::io::Read;
 
 /// What reads a table that is named: standard input by the name `-`, else a file of the name.
 #[derive(Drop)]
-pub enum TableReader<'a, R: Files> {
-    Standard(&'a Stdin),
-    File(LazyFile<'a, R>),
+pub enum TableReader<'a, S, D: Disk> {
+    Standard(S),
+    File(LazyFile<'a, D>),
 }
 
-impl<'a, R: Files> Read for TableReader<'a, R> {
+impl<'a, S: Read, D: Disk> Read for TableReader<'a, S, D> {
+    ghost use Rattle.cnum.specs.Texts.{left_in, left_of};
+
+    ghost remaining = { left_of S.remaining (left_in D.contents D.Reader.remaining) };
+
     fn read(&mut self, buffer: &mut [u8]) -> io::Result<usize> {
         match self {
             TableReader::Standard(stdin) => stdin.read(buffer),

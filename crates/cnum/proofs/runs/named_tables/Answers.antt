@@ -1,10 +1,12 @@
-use Rattle.std.proofs.Common.{List, subst, sym}
-use Rattle.std.proofs.lemmas.List.Elements.{All-push}
-use Rattle.cn_app.specs.Commands.ClassifyEach.{AreUnread}
-use Rattle.cn_app.specs.Streams.Reading.{IsUnread}
+use Rattle.std.proofs.Common.{arith, subst, sym}
+use Rattle.cn_words.specs.declared.commands.TableSource.TheVariants.{StandardInput}
+use Rattle.cnum.specs.NamedTables.{AreNamed, bytes_of}
+use Rattle.cnum.specs.Texts.{left_in, left_of}
+use Rattle.cnum.proofs.NamedTableLemmas.{one_more}
 use Rattle.cnum.proofs.runs.named_tables.Goals as goal
 
 pub loop-source-preserved : goal.loop-source-preserved
 loop-source-preserved g c =
-    subst (λ (l : List _). AreUnread l) (sym c.in_ok-push.ensures.items)
-    (All-push (λ table. IsUnread table.text) c.loop-source.tables.items c.named_table.result c.loop-source.invariant c.named_table.ensures)
+    rw c.in_ok-push.ensures.items
+    (one_more (left_of g.S.Read.remaining (left_in g.D.Disk.contents g.D.Reader.Read.remaining)) (bytes_of (g.S.Read.remaining c.args.stdin) (g.D.Disk.contents c.args.disk.now)) c.args.sources.now
+    c.loop-source.tables.items c.loop-source.source-index StandardInput c.named_table.result c.loop-source-test.true c.loop-source.invariant c.named_table.ensures.name c.named_table.ensures.text)

@@ -1,0 +1,36 @@
+-- The tables that the command line names, and what becomes of them.
+use Rattle.std.specs.Prelude.{◌≡◌, codes, ℕ, List, map, Option, Result, Ok, Err}
+use Rattle.cn_words.specs.declared.commands.TableSource.{TableSource}
+use Rattle.cn_words.specs.declared.commands.TableSource.TheVariants.{File, StandardInput}
+use Rattle.cn_app.specs.Commands.ClassifyEach.{AreClassified, AreUnread}
+use Rattle.cn_app.specs.Streams.Writing.{IsSilent}
+use Rattle.cn_app.specs.declared.commands.of_several_tables.NamedTable.{NamedTable}
+use Rattle.cn_app.specs.declared.fault.AppFault.{AppFault}
+use Rattle.cn_app.specs.declared.fault.AppFault.TheVariants.{OutOfMemory}
+use Rattle.cn_app.specs.declared.streams.output.Output.{Output}
+
+-- the name of a table; a minus sign is that of standard input
+abbrev pub name_of : TableSource → List ℕ
+name_of StandardInput = codes "-"
+name_of (File path) = path.now
+
+-- the bytes of a table, by those of standard input and of each file, where they are known
+abbrev pub bytes_of : Option (List ℕ) → (List ℕ → Option (List ℕ)) → TableSource → Option (List ℕ)
+bytes_of stdin files StandardInput = stdin
+bytes_of stdin files (File path) = files path.now
+
+-- each table has the name and the bytes of its source, place by place, and none was read
+pub record AreNamed {R : Type 0} (left : R → Option (List ℕ)) (bytes : TableSource → Option (List ℕ)) (sources : List TableSource)
+    (tables : List (NamedTable R)) : Type 0 where
+  pub names : map (λ t. t.name.now) tables ≡ map name_of sources
+  pub bytes_left : map (λ t. left t.text.reader) tables ≡ map bytes sources
+  pub unread : AreUnread tables
+
+-- classifying the tables of these sources ends so: they were classified in order, up to this limit, with this first fault; or memory ran out before, and
+-- nothing was written or told
+abbrev pub ClassifiesSources : {R W D : Type 0} → (R → Option (List ℕ)) → (W → Option (List ℕ)) → (D → Option (List ℕ) → AppFault → D → Type 0)
+    → (TableSource → Option (List ℕ)) → List TableSource → ℕ → Output W → D → Output W → D → Result (Option AppFault) AppFault → Type 0
+ClassifiesSources {R} left contents tells bytes sources limit u d v e (Ok first) =
+    (tables : List (NamedTable R)) × (after : List (NamedTable R)) × AreNamed left bytes sources tables
+    × AreClassified left contents tells limit tables after u d first v e
+ClassifiesSources left contents tells bytes sources limit u d v e (Err fault) = (fault ≡ OutOfMemory) × IsSilent u v × (e ≡ d)

@@ -1,0 +1,109 @@
+-- What a command of one table reads and writes, by the words for its arguments.
+use Rattle.std.specs.Prelude.{◌≡◌, ◌⊎◌, Bool, ℕ, List, Option, Result, Ok, Err}
+use Rattle.cn_words.specs.declared.commands.Command.{Command}
+use Rattle.cn_words.specs.declared.commands.Command.TheVariants.{Find, Classify, Lint, Draw, Check, Explain, Show, Agree, Replay, Serve}
+use Rattle.cn_words.specs.declared.commands.ListSource.{ListSource}
+use Rattle.cn_words.specs.declared.commands.OpeningWords.{OpeningWords}
+use Rattle.cn_app.specs.Commands.Agree.{HasAgreeReport, SpellLists}
+use Rattle.cn_app.specs.Commands.Check.{HasCheckReport}
+use Rattle.cn_app.specs.Commands.Draw.{HasDrawReport}
+use Rattle.cn_app.specs.Commands.Explain.{HasExplainReport}
+use Rattle.cn_app.specs.Commands.Find.{HasFindReport}
+use Rattle.cn_app.specs.Commands.Lint.{HasLintReport}
+use Rattle.cn_app.specs.Commands.Replay.{HasReplayReport, SpellEvents}
+use Rattle.cn_app.specs.Commands.Serve.{HasServeReport, SpellCalls}
+use Rattle.cn_app.specs.Commands.Show.{HasShowReport}
+use Rattle.cn_app.specs.Streams.Reading.{HasRead, IsUnread}
+use Rattle.cn_app.specs.Streams.Writing.{IsSilent, Reports}
+use Rattle.cn_app.specs.Texts.Checked.{AreUntouched, HaveReadBoth}
+use Rattle.cn_app.specs.Texts.Openings.{HaveReadAll}
+use Rattle.cn_app.specs.declared.arguments.list_text.ListText.{ListText}
+use Rattle.cn_app.specs.declared.fault.AppFault.{AppFault}
+use Rattle.cn_app.specs.declared.fault.AppFault.TheVariants.{Words}
+use Rattle.cn_app.specs.declared.fault.Argument.{Argument}
+use Rattle.cn_app.specs.declared.fault.Argument.TheVariants as argument
+use Rattle.cn_app.specs.declared.fault.Source.TheVariants.{Table}
+use Rattle.cn_app.specs.declared.readers.opening.OpeningArguments.{OpeningArguments}
+use Rattle.cn_app.specs.declared.report.Outcome.{Outcome}
+use Rattle.cn_app.specs.declared.report.Report.{Report}
+use Rattle.cn_app.specs.declared.streams.output.Output.{Output}
+use Rattle.cn_app.specs.declared.streams.text.Text.{Text}
+use Rattle.cnum.specs.GivenLists.{GivesList, HasText}
+use Rattle.cnum.specs.Texts.{IsTextOf}
+use Rattle.cnum.specs.declared.given_list.GivenList.{GivenList}
+
+-- the arguments of a command that opens a log: this table, a text of each file that its word names, and the words for the start and the number of slots
+pub record HasArguments {R L : Type 0} (left : L → Option (List ℕ)) (files : List ℕ → Option (List ℕ)) (type : Text R) (words : OpeningWords)
+    (given : OpeningArguments R L L) : Type 0 where
+  pub table : given.table ≡ type
+  pub certificate : IsTextOf left (files words.certificate.now) given.certificate
+  pub object : IsTextOf left (files words.object.now) given.object
+  pub start : given.start ≡ words.start
+  pub capacity : given.capacity ≡ words.capacity
+
+-- by the bytes that the readers of tables and of files have left, those that the writer holds, and those of the file of each name, where they are known
+module _ {R L W : Type 0} (remaining : R → Option (List ℕ)) (left : L → Option (List ℕ)) (contents : W → Option (List ℕ))
+    (files : List ℕ → Option (List ℕ)) where
+  -- a table was read, and what there is to say of it was written
+  pub record ReadsTable (table : Text R) (work : Text R → Result Report AppFault → Type 0) (u v : Output W) (r : Result Outcome AppFault) : Type 0 where
+    pub after : Text R
+    pub read : HasRead Table remaining table after
+    pub reported : Reports contents (work after) u v r
+
+  -- a table and the certificate in the file of this name were read, unless nothing may be read, and what there is to say of both was written
+  pub record ReadsBoth (table : Text R) (path : List ℕ) (may_read : Type 0) (work : Text R → Text L → Result Report AppFault → Type 0) (u v : Output W)
+      (r : Result Outcome AppFault) : Type 0 where
+    pub certificate : Text L
+    pub table_after : Text R
+    pub certificate_after : Text L
+    pub opened : IsTextOf left (files path) certificate
+    pub read : HaveReadBoth remaining left table table_after certificate certificate_after
+    pub order : AreUntouched table table_after certificate certificate_after ⊎ may_read
+    pub reported : Reports contents (work table_after certificate_after) u v r
+
+  -- the texts of an opening were read, unless nothing may be read, and what there is to say of them was written
+  pub record ReadsOpening (table : Text R) (words : OpeningWords) (may_read : Type 0) (work : OpeningArguments R L L → Result Report AppFault → Type 0)
+      (u v : Output W) (r : Result Outcome AppFault) : Type 0 where
+    pub given : OpeningArguments R L L
+    pub after : OpeningArguments R L L
+    pub arguments : HasArguments left files table words given
+    pub read : HaveReadAll remaining left left given after
+    pub order : (after ≡ given) ⊎ may_read
+    pub reported : Reports contents (work after) u v r
+
+  -- a list is read from its source, and its text is taken on; or reading it has a fault, and nothing is written
+  abbrev pub ReadsList : ListSource → Argument → (ListText → Output W → Output W → Result Outcome AppFault → Type 0) → Output W → Output W
+      → Result Outcome AppFault → Type 0
+  ReadsList source argument next u v r = ((e : AppFault) × GivesList left files source argument (Err e) × (r ≡ Err e) × IsSilent u v)
+      ⊎ ((list : GivenList) × (text : ListText) × GivesList left files source argument (Ok list) × HasText list text × next text u v r)
+
+  -- `agree` of a table and these words: the lists are read first, from left to right
+  abbrev pub RunsAgree : Text R → List ℕ → ListSource → ListSource → Bool → Output W → Output W → Result Outcome AppFault → Type 0
+  RunsAgree table path inputs schedule steps u v r = ReadsList inputs argument.Inputs (λ xs. ReadsList schedule argument.Schedule
+      (λ ps. ReadsBoth table path (SpellLists xs ps) (λ t c. HasAgreeReport t c xs ps steps))) u v r
+
+  -- `replay` and `serve` of a table and these words: the list is read first
+  abbrev pub RunsReplay : Text R → OpeningWords → ListSource → Output W → Output W → Result Outcome AppFault → Type 0
+  RunsReplay table words events u v r = ReadsList events argument.Events
+      (λ list. ReadsOpening table words (SpellEvents words.capacity.now list) (λ given. HasReplayReport given list)) u v r
+
+  abbrev pub RunsServe : Text R → OpeningWords → ListSource → Output W → Output W → Result Outcome AppFault → Type 0
+  RunsServe table words calls u v r = ReadsList calls argument.Calls
+      (λ list. ReadsOpening table words (SpellCalls words.capacity.now list) (λ given. HasServeReport (λ _ _. Unit {0}) given list)) u v r
+
+  -- a command of a table ends so, with the arguments that stand in it; one of several tables is none, and is refused
+  abbrev pub RunsOn : Text R → Command → Output W → Output W → Result Outcome AppFault → Type 0
+  RunsOn table (Find limit) u v r = ReadsTable table (λ t. HasFindReport t limit) u v r
+  RunsOn table Lint u v r = ReadsTable table (λ t. HasLintReport t) u v r
+  RunsOn table Draw u v r = ReadsTable table (λ t. HasDrawReport t) u v r
+  RunsOn table (Check certificate) u v r = ReadsBoth table certificate.now (Unit {0}) (λ t c. HasCheckReport t c) u v r
+  RunsOn table (Explain certificate all) u v r = ReadsBoth table certificate.now (Unit {0}) (λ t c. HasExplainReport t c all) u v r
+  RunsOn table (Show certificate form) u v r = ReadsBoth table certificate.now (Unit {0}) (λ t c. HasShowReport t c form) u v r
+  RunsOn table (Agree certificate inputs schedule steps) u v r = RunsAgree table certificate.now inputs schedule steps u v r
+  RunsOn table (Replay opening events) u v r = RunsReplay table opening events u v r
+  RunsOn table (Serve opening calls) u v r = RunsServe table opening calls u v r
+  RunsOn table (Classify limit tables) u v r = (r ≡ Err Words) × IsSilent u v
+
+  -- the same of a table that the input gives, of which nothing was read
+  abbrev pub Runs : R → Command → Output W → Output W → Result Outcome AppFault → Type 0
+  Runs input command u v r = (table : Text R) × (table.reader ≡ input) × IsUnread table × RunsOn table command u v r
