@@ -1,1 +1,2 @@
+pub mod GateLemmas
 pub mod NamedTableLemmas

@@ -4,6 +4,8 @@ use Rattle.cn_words.specs.declared.commands.Command.{Command}
 use Rattle.cn_words.specs.declared.commands.Command.TheVariants.{Find, Classify, Lint, Draw, Check, Explain, Show, Agree, Replay, Serve}
 use Rattle.cn_words.specs.declared.commands.ListSource.{ListSource}
 use Rattle.cn_words.specs.declared.commands.OpeningWords.{OpeningWords}
+use Rattle.cn_hall.specs.declared.call.AlwaysOn.{AlwaysOn}
+use Rattle.cn_hall.specs.declared.call.Go.TheVariants.{On}
 use Rattle.cn_app.specs.Commands.Agree.{HasAgreeReport, SpellLists}
 use Rattle.cn_app.specs.Commands.Check.{HasCheckReport}
 use Rattle.cn_app.specs.Commands.Draw.{HasDrawReport}
@@ -17,6 +19,7 @@ use Rattle.cn_app.specs.Streams.Reading.{HasRead, IsUnread}
 use Rattle.cn_app.specs.Streams.Writing.{IsSilent, Reports}
 use Rattle.cn_app.specs.Texts.Checked.{AreUntouched, HaveReadBoth}
 use Rattle.cn_app.specs.Texts.Openings.{HaveReadAll}
+use Rattle.cn_app.specs.Threads.Workers.{EachHasOneGate}
 use Rattle.cn_app.specs.declared.arguments.list_text.ListText.{ListText}
 use Rattle.cn_app.specs.declared.fault.AppFault.{AppFault}
 use Rattle.cn_app.specs.declared.fault.AppFault.TheVariants.{Words}
@@ -87,9 +90,11 @@ module _ {R L W : Type 0} (remaining : R → Option (List ℕ)) (left : L → Op
   RunsReplay table words events u v r = ReadsList events argument.Events
       (λ list. ReadsOpening table words (SpellEvents words.capacity.now list) (λ given. HasReplayReport given list)) u v r
 
+  -- the gate of each process is one that lets every call go on
   abbrev pub RunsServe : Text R → OpeningWords → ListSource → Output W → Output W → Result Outcome AppFault → Type 0
   RunsServe table words calls u v r = ReadsList calls argument.Calls
-      (λ list. ReadsOpening table words (SpellCalls words.capacity.now list) (λ given. HasServeReport (λ _ _. Unit {0}) given list)) u v r
+      (λ list. ReadsOpening table words (SpellCalls words.capacity.now list) (λ given. HasServeReport
+      (EachHasOneGate {G = AlwaysOn} (λ _ _ _ _. Unit {0}) (λ _. On) (λ _ _. Unit {0})) given list)) u v r
 
   -- a command of a table ends so, with the arguments that stand in it; one of several tables is none, and is refused
   abbrev pub RunsOn : Text R → Command → Output W → Output W → Result Outcome AppFault → Type 0
