@@ -1,5 +1,5 @@
 -- What is said of a served object, whoever made the gates.
-use Rattle.std.proofs.Common.{◌≡◌, inl, inr, ℕ, List, map, Option, Result, Ok, Err}
+use Rattle.std.proofs.Common.{inl, inr, ℕ, List, map, Option, Result, Ok, Err}
 use Rattle.cn_hall.specs.Seats.{SeatState}
 use Rattle.cn_hall.specs.declared.call.Go.{Go}
 use Rattle.cn_app.specs.Arguments.Calls.{GivesCalls}
@@ -53,16 +53,20 @@ module _ {G : Type 0} (asks : G → SeatState → ℕ → G → Type 0) (says : 
         worked = done.worked;
         each = done.each;
         served = done.served;
-        gated = λ p less. let one = done.gated p less in (one.0, one.1, record {
-          gate = one.2.gate;
-          before = one.2.before;
-          after = one.2.after;
-          made_for = tt;
-          process = one.2.process;
-          first = one.2.first;
-          carried = one.2.carried;
-          asked = one.2.asked;
-        });
+        gated = λ p less. let one = done.gated p less in (
+          one.0,
+          one.1,
+          record {
+            gate = one.2.gate;
+            before = one.2.before;
+            after = one.2.after;
+            made_for = tt;
+            process = one.2.process;
+            first = one.2.first;
+            carried = one.2.carried;
+            asked = one.2.asked;
+          },
+        );
         written = done.written;
         ended = done.ended;
       }))

@@ -1,6 +1,5 @@
-use Rattle.std.proofs.Common.{arith, subst, sym}
 use Rattle.cn_words.specs.declared.commands.TableSource.TheVariants.{StandardInput}
-use Rattle.cnum.specs.NamedTables.{AreNamed, bytes_of}
+use Rattle.cnum.specs.NamedTables.{bytes_of}
 use Rattle.cnum.specs.Texts.{left_in, left_of}
 use Rattle.cnum.proofs.NamedTableLemmas.{one_more}
 use Rattle.cnum.proofs.runs.named_tables.Goals as goal
