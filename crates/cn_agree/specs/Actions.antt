@@ -24,9 +24,10 @@ use Rattle.cn_agree.specs.World.{World, node_at, local_at, register}
 abbrev pub taking : {V : Type 0} → ℕ → ℕ → ℕ → Team → V → Action V
 taking places i node team y = if nat_lt (i + 1) places then acts.Take node team y else acts.Decide y
 
--- the action of a process that stands here with this value, at place i of so many and at a node that is so: it writes its value to the register of its team; it
--- applies the operation of its role, with this response; it reads the state, and judges by it and its response which team came first; and it takes what it finds
--- in the register of the team that it judged so
+-- the action of a process that stands here with this value, at place i of so many and at a node that
+-- is so: it writes its value to the register of its team; it applies the operation of its role, with
+-- this response; it reads the state, and judges by it and its response which team came first; and it
+-- takes what it finds in the register of the team that it judged so
 abbrev pub action_at : {V : Type 0} → Plan → ℕ → ℕ → Place → V → Stage → Node V → Option (Action V)
 action_at plan places i here x Write node = Some (acts.Write here.node here.team x)
 action_at plan places i here x Apply node =
