@@ -305,9 +305,7 @@ def random_acts(source, n):
 
 
 def steps(use, name, certificate, inputs, schedule):
-    """Where the program tells the steps, the page shows its lines."""
-    if not use.value("Cnum.page.knowsSteps"):
-        return
+    """The page shows the lines of the program, one for each step."""
     lines = called(["agree", "--steps", certificate, inputs, schedule], TYPES[name])[0].decode().splitlines()
     shown = [it.removeprefix("process ") for it in use.texts(".log li") if not it.endswith("stops for good")]
     yield f"{name}: the lines of the steps", shown == lines[: len(shown)], (shown, lines)

@@ -32,7 +32,6 @@ var Cnum = globalThis.Cnum || {};
             this.grid = new Cnum.Grid(at('grid'), text => this.edit(text));
             this.protocol = new Cnum.Protocol(at('protocol'), {
                 agree: words => this.agree(words),
-                tellsSteps: () => this.knowsSteps,
                 changed: () => this.keepLink(),
                 say: text => (at('step-said').textContent = text),
             });
@@ -217,15 +216,6 @@ var Cnum = globalThis.Cnum || {};
             await this.showProtocol(linked);
         }
 
-        // Learns from the help whether `agree` can tell the steps of a schedule; false where another table
-        // has come since.
-        async learnSteps() {
-            if (this.knowsSteps !== undefined) return true;
-            const help = await this.ask(this.quick, ['agree', '--help']);
-            if (help) this.knowsSteps = help.stdout.includes('--steps');
-            return Boolean(help);
-        }
-
         files() {
             return { [CERTIFICATE]: this.certificate };
         }
@@ -244,7 +234,6 @@ var Cnum = globalThis.Cnum || {};
             this.witness = { [CERTIFICATE]: find.stdout };
             const show = await this.ask(this.search, ['show', '--as', 'json', CERTIFICATE], this.witness);
             if (!show) return;
-            if (!(await this.learnSteps())) return;
             const plan = JSON.parse(show.stdout);
             this.draw(plan);
             await this.protocol.show(plan, linked.inputs, linked.acts);
@@ -293,7 +282,7 @@ var Cnum = globalThis.Cnum || {};
 
         tellNumber([, atLeast, number]) {
             const can = number === '1' ? ALONE : `${number} ${TOGETHER}`;
-            const more = atLeast ? 'More were not asked for.' : `${Number(number) + 1} cannot be shown to.`;
+            const more = atLeast ? 'More were not asked for.' : `It is not ${Number(number) + 1}-discerning.`;
             at('number').textContent = atLeast + number;
             at('meaning').textContent = `${can} ${more}`;
         }
@@ -304,8 +293,7 @@ var Cnum = globalThis.Cnum || {};
         }
 
         agree(words) {
-            const steps = this.knowsSteps ? ['--steps'] : [];
-            return this.quick.run(['agree', ...steps, CERTIFICATE, ...words], this.text, this.witness);
+            return this.quick.run(['agree', '--steps', CERTIFICATE, ...words], this.text, this.witness);
         }
 
         // Checks a certificate that somebody else made, by the table that is here.

@@ -1,6 +1,5 @@
-// The protocol, stepped by hand: a column for each process, the nodes where they meet, and what the
-// program says after each step. What it says comes from `agree`, for the schedule so far: the lines of
-// its steps where it knows --steps, and the decisions.
+// The protocol, stepped by hand: a column for each process, the nodes where they meet, and a line for
+// each step. The lines and the decisions are those that `agree --steps` writes for the schedule so far.
 var Cnum = globalThis.Cnum || {};
 
 (() => {
@@ -18,11 +17,10 @@ var Cnum = globalThis.Cnum || {};
     ];
 
     class Protocol {
-        // Shows protocols in this place. `agree` runs the command with these inputs and this schedule, and
-        // `tellsSteps` answers whether it then tells the steps; `changed` is called when what the link holds
-        // has changed, and `say` with what happened last.
-        constructor(place, { agree, tellsSteps, changed, say }) {
-            Object.assign(this, { place, agree, tellsSteps, changed, say });
+        // Shows protocols in this place. `agree` runs the command with these inputs and this schedule;
+        // `changed` is called when what the link holds has changed, and `say` with what happened last.
+        constructor(place, { agree, changed, say }) {
+            Object.assign(this, { place, agree, changed, say });
             this.clear('');
         }
 
@@ -143,7 +141,7 @@ var Cnum = globalThis.Cnum || {};
             await this.update();
         }
 
-        // What the program says of a schedule: the lines of its steps, if it tells them, and the decisions.
+        // What the program says of a schedule: the lines of its steps and the decisions.
         // What it said once it need not be asked again.
         async told(schedule) {
             const words = [this.inputs.join(','), schedule.join(',') || 'none'];
@@ -160,7 +158,7 @@ var Cnum = globalThis.Cnum || {};
             return { steps: lines.slice(0, -this.plan.processes), decisions };
         }
 
-        // Runs the schedule, and each of its beginnings, and shows what the program says of them.
+        // Runs the schedule, and shows what the program says of it.
         async update() {
             const turn = ++this.turn;
             const schedule = this.schedule();
@@ -170,14 +168,9 @@ var Cnum = globalThis.Cnum || {};
             this.undoing.disabled = !this.acts.length;
             this.changed();
             if (last.fault) return;
-            const states = last.steps.length ? null : [];
-            for (let count = 0; states && count <= schedule.length; count++) {
-                states.push((await this.told(schedule.slice(0, count))).decisions);
-                if (turn !== this.turn) return;
-            }
             this.showColumns(schedule, last.decisions);
             this.showNodes(last.steps);
-            this.showLog(states ? this.changes(schedule, states) : last.steps);
+            this.showLog(last.steps);
         }
 
         showColumns(schedule, decisions) {
@@ -192,15 +185,6 @@ var Cnum = globalThis.Cnum || {};
             });
         }
 
-        // Without --steps the program does not say what a step did: then what has come of it stands here,
-        // as the decisions before and after it say.
-        changes(schedule, states) {
-            return schedule.map((process, index) => {
-                const [before, after] = [states[index][process], states[index + 1][process]];
-                return `${process}: ${before === after ? 'takes a step' : `decides ${after}`}`;
-            });
-        }
-
         showNodes(steps) {
             const nodes = Array.from({ length: this.plan.nodes }, () => ({ object: `starts in ${this.plan.start}`, A: '', B: '' }));
             for (const step of steps) {
@@ -209,9 +193,8 @@ var Cnum = globalThis.Cnum || {};
                     if (found) see(found, nodes);
                 }
             }
-            const registers = (a, b) => (this.tellsSteps() ? [a, b] : []);
-            const heads = ['Node', 'Object', ...registers('Register A', 'Register B'), 'Who comes here'];
-            const rows = nodes.map((it, node) => [`node ${node}`, it.object, ...registers(it.A, it.B), this.comers(node)]);
+            const heads = ['Node', 'Object', 'Register A', 'Register B', 'Who comes here'];
+            const rows = nodes.map((it, node) => [`node ${node}`, it.object, it.A, it.B, this.comers(node)]);
             this.nodes.replaceChildren(tableOf(heads, rows));
         }
 
