@@ -1,5 +1,6 @@
 pub mod Exits
 pub mod GivenLists
 pub mod NamedTables
+pub mod Obeying
 pub mod Runs
 pub mod Texts

@@ -6,6 +6,8 @@ ghost use Rattle.std.specs.Prelude.{◌≡◌};
 ghost use Rattle.std.specs.Process.{exit_status};
 ghost use Rattle.cn_app.specs.FaultText.{status_of};
 ghost use Rattle.cnum.specs.Exits.{classify_status, command_status};
+ghost use Rattle.cnum.specs.Obeying.{Obeys};
+ghost use Rattle.cnum.specs.Texts.{left_in};
 
 mod disk;
 mod faults;
@@ -65,7 +67,10 @@ fn obey<T: Threads + Wait + Sync + Disk + Eprint, I: Read + Copy + Drop, O: Writ
     stdin: I,
     stdout: O,
     command: &Command<'_>,
-) -> ExitCode {
+) -> ExitCode
+    ensures { Obeys I.remaining (left_in T.contents T.Reader.remaining) O.contents
+        (T.contents rt.now) stdin stdout command.now (exit_status result) }
+{
     let mut output = Output::new(alloc, stdout);
     if let Command::Classify { limit, tables } = command {
         let mut faults = Faults { rt };

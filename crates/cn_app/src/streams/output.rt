@@ -11,12 +11,12 @@ use std::io::Write;
 /// A writer, the bytes that were handed to it, and whether it took them.
 #[derive(Drop)]
 pub struct Output<W> {
-    /// Where the bytes go.
-    pub writer: W,
+    // Where the bytes go; written here and nowhere else.
+    writer: W,
     /// All bytes that were handed to the writer, in order.
     pub bytes: Vec<u8>,
-    /// `Open` until bytes were handed over, `Done` where the writer took them all.
-    pub progress: Progress,
+    // `Open` until bytes were handed over, `Done` where the writer took them all.
+    progress: Progress,
 }
 
 impl<W: Write> Output<W> {
@@ -30,6 +30,21 @@ impl<W: Write> Output<W> {
             bytes: Vec::new(alloc),
             progress: Progress::Open,
         }
+    }
+
+    /// How far the output was written: `Open` until bytes were handed over, `Done` where the writer
+    /// took them all.
+    pub fn progress(&self) -> Progress
+        ensures { result ≡ self.now.progress }
+    {
+        self.progress
+    }
+
+    /// The writer, with what it was handed.
+    pub fn into_writer(self) -> W
+        ensures { result ≡ self.writer }
+    {
+        self.writer
     }
 
     /// Hands the text of a report to the writer, at once, and keeps it; the answer is how the

@@ -14,12 +14,12 @@ const CHUNK: usize = 1024;
 /// A reader, the bytes that it has given, and how far it was read.
 #[derive(Drop)]
 pub struct Text<R> {
-    /// Where the bytes come from.
-    pub reader: R,
+    // Where the bytes come from; read here and nowhere else.
+    reader: R,
     /// All bytes that the reader has given, in order.
     pub bytes: Vec<u8>,
-    /// `Done` once the reader said that there is no more.
-    pub progress: Progress,
+    // `Done` once the reader said that there is no more.
+    progress: Progress,
 }
 
 impl<R: Read> Text<R> {
@@ -33,6 +33,20 @@ impl<R: Read> Text<R> {
             bytes: Vec::new(alloc),
             progress: Progress::Open,
         }
+    }
+
+    /// How far the reader was read: `Done` once it said that there is no more.
+    pub fn progress(&self) -> Progress
+        ensures { result ≡ self.now.progress }
+    {
+        self.progress
+    }
+
+    /// The reader, with what it has left.
+    pub fn into_reader(self) -> R
+        ensures { result ≡ self.reader }
+    {
+        self.reader
     }
 
     // One read of at most `most` bytes, put behind what was read before.

@@ -54,7 +54,8 @@ fn is_told<T: Threads + Sync>(
     };
     let fault = classify_each(rt, alloc, &mut tables, &mut output, &mut kept, 8);
     let whole = "test_and_set: 2\nsticky_bit: at least 8\n".as_bytes();
-    let written = output.writer.written.as_slice();
+    let page = output.into_writer();
+    let written = page.written.as_slice();
     let is_right = written.len() == room.min(whole.len()) && whole.starts_with(written);
     is_right && fault == Some(first) && kept.told.as_slice() == told
 }
