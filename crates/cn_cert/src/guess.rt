@@ -254,7 +254,7 @@ struct Comparison<'a, O: Original> {
     ghost within: { agreed ≤ length bytes.now },
 }
 
-/// The text differs from the bytes, or memory ran out before it did.
+/// The text differs from the bytes, or memory ran out in making it.
 #[derive(Drop)]
 struct Different;
 
@@ -298,7 +298,8 @@ impl<'a, O: Original> Sink for Comparison<'a, O> {
     }
 }
 
-/// Whether this is the text of the certificate; memory may be short for a yes.
+/// Whether this is the text of the certificate; a name that is none of a table's takes memory, which
+/// may be short for a yes.
 fn is_text_of<O: Original>(alloc: Global, certificate: &Certificate, bytes: &[u8]) -> bool
     requires { bytes.now ≡ O.bytes }
     ensures { IsTrue result → bytes.now ≡ certificate_text certificate.now }

@@ -13,6 +13,7 @@ use crate::fault::CertFault;
 use crate::laws;
 use crate::sink::Sink;
 use cn_choice::{Choice, Collision};
+use cn_table::is_name;
 use serde_json::Value;
 use std::alloc::Global;
 
@@ -122,11 +123,17 @@ fn push_collisions<S: Sink>(out: &mut S, list: &[Collision]) -> Result<(), S::Er
     out.push(b']')
 }
 
-/// The name in quotes, with what JSON escapes.
+/// The name in quotes, with what JSON escapes. A name of a table has nothing to escape, and only
+/// another one takes memory.
 fn push_name<S: Sink>(alloc: Global, out: &mut S, name: &str) -> Result<(), S::Error>
     ensures { OnOk result (S.text out.new
         ≡ S.text out.old ++ compact_text (string name.now)) }
 {
+    if is_name(name) {
+        out.push(b'"')?;
+        out.push_str(name)?;
+        return out.push(b'"');
+    }
     let text = Value::try_from_str(alloc, name)?.to_string(alloc)?;
     out.push_str(text.as_str())
 }
