@@ -231,13 +231,15 @@ fn without_line_feed(bytes: &[u8]) -> &[u8]
     }
 }
 
-/// The bytes that a text is compared with, as proofs name them.
+/// The bytes that a text is compared with. They stand in the type of the comparison, since who pushes
+/// to it tells nothing of its fields.
 trait Original {
     ghost use Rattle.std.specs.Prelude.{ℕ, List};
 
     ghost bytes: { List ℕ };
 }
 
+// Each call picks its own.
 impl Original for Brand {
     ghost use Rattle.std.specs.Prelude.{[]};
 
