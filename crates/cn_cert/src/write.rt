@@ -123,8 +123,8 @@ fn push_collisions<S: Sink>(out: &mut S, list: &[Collision]) -> Result<(), S::Er
     out.push(b']')
 }
 
-/// The name in quotes, with what JSON escapes. A name of a table has nothing to escape, and only
-/// another one takes memory.
+/// The name in quotes, with what JSON escapes. A name of a table has nothing to escape; the text of
+/// another one takes memory of its own.
 fn push_name<S: Sink>(alloc: Global, out: &mut S, name: &str) -> Result<(), S::Error>
     ensures { OnOk result (S.text out.new
         ≡ S.text out.old ++ compact_text (string name.now)) }
