@@ -1,7 +1,7 @@
 //! Texts in the form in which certificates are written, by short code that only guesses.
 //!
 //! What a text says is guessed from its digits, and the guess stands where its own text is that text.
-ghost use Rattle.std.specs.Prelude.{◌≡◌, ◌<◌, ◌≤◌, ◌⊎◌, ◌++◌, IfSome, IsTrue, IsUtf8, None, Ok, true, string_bytes};
+ghost use Rattle.std.specs.Prelude.{◌≡◌, ◌<◌, ◌≤◌, ◌⊎◌, ◌++◌, ◌∷◌, [], IfSome, OnOk, IsTrue, IsUtf8, None, Ok, length, take, true, string_bytes};
 ghost use Rattle.std.specs.List.{list_all};
 ghost use Rattle.cn_table.specs.Names.{is_name};
 ghost use Rattle.cn_table.specs.declared.limits.TheConstants.{MOST_STATES};
@@ -13,11 +13,13 @@ ghost use Rattle.cn_table.specs.Texts.{line_feed};
 
 use crate::certificate::Certificate;
 use crate::ranges::GREATEST_NUMBER;
-use crate::write::write_certificate;
+use crate::sink::Sink;
+use crate::write::push_certificate;
 use arrayvec::ArrayVec;
 use cn_choice::{Choice, Collision, MOST_PROCESSES};
 use cn_table::{LONGEST_NAME, State, is_name};
-use std::alloc::Global;
+use std::alloc::{AllocError, Global};
+use std::marker::{Brand, PhantomData};
 
 /// The bytes of a text that are still to come.
 #[derive(Drop)]
@@ -229,14 +231,88 @@ fn without_line_feed(bytes: &[u8]) -> &[u8]
     }
 }
 
-/// Whether this is the text of the certificate; memory may be short for a yes.
-fn is_text_of(alloc: Global, certificate: &Certificate, bytes: &[u8]) -> bool
+/// The bytes that a text is compared with. They stand in the type of the comparison, since who pushes
+/// to it tells nothing of its fields.
+trait Original {
+    ghost use Rattle.std.specs.Prelude.{ℕ, List};
+
+    ghost bytes: { List ℕ };
+}
+
+// Each call picks its own.
+impl Original for Brand {
+    ghost use Rattle.std.specs.Prelude.{[]};
+
+    ghost bytes = { [] };
+}
+
+/// Bytes that a text is compared with as it is made, and how many of them agreed so far.
+#[derive(Drop)]
+struct Comparison<'a, O: Original> {
+    bytes: &'a [u8],
+    agreed: usize,
+    original: PhantomData<O>,
+    ghost same: { bytes.now ≡ O.bytes },
+    ghost within: { agreed ≤ length bytes.now },
+}
+
+/// The text differs from the bytes, or memory ran out in making it.
+#[derive(Drop)]
+struct Different;
+
+impl From<AllocError> for Different {
+    fn from(_: AllocError) -> Different {
+        Different
+    }
+}
+
+impl<'a, O: Original> Comparison<'a, O> {
+    /// Passes the next of the bytes, if it is this one.
+    #[inline(always)]
+    fn pass(&mut self, byte: u8) -> Result<(), Different>
+        ensures { OnOk result (take self.new.agreed O.bytes
+            ≡ take self.old.agreed O.bytes ++ byte ∷ []) }
+    {
+        if self.agreed < self.bytes.len() && self.bytes[self.agreed] == byte {
+            self.agreed += 1;
+            Ok(())
+        } else {
+            Err(Different)
+        }
+    }
+}
+
+impl<'a, O: Original> Sink for Comparison<'a, O> {
+    type Error = Different;
+
+    ghost text = { λ c. take c.agreed O.bytes };
+
+    #[inline(always)]
+    fn push(&mut self, byte: u8) -> Result<(), Different> {
+        self.pass(byte)
+    }
+
+    fn push_str(&mut self, piece: &str) -> Result<(), Different> {
+        for byte in piece.as_bytes() {
+            self.pass(*byte)?;
+        }
+        Ok(())
+    }
+}
+
+/// Whether this is the text of the certificate; a name that is none of a table's takes memory, which
+/// may be short for a yes.
+fn is_text_of<O: Original>(alloc: Global, certificate: &Certificate, bytes: &[u8]) -> bool
+    requires { bytes.now ≡ O.bytes }
     ensures { IsTrue result → bytes.now ≡ certificate_text certificate.now }
 {
-    match write_certificate(alloc, certificate) {
-        Ok(text) => bytes == text.as_bytes(),
-        Err(_) => false,
-    }
+    let mut comparison = Comparison::<O> {
+        bytes,
+        agreed: 0,
+        original: PhantomData,
+    };
+    push_certificate(alloc, &mut comparison, certificate).is_ok()
+        && comparison.agreed == bytes.len()
 }
 
 /// The certificate whose text this is, perhaps with a line feed behind it, where the guess is right.
@@ -249,7 +325,7 @@ pub(crate) fn guessed_certificate(alloc: Global, bytes: &[u8]) -> Option<Certifi
     }
     let line = without_line_feed(bytes);
     let guess = Bytes { text: line, at: 0 }.certificate(alloc)?;
-    if is_text_of(alloc, &guess, line) {
+    if is_text_of::<Brand>(alloc, &guess, line) {
         Some(guess)
     } else {
         None

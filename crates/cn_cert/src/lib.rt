@@ -16,6 +16,7 @@ mod number;
 mod object;
 mod ranges;
 mod read;
+mod sink;
 mod skip;
 mod write;
 

@@ -11,40 +11,42 @@ ghost use Rattle.cn_cert.specs.Reading.{reading};
 use crate::certificate::Certificate;
 use crate::fault::CertFault;
 use crate::laws;
+use crate::sink::Sink;
 use cn_choice::{Choice, Collision};
+use cn_table::is_name;
 use serde_json::Value;
-use std::alloc::{AllocError, Global};
+use std::alloc::Global;
 
-fn push_number(out: &mut String, n: u8) -> Result<(), AllocError>
-    ensures { OnOk result (string_bytes out.new ≡ string_bytes out.old ++ decimal n) }
+fn push_number<S: Sink>(out: &mut S, n: u8) -> Result<(), S::Error>
+    ensures { OnOk result (S.text out.new ≡ S.text out.old ++ decimal n) }
 {
     if n < 10 {
-        out.push((b'0' + n) as char)
+        out.push(b'0' + n)
     } else {
         let mut buffer = itoa::Buffer::new();
         out.push_str(buffer.format(n))
     }
 }
 
-fn push_numbers(out: &mut String, list: &[u8]) -> Result<(), AllocError>
-    ensures { OnOk result (string_bytes out.new
-        ≡ string_bytes out.old ++ compact_text (numbers_data list.now)) }
+fn push_numbers<S: Sink>(out: &mut S, list: &[u8]) -> Result<(), S::Error>
+    ensures { OnOk result (S.text out.new
+        ≡ S.text out.old ++ compact_text (numbers_data list.now)) }
 {
-    out.push('[')?;
+    out.push(b'[')?;
     let mut later = false;
     for n in list {
         if later {
-            out.push(',')?;
+            out.push(b',')?;
         }
         push_number(out, *n)?;
         later = true;
     }
-    out.push(']')
+    out.push(b']')
 }
 
-fn push_number_or_null(out: &mut String, number: Option<u8>) -> Result<(), AllocError>
-    ensures { OnOk result (string_bytes out.new
-        ≡ string_bytes out.old ++ compact_text (number_or_null number)) }
+fn push_number_or_null<S: Sink>(out: &mut S, number: Option<u8>) -> Result<(), S::Error>
+    ensures { OnOk result (S.text out.new
+        ≡ S.text out.old ++ compact_text (number_or_null number)) }
 {
     match number {
         Some(n) => push_number(out, n),
@@ -53,87 +55,93 @@ fn push_number_or_null(out: &mut String, number: Option<u8>) -> Result<(), Alloc
 }
 
 /// A number and two lists: a state with its teams, or a process with its orders.
-fn push_triple(out: &mut String, n: u8, a: &[u8], b: &[u8]) -> Result<(), AllocError>
-    ensures { OnOk result (string_bytes out.new
-        ≡ string_bytes out.old ++ triple_text n a.now b.now) }
+fn push_triple<S: Sink>(out: &mut S, n: u8, a: &[u8], b: &[u8]) -> Result<(), S::Error>
+    ensures { OnOk result (S.text out.new
+        ≡ S.text out.old ++ triple_text n a.now b.now) }
 {
     push_number(out, n)?;
-    out.push(',')?;
+    out.push(b',')?;
     push_numbers(out, a)?;
-    out.push(',')?;
+    out.push(b',')?;
     push_numbers(out, b)
 }
 
-fn push_witness(out: &mut String, witness: &Option<Choice>) -> Result<(), AllocError>
-    ensures { OnOk result (string_bytes out.new
-        ≡ string_bytes out.old ++ compact_text (witness_data witness.now)) }
+fn push_witness<S: Sink>(out: &mut S, witness: &Option<Choice>) -> Result<(), S::Error>
+    ensures { OnOk result (S.text out.new
+        ≡ S.text out.old ++ compact_text (witness_data witness.now)) }
 {
     match witness {
         Some(choice) => {
-            out.push('[')?;
+            out.push(b'[')?;
             push_triple(
                 out,
                 choice.state.0,
                 choice.a.as_slice(),
                 choice.b.as_slice(),
             )?;
-            out.push(']')
+            out.push(b']')
         }
         None => out.push_str("null"),
     }
 }
 
-fn push_collision(out: &mut String, collision: &Collision) -> Result<(), AllocError>
-    ensures { OnOk result (string_bytes out.new
-        ≡ string_bytes out.old ++ compact_text (collision_data collision.now)) }
+fn push_collision<S: Sink>(out: &mut S, collision: &Collision) -> Result<(), S::Error>
+    ensures { OnOk result (S.text out.new
+        ≡ S.text out.old ++ compact_text (collision_data collision.now)) }
 {
     let choice = &collision.choice;
-    out.push('[')?;
+    out.push(b'[')?;
     push_triple(
         out,
         choice.state.0,
         choice.a.as_slice(),
         choice.b.as_slice(),
     )?;
-    out.push(',')?;
+    out.push(b',')?;
     push_triple(
         out,
         collision.process,
         collision.alpha.as_slice(),
         collision.beta.as_slice(),
     )?;
-    out.push(']')
+    out.push(b']')
 }
 
-fn push_collisions(out: &mut String, list: &[Collision]) -> Result<(), AllocError>
-    ensures { OnOk result (string_bytes out.new
-        ≡ string_bytes out.old ++ compact_text (collisions_data list.now)) }
+fn push_collisions<S: Sink>(out: &mut S, list: &[Collision]) -> Result<(), S::Error>
+    ensures { OnOk result (S.text out.new
+        ≡ S.text out.old ++ compact_text (collisions_data list.now)) }
 {
-    out.push('[')?;
+    out.push(b'[')?;
     let mut later = false;
     for entry in list {
         if later {
-            out.push(',')?;
+            out.push(b',')?;
         }
         push_collision(out, entry)?;
         later = true;
     }
-    out.push(']')
+    out.push(b']')
 }
 
-/// The name in quotes, with what JSON escapes.
-fn push_name(alloc: Global, out: &mut String, name: &str) -> Result<(), AllocError>
-    ensures { OnOk result (string_bytes out.new
-        ≡ string_bytes out.old ++ compact_text (string name.now)) }
+/// The name in quotes, with what JSON escapes. A name of a table has nothing to escape; the text of
+/// another one takes memory of its own.
+fn push_name<S: Sink>(alloc: Global, out: &mut S, name: &str) -> Result<(), S::Error>
+    ensures { OnOk result (S.text out.new
+        ≡ S.text out.old ++ compact_text (string name.now)) }
 {
+    if is_name(name) {
+        out.push(b'"')?;
+        out.push_str(name)?;
+        return out.push(b'"');
+    }
     let text = Value::try_from_str(alloc, name)?.to_string(alloc)?;
     out.push_str(text.as_str())
 }
 
 /// The members behind the collisions, and the end of the object.
-fn push_rest(alloc: Global, out: &mut String, certificate: &Certificate) -> Result<(), AllocError>
-    ensures { OnOk result (string_bytes out.new
-        ≡ string_bytes out.old ++ members_text true (other_members certificate.now)) }
+fn push_rest<S: Sink>(alloc: Global, out: &mut S, certificate: &Certificate) -> Result<(), S::Error>
+    ensures { OnOk result (S.text out.new
+        ≡ S.text out.old ++ members_text true (other_members certificate.now)) }
 {
     out.push_str(",\"limit\":")?;
     push_number(out, certificate.limit)?;
@@ -145,7 +153,20 @@ fn push_rest(alloc: Global, out: &mut String, certificate: &Certificate) -> Resu
     push_number(out, certificate.version)?;
     out.push_str(",\"witness\":")?;
     push_witness(out, &certificate.witness)?;
-    out.push('}')
+    out.push(b'}')
+}
+
+/// The text of a certificate, as [`write_certificate`] says.
+pub(crate) fn push_certificate<S: Sink>(
+    alloc: Global,
+    out: &mut S,
+    certificate: &Certificate,
+) -> Result<(), S::Error>
+    ensures { OnOk result (S.text out.new ≡ S.text out.old ++ certificate_text certificate.now) }
+{
+    out.push_str("{\"collisions\":")?;
+    push_collisions(out, &certificate.collisions)?;
+    push_rest(alloc, out, certificate)
 }
 
 /// The one text of a certificate: compact JSON, its keys in the order of their bytes, its numbers
@@ -163,8 +184,6 @@ pub fn write_certificate(alloc: Global, certificate: &Certificate) -> Result<Str
 {
     laws::written_is_read_back();
     let mut out = String::new(alloc);
-    out.push_str("{\"collisions\":")?;
-    push_collisions(&mut out, &certificate.collisions)?;
-    push_rest(alloc, &mut out, certificate)?;
+    push_certificate(alloc, &mut out, certificate)?;
     Ok(out)
 }
