@@ -2,7 +2,7 @@
 import re
 
 from calls import TOP, TYPES, answer, called, fault
-from tables import table
+from table import table_text
 
 NAME = re.compile(r"[a-z0-9_]{1,32}\Z")
 LONGEST = 65_536
@@ -85,7 +85,7 @@ def told(draft):
     """A case of a draft that is refused: `lint` writes its flaws, and another command the fault alone."""
     found = list(flaws(*draft))
     refused = fault(f"table: {found[0][0]}")
-    text = table(*draft)
+    text = table_text(*draft)
     yield lambda: called(["lint"], text), ("".join(f"{line}\n" for _, line in found).encode(), *refused[1:])
     yield lambda: called(["find", "--limit", "2"], text), refused
 
