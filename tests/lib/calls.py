@@ -1,20 +1,25 @@
-"""How the tests of tests/hostile call the program, what they hand to it, and how they count."""
-import concurrent.futures
+"""How the tests call the program, what they hand to it, and how they count."""
 import os
 import pathlib
 import re
 import shutil
 import signal
 import subprocess
-import sys
 import threading
 import time
 
-TOP = pathlib.Path(__file__).resolve().parents[2]
-PROGRAM = str(pathlib.Path(sys.argv[1]).resolve())
+import usage
+from built import TOP, built
+
+WORDS = usage.words()
+NAMED = [word for word in WORDS if not word.startswith("-")]
+# The program that the words name first, or else the one that ./cnum runs.
+PROGRAM = str(pathlib.Path(NAMED[0]).resolve()) if NAMED else built()
 CERTIFICATES = {it.stem: it.read_text().removesuffix("\n") for it in (TOP / "tests/certificates").glob("*.json")}
 TYPES = {path.stem: path.read_text() for folder in ("types", "tests/types") for path in (TOP / folder).glob("*.toml")}
-POOL = concurrent.futures.ThreadPoolExecutor(2)
+# What a shell does before it runs a program in a folder, and the signals that Python ignores and a shell does not.
+IN_ROOM = 'cd "$0" && { [ -z "$1" ] || ulimit -v "$1"; } && shift && exec "$@"'
+IGNORED = [signal.SIGPIPE, signal.SIGXFSZ]
 
 
 def path_of(name):
@@ -22,16 +27,20 @@ def path_of(name):
     return str(TOP / f"types/{name}.toml")
 
 
-def called(words, stdin="", stdout=None, pass_fds=(), env=os.environ, program=PROGRAM):
+def called(words, stdin="", stdout=None, pass_fds=(), env=os.environ, program=PROGRAM, room=None, memory=None):
     """What the program, or another, prints, tells and answers with these words. Standard input is a text, bytes, the
-    path of a file or a descriptor; standard output can be a descriptor, and then nothing that is printed is seen."""
+    path of a file or a descriptor, or None where it is closed; standard output can be a descriptor, and then nothing that
+    is printed is seen. With a room the program runs in this folder, as a shell runs it, and with at most `memory` KiB of
+    addresses, if that is given."""
     is_path = isinstance(stdin, pathlib.Path)
-    given = stdin if isinstance(stdin, int) else os.open(stdin, os.O_RDONLY) if is_path else in_memory(stdin)
+    given = stdin if stdin is None or isinstance(stdin, int) else os.open(stdin, os.O_RDONLY) if is_path else in_memory(stdin)
     (out, printing), (told, telling) = os.pipe(), os.pipe()
     ends = (given, printing if stdout is None else stdout, telling)
-    moves = [(os.POSIX_SPAWN_DUP2, end, k) for k, end in enumerate(ends)]
+    moves = [(os.POSIX_SPAWN_CLOSE, k) if end is None else (os.POSIX_SPAWN_DUP2, end, k) for k, end in enumerate(ends)]
     moves += [(os.POSIX_SPAWN_DUP2, file, file) for file in pass_fds]
-    process = os.posix_spawn(program, [program, *words], env, file_actions=moves)
+    if room:
+        program, words = "/bin/sh", ["-c", IN_ROOM, str(room), str(memory or ""), program, *words]
+    process = os.posix_spawn(program, [program, *words], env, file_actions=moves, setsigdef=IGNORED if room else [])
     RUNNING[process] = time.monotonic()
     for file in {given, printing, telling} - {stdin}:
         os.close(file)
@@ -103,37 +112,3 @@ def shim(source, room):
     path = str(pathlib.Path(room) / "shim.so")
     subprocess.run([compiler, "-O2", "-shared", "-fPIC", "-o", path, str(source)], check=True)
     return path
-
-
-class Tally:
-    """Counts what passes and what fails."""
-
-    def __init__(self, noun):
-        self.noun, self.passed, self.failed = noun, 0, 0
-
-    def judge(self, about, right, told=""):
-        """Counts a case, and tells of it where it is not right."""
-        self.passed += bool(right)
-        self.failed += not right
-        if not right:
-            print(f"{about}: FAILED\n  {told}")
-
-    def compare(self, about, is_now, wanted):
-        """Counts a case that has to be as it is wanted."""
-        self.judge(about, is_now == wanted, f"is {shown(is_now)}\n  and not {shown(wanted)}")
-
-    def each(self, cases):
-        """Runs cases, (about, run, wanted) each, two at a time, and compares what they come to."""
-        for about, is_now, wanted in POOL.map(lambda case: (case[0], case[1](), case[2]), cases):
-            self.compare(about, is_now, wanted)
-
-    def end(self):
-        """Prints the count as the last line, and ends with its status."""
-        print(f"{self.passed} {self.noun} passed, {self.failed} failed")
-        sys.exit(self.failed != 0)
-
-
-def shown(value):
-    """A value, cut where it is long."""
-    text = repr(value)
-    return text if len(text) < 400 else text[:300] + " .. " + text[-90:]

@@ -1,10 +1,10 @@
 """What the sources say: the functions with their contracts, the definitions that these go by, and the proofs that a crate
 has from another. tests/pages compares the pages with it."""
 import collections
-import pathlib
 import re
 
-TOP = pathlib.Path(__file__).resolve().parents[2]
+from built import TOP
+
 # What stands in comments and between quotes.
 HIDDEN = re.compile(r"//[^\n]*|r#\".*?\"#|\"(?:\\.|[^\"\\])*\"|'(?:\\.[^']*|[^'\\\n])'", re.S)
 NAME = re.compile(r"[^\W\d]\w*")

@@ -3,27 +3,9 @@
 Nothing here is the program's: a plan is read from its text, a type from its table, and a world is a
 value that a step makes anew. What a world has to meet stands with the tests that ask for it.
 """
-import tomllib
 
 EMPTY = None  # what an unwritten register holds
 TEAMS = "AB"
-
-
-class Kind:
-    """A type by its table: the names, and what an operation does in a state."""
-
-    def __init__(self, text):
-        table = tomllib.loads(text)
-        self.name, self.states, self.responses = table["name"], table["states"], table["responses"]
-        self.operations = [it["name"] for it in table["operation"]]
-        self.rows = [
-            [(self.responses.index(response), self.states.index(after)) for response, after in zip(it["response"], it["next"])]
-            for it in table["operation"]
-        ]
-
-    def act(self, operation, state):
-        """The response and the next state."""
-        return self.rows[operation][state]
 
 
 class Plan:

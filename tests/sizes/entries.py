@@ -11,7 +11,7 @@ import counts
 import judge
 from calls import TYPES, answer, called, fault
 from plans import accepted
-from protocol import Kind
+from table import Table
 from tables import blind, shots
 
 OK = answer("ok\n")
@@ -68,7 +68,7 @@ def collision(state, n):
 def shown(count):
     """A type of 16 states and 8 operations with this number, and its certificate of version 1 for the limit above it."""
     table = shots(count, 4, 14 - 2 * (count - 1))
-    kind, n = Kind(table), count + 1
+    kind, n = Table(table), count + 1
     teams = [text(choice[1:])[1:-1] for choice in itertools.takewhile(lambda it: it[0] == 0, judge.choices(kind, n, False))]
     entries = [f"[{s},{it},{end}" for s in range(16) for end in [text(collision(s, n))[1:]] for it in teams]
     witness = text([0, [0], [4] * (count - 1)])
@@ -106,7 +106,7 @@ def written(number, places, spellings):
 
 def found(name, limit, count):
     """A certificate that `find` makes, with an entry for each live choice."""
-    table, kind = TYPES[name], Kind(TYPES[name])
+    table, kind = TYPES[name], Table(TYPES[name])
     line = called(["find", "--limit", str(limit)], table)[0].decode()
     inner, behind = re.fullmatch(r'\{"collisions":\[(.*)\](,"limit":.*\})\n', line).groups()
     certificate = Certificate(re.split(r"(?<=\]\]),(?=\[)", inner), behind)
@@ -133,7 +133,7 @@ def chosen():
     chance = random.Random(3)
     sizes = [(name, n) for name in ("sticky_bit", "three_shot", "test_and_set", "compare_and_swap_4", "shots_12_4") for n in (5, 6, 7, 8)]
     for name, n in sizes + [("wide", n) for n in (2, 3, 4)] * 10:
-        kind, size = Kind(TYPES[name]), chance.randrange(1, n)
+        kind, size = Table(TYPES[name]), chance.randrange(1, n)
         operations = [chance.randrange(len(kind.operations)) for _ in range(n)]
         witness = [chance.randrange(len(kind.states)), operations[:size], operations[size:]]
         yield f"{name}: {witness}", *witness_check(kind, TYPES[name], witness)
@@ -144,7 +144,7 @@ def witnesses():
     table = blind()
     for j in range(8):
         operations = [(2 if p == j else 0) + (p > 3) for p in range(8)]
-        run = lambda whole=accepted(Kind(table), [0, operations[:4], operations[4:]]): checked(whole, table)
+        run = lambda whole=accepted(Table(table), [0, operations[:4], operations[4:]]): checked(whole, table)
         yield f"process {j} alone cannot tell", run, fault(f"check: 4 WitnessMeets {j}")
 
 

@@ -1,8 +1,9 @@
 """`lint`: where a text stops to be TOML, the flaws of large tables, and tables as long as they may be."""
 import re
 
-from calls import TOP, TYPES, answer, called, fault
-from tables import table
+from calls import TYPES, answer, called, fault
+from rows import printed
+from table import table_text
 
 NAME = re.compile(r"[a-z0-9_]{1,32}\Z")
 LONGEST = 65_536
@@ -85,7 +86,7 @@ def told(draft):
     """A case of a draft that is refused: `lint` writes its flaws, and another command the fault alone."""
     found = list(flaws(*draft))
     refused = fault(f"table: {found[0][0]}")
-    text = table(*draft)
+    text = table_text(*draft)
     yield lambda: called(["lint"], text), ("".join(f"{line}\n" for _, line in found).encode(), *refused[1:])
     yield lambda: called(["find", "--limit", "2"], text), refused
 
@@ -129,7 +130,7 @@ def drafts():
 
 def lengths():
     """A table, and a refused one, filled to some length by a comment, by line feeds and before its end."""
-    text, grid = TYPES["three_shot"], (TOP / "tests/cli/lint_three_shot/stdout").read_text()
+    text, grid = TYPES["three_shot"], printed("lint", "three shot")
     for length in (511, 512, 513, 1023, 1024, 1025, 4095, 4096, 4097, 8191, 8192, 8193, 32_768, 65_000, LONGEST - 1, LONGEST, LONGEST + 1):
         left = length - len(text)
         comment, feeds, spaces = "#" * (left - 1) + "\n" + text, text + "\n" * left, text[:4] + " " * left + text[4:]

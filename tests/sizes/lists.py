@@ -4,7 +4,7 @@ import tempfile
 
 from calls import CERTIFICATES, TYPES, answer, called, fault, path_of
 from plans import accepted
-from protocol import Kind
+from table import Table
 
 ARGUMENTS = ("INPUTS", "SCHEDULE", "EVENTS", "CALLS")
 # Words of right lists of two processes, by their arguments, and what is then printed.
@@ -62,7 +62,7 @@ def files_of(argument):
 
 def pairs():
     """Two lists of one command: one file for both, one for each, and which is read first."""
-    sticky, word = accepted(Kind(TYPES["sticky_bit"]), [0, [0], [1] * 7]), "0,0,0,0,1,1,1,1"
+    sticky, word = accepted(Table(TYPES["sticky_bit"]), [0, [0], [1] * 7]), "0,0,0,0,1,1,1,1"
     both = answer("0: 0\n" + "".join(f"{p}: undecided\n" for p in range(1, 8)))
     for words in (["@list", "@list"], [word, "@list"], ["@list", word]):
         yield f"one list as {words}", lambda words=words: ran(["agree", *words], {"list": word}, sticky, TYPES["sticky_bit"]), both

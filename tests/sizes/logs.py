@@ -5,10 +5,11 @@ import tempfile
 
 from calls import TYPES, answer, called, fault, path_of
 from plans import accepted, plan_text
-from protocol import Kind, Log, Plan, events_text
+from protocol import Log, Plan, events_text
+from table import Table
 from tables import sums
 
-COUNTER = Kind(TYPES["counter_3"])
+COUNTER = Table(TYPES["counter_3"])
 IDLE = "4 Idle"
 
 
@@ -16,7 +17,7 @@ class Served:
     """A plan of a witness, over which the counter modulo 3 is served from state 0."""
 
     def __init__(self, table, witness):
-        self.table, self.kind = table, Kind(table)
+        self.table, self.kind = table, Table(table)
         self.certificate = accepted(self.kind, witness)
         self.plan = Plan(plan_text(self.kind, witness), self.kind)
         self.n = self.plan.n

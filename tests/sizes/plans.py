@@ -6,7 +6,8 @@ import tempfile
 
 import judge
 from calls import TYPES, answer, called, fault
-from protocol import TEAMS, Kind, Plan, Round
+from protocol import TEAMS, Plan, Round
+from table import Table
 from tables import sums
 
 
@@ -157,7 +158,7 @@ def schedules(plan, chance):
 def cases():
     chance = random.Random(5)
     for table, witness in witnesses():
-        kind = Kind(table)
+        kind = Table(table)
         certificate, text = accepted(kind, witness), plan_text(kind, witness)
         plan = Plan(text, kind)
         about = f"{kind.name}, teams of {len(witness[1])} and {len(witness[2])}"

@@ -1,24 +1,11 @@
 """Types of any size, as texts of tables."""
-
-
-def quoted(names):
-    return "[" + ", ".join(f'"{it}"' for it in names) + "]"
-
-
-def table(name, states, responses, operations):
-    """The text of a table; an operation is (name, responses, next states)."""
-    head = f'name = "{name}"\nstates = {quoted(states)}\nresponses = {quoted(responses)}\n'
-    return head + "".join(operation_text(*it) for it in operations)
-
-
-def operation_text(name, responses, following):
-    return f'[[operation]]\nname = "{name}"\nresponse = {quoted(responses)}\nnext = {quoted(following)}\n'
+from table import table_text
 
 
 def idle(states, operations):
     """A type whose operations change nothing: no choice of it is live."""
     names = [f"s{k}" for k in range(states)]
-    return table(f"idle_{states}_{operations}", names, ["ok"], [(f"o{k}", ["ok"] * states, names) for k in range(operations)])
+    return table_text(f"idle_{states}_{operations}", names, ["ok"], [(f"o{k}", ["ok"] * states, names) for k in range(operations)])
 
 
 def shots(count, each=1, spare=0, name=None):
@@ -31,7 +18,7 @@ def shots(count, each=1, spare=0, name=None):
     after = [*left[1:], "dead", *right[1:], "dead", "dead"] + ["dead"] * spare
     row = lambda first, to: ([first, *told], [to, *after])
     operations = [(f"x{k}", *row("a", left[0])) for k in range(each)] + [(f"y{k}", *row("b", right[0])) for k in range(each)]
-    return table(name or f"shots_{count}", states, ["a", "b", "none"], operations)
+    return table_text(name or f"shots_{count}", states, ["a", "b", "none"], operations)
 
 
 def sums():
@@ -42,7 +29,7 @@ def sums():
     following = lambda step, first: [first, *(f"c{(k + step) % 13}" for k in range(13)), "late"]
     firsts = [f"c{step % 13}" for step in steps[:7]] + ["late"]
     operations = [(f"o{k}", ["first", *numbers, "late"], following(step, first)) for k, (step, first) in enumerate(zip(steps, firsts))]
-    return table("sums", ["bot", *numbers, "late"], ["first", *numbers, "late"], operations)
+    return table_text("sums", ["bot", *numbers, "late"], ["first", *numbers, "late"], operations)
 
 
 def blind():
@@ -54,4 +41,4 @@ def blind():
     row = lambda first, last: ["a1" if first == "a" else "b1", *left[1:], last or "a7", *right[1:], last or "b7", "dead"]
     operations = [(name, [first, *told], row(first, "")) for name, first in (("x", "a"), ("y", "b"))]
     operations += [(name, ["ok"] * 16, row(first, "dead")) for name, first in (("ex", "a"), ("ey", "b"))]
-    return table("blind", states, ["a", "b", "ok"], operations)
+    return table_text("blind", states, ["a", "b", "ok"], operations)

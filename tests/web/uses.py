@@ -9,6 +9,7 @@ import time
 
 import jobs
 from calls import TOP, TYPES, called, found
+from table import table_text
 
 PAGE = (TOP / "web/index.html").as_uri()
 FIRST = 1.0  # seconds to the first number
@@ -224,11 +225,9 @@ def pictures(use):
 
 def random_table(source, states, operations):
     names = [f"s{k}" if source.random() < 0.8 else f"state_with_a_long_name_{k}" for k in range(states)]
-    text = f'name = "random"\nstates = {json.dumps(names)}\nresponses = ["yes", "no"]\n'
-    for k in range(operations):
-        rows = [json.dumps([source.choice(its) for _ in names]) for its in (["yes", "no"], names)]
-        text += f'[[operation]]\nname = "op_{k}"\nresponse = {rows[0]}\nnext = {rows[1]}\n'
-    return text
+    answers = ["yes", "no"]
+    chosen = [[[source.choice(its) for _ in names] for its in (answers, names)] for _ in range(operations)]
+    return table_text("random", names, answers, [(f"op_{k}", *rows) for k, rows in enumerate(chosen)])
 
 
 def grid(use):

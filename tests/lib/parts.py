@@ -1,0 +1,41 @@
+"""Scripts that run others: each command is shown as it runs, and what the last lines count is added up."""
+import re
+import subprocess
+import sys
+
+from built import TOP, built
+
+COUNT = re.compile(rb"(\d+) (?:[a-z]+ )?passed, (\d+) failed\n")
+
+
+class Parts:
+    """Commands that ran one after the other, and how many of their cases passed and failed."""
+
+    def __init__(self):
+        self.passed = self.failed = 0
+
+    def add(self, *words):
+        """Runs a command of the repository, and adds what its last line counts, 'N .. passed, M failed'. A command with no
+        such line has failed, and so has one that counts no failure and ends with a status other than 0."""
+        last = b""
+        with subprocess.Popen(words, cwd=TOP, stdout=subprocess.PIPE, stderr=subprocess.STDOUT) as process:
+            for last in process.stdout:
+                sys.stdout.buffer.write(last)
+                sys.stdout.flush()
+        counted = COUNT.fullmatch(last)
+        passed, failed = map(int, counted.groups()) if counted else (0, 1)
+        self.passed += passed
+        self.failed += failed or process.returncode != 0
+
+    def program(self):
+        """The program that ./cnum runs; where there is none, the script ends with a failure."""
+        try:
+            return built()
+        except subprocess.CalledProcessError:
+            self.failed += 1
+            self.end()
+
+    def end(self):
+        """Prints the sums as the last line, and ends with its status."""
+        print(f"{self.passed} passed, {self.failed} failed")
+        sys.exit(self.failed != 0)

@@ -1,0 +1,140 @@
+"""The tables of tests/rows: what each row hands to the program, and what has to come of it.
+
+A file holds tables, each of which is one command with its rows:
+  about     what the rows show
+  words     the words after the program's name: a list, or a text with spaces between them
+  stdin     standard input; empty, where it is left out
+  closed    true where standard input is closed
+  files     the files that the program finds, by name; or a list of files of the repository, which have their own names
+  changed   where the columns FROM and TO change a text: `stdin`, or the name of a file
+  output    the file that standard output goes to in place of a pipe, as /dev/full
+  memory    the most KiB of addresses that the program may have
+  says      what the program prints, which ends in a newline where it is not empty, or the line of its refusal after
+            `cnum: `, with no newline
+  prints    what the program prints beside a refusal
+  tells     what it tells on standard error, where that is more than one refusal, or another text
+  status    the exit status; 0, where it is left out
+  judged    true where `check` of what is printed is to say `ok`; its number is in the column NUMBER, `none` for null
+  columns   the names of the columns, in capitals; left out, as the rows, where there is one row and the keys say it all
+  rows      the rows
+
+The columns SAYS, PRINTS, TELLS and STATUS stand in the place of these keys. The column CASE tells what a row shows.
+
+A word is the name of a column, or the word itself. `words` and `files` may be the name of a column that has them. Any other
+text is one of these:
+  the name of a column
+  a type of types/ or tests/types, or a certificate of tests/certificates without the end of its line: `idle`, `idle_at_2`
+  a file of these folders, of tests/refused or a picture of docs/ as it stands there: `idle_at_2.json`
+  the text itself
+  [TEXT, PART, N]: the text, and then the part so many times
+  { bytes = TEXT }: a byte for each character, by its number
+"""
+import json
+import os
+import pathlib
+import tempfile
+import tomllib
+
+from calls import TOP, called
+
+FOLDERS = ("types", "tests/types", "tests/certificates", "tests/refused")
+FILES = [path for folder in FOLDERS for path in (TOP / folder).iterdir()] + [*TOP.glob("docs/*.dot")]
+TEXTS = {path.name: path.read_bytes() for path in FILES}
+TEXTS |= {path.stem: path.read_bytes() for path in FILES if path.suffix == ".toml" and path.parent.name == "types"}
+TEXTS |= {path.stem: path.read_bytes().removesuffix(b"\n") for path in FILES if path.parent.name == "certificates"}
+
+
+def meaning(value, row, texts=TEXTS):
+    """The bytes that a value of a table stands for, in a row."""
+    if isinstance(value, list):
+        text, part, times = value
+        return meaning(text, row, texts) + part.encode() * times
+    if isinstance(value, dict):
+        return value["bytes"].encode("latin-1")
+    if value in row:
+        return meaning(row[value], {}, texts)
+    return texts.get(value, value.encode())
+
+
+class Row:
+    """A row of a table of a file: one run of the program."""
+
+    def __init__(self, file, table, values):
+        self.table, self.cells = table, dict(zip(table.get("columns", []), values, strict=True))
+        self.about = f"{file}, {table['about']}: {values}"
+
+    def value(self, key, otherwise):
+        """What the column of a key says in this row, or else the key of the table."""
+        return self.cells.get(key.upper(), self.table.get(key, otherwise))
+
+    def words(self):
+        """The words after the program's name."""
+        words = self.table["words"]
+        if isinstance(words, str):
+            words = self.cells.get(words, words).split()
+        return [meaning(word, self.cells, {}) for word in words]
+
+    def given(self):
+        """Standard input, or None where it is closed, and the files, each with its bytes."""
+        named = self.table.get("files", {})
+        named = self.cells[named] if isinstance(named, str) else named
+        named = {name: name for name in named} if isinstance(named, list) else named
+        files = {name: meaning(text, self.cells) for name, text in named.items()}
+        texts = {**files, "stdin": meaning(self.table.get("stdin", ""), self.cells)}
+        if "changed" in self.table:
+            at, old, new = self.table["changed"], self.cells["FROM"].encode(), self.cells["TO"].encode()
+            assert old in texts[at], f"{self.about}: {at} has no such text"
+            texts[at] = texts[at].replace(old, new, 1)
+        stdin = texts.pop("stdin")
+        return None if self.table.get("closed") else stdin, texts
+
+    def wanted(self):
+        """What is to be printed, told and answered, or of a judged row its number."""
+        if self.table.get("judged"):
+            return self.cells["NUMBER"], (b"ok\n", b"", 0)
+        says = meaning(self.value("says", ""), self.cells)
+        prints, tells = (meaning(self.value(key, ""), self.cells) for key in ("prints", "tells"))
+        if says and not says.endswith(b"\n"):
+            says, tells = b"", b"cnum: " + says + b"\n"
+        return says or prints, tells, self.value("status", 0)
+
+    def found(self):
+        """What the program prints, tells and answers, or of a judged row the number that it finds, and what `check` says."""
+        stdin, files = self.given()
+        ended = ran(self.words(), stdin, files, self.table.get("output"), self.table.get("memory"))
+        if not self.table.get("judged"):
+            return ended
+        try:
+            number = json.loads(ended[0])["number"] or "none"
+        except ValueError:
+            return ended
+        return number, ran(["check", "certificate"], stdin, {"certificate": ended[0]})
+
+
+def ran(words, stdin, files, output=None, memory=None):
+    """What the program prints, tells and answers in a folder with these files, and that it changed these, if it did."""
+    with tempfile.TemporaryDirectory() as name:
+        room = pathlib.Path(name)
+        for file, text in files.items():
+            (room / file).write_bytes(text)
+        target = os.open(output, os.O_WRONLY) if output else None
+        ended = called(words, stdin, target, room=room, memory=memory)
+        if output:
+            os.close(target)
+        left = {path.name: path.read_bytes() for path in room.iterdir()}
+    return ended if left == files else (*ended, f"the folder has {sorted(left)}")
+
+
+def rows():
+    """All rows of the tables of tests/rows, in order."""
+    for path in sorted((TOP / "tests/rows").glob("*.toml")):
+        for table in tomllib.loads(path.read_text())["table"]:
+            for values in table.get("rows", [[]]):
+                yield Row(path.stem, table, values)
+
+
+def printed(file, about):
+    """What the program has to print in the one table of a file that shows this, or in the row whose CASE it is."""
+    shown = [row for row in rows() if row.about.startswith(f"{file}, ") and about in (row.table["about"], row.cells.get("CASE"))]
+    assert len(shown) == 1, f"{file} has {len(shown)} rows that show {about}"
+    return shown[0].wanted()[0].decode()

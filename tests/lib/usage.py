@@ -1,0 +1,26 @@
+"""The words of a script's command line, by the first line of its text: 'ABOUT: tests/NAME WORDS'.
+
+A word in brackets may be left out, and two points stand behind one that may come again.
+"""
+import __main__
+import sys
+
+ABOUT, _, LINE = __main__.__doc__.split("\n", 1)[0].rpartition(": ")
+
+
+def words():
+    """The words behind the script's name. The script ends here where they ask for help, or are too few or too many."""
+    given, named = sys.argv[1:], LINE.split()[1:]
+    if given in (["--help"], ["-h"]):
+        print(f"usage: {LINE}\n{__main__.__doc__}", end="")
+        sys.exit(0)
+    least = sum(not word.startswith("[") for word in named)
+    if len(given) < least or len(given) > len(named) and ".." not in LINE:
+        refuse()
+    return given
+
+
+def refuse():
+    """Ends the script, whose words it does not take."""
+    print(f"usage: {LINE}", file=sys.stderr)
+    sys.exit(3)
