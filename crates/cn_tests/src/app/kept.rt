@@ -27,7 +27,12 @@ fn kept<T: Threads + Sync>(
     if !is_found || !bytes.starts_with(read) {
         return None;
     }
-    Some((read.len(), table.progress(), handed.len(), output.progress()))
+    Some((
+        read.len(),
+        table.progress(),
+        handed.len(),
+        output.progress(),
+    ))
 }
 
 #[test]

@@ -213,8 +213,7 @@ impl Example {
         let mut given = given_of(alloc, failing);
         let mut output = Output::new(alloc, Page::new(room));
         let ended = run_command(rt, alloc, &self.command, &mut given, &mut output);
-        let Output { writer, .. } = output;
-        (ended, writer)
+        (ended, output.into_writer())
     }
 
     /// Whether the command reads this.

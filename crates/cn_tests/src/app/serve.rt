@@ -36,8 +36,7 @@ where
     let mut output = Output::new(alloc, Vec::new(alloc));
     let calls = ListText::Word(calls);
     let ended = commands::serve(rt, alloc, &mut given, &mut output, calls, make_gate);
-    let Output { writer, .. } = output;
-    (ended, writer)
+    (ended, output.into_writer())
 }
 
 /// Two processes, the second of which is stopped before its third step.
