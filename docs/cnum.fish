@@ -1,0 +1,83 @@
+# Completions of cnum for fish. Written by tests/manual from the help of the program.
+# The words before the cursor, without options and their values.
+function __cnum_words
+    set -l is_value no
+    for word in (commandline -opc)[2..]
+        if test $is_value = yes
+            set is_value no
+        else
+            switch $word
+                case --as --limit
+                    set is_value yes
+                case '-*'
+                case '*'
+                    echo $word
+            end
+        end
+    end
+end
+# Whether this is the command.
+function __cnum_is
+    set -l words (__cnum_words)
+    test "$words[1]" = "$argv[1]"
+end
+# How many words stand before the cursor. fish counts the files behind < and > among them.
+function __cnum_count
+    math (count (__cnum_words)) - (count (string match -ar '[<>]+' -- (commandline -pc)))
+end
+function __cnum_at
+    __cnum_is $argv[1]; and test (__cnum_count) -eq $argv[2]
+end
+function __cnum_from
+    __cnum_is $argv[1]; and test (__cnum_count) -ge $argv[2]
+end
+# The files behind an @.
+function __cnum_list
+    set -l word (commandline -ct)
+    if string match -q '@*' -- $word
+        printf '@%s\n' (__fish_complete_path (string sub -s 2 -- $word))
+    end
+end
+complete -c cnum -f
+complete -c cnum -n '__cnum_is' -s h -l help -d 'Print help'
+complete -c cnum -n '__cnum_is' -s V -l version -d 'Print version'
+complete -c cnum -n '__cnum_is' -a find -d 'Writes the certificate of the consensus number of the type'
+complete -c cnum -n '__cnum_is' -a classify -d 'Writes the consensus number of each of several types'
+complete -c cnum -n '__cnum_is' -a lint -d 'Writes the table as a grid, or all that is wrong with it'
+complete -c cnum -n '__cnum_is' -a check -d 'Checks a certificate against the type'
+complete -c cnum -n '__cnum_is' -a explain -d 'Tells why the number of a certificate is what it is'
+complete -c cnum -n '__cnum_is' -a show -d 'Writes the plan of a certificate\'s witness'
+complete -c cnum -n '__cnum_is' -a draw -d 'Draws the states of the type'
+complete -c cnum -n '__cnum_is' -a agree -d 'Runs the plan of a certificate\'s witness by a schedule'
+complete -c cnum -n '__cnum_is' -a replay -d 'Serves an object by a list of events, with a certificate\'s witness'
+complete -c cnum -n '__cnum_is' -a serve -d 'Serves an object by threads that make calls, with a certificate\'s witness'
+complete -c cnum -n '__cnum_is' -a help -d 'Print this message or the help of the given subcommand(s)'
+complete -c cnum -n '__cnum_is find' -l limit -x -a '2 3 4 5 6 7 8' -d 'The greatest number looked for, from 2 to 8'
+complete -c cnum -n '__cnum_is find' -s h -l help -d 'Print help'
+complete -c cnum -n '__cnum_is classify' -l limit -x -a '2 3 4 5 6 7 8' -d 'The greatest number looked for, from 2 to 8'
+complete -c cnum -n '__cnum_is classify' -s h -l help -d 'Print help'
+complete -c cnum -n '__cnum_from classify 1' -F
+complete -c cnum -n '__cnum_is lint' -s h -l help -d 'Print help'
+complete -c cnum -n '__cnum_is check' -s h -l help -d 'Print help'
+complete -c cnum -n '__cnum_at check 1' -F
+complete -c cnum -n '__cnum_is explain' -l all -d 'Tells all choices that are refuted, not the first 12 alone'
+complete -c cnum -n '__cnum_is explain' -s h -l help -d 'Print help'
+complete -c cnum -n '__cnum_at explain 1' -F
+complete -c cnum -n '__cnum_is show' -l as -x -a 'text json dot promela' -d 'The form in which the plan is written'
+complete -c cnum -n '__cnum_is show' -s h -l help -d 'Print help'
+complete -c cnum -n '__cnum_at show 1' -F
+complete -c cnum -n '__cnum_is draw' -s h -l help -d 'Print help'
+complete -c cnum -n '__cnum_is agree' -l steps -d 'Tells what each step does, before the decisions'
+complete -c cnum -n '__cnum_is agree' -s h -l help -d 'Print help'
+complete -c cnum -n '__cnum_at agree 1' -F
+complete -c cnum -n '__cnum_at agree 2' -a '(__cnum_list)'
+complete -c cnum -n '__cnum_at agree 3' -a '(__cnum_list)'
+complete -c cnum -n '__cnum_is replay' -s h -l help -d 'Print help'
+complete -c cnum -n '__cnum_at replay 1' -F
+complete -c cnum -n '__cnum_at replay 2' -F
+complete -c cnum -n '__cnum_at replay 5' -a '(__cnum_list)'
+complete -c cnum -n '__cnum_is serve' -s h -l help -d 'Print help'
+complete -c cnum -n '__cnum_at serve 1' -F
+complete -c cnum -n '__cnum_at serve 2' -F
+complete -c cnum -n '__cnum_at serve 5' -a '(__cnum_list)'
+complete -c cnum -n '__cnum_from help 1' -a 'find classify lint check explain show draw agree replay serve help'
