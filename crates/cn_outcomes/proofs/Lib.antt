@@ -8,9 +8,9 @@ pub mod ImageLemmas
 pub mod LastAnswers
 pub mod LastProcess
 pub mod LeastSizes
+pub mod LengthRowLemmas
 pub mod ShortCollisions
 pub mod Packing
-pub mod ResponseRowLemmas
 pub mod Sizes
 pub mod TailLemmas
 pub mod Unions

@@ -46,7 +46,7 @@ module _ (t : TypeTable) (c : RawChoice) where
   led_head pair [] b e = absurd (cc e.0)
   led_head pair (x ∷ xs) b e = let z : x ≡ 0 = omega (arith, b.1) in (xs, ap (λ (k : ℕ). k ∷ xs) z)
 
-  module _ (set : List ℕ) (response : ℕ) (is : response ≡ answer_of t c 0 c.state) (from_b : (r q : ℕ) → Has set r q ↔ ((r ≡ response) × InOutcomeSet t c B 0 (r, q)))
+  module _ (set : List ℕ) (response : ℕ) (is : response ≡ answer_of t c 0 c.state) (from_b : (r q : ℕ) → r ≡ response → InOutcomeSet t c B 0 (r, q) → Has set r q)
       (mark : slice_get c.marks 0 ≡ Some A) (alpha : List ℕ) (pair : ℕ × ℕ) (led : IsFirstShort t c set alpha pair) where
     parted : (ps : List ℕ) × (alpha ≡ 0 ∷ ps)
     parted = led_head pair alpha led.way.way.begins led.way.ends
@@ -57,7 +57,7 @@ module _ (t : TypeTable) (c : RawChoice) where
         let l = led_before x parted.0 few (pair_in t c 0 x p gets) (subst (ComesBefore x) parted.1 before) in
         let same : p.0 ≡ response = sym (led_gets l.0 p (ap (λ (y : List ℕ). pair_of t c y 0) (sym l.1) ∙ gets)) ∙ sym is in
         let parts = pair_parts t c 0 x p.0 p.1 gets in
-        let hits : Hits t c 0 set c.state None x = (p, ends_from t c 0 c.state None x p parts.0 parts.1, (from_b p.0 p.1).1 (same, result)) in
+        let hits : Hits t c 0 set c.state None x = (p, ends_from t c 0 c.state None x p parts.0 parts.1, from_b p.0 p.1 same result) in
         let way : IsWay (length c.operations) (length x) 0 1 0 x = record {
           long = refl;
           begins = subst (BeginsWithin 0 1) (sym l.1) (omega arith, omega arith);
@@ -111,10 +111,7 @@ module _ (t : TypeTable) (c : RawChoice) where
     ];
   }
 
-  -- the pairs of the one response that team B can give
-  pub given_by_one : (set : List ℕ) (response all : ℕ) → ((r q : ℕ) → Has set r q ↔ ((r ≡ response) × IsBitSet all q)) → ((q : ℕ) → IsBitSet all q ↔ InOutcomeSet t c B 0 (response, q))
-      → (r q : ℕ) → Has set r q ↔ ((r ≡ response) × InOutcomeSet t c B 0 (r, q))
-  given_by_one set response all h a r q = (
-    λ s. (let x = (h r q).0 s in (x.0, subst (λ (z : ℕ). InOutcomeSet t c B 0 (z, q)) (sym x.0) ((a q).0 x.1))),
-    λ g. (h r q).1 (g.0, (a q).1 (subst (λ (z : ℕ). InOutcomeSet t c B 0 (z, q)) g.0 g.1)),
-  )
+  -- the pairs of the one response that team B can give are among these
+  pub given_by_one : (set : List ℕ) (response all : ℕ) → ((r q : ℕ) → Has set r q ↔ ((r ≡ response) × IsBitSet all q)) → ((q : ℕ) → InOutcomeSet t c B 0 (response, q) → IsBitSet all q)
+      → (r q : ℕ) → r ≡ response → InOutcomeSet t c B 0 (r, q) → Has set r q
+  given_by_one set response all h a r q e g = (h r q).1 (e, a q (subst (λ (z : ℕ). InOutcomeSet t c B 0 (z, q)) e g))

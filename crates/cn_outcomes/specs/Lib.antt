@@ -1,10 +1,11 @@
+pub mod AskedStates
 pub mod EarlyPairs
 pub mod Examination
 pub mod Images
+pub mod LengthRows
 pub mod ShortOrders
 pub mod OutcomeOrders
 pub mod PairSets
-pub mod ResponseRows
 pub mod RowSettings
 pub mod Subjects
 pub mod Subsets

@@ -2,7 +2,6 @@
 use Rattle.std.specs.Prelude.{ℕ, ◌^◌, ◌<◌, ◌≤◌, List, length}
 use Rattle.cn_choice.specs.RawChoices.{IsRawChoice}
 use Rattle.cn_choice.specs.declared.limits.TheConstants.{MOST_PROCESSES}
-use Rattle.cn_outcomes.specs.ResponseRows.{AreGivenRows, AreRowsWithout}
 use Rattle.cn_outcomes.specs.Subsets.{ArePairRows, AreRows}
 use Rattle.cn_outcomes.specs.Twins.{AreLinks, IsPacked}
 use Rattle.cn_outcomes.specs.declared.limits.TheConstants.{SUBSETS}
@@ -32,11 +31,3 @@ pub record HasRowsBefore (s : RowSetting) (subset : ℕ) (rows : List ℕ) : Typ
 -- the rows of the pairs that process j gets
 abbrev pub HasPairRows : RowSetting → ℕ → ℕ → List (List ℕ) → Type 0
 HasPairRows s j end rows = ArePairRows s.table.now s.choice.now s.team j s.links end rows
-
--- the rows of the packed subsets without process j
-abbrev pub HasRowsWithout : RowSetting → ℕ → ℕ → List ℕ → Type 0
-HasRowsWithout s j end rows = AreRowsWithout s.table.now s.choice.now s.team s.links j end rows
-
--- those where orders of the subset and j give j the response
-abbrev pub HasGivenRows : RowSetting → ℕ → ℕ → ℕ → List ℕ → Type 0
-HasGivenRows s j response end rows = AreGivenRows s.table.now s.choice.now s.team s.links j response end rows

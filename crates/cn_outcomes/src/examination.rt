@@ -224,11 +224,10 @@ fn raw_collision(
         IsRecordedCollision subject.now.table.now subject.now.raw.now
         found.0 found.1.0.items found.1.1.items) }
 {
-    let links = links(subject.raw);
-    if let Some(found) = short_collision(subject, links, images, &mut room.dead) {
+    if let Some(found) = short_collision(subject, images, &mut room.dead) {
         return Some((0, found));
     }
-    let (process, found) = collision_by_rows(subject, links, room)?;
+    let (process, found) = collision_by_rows(subject, links(subject.raw), room)?;
     Some((process, found))
 }
 

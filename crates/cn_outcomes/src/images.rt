@@ -108,4 +108,25 @@ impl<'t> Images<'t> {
         let high = self.high[row][(from / 256) as usize];
         union(low, high)
     }
+
+    /// The states in which any of the operations leaves the object, from one of these states.
+    pub(crate) fn of_any(&self, operations: u16, from: u16) -> u16
+        requires operations { Below (length self.now.operations) operations }
+        requires known { Below (length self.now.states) from }
+        ensures same { (q : ℕ) → IsBitSet result q
+            ↔ ((operation : ℕ) × IsBitSet operations operation
+            × ((found : ℕ) × IsBitSet from found
+            × ((transition self.now operation found).1 ≡ q))) }
+        ensures known { Below (length self.now.states) result }
+    {
+        let mut set = 0;
+        let mut left = operations;
+        while left != 0 {
+            let operation = least(left);
+            left = without(left, operation);
+            let moved = self.of(Operation(operation), from);
+            set = union(set, moved);
+        }
+        set
+    }
 }

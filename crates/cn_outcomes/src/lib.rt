@@ -2,15 +2,16 @@
 //! choice is a witness, and the recorded collision where it is none.
 #![tactic(auto)]
 
+mod asked_responses;
 mod bits;
 mod dead_ends;
 mod early_pairs;
 mod examination;
 mod first_orders;
 mod images;
+mod length_rows;
 mod limits;
 mod outcome_sets;
-mod response_rows;
 mod row_setting;
 mod short_collisions;
 mod subject;

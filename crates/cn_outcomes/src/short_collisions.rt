@@ -5,16 +5,14 @@ ghost use Rattle.cn_choice.specs.FirstCollision.{IsFirstCollision};
 ghost use Rattle.cn_choice.specs.RawChoices.{IsRawChoice};
 ghost use Rattle.cn_outcomes.specs.ShortOrders.{IsFirstShort};
 ghost use Rattle.cn_outcomes.specs.Subjects.{IsSubject};
-ghost use Rattle.cn_outcomes.specs.Twins.{AreLinks};
 ghost use Rattle.cn_choice.specs.declared.limits.TheConstants.{MOST_PROCESSES};
 
-use crate::bits::{difference, with};
+use crate::asked_responses::start_response;
 use crate::dead_ends::DeadEnds;
 use crate::first_orders::first_order_into;
 use crate::images::Images;
+use crate::length_rows::{least_count, length_rows};
 use crate::outcome_sets::OutcomeSet;
-use crate::response_rows::{least_with, response_rows, start_response};
-use crate::row_setting::RowSetting;
 use crate::subject::Subject;
 use crate::subset_rows::is_in;
 use crate::tails::{Prefix, Target, way_into};
@@ -59,14 +57,12 @@ fn short_alpha(
 /// response are enough.
 pub(crate) fn short_collision(
     subject: &Subject<'_>,
-    links: u16,
     images: &Images,
     dead: &mut DeadEnds,
 ) -> Option<(ArrayVec<u8, MOST_PROCESSES>, ArrayVec<u8, MOST_PROCESSES>)>
     requires subject { IsSubject subject.now }
     requires images { images.now ≡ subject.now.table.now }
     requires some { 1 ≤ length subject.now.choice.now.a + length subject.now.choice.now.b }
-    requires links { AreLinks subject.now.raw.now links }
     ensures { IfSome result (λ found.
         IsFirstCollision subject.now.table.now subject.now.raw.now 0
         found.0.items found.1.items) }
@@ -76,21 +72,13 @@ pub(crate) fn short_collision(
     if !is_in(raw, 0, Team::A) {
         return None;
     }
-    let links = difference(links, with(0, 1));
-    let n = raw.operations.len() as u8;
-    let count = 1u16 << (n - 1);
     let asked = start_response(table, raw, 0);
-    let setting = RowSetting {
-        table,
-        choice: raw,
-        team: Team::B,
-        links,
-    };
-    let rows = response_rows(&setting, asked, count, images);
-    let from_b = OutcomeSet::of_response(asked.response, rows.all);
-    let (alpha, (response, state)) = short_alpha(table, raw, &from_b, dead)?;
+    let rows = length_rows(table, raw, Team::B, asked, images);
+    let may = OutcomeSet::of_response(asked.response, rows.all);
+    let (alpha, (response, state)) = short_alpha(table, raw, &may, dead)?;
     let pair = OutcomeSet::only(response, state);
-    let first = least_with(&rows.given, count, state) + 1;
+    let n = raw.operations.len() as u8;
+    let first = least_count(&rows.given, n, state) + 1;
     let again = Target {
         process: 0,
         set: &pair,

@@ -1,7 +1,7 @@
 use Rattle.std.proofs.Common.{◌≡◌, ◌<◌, ◌↔◌, ℕ}
 use Rattle.std.specs.Prelude.{IsBitSet}
 use Rattle.cn_table.specs.TypeTable.{transition}
-use Rattle.cn_outcomes.proofs.response_rows.states_with.Given as goal
+use Rattle.cn_outcomes.proofs.asked_responses.states_with.Given as goal
 
 -- those of the states so far
 abbrev pub invariant-loop-state : goal.invariant-loop-state

@@ -1,0 +1,141 @@
+//! Rows for process 0 and one response of it, by how many of the other processes move. Each of these
+//! may have any of their operations, so that the rows are quickly made and may have too many states.
+ghost use Rattle.std.specs.Prelude.{◌≡◌, ◌≢◌, ◌<◌, ◌≤◌, ◌-◌, ℕ, List, length, slice_get, slice_index, IsBitSet, Some};
+ghost use Rattle.cn_table.specs.TypeTable.{transition};
+ghost use Rattle.cn_table.specs.declared.limits.TheConstants.{MOST_STATES};
+ghost use Rattle.cn_choice.specs.Orders.{IsOrder};
+ghost use Rattle.cn_choice.specs.OutcomeSets.{InOutcomeSet};
+ghost use Rattle.cn_choice.specs.RawChoices.{IsRawChoice};
+ghost use Rattle.cn_choice.specs.declared.limits.TheConstants.{MOST_PROCESSES};
+ghost use Rattle.cn_outcomes.specs.LengthRows.{AreGivenRows, AreLeftRows};
+ghost use Rattle.cn_outcomes.specs.OutcomeOrders.{LeadsTo};
+ghost use Rattle.cn_outcomes.specs.AskedStates.{AreAskedStates};
+ghost use Rattle.cn_outcomes.specs.Subsets.{Below};
+
+use crate::asked_responses::AskedResponse;
+use crate::bits::{contains, intersection, union, with};
+use crate::images::Images;
+use crate::subset_rows::{is_in, operation_of};
+use cn_choice::{MOST_PROCESSES, RawChoice, Team};
+use cn_table::Table;
+
+/// By the number of the other processes, the states in which orders with so many of them may leave
+/// the object where process 0 gets the response, and these states for all numbers.
+#[derive(Drop)]
+pub(crate) struct LengthRows {
+    pub given: [u16; MOST_PROCESSES],
+    pub all: u16,
+}
+
+/// The operations of the processes of the team.
+fn operations_in(table: &Table, choice: &RawChoice, team: Team) -> u16
+    requires fits { IsRawChoice table.now (length choice.now.operations) choice.now }
+    requires few { length choice.now.operations ≤ MOST_PROCESSES }
+    ensures members { (p : ℕ) → p < length choice.now.operations
+        → slice_get choice.now.marks p ≡ Some team
+        → IsBitSet result (slice_index choice.now.operations p) }
+    ensures known { Below (length table.now.operations) result }
+{
+    let _operations = table.operations();
+    let mut set = 0;
+    for process in 0..choice.operations.len() as u8 {
+        if is_in(choice, process, team) {
+            set = with(set, operation_of(choice, process).0);
+        }
+    }
+    set
+}
+
+/// The operations of all processes but process 0.
+fn other_operations(table: &Table, choice: &RawChoice) -> u16
+    requires fits { IsRawChoice table.now (length choice.now.operations) choice.now }
+    requires few { length choice.now.operations ≤ MOST_PROCESSES }
+    ensures members { (p : ℕ) → p < length choice.now.operations → p ≢ 0
+        → IsBitSet result (slice_index choice.now.operations p) }
+    ensures known { Below (length table.now.operations) result }
+{
+    let _operations = table.operations();
+    let mut set = 0;
+    for process in 1..choice.operations.len() as u8 {
+        set = with(set, operation_of(choice, process).0);
+    }
+    set
+}
+
+/// By the number of the other processes, the states in which orders of so many of them that begin in
+/// the team may leave the object.
+fn left_rows(
+    table: &Table,
+    choice: &RawChoice,
+    team: Team,
+    others: u16,
+    images: &Images,
+) -> [u16; MOST_PROCESSES]
+    requires fits { IsRawChoice table.now (length choice.now.operations) choice.now }
+    requires few { length choice.now.operations ≤ MOST_PROCESSES }
+    requires images { images.now ≡ table.now }
+    requires others { (p : ℕ) → p < length choice.now.operations → p ≢ 0
+        → IsBitSet others (slice_index choice.now.operations p) }
+    requires known { Below (length table.now.operations) others }
+    ensures { AreLeftRows table.now choice.now team (length choice.now.operations) result }
+{
+    let _states = table.states();
+    let mut rows = [0; MOST_PROCESSES];
+    let start = with(0, choice.state.0);
+    rows[1] = images.of_any(operations_in(table, choice, team), start);
+    for count in 2..choice.operations.len() {
+        rows[count] = images.of_any(others, rows[count - 1]);
+    }
+    rows
+}
+
+/// The rows for process 0 and the response, where orders begin in the other team.
+pub(crate) fn length_rows(
+    table: &Table,
+    choice: &RawChoice,
+    team: Team,
+    asked: AskedResponse,
+    images: &Images,
+) -> LengthRows
+    requires fits { IsRawChoice table.now (length choice.now.operations) choice.now }
+    requires few { length choice.now.operations ≤ MOST_PROCESSES }
+    requires images { images.now ≡ table.now }
+    requires other { ¬ (slice_get choice.now.marks 0 ≡ Some team) }
+    requires asked { AreAskedStates table.now choice.now 0 asked.response asked.states }
+    requires some { 1 ≤ length choice.now.operations }
+
+    ensures all { (q : ℕ) → InOutcomeSet table.now choice.now team 0 (asked.response, q)
+        → IsBitSet result.all q }
+    ensures given { (order : List ℕ) (q : ℕ) → IsOrder (length choice.now.operations) order
+        → LeadsTo table.now choice.now team 0 (asked.response, q) order
+        → IsBitSet (slice_index result.given (length order - 1)) q }
+{
+    let others = other_operations(table, choice);
+    let left = left_rows(table, choice, team, others, images);
+    let own = operation_of(choice, 0);
+    let mut given = [0; MOST_PROCESSES];
+    let mut all = 0;
+    for count in 1..choice.operations.len() {
+        let moved = images.of(own, intersection(left[count], asked.states));
+        let passed = images.of_any(others, given[count - 1]);
+        let row = union(moved, passed);
+        given[count] = row;
+        all = union(all, row);
+    }
+    LengthRows { given, all }
+}
+
+/// The least number of other processes, of n processes, whose row has the state, or n if none has it.
+pub(crate) fn least_count(given: &[u16; MOST_PROCESSES], n: u8, state: u8) -> u8
+    requires few { n ≤ MOST_PROCESSES }
+    requires state { state < MOST_STATES }
+    ensures none { (k : ℕ) → k < result → ¬ IsBitSet (slice_index given.now k) state }
+    ensures most { result ≤ n }
+{
+    for count in 0..n {
+        if contains(given[count as usize], state) {
+            return count;
+        }
+    }
+    n
+}
