@@ -1,11 +1,12 @@
 -- The first collision of a process, found in the list of all orders.
 use Rattle.std.specs.Prelude.{IsBitSet}
 use Rattle.std.proofs.Common.{◌≡◌, ℕ, ◌<◌, List, refl, sym, ◌∙◌, ◌↔◌, Option, Some, None}
+use Rattle.cn_choice.specs.declared.team.Team.{Team}
 use Rattle.cn_choice.specs.declared.team.Team.TheVariants.{A, B}
 use Rattle.cn_table.specs.TypeTable.{TypeTable}
 use Rattle.cn_choice.specs.RawChoices.{RawChoice}
 use Rattle.cn_choice.specs.FirstCollision.{IsFirstCollision}
-use Rattle.cn_outcomes.specs.OutcomeOrders.{IsFirstInto, LeadsInto, NoneInto}
+use Rattle.cn_outcomes.specs.OutcomeOrders.{IsFirstInto, IsFirstOfPair, LeadsInto, NoneInto}
 use Rattle.cn_outcomes.specs.PairSets.{Has, HaveCommonPair}
 use Rattle.cn_choice.specs.OutcomeSets.{InOutcomeSet, pair_of}
 use Rattle.cn_choice.specs.Collisions.{IsCollision}
@@ -27,28 +28,37 @@ module _ (t : TypeTable) (c : RawChoice) (j : ℕ) where
     pub none_collides : NoneInto t c A j set → (x y : List ℕ) → ¬ IsCollision t c j x y
     none_collides none x y k = none x k.alpha_order (into_set x y k)
 
-    module _ (alpha : List ℕ) (pair : ℕ × ℕ) (first : IsFirstInto t c A j set alpha pair) (single : List ℕ) (only : (r q : ℕ) → Has single r q ↔ ((r ≡ pair.0) × (q ≡ pair.1))) where
-      pub some_from_b : ¬ NoneInto t c B j single
-      some_from_b none =
-          let r = (from_b pair.0 pair.1).0 first.has in
-          none r.0 r.1 (pair, (r.2, r.3), (only pair.0 pair.1).1 (refl, refl))
+    pub some_from_b : (alpha : List ℕ) (pair : ℕ × ℕ) → IsFirstInto t c A j set alpha pair → (single : List ℕ) → ((r q : ℕ) → Has single r q ↔ ((r ≡ pair.0) × (q ≡ pair.1))) → ¬ NoneInto t c B j single
+    some_from_b alpha pair first single only none =
+        let r = (from_b pair.0 pair.1).0 first.has in
+        none r.0 r.1 (pair, (r.2, r.3), (only pair.0 pair.1).1 (refl, refl))
 
-      pub first_collision : (beta : List ℕ) (again : ℕ × ℕ) → IsFirstInto t c B j single beta again → IsFirstCollision t c j alpha beta
-      first_collision beta again second =
-          let is = (only again.0 again.1).0 second.has in
-          let same : pair_of t c beta j ≡ Some pair = second.leads.1 ∙ same_pair again.0 again.1 pair.0 pair.1 is.0 is.1 in
-          record {
-            collision = record {
-              alpha_order = first.ordered;
-              beta_order = second.ordered;
-              alpha_in_a = first.leads.0;
-              beta_in_b = second.leads.0;
-              takes_part = λ e. let no : None ≡ Some pair = sym e ∙ first.leads.1 in absurd (cc);
-              same = first.leads.1 ∙ sym same;
-            };
-            first_alpha = λ x y before k. first.earlier x k.alpha_order before (into_set x y k);
-            first_beta = λ y before k. second.earlier y k.beta_order before (pair, (k.beta_in_b, sym k.same ∙ first.leads.1), (only pair.0 pair.1).1 (refl, refl));
-          }
+  -- the first order into the set of the one pair is the first with this pair
+  pub first_of_pair : (team : Team) (pair : ℕ × ℕ) (single : List ℕ) → ((r q : ℕ) → Has single r q ↔ ((r ≡ pair.0) × (q ≡ pair.1))) → (order : List ℕ) (again : ℕ × ℕ) → IsFirstInto t c team j single order again
+      → IsFirstOfPair t c team j pair order
+  first_of_pair team pair single only order again first =
+      let is = (only again.0 again.1).0 first.has in
+      record {
+        ordered = first.ordered;
+        leads = (first.leads.0, first.leads.1 ∙ same_pair again.0 again.1 pair.0 pair.1 is.0 is.1);
+        earlier = λ x o before l. first.earlier x o before (pair, l, (only pair.0 pair.1).1 (refl, refl));
+      }
+
+  -- the set has at least the pairs that lead from B
+  pub first_collision : (set : List ℕ) → ((r q : ℕ) → InOutcomeSet t c B j (r, q) → Has set r q) → (alpha : List ℕ) (pair : ℕ × ℕ) → IsFirstInto t c A j set alpha pair
+      → (beta : List ℕ) → IsFirstOfPair t c B j pair beta → IsFirstCollision t c j alpha beta
+  first_collision set from_b alpha pair first beta second = record {
+    collision = record {
+      alpha_order = first.ordered;
+      beta_order = second.ordered;
+      alpha_in_a = first.leads.0;
+      beta_in_b = second.leads.0;
+      takes_part = λ e. let no : None ≡ Some pair = sym e ∙ first.leads.1 in absurd (cc);
+      same = first.leads.1 ∙ sym second.leads.1;
+    };
+    first_alpha = λ x y before k. first.earlier x k.alpha_order before (let p = the_pair (pair_of t c x j) k.takes_part in (p.0, (k.alpha_in_a, p.1), from_b p.0.0 p.0.1 (y, k.beta_order, k.beta_in_b, sym k.same ∙ p.1)));
+    first_beta = λ y before k. second.earlier y k.beta_order before (k.beta_in_b, sym k.same ∙ first.leads.1);
+  }
 
 -- where the outcome sets have no common pair there is no collision
 pub apart : (t : TypeTable) (c : RawChoice) (j : ℕ) (from_a from_b : List ℕ) → ((r q : ℕ) → Has from_a r q ↔ InOutcomeSet t c A j (r, q)) → ((r q : ℕ) → Has from_b r q ↔ InOutcomeSet t c B j (r, q))

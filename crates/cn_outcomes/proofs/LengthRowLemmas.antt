@@ -30,6 +30,12 @@ module _ (t : TypeTable) (c : RawChoice) where
   got_stays state got [] pair e = cc e.0
   got_stays state got (p ∷ ps) pair e = got_stays (next_of t c p state) got ps pair e
 
+  by_self : (p answer : ℕ) → p ≡ 0 → seen_after 0 p answer None ≡ Some answer
+  by_self p answer z = rw (eq-eqb p 0 z) refl
+
+  by_other : (p answer : ℕ) → p ≢ 0 → seen_after 0 p answer None ≡ None
+  by_other p answer n = rw (ne_eqb p 0 n) refl
+
   module _ (team : Team) (response : ℕ) (left rows : List ℕ) (are_left : AreLeftRows t c team (length c.operations) left) (are_given : AreGivenRows t c response (length c.operations) left rows) where
     -- others move after process 0
     goes_on : (k state got : ℕ) (ps : List ℕ) (pair : ℕ × ℕ) → IsBitSet (get_or rows k 0) state → Ends t c 0 state (Some got) ps pair
@@ -44,12 +50,6 @@ module _ (t : TypeTable) (c : RawChoice) where
         (λ q i. below q (inr i)) (λ q i. apart q (inr i)) (omega (arith, short)))
 
     -- process 0 is still to move
-    by_self : (p answer : ℕ) → p ≡ 0 → seen_after 0 p answer None ≡ Some answer
-    by_self p answer z = rw (eq-eqb p 0 z) refl
-
-    by_other : (p answer : ℕ) → p ≢ 0 → seen_after 0 p answer None ≡ None
-    by_other p answer n = rw (ne_eqb p 0 n) refl
-
     comes_to : (k state : ℕ) (ps : List ℕ) (pair : ℕ × ℕ) → 1 ≤ k → (1 ≤ length ps → IsBitSet (get_or left k 0) state) → Ends t c 0 state None ps pair → pair.0 ≡ response
         → ((p : ℕ) → IsIn p ps → p < length c.operations) → Differ ps → k + length ps ≤ length c.operations → IsBitSet (get_or rows (k + length ps - 1) 0) pair.1
     comes_to k state [] pair some b e is below differ short = absurd (cc e.0)
@@ -100,6 +100,41 @@ module _ (t : TypeTable) (c : RawChoice) where
           less : (order : List ℕ) → order ≢ [] → length order ≤ length c.operations → length order - 1 < length c.operations
           less [] n l = absurd (n refl)
           less (x ∷ xs) n l = omega (arith, l)
+
+  -- process 0 gets its response in some state that others leave
+  module _ (team : Team) (left : List ℕ) (are_left : AreLeftRows t c team (length c.operations) left) where
+    finds : (k state : ℕ) (ps : List ℕ) (pair : ℕ × ℕ) → 1 ≤ k → (1 ≤ length ps → IsBitSet (get_or left k 0) state) → Ends t c 0 state None ps pair
+        → ((p : ℕ) → IsIn p ps → p < length c.operations) → k + length ps ≤ length c.operations → (q : ℕ) × (q < length t.states) × (answer_of t c 0 q ≡ pair.0)
+    finds k state [] pair some b e below short = absurd (cc e.0)
+    finds k state (p ∷ ps) pair some b e below short = elim (same_or_not p 0) [
+      | inl z ↦ (
+          let f : Ends t c 0 (next_of t c p state) (Some (answer_of t c p state)) ps pair = subst (λ (seen : Option ℕ). Ends t c 0 (next_of t c p state) seen ps pair) (by_self p (answer_of t c p state) z) e in
+          (state, are_left.known k state (b (omega arith)), ap (λ (i : ℕ). answer_of t c i state) (sym z) ∙ got_stays (next_of t c p state) (answer_of t c p state) ps pair f)
+          )
+      | inr n ↦ (
+          let f : Ends t c 0 (next_of t c p state) None ps pair = subst (λ (seen : Option ℕ). Ends t c 0 (next_of t c p state) seen ps pair) (by_other p (answer_of t c p state) n) e in
+          finds (k + 1) (next_of t c p state) ps pair (omega arith) (λ more. are_left.moves k p state some (omega (arith, short, more)) (below p (inl refl)) n (b (omega arith))) f
+          (λ q i. below q (inr i)) (omega (arith, short))
+          )
+    ]
+
+    pub answered : ¬ (slice_get c.marks 0 ≡ Some team) → (r q : ℕ) → InOutcomeSet t c team 0 (r, q) → (x : ℕ) × (x < length t.states) × (answer_of t c 0 x ≡ r)
+    answered other r q o = by_first o.0 o.1 (o.2, o.3)
+      where
+        head : (p x : ℕ) (ps : List ℕ) → slice_get (p ∷ ps) 0 ≡ Some x → p ≡ x
+        head p x ps e = cc e
+
+        by_first : (order : List ℕ) → IsOrder (length c.operations) order → LeadsTo t c team 0 (r, q) order → (x : ℕ) × (x < length t.states) × (answer_of t c 0 x ≡ r)
+        by_first [] o l = absurd (o.someone refl)
+        by_first (p ∷ ps) o l =
+            let known = known_from (length c.operations) (p ∷ ps) o in
+            let mark : slice_get c.marks p ≡ Some team = subst (λ (i : ℕ). slice_get c.marks i ≡ Some team) (sym (head p l.0.0 ps l.0.1)) l.0.2 in
+            let apart : p ≢ 0 = λ z. other (subst (λ (i : ℕ). slice_get c.marks i ≡ Some team) z mark) in
+            let parts = pair_parts t c 0 (p ∷ ps) r q l.1 in
+            let e = ends_from t c 0 c.state None (p ∷ ps) (r, q) parts.0 parts.1 in
+            let f : Ends t c 0 (next_of t c p c.state) None ps (r, q) = subst (λ (seen : Option ℕ). Ends t c 0 (next_of t c p c.state) seen ps (r, q)) (by_other p (answer_of t c p c.state) apart) e in
+            let fits = fits_below (length c.operations) (p ∷ ps) (recursion_from_All (λ p. p < length c.operations) (p ∷ ps) o.known) known.differ in
+            finds 1 (next_of t c p c.state) ps (r, q) (omega arith) (λ _. are_left.begins p (known.below p (inl refl)) mark) f (λ x i. known.below x (inr i)) (omega (arith, fits))
 
 -- no order is shorter than the least number of others whose row has the state, with process 0
 pub none_shorter_given : (t : TypeTable) (c : RawChoice) (team : Team) (response state : ℕ) (rows single : List ℕ)

@@ -7,13 +7,12 @@ use Rattle.cn_choice.specs.declared.team.Team.TheVariants.{A, B}
 use Rattle.cn_choice.specs.FirstCollision.{IsFirstCollision}
 use Rattle.cn_outcomes.specs.ShortOrders.{IsFirstShort}
 use Rattle.cn_choice.specs.Orders.{ComesBefore, IsOrder}
-use Rattle.cn_outcomes.specs.OutcomeOrders.{IsFirstInto}
+use Rattle.cn_outcomes.specs.OutcomeOrders.{IsFirstOfPair}
 use Rattle.cn_choice.specs.OutcomeSets.{BeginsIn, InOutcomeSet, pair_of}
 use Rattle.cn_outcomes.specs.PairSets.{Has}
 use Rattle.cn_choice.specs.RawChoices.{RawChoice}
 use Rattle.cn_choice.specs.Moves.{answer_of}
 use Rattle.cn_outcomes.specs.Tails.{BeginsWithin, Ends, Hits, IsFirstWay, IsWay, NoWay}
-use Rattle.cn_outcomes.proofs.FirstCollisions.{same_pair}
 use Rattle.cn_choice.proofs.Walks.{the_pair}
 use Rattle.cn_outcomes.proofs.FirstOrders.{ends_from, ends_to, fresh_from, fresh_to}
 use Rattle.cn_outcomes.proofs.LastAnswers.{pair_in, pair_parts}
@@ -68,13 +67,11 @@ module _ (t : TypeTable) (c : RawChoice) where
           | inr later ↦ led.way.earlier x (subst (λ (k : ℕ). IsWay (length c.operations) k 0 1 0 x) later.0 way) later.1 hits
         ]
 
-    pub short_first : (single : List ℕ) → ((r q : ℕ) → Has single r q ↔ ((r ≡ pair.0) × (q ≡ pair.1))) → (beta : List ℕ) (again : ℕ × ℕ) → IsFirstInto t c B 0 single beta again → IsFirstCollision t c 0 alpha beta
-    short_first single only beta again second =
+    pub short_first : (beta : List ℕ) → IsFirstOfPair t c B 0 pair beta → IsFirstCollision t c 0 alpha beta
+    short_first beta second =
         let r = fresh_to (length c.operations) 0 alpha led.way.way.fresh in
         let e = ends_to t c 0 c.state None alpha pair led.way.ends in
         let gets : pair_of t c alpha 0 ≡ Some pair = pair_whole t c 0 alpha pair.0 pair.1 e.0 e.1 in
-        let is_one = (only again.0 again.1).0 second.has in
-        let same : pair_of t c beta 0 ≡ Some pair = second.leads.1 ∙ same_pair again.0 again.1 pair.0 pair.1 is_one.0 is_one.1 in
         let some : 1 ≤ length alpha = omega (arith, ap (λ (l : List ℕ). length l) parted.1) in
         record {
           collision = record {
@@ -83,10 +80,10 @@ module _ (t : TypeTable) (c : RawChoice) where
             alpha_in_a = subst (BeginsIn c A) (sym parted.1) (0, refl, mark);
             beta_in_b = second.leads.0;
             takes_part = λ e. let no : None ≡ Some pair = sym e ∙ gets in absurd (cc);
-            same = gets ∙ sym same;
+            same = gets ∙ sym second.leads.1;
           };
           first_alpha = λ x y before k. let p = the_pair (pair_of t c x 0) k.takes_part in no_earlier x k.alpha_order before p.0 p.1 (y, k.beta_order, k.beta_in_b, sym k.same ∙ p.1);
-          first_beta = λ y before k. second.earlier y k.beta_order before (pair, (k.beta_in_b, sym k.same ∙ gets), (only pair.0 pair.1).1 (refl, refl));
+          first_beta = λ y before k. second.earlier y k.beta_order before (k.beta_in_b, sym k.same ∙ gets);
         }
 
   -- where the way alone, and then that of two, is the first

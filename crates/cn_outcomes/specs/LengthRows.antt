@@ -5,6 +5,7 @@ use Rattle.cn_choice.specs.declared.team.Team.{Team}
 use Rattle.cn_choice.specs.Moves.{answer_of, next_of}
 use Rattle.cn_choice.specs.RawChoices.{RawChoice}
 use Rattle.cn_outcomes.specs.Subsets.{Below}
+use Rattle.cn_outcomes.specs.declared.length_rows.OtherMoves.{OtherMoves}
 use Rattle.cn_table.specs.TypeTable.{TypeTable}
 
 -- the rows below the end of states that others may leave: the first move is one of the team, and each row leads to the next one by any move but that of process 0
@@ -21,3 +22,10 @@ pub record AreGivenRows (t : TypeTable) (c : RawChoice) (response end : ℕ) (le
   pub passes : (k p q : ℕ) → k + 1 < end → p < length c.operations → p ≢ 0 → IsBitSet (slice_index rows k) q → IsBitSet (slice_index rows (k + 1)) (next_of t c p q)
   pub known : (k : ℕ) → Below (length t.states) (slice_index rows k)
   pub long : length rows ≡ MOST_PROCESSES
+
+-- the other processes move so: these are their operations, and the rows of states that they may leave; process 0 is not in the team that begins
+pub record AreOtherMoves (t : TypeTable) (c : RawChoice) (moves : OtherMoves) : Type 0 where
+  pub members : (p : ℕ) → p < length c.operations → p ≢ 0 → IsBitSet moves.operations (slice_index c.operations p)
+  pub known : Below (length t.operations) moves.operations
+  pub left : AreLeftRows t c moves.team (length c.operations) moves.left
+  pub other : ¬ (slice_get c.marks 0 ≡ Some moves.team)

@@ -30,3 +30,9 @@ pub record IsFirstInto (t : TypeTable) (c : RawChoice) (team : Team) (j : ℕ) (
   pub leads : LeadsTo t c team j pair order
   pub has : Has set pair.0 pair.1
   pub earlier : (x : List ℕ) → IsOrder (length c.operations) x → ComesBefore x order → ¬ LeadsInto t c team j set x
+
+-- the first order, in list order, that begins in the team and gives process j the pair
+pub record IsFirstOfPair (t : TypeTable) (c : RawChoice) (team : Team) (j : ℕ) (pair : ℕ × ℕ) (order : List ℕ) : Type 0 where
+  pub ordered : IsOrder (length c.operations) order
+  pub leads : LeadsTo t c team j pair order
+  pub earlier : (x : List ℕ) → IsOrder (length c.operations) x → ComesBefore x order → ¬ LeadsTo t c team j pair x

@@ -1,20 +1,22 @@
 //! Rows for process 0 and one response of it, by how many of the other processes move. Each of these
 //! may have any of their operations, so that the rows are quickly made and may have too many states.
 ghost use Rattle.std.specs.Prelude.{◌≡◌, ◌≢◌, ◌<◌, ◌≤◌, ◌-◌, ℕ, List, length, slice_get, slice_index, IsBitSet, Some};
-ghost use Rattle.cn_table.specs.TypeTable.{transition};
-ghost use Rattle.cn_table.specs.declared.limits.TheConstants.{MOST_STATES};
+ghost use Rattle.cn_table.specs.declared.limits.TheConstants.{MOST_RESPONSES, MOST_STATES};
+ghost use Rattle.cn_choice.specs.Moves.{answer_of};
 ghost use Rattle.cn_choice.specs.Orders.{IsOrder};
 ghost use Rattle.cn_choice.specs.OutcomeSets.{InOutcomeSet};
 ghost use Rattle.cn_choice.specs.RawChoices.{IsRawChoice};
 ghost use Rattle.cn_choice.specs.declared.limits.TheConstants.{MOST_PROCESSES};
-ghost use Rattle.cn_outcomes.specs.LengthRows.{AreGivenRows, AreLeftRows};
+ghost use Rattle.cn_outcomes.specs.LengthRows.{AreLeftRows, AreOtherMoves};
 ghost use Rattle.cn_outcomes.specs.OutcomeOrders.{LeadsTo};
 ghost use Rattle.cn_outcomes.specs.AskedStates.{AreAskedStates};
+ghost use Rattle.cn_outcomes.specs.PairSets.{Has};
 ghost use Rattle.cn_outcomes.specs.Subsets.{Below};
 
-use crate::asked_responses::AskedResponse;
-use crate::bits::{contains, intersection, union, with};
+use crate::asked_responses::{Answers, AskedResponse};
+use crate::bits::{contains, intersection, least, union, with, without};
 use crate::images::Images;
+use crate::outcome_sets::OutcomeSet;
 use crate::subset_rows::{is_in, operation_of};
 use cn_choice::{MOST_PROCESSES, RawChoice, Team};
 use cn_table::Table;
@@ -25,6 +27,15 @@ use cn_table::Table;
 pub(crate) struct LengthRows {
     pub given: [u16; MOST_PROCESSES],
     pub all: u16,
+}
+
+/// How processes other than process 0 may move: their operations, and by their number the states in
+/// which orders of so many of them that begin in the team may leave the object.
+#[derive(Drop)]
+pub(crate) struct OtherMoves {
+    pub team: Team,
+    pub operations: u16,
+    pub left: [u16; MOST_PROCESSES],
 }
 
 /// The operations of the processes of the team.
@@ -89,40 +100,96 @@ fn left_rows(
     rows
 }
 
-/// The rows for process 0 and the response, where orders begin in the other team.
-pub(crate) fn length_rows(
+/// How the other processes move where orders begin in the team, which process 0 is not in.
+pub(crate) fn other_moves(
     table: &Table,
     choice: &RawChoice,
     team: Team,
+    images: &Images,
+) -> OtherMoves
+    requires fits { IsRawChoice table.now (length choice.now.operations) choice.now }
+    requires few { length choice.now.operations ≤ MOST_PROCESSES }
+    requires images { images.now ≡ table.now }
+    requires other { ¬ (slice_get choice.now.marks 0 ≡ Some team) }
+    ensures moves { AreOtherMoves table.now choice.now result }
+    ensures team { result.team ≡ team }
+{
+    let operations = other_operations(table, choice);
+    let left = left_rows(table, choice, team, operations, images);
+    OtherMoves {
+        team,
+        operations,
+        left,
+    }
+}
+
+/// The rows for process 0 and the response, where the others move so.
+pub(crate) fn length_rows(
+    table: &Table,
+    choice: &RawChoice,
+    moves: &OtherMoves,
     asked: AskedResponse,
     images: &Images,
 ) -> LengthRows
     requires fits { IsRawChoice table.now (length choice.now.operations) choice.now }
     requires few { length choice.now.operations ≤ MOST_PROCESSES }
     requires images { images.now ≡ table.now }
-    requires other { ¬ (slice_get choice.now.marks 0 ≡ Some team) }
+    requires moves { AreOtherMoves table.now choice.now moves.now }
     requires asked { AreAskedStates table.now choice.now 0 asked.response asked.states }
     requires some { 1 ≤ length choice.now.operations }
 
-    ensures all { (q : ℕ) → InOutcomeSet table.now choice.now team 0 (asked.response, q)
+    ensures all { (q : ℕ) → InOutcomeSet table.now choice.now moves.now.team 0 (asked.response, q)
         → IsBitSet result.all q }
     ensures given { (order : List ℕ) (q : ℕ) → IsOrder (length choice.now.operations) order
-        → LeadsTo table.now choice.now team 0 (asked.response, q) order
+        → LeadsTo table.now choice.now moves.now.team 0 (asked.response, q) order
         → IsBitSet (slice_index result.given (length order - 1)) q }
 {
-    let others = other_operations(table, choice);
-    let left = left_rows(table, choice, team, others, images);
     let own = operation_of(choice, 0);
     let mut given = [0; MOST_PROCESSES];
     let mut all = 0;
     for count in 1..choice.operations.len() {
-        let moved = images.of(own, intersection(left[count], asked.states));
-        let passed = images.of_any(others, given[count - 1]);
+        let moved = images.of(own, intersection(moves.left[count], asked.states));
+        let passed = images.of_any(moves.operations, given[count - 1]);
         let row = union(moved, passed);
         given[count] = row;
         all = union(all, row);
     }
     LengthRows { given, all }
+}
+
+/// The pairs of all rows for process 0: at least its outcome set.
+pub(crate) fn pairs_of_rows(
+    table: &Table,
+    choice: &RawChoice,
+    moves: &OtherMoves,
+    answers: &Answers,
+    images: &Images,
+) -> OutcomeSet
+    requires fits { IsRawChoice table.now (length choice.now.operations) choice.now }
+    requires few { length choice.now.operations ≤ MOST_PROCESSES }
+    requires images { images.now ≡ table.now }
+    requires moves { AreOtherMoves table.now choice.now moves.now }
+    requires some { 1 ≤ length choice.now.operations }
+    requires responses { (q : ℕ) → q < length table.now.states
+        → IsBitSet answers.now.responses (answer_of table.now choice.now 0 q) }
+    requires states { (r : ℕ) → r < MOST_RESPONSES
+        → AreAskedStates table.now choice.now 0 r (slice_index answers.now.states r) }
+    ensures { (r q : ℕ) → InOutcomeSet table.now choice.now moves.now.team 0 (r, q)
+        → Has result r q }
+{
+    let mut set = OutcomeSet::none();
+    let mut left = answers.responses;
+    while left != 0 {
+        let response = least(left);
+        left = without(left, response);
+        let asked = AskedResponse {
+            response,
+            states: answers.states[response as usize],
+        };
+        let rows = length_rows(table, choice, moves, asked, images);
+        set.add_states(response, rows.all);
+    }
+    set
 }
 
 /// The least number of other processes, of n processes, whose row has the state, or n if none has it.

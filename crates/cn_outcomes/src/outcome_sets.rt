@@ -70,18 +70,27 @@ impl OutcomeSet {
         OutcomeSet { row }
     }
 
+    /// Puts the pairs of the response and each of the states into the set.
+    pub(crate) fn add_states(&mut self, response: u8, states: u16)
+        requires { response < MOST_RESPONSES }
+        ensures { (r q : ℕ) → Has self.new r q
+            ↔ (Has self.old r q ⊎ ((r ≡ response) × IsBitSet states q)) }
+    {
+        let mut left = states;
+        while left != 0 {
+            let state = least(left);
+            left = without(left, state);
+            self.add(response, state);
+        }
+    }
+
     /// The set of the pairs of the response and one of the states.
     pub(crate) fn of_response(response: u8, states: u16) -> OutcomeSet
         requires { response < MOST_RESPONSES }
         ensures { (r q : ℕ) → Has result r q ↔ ((r ≡ response) × IsBitSet states q) }
     {
         let mut set = OutcomeSet::none();
-        let mut left = states;
-        while left != 0 {
-            let state = least(left);
-            left = without(left, state);
-            set.add(response, state);
-        }
+        set.add_states(response, states);
         set
     }
 

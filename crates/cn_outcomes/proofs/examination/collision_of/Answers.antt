@@ -1,7 +1,7 @@
 use Rattle.std.proofs.Common.{◌≡◌, ap, arith, length, subst, sym, ℕ, ◌<◌, ◌^◌}
 use Rattle.cn_choice.specs.RawChoices.{RawChoice}
 use Rattle.cn_choice.specs.declared.team.Team.TheVariants.{B}
-use Rattle.cn_outcomes.proofs.FirstCollisions.{first_collision, some_from_b}
+use Rattle.cn_outcomes.proofs.FirstCollisions.{first_collision, first_of_pair, some_from_b}
 use Rattle.cn_outcomes.proofs.FirstOrders.{none_into}
 use Rattle.cn_outcomes.proofs.LeastSizes.{none_shorter}
 use Rattle.cn_outcomes.proofs.examination.collision_of.Goals as goal
@@ -26,6 +26,8 @@ returns-in_err-beta-clause-none c =
 
 pub returns-clause-first : goal.returns-clause-first
 returns-clause-first c =
-    first_collision c.args.subject.now.table.now c.args.subject.now.raw.now c.args.process c.outcomes_from-from_b.result c.outcomes_from-from_b.ensures.set
-    c.in_ok-alpha.alpha.items (c.in_ok-alpha.response, c.in_ok-alpha.state) c.in_ok-alpha.ensures.first c.only-pair.result c.only-pair.ensures
-    c.in_ok-beta.beta.items c.in_ok-beta.field-0-1 c.in_ok-beta.ensures.first
+    let t = c.args.subject.now.table.now in
+    let raw = c.args.subject.now.raw.now in
+    let pair : ℕ × ℕ = (c.in_ok-alpha.response, c.in_ok-alpha.state) in
+    first_collision t raw c.args.process c.outcomes_from-from_b.result (λ r q o. (c.outcomes_from-from_b.ensures.set r q).1 o) c.in_ok-alpha.alpha.items pair c.in_ok-alpha.ensures.first
+    c.in_ok-beta.beta.items (first_of_pair t raw c.args.process B pair c.only-pair.result c.only-pair.ensures c.in_ok-beta.beta.items c.in_ok-beta.field-0-1 c.in_ok-beta.ensures.first)

@@ -12,7 +12,7 @@ use Rattle.cn_outcomes.proofs.Unions.{zeros_none}
 use Rattle.cn_outcomes.proofs.length_rows.length_rows.Goals as goal
 
 pub loop-count-init : goal.loop-count-init
-loop-count-init c = (given_first c.args.table.now c.args.choice.now c.args.asked.response c.left_rows-left.result, λ k q _ s. absurd (zeros_none 8 k q s))
+loop-count-init c = (given_first c.args.table.now c.args.choice.now c.args.asked.response c.args.moves.now.left, λ k q _ s. absurd (zeros_none 8 k q s))
 
 pub loop-count-preserved : goal.loop-count-preserved
 loop-count-preserved c =
@@ -25,9 +25,9 @@ loop-count-preserved c =
     let seen = ap (λ (r : RawChoice). length r.operations) c.choice.view_is in
     let inside : k < length c.loop-count.given = omega (arith, seen, i.0.long, c.len-count-end.ensures.value, c.loop-count-test.true, c.requires.few) in
     let moved = image_of a.images.now t c.requires.images _ _ c.operation_of-own.ensures c.intersection.result c.of-moved.result c.of-moved.ensures.same in (
-      given_more t raw a.asked.response k row c.left_rows-left.result c.loop-count.given c.loop-count.auto.count inside i.0
-          (λ q b e. (c.union-row.ensures _).1 (inl ((moved _).1 (q, (c.intersection.ensures q).1 (b, (c.requires.asked q).1 (c.left_rows-left.ensures.known k q b, e)), refl))))
-          (λ p q l n b. (c.union-row.ensures _).1 (inr (any_leads a.images.now t c.requires.images raw c.other_operations-others.result _ c.of_any-passed.result c.of_any-passed.ensures.same p q (c.other_operations-others.ensures.members p l n) b)))
+      given_more t raw a.asked.response k row a.moves.now.left c.loop-count.given c.loop-count.auto.count inside i.0
+          (λ q b e. (c.union-row.ensures _).1 (inl ((moved _).1 (q, (c.intersection.ensures q).1 (b, (c.requires.asked q).1 (c.requires.moves.left.known k q b, e)), refl))))
+          (λ p q l n b. (c.union-row.ensures _).1 (inr (any_leads a.images.now t c.requires.images raw a.moves.now.operations _ c.of_any-passed.result c.of_any-passed.ensures.same p q (c.requires.moves.members p l n) b)))
           (λ q s. elim ((c.union-row.ensures q).0 s) [
             | inl b ↦ subst (λ (s : TypeTable). Below (length s.states) c.of-moved.result) c.requires.images c.of-moved.ensures.known q b
             | inr b ↦ subst (λ (s : TypeTable). Below (length s.states) c.of_any-passed.result) c.requires.images c.of_any-passed.ensures.known q b
@@ -43,15 +43,15 @@ returns-clause-all c =
     let a = c.args in
     let seen = ap (λ (r : RawChoice). length r.operations) c.choice.view_is in
     let e : c.loop-count.count ≡ length a.choice.now.operations = omega (arith, seen, c.len-count-end.ensures.value, c.loop-count-test.false, c.loop-count.auto.count-end, c.requires.some) in
-    all_given a.table.now a.choice.now a.team a.asked.response c.left_rows-left.result c.loop-count.given c.left_rows-left.ensures
-    (subst (λ (end : ℕ). AreGivenRows a.table.now a.choice.now a.asked.response end c.left_rows-left.result c.loop-count.given) e c.loop-count.invariant.0)
-    c.requires.other c.loop-count.all (λ k q l. c.loop-count.invariant.1 k q (omega (arith, l, e)))
+    all_given a.table.now a.choice.now a.moves.now.team a.asked.response a.moves.now.left c.loop-count.given c.requires.moves.left
+    (subst (λ (end : ℕ). AreGivenRows a.table.now a.choice.now a.asked.response end a.moves.now.left c.loop-count.given) e c.loop-count.invariant.0)
+    c.requires.moves.other c.loop-count.all (λ k q l. c.loop-count.invariant.1 k q (omega (arith, l, e)))
 
 pub returns-clause-given : goal.returns-clause-given
 returns-clause-given c =
     let a = c.args in
     let seen = ap (λ (r : RawChoice). length r.operations) c.choice.view_is in
     let e : c.loop-count.count ≡ length a.choice.now.operations = omega (arith, seen, c.len-count-end.ensures.value, c.loop-count-test.false, c.loop-count.auto.count-end, c.requires.some) in
-    order_given a.table.now a.choice.now a.team a.asked.response c.left_rows-left.result c.loop-count.given c.left_rows-left.ensures
-    (subst (λ (end : ℕ). AreGivenRows a.table.now a.choice.now a.asked.response end c.left_rows-left.result c.loop-count.given) e c.loop-count.invariant.0)
-    c.requires.other
+    order_given a.table.now a.choice.now a.moves.now.team a.asked.response a.moves.now.left c.loop-count.given c.requires.moves.left
+    (subst (λ (end : ℕ). AreGivenRows a.table.now a.choice.now a.asked.response end a.moves.now.left c.loop-count.given) e c.loop-count.invariant.0)
+    c.requires.moves.other
