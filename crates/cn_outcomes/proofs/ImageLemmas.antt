@@ -1,14 +1,16 @@
 -- The images of sets of states, by two sets of eight.
-use Rattle.std.proofs.Common.{◌≡◌, ℕ, ◌+◌, ◌-◌, ◌/◌, ◌%◌, ◌^◌, ◌<◌, ◌⊎◌, inl, inr, ◌↔◌, length, sym, ap, ◌∙◌, subst, arith}
+use Rattle.std.proofs.Common.{◌≡◌, ℕ, zero, suc, List, [], ◌∷◌, get_or, refl, ◌≤◌, ◌+◌, ◌-◌, ◌/◌, ◌%◌, ◌^◌, ◌<◌, ◌⊎◌, inl, inr, ◌↔◌, length, sym, ap, ◌∙◌, subst, arith}
 use Rattle.std.specs.Prelude.{IsBitSet}
+use Rattle.std.proofs.Math.ListN.{set}
 use Rattle.std.specs.Int.{bit_at}
 use Rattle.std.proofs.lemmas.Nat.{shr_split}
 use Rattle.std.proofs.lemmas.Nat.Bits.{bit_at_cat_high, bit_at_cat_low}
 use Rattle.cn_table.specs.TypeTable.{TypeTable, transition}
-use Rattle.cn_outcomes.specs.Images.{IsImageFrom}
+use Rattle.cn_outcomes.specs.Images.{HaveReach, IsImageFrom, MayLeave}
 use Rattle.cn_outcomes.specs.Subsets.{Below}
 use Rattle.cn_outcomes.proofs.BitSets.{below_or_not, member_below}
 use Rattle.cn_outcomes.proofs.LastProcess.{bit_from, set_from}
+use Rattle.cn_outcomes.proofs.Unions.{at_more}
 
 -- number i stands for a state, which the operation leads to state q
 abbrev pub image_part : TypeTable → ℕ → ℕ → ℕ → ℕ → Type 0
@@ -64,3 +66,21 @@ pub image_of : (s t : TypeTable) → s ≡ t → (o p : ℕ) → o ≡ p → (fr
 image_of s t e o p f from set h =
     subst (λ (u : TypeTable). (q : ℕ) → IsBitSet set q ↔ ((x : ℕ) × IsBitSet from x × ((transition u p x).1 ≡ q))) e
     (subst (λ (k : ℕ). (q : ℕ) → IsBitSet set q ↔ ((x : ℕ) × IsBitSet from x × ((transition s k x).1 ≡ q))) f h)
+
+-- ---- what so many moves may leave
+
+pub reach_first : (t : TypeTable) (first : List ℕ) (rows : List (List ℕ)) → length t.states ≤ 16 → ((state : ℕ) → state < 16 → IsBitSet (get_or first state 0) state) → HaveReach t 1 (first ∷ rows)
+reach_first t first rows few h zero l state u last e = subst (IsBitSet (get_or first state 0)) e (h state (omega (arith, u, few)))
+reach_first t first rows few h (suc moves) l state u last e = absurd (omega (arith, l))
+
+pub reach_more : (t : TypeTable) (k : ℕ) (rows : List (List ℕ)) (row : List ℕ) → 1 ≤ k → k < length rows → HaveReach t k rows
+    → ((operation state q : ℕ) → operation < length t.operations → state < length t.states → IsBitSet (get_or (get_or rows (k - 1) []) (transition t operation state).1 0) q → IsBitSet (get_or row state 0) q)
+    → ((operation state : ℕ) → operation < length t.operations → state < length t.states → (transition t operation state).1 < length t.states) → HaveReach t (k + 1) (set rows k row)
+reach_more t k rows row some l g h known = at_more (λ moves (row : List ℕ). (state : ℕ) → state < length t.states → (last : ℕ) → MayLeave t moves state last → IsBitSet (get_or row state 0) last)
+    [] rows k row l g (last_row k refl)
+  where
+    last_row : (m : ℕ) → m ≡ k → (state : ℕ) → state < length t.states → (last : ℕ) → MayLeave t m state last → IsBitSet (get_or row state 0) last
+    last_row zero e state u last way = absurd (omega (arith, e, some))
+    last_row (suc m) e state u last way =
+        let before : m ≡ k - 1 = omega (arith, e) in
+        h way.0 state last way.1 u (subst (λ (i : ℕ). IsBitSet (get_or (get_or rows i []) (transition t way.0 state).1 0) last) before (g m (omega (arith, e)) (transition t way.0 state).1 (known way.0 state way.1 u) last way.2))

@@ -9,8 +9,9 @@ use Rattle.std.proofs.lemmas.Bool.{cases_order, ne_eqb}
 use Rattle.std.proofs.lemmas.List.{length-map}
 use Rattle.std.proofs.lemmas.Nat.Bits.{bit_at-pow_same}
 use Rattle.cn_table.specs.TypeTable.{TypeTable, transition}
+use Rattle.cn_outcomes.specs.Images.{MayLeave}
 use Rattle.cn_outcomes.specs.PairSets.{Has}
-use Rattle.cn_choice.specs.RawChoices.{RawChoice}
+use Rattle.cn_choice.specs.RawChoices.{IsRawChoice, RawChoice}
 use Rattle.cn_choice.specs.Moves.{answer_of, next_of}
 use Rattle.cn_outcomes.specs.Tails.{AreDead, BeginsWithin, Ends, Hits, IsFirstWay, IsFresh, IsKept, IsTried, IsTurn, IsWay, NoWay, count_moved, seen_after}
 use Rattle.cn_outcomes.proofs.BitSets.{pow_set, union_set}
@@ -243,3 +244,26 @@ module _ (t : TypeTable) (c : RawChoice) (j : ℕ) (set : List ℕ) (long : ℕ)
         (subst (λ (x : ℕ). NoWay t c j set left 0 (length c.operations) x q s) (sym new.0)
         (subst (λ (x : ℕ). NoWay t c j set left 0 (length c.operations) used x s) (sym new.2) (subst (λ (x : Option ℕ). NoWay t c j set left 0 (length c.operations) used state x) (sym new.1) none)))
   ]
+
+-- ---- states that cannot be left any more
+
+-- a way leaves a state that its number of moves may leave
+ends_leave : (t : TypeTable) (c : RawChoice) → IsRawChoice t (length c.operations) c → (j state used : ℕ) (seen : Option ℕ) (ps : List ℕ) (pair : ℕ × ℕ) → IsFresh (length c.operations) used ps → Ends t c j state seen ps pair
+    → MayLeave t (length ps) state pair.1
+ends_leave t c fits j state used None [] pair f e = e.1
+ends_leave t c fits j state used (Some r) [] pair f e = e.1
+ends_leave t c fits j state used None (p ∷ ps) pair f e = (
+  slice_index c.operations p,
+  fits.operations_known p 0 f.0,
+  ends_leave t c fits j (next_of t c p state) (bit_or used (2 ^ p)) (seen_after j p (answer_of t c p state) None) ps pair f.2 e,
+)
+ends_leave t c fits j state used (Some r) (p ∷ ps) pair f e = (
+  slice_index c.operations p,
+  fits.operations_known p 0 f.0,
+  ends_leave t c fits j (next_of t c p state) (bit_or used (2 ^ p)) (Some r) ps pair f.2 e,
+)
+
+pub no_way_from : (t : TypeTable) (c : RawChoice) → IsRawChoice t (length c.operations) c → (j : ℕ) (set : List ℕ) (size low high used state : ℕ) (seen : Option ℕ) (states : ℕ) → ((r q : ℕ) → Has set r q → IsBitSet states q)
+    → ((q : ℕ) → IsBitSet states q → ¬ MayLeave t size state q) → NoWay t c j set size low high used state seen
+no_way_from t c fits j set size low high used state seen states covers none x way hits =
+    none hits.0.1 (covers hits.0.0 hits.0.1 hits.2) (subst (λ (k : ℕ). MayLeave t k state hits.0.1) way.long (ends_leave t c fits j state used seen x hits.0 way.fresh hits.1))

@@ -1,5 +1,5 @@
 -- The states to which an operation leads from the states of a set.
-use Rattle.std.specs.Prelude.{◌≡◌, ℕ, ◌+◌, ◌<◌, ◌↔◌, List, [], length, slice_index, slice_index_or, IsBitSet}
+use Rattle.std.specs.Prelude.{◌≡◌, ℕ, zero, suc, ◌+◌, ◌<◌, ◌↔◌, List, [], length, slice_index, slice_index_or, IsBitSet}
 use Rattle.cn_table.specs.TypeTable.{TypeTable, transition}
 use Rattle.cn_outcomes.specs.Subsets.{Below}
 
@@ -13,3 +13,14 @@ abbrev pub HaveImages : TypeTable → ℕ → List (List ℕ) → Type 0
 HaveImages t first rows =
     (operation : ℕ) → operation < length t.operations → (from : ℕ) → from < 256
     → IsImageFrom t operation first from (slice_index (slice_index_or rows operation []) from)
+
+-- so many moves by operations of the table may lead from the state to this one
+abbrev pub MayLeave : TypeTable → ℕ → ℕ → ℕ → Type 0
+MayLeave t zero state last = state ≡ last
+MayLeave t (suc moves) state last = (operation : ℕ) × (operation < length t.operations) × MayLeave t moves (transition t operation state).1 last
+
+-- the rows below the end have for each state at least those that so many moves may leave
+abbrev pub HaveReach : TypeTable → ℕ → List (List ℕ) → Type 0
+HaveReach t end rows =
+    (moves : ℕ) → moves < end → (state : ℕ) → state < length t.states → (last : ℕ) → MayLeave t moves state last
+    → IsBitSet (slice_index (slice_index_or rows moves []) state) last

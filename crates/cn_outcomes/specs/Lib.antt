@@ -10,4 +10,5 @@ pub mod RowSettings
 pub mod Subjects
 pub mod Subsets
 pub mod Tails
+pub mod Targets
 pub mod Twins

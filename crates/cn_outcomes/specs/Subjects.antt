@@ -10,12 +10,13 @@ use Rattle.cn_outcomes.specs.Twins.{AreLinks}
 use Rattle.cn_outcomes.specs.declared.subject.Subject.{Subject}
 use Rattle.cn_outcomes.specs.declared.tails.Target.{Target}
 
--- the raw choice is that of the choice, and one for the table, of few processes
+-- the raw choice is that of the choice, and one for the table, of few processes, and the images are of the table
 pub record IsSubject (s : Subject) : Type 0 where
   pub few : length s.choice.now.a + length s.choice.now.b ≤ MOST_PROCESSES
   pub same : s.raw.now ≡ raw_choice_of s.choice.now
   pub short : length s.raw.now.operations ≤ MOST_PROCESSES
   pub fits : IsRawChoice s.table.now (length s.raw.now.operations) s.raw.now
+  pub images : s.images.now ≡ s.table.now
 
 -- the target of an order that begins in team A: a process, the first of its twins, and its outcome set for team B
 pub record IsTargetOfA (s : Subject) (links : ℕ) (target : Target) : Type 0 where

@@ -7,12 +7,13 @@ ghost use Rattle.cn_choice.specs.FirstCollision.{IsFirstCollision};
 ghost use Rattle.cn_outcomes.specs.OutcomeOrders.{IsFirstInto};
 ghost use Rattle.cn_outcomes.specs.Subjects.{IsSubject, IsTargetOfA};
 ghost use Rattle.cn_outcomes.specs.Subsets.{AreRows};
+ghost use Rattle.cn_outcomes.specs.Targets.{IsTarget};
 ghost use Rattle.cn_outcomes.specs.Twins.{AreLinks};
 ghost use Rattle.cn_choice.specs.declared.team.Team.TheVariants.{A, B};
 ghost use Rattle.cn_choice.specs.Collisions.{IsCollision, IsRecordedCollision};
 ghost use Rattle.cn_choice.specs.Discerning.{IsWitness};
 
-use crate::bits::contains;
+use crate::bits::{contains, with};
 use crate::dead_ends::DeadEnds;
 use crate::first_orders::first_order_into;
 use crate::images::Images;
@@ -91,6 +92,7 @@ fn first_alpha(
 ) -> Option<(ArrayVec<u8, MOST_PROCESSES>, (u8, u8))>
     requires subject { IsSubject subject.now }
     requires target { IsTargetOfA subject.now links target.now }
+    requires states { IsTarget subject.now.table.now target.now }
 
     ensures none { IfNone result ((alpha beta : List ℕ)
         → ¬ IsCollision subject.now.table.now subject.now.raw.now target.now.process alpha beta) }
@@ -148,6 +150,8 @@ fn collision_of(
     let target = Target {
         process,
         set: &from_b,
+        states: from_b.states(),
+        images: subject.images,
     };
     let (alpha, (response, state)) = first_alpha(
         subject,
@@ -161,6 +165,8 @@ fn collision_of(
     let again = Target {
         process,
         set: &pair,
+        states: with(0, state),
+        images: subject.images,
     };
     let (beta, _) = first_order_into(subject, Team::B, &again, least, n + 1, &mut room.dead)?;
     Some((alpha, beta))
@@ -208,7 +214,6 @@ fn collision_by_rows(
 /// The first collision of the least process that has one.
 fn raw_collision(
     subject: &Subject<'_>,
-    images: &Images,
     room: &mut Room,
 ) -> Option<
     (
@@ -217,14 +222,13 @@ fn raw_collision(
     ),
 >
     requires subject { IsSubject subject.now }
-    requires images { images.now ≡ subject.now.table.now }
     requires some { 1 ≤ length subject.now.choice.now.a + length subject.now.choice.now.b }
     ensures none { IfNone result (IsWitness subject.now.table.now subject.now.raw.now) }
     ensures recorded { IfSome result (λ found.
         IsRecordedCollision subject.now.table.now subject.now.raw.now
         found.0 found.1.0.items found.1.1.items) }
 {
-    if let Some(found) = short_collision(subject, images, &mut room.dead) {
+    if let Some(found) = short_collision(subject, &mut room.dead) {
         return Some((0, found));
     }
     let (process, found) = collision_by_rows(subject, links(subject.raw), room)?;
@@ -256,8 +260,9 @@ pub fn examine_in(table: &Table, choice: &Choice, images: &Images, room: &mut Ro
         table,
         choice,
         raw: &raw,
+        images,
     };
-    match raw_collision(&subject, images, room) {
+    match raw_collision(&subject, room) {
         Some((process, (alpha, beta))) => Examined::Meets(Collision {
             choice: choice.copy(),
             process,

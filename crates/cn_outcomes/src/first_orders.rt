@@ -3,6 +3,7 @@ ghost use Rattle.std.specs.Prelude.{◌≤◌, ◌<◌, ◌+◌, ℕ, length, If
 ghost use Rattle.cn_table.specs.declared.limits.TheConstants.{MOST_RESPONSES, MOST_STATES};
 ghost use Rattle.cn_outcomes.specs.OutcomeOrders.{IsFirstInto, NoneOfLength};
 ghost use Rattle.cn_outcomes.specs.Subjects.{IsSubject};
+ghost use Rattle.cn_outcomes.specs.Targets.{IsTarget};
 ghost use Rattle.cn_outcomes.specs.declared.limits.TheConstants.{TOO_LONG};
 
 use crate::dead_ends::DeadEnds;
@@ -27,6 +28,7 @@ pub(crate) fn first_order_into(
         → NoneOfLength subject.now.table.now subject.now.raw.now team
         target.now.process target.now.set.now k }
     requires end { end ≤ TOO_LONG }
+    requires target { IsTarget subject.now.table.now target.now }
 
     ensures none { IfNone result ((k : ℕ) → k < end
         → NoneOfLength subject.now.table.now subject.now.raw.now team

@@ -1,11 +1,14 @@
 //! A table with the images of the sets of its states, made once for many choices.
 ghost use Rattle.std.specs.Prelude.{◌≡◌, ◌<◌, ◌≤◌, ℕ, length, slice_index, IsBitSet};
 ghost use Rattle.cn_table.specs.TypeTable.{transition};
-ghost use Rattle.cn_outcomes.specs.Images.{HaveImages, IsImageFrom};
+ghost use Rattle.cn_table.specs.declared.limits.TheConstants.{MOST_STATES};
+ghost use Rattle.cn_choice.specs.declared.limits.TheConstants.{MOST_PROCESSES};
+ghost use Rattle.cn_outcomes.specs.Images.{HaveImages, HaveReach, IsImageFrom, MayLeave};
 ghost use Rattle.cn_outcomes.specs.Subsets.{Below};
 
 use crate::bits::{least, union, with, without};
-use cn_table::{MOST_OPERATIONS, Operation, State, Table};
+use cn_choice::MOST_PROCESSES;
+use cn_table::{MOST_OPERATIONS, MOST_STATES, Operation, State, Table};
 use std::marker::Model;
 
 /// A table, made ready for [`examine_in`](crate::examine_in): it knows to which states each
@@ -16,17 +19,21 @@ pub struct Images<'t> {
     /// By operation, for the sets of the first eight states and for those of the others.
     low: [[u16; 256]; MOST_OPERATIONS],
     high: [[u16; 256]; MOST_OPERATIONS],
+    /// By the number of moves and by state, the states that so many moves from it may leave.
+    reach: [[u16; MOST_STATES]; MOST_PROCESSES],
 }
 
 impl<'t> Model for Images<'t> {
     ghost use Rattle.cn_table.specs.TypeTable.{TypeTable};
-    ghost use Rattle.cn_outcomes.specs.Images.{HaveImages};
+    ghost use Rattle.cn_outcomes.specs.Images.{HaveImages, HaveReach};
+    ghost use Rattle.cn_choice.specs.declared.limits.TheConstants.{MOST_PROCESSES};
 
     ghost Value = { TypeTable };
 
     ghost view = { λ s. s.table.now };
 
-    ghost invariant = { λ s. HaveImages s.table.now 0 s.low × HaveImages s.table.now 8 s.high };
+    ghost invariant = { λ s. HaveImages s.table.now 0 s.low × HaveImages s.table.now 8 s.high
+        × HaveReach s.table.now MOST_PROCESSES s.reach };
 }
 
 /// The image of a set whose number i stands for state first + i.
@@ -77,9 +84,70 @@ fn rows_from(table: &Table, first: u8) -> [[u16; 256]; MOST_OPERATIONS]
     rows
 }
 
+/// The states that a move from this state may leave, and then so many moves as the rows are for.
+fn reach_from(table: &Table, before: &[u16; MOST_STATES], state: u8) -> u16
+    requires state { state < length table.now.states }
+    ensures has { (operation q : ℕ) → operation < length table.now.operations
+        → IsBitSet (slice_index before.now (transition table.now operation state).1) q
+        → IsBitSet result q }
+    ensures known { (operation : ℕ) → operation < length table.now.operations
+        → (transition table.now operation state).1 < length table.now.states }
+{
+    let _states = table.states();
+    let mut set = 0;
+    for operation in 0..table.operations() {
+        let (_, next) = table.apply(Operation(operation), State(state));
+        set = union(set, before[next.0 as usize]);
+    }
+    set
+}
+
+/// The row for one move more than the row before is for.
+fn reach_row(table: &Table, before: &[u16; MOST_STATES]) -> [u16; MOST_STATES]
+    ensures has { (operation state q : ℕ) → operation < length table.now.operations
+        → state < length table.now.states
+        → IsBitSet (slice_index before.now (transition table.now operation state).1) q
+        → IsBitSet (slice_index result state) q }
+    ensures known { (operation state : ℕ) → operation < length table.now.operations
+        → state < length table.now.states
+        → (transition table.now operation state).1 < length table.now.states }
+{
+    let mut row = [0; MOST_STATES];
+    for state in 0..table.states() {
+        row[state as usize] = reach_from(table, before, state);
+    }
+    row
+}
+
+/// The row for no move.
+fn reach_at_once() -> [u16; MOST_STATES]
+    ensures { (state : ℕ) → state < MOST_STATES → IsBitSet (slice_index result state) state }
+{
+    let mut row = [0; MOST_STATES];
+    for state in 0..MOST_STATES as u8 {
+        row[state as usize] = with(0, state);
+    }
+    row
+}
+
+/// These rows for fewer moves than there are processes.
+fn reach_rows(table: &Table) -> [[u16; MOST_STATES]; MOST_PROCESSES]
+    ensures { HaveReach table.now MOST_PROCESSES result }
+{
+    let _states = table.states();
+    let mut rows = [[0; MOST_STATES]; MOST_PROCESSES];
+    rows[0] = reach_at_once();
+    for moves in 1..MOST_PROCESSES {
+        rows[moves] = reach_row(table, &rows[moves - 1]);
+    }
+    rows
+}
+
 impl<'t> Images<'t> {
     ghost use Rattle.std.specs.Prelude.{◌≡◌, ◌↔◌, ◌<◌, ℕ, length, IsBitSet};
     ghost use Rattle.cn_table.specs.TypeTable.{transition};
+    ghost use Rattle.cn_choice.specs.declared.limits.TheConstants.{MOST_PROCESSES};
+    ghost use Rattle.cn_outcomes.specs.Images.{MayLeave};
     ghost use Rattle.cn_outcomes.specs.Subsets.{Below};
 
     /// The table, made ready.
@@ -90,6 +158,7 @@ impl<'t> Images<'t> {
             table,
             low: rows_from(table, 0),
             high: rows_from(table, 8),
+            reach: reach_rows(table),
         }
     }
 
@@ -128,5 +197,15 @@ impl<'t> Images<'t> {
             set = union(set, moved);
         }
         set
+    }
+
+    /// The states that so many moves from the state may leave.
+    pub(crate) fn reach(&self, moves: u8, state: State) -> u16
+        requires moves { moves < MOST_PROCESSES }
+        requires state { state.0 < length self.now.states }
+        ensures { (q : ℕ) → MayLeave self.now moves state.0 q → IsBitSet result q }
+    {
+        let _states = self.table.states();
+        self.reach[moves as usize][state.0 as usize]
     }
 }

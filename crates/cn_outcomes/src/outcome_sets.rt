@@ -121,6 +121,19 @@ impl OutcomeSet {
         all
     }
 
+    /// The states of the pairs.
+    pub(crate) fn states(&self) -> u16
+        ensures { (r q : ℕ) → Has self.now r q → IsBitSet result q }
+    {
+        let mut all = 0;
+        for q in 0..MOST_STATES {
+            if self.row[q] != 0 {
+                all = with(all, q as u8);
+            }
+        }
+        all
+    }
+
     /// Whether some pair is in both sets.
     pub fn meets(&self, other: &OutcomeSet) -> bool
         ensures { IsTrue result ↔ HaveCommonPair self.now other.now }

@@ -11,12 +11,13 @@ ghost use Rattle.cn_outcomes.specs.LengthRows.{AreOtherMoves};
 ghost use Rattle.cn_outcomes.specs.OutcomeOrders.{IsFirstOfPair, LeadsTo};
 ghost use Rattle.cn_outcomes.specs.ShortOrders.{IsFirstShort};
 ghost use Rattle.cn_outcomes.specs.Subjects.{IsSubject};
+ghost use Rattle.cn_outcomes.specs.Targets.{IsTarget};
 ghost use Rattle.cn_choice.specs.declared.limits.TheConstants.{MOST_PROCESSES};
 
 use crate::asked_responses::{Answers, AskedResponse, answers_of, start_response};
+use crate::bits::with;
 use crate::dead_ends::DeadEnds;
 use crate::first_orders::first_order_into;
-use crate::images::Images;
 use crate::length_rows::{
     LengthRows, OtherMoves, least_count, length_rows, other_moves, pairs_of_rows,
 };
@@ -33,30 +34,31 @@ use cn_table::Table;
 fn short_alpha(
     table: &Table,
     raw: &RawChoice,
-    set: &OutcomeSet,
+    target: &Target<'_>,
     dead: &mut DeadEnds,
 ) -> Option<(ArrayVec<u8, MOST_PROCESSES>, (u8, u8))>
     requires some { 1 ≤ length raw.now.operations }
     requires short { length raw.now.operations ≤ MOST_PROCESSES }
     requires fits { IsRawChoice table.now (length raw.now.operations) raw.now }
+    requires target { IsTarget table.now target.now }
+    requires process { target.now.process ≡ 0 }
     ensures first { IfSome result (λ found.
-        IsFirstShort table.now raw.now set.now found.0.items found.1) }
+        IsFirstShort table.now raw.now target.now.set.now found.0.items found.1) }
     ensures in_range { IfSome result (λ found.
         (found.1.0 < MOST_RESPONSES) × (found.1.1 < MOST_STATES)) }
 {
-    let target = Target { process: 0, set };
     let alone = Prefix {
         used: 0,
         left: 1,
         state: raw.state,
         seen: None,
     };
-    let soon = way_into(table, raw, &target, dead, 0, 1, alone);
+    let soon = way_into(table, raw, target, dead, 0, 1, alone);
     if let Some((order, pair)) = soon {
         return Some((order, pair));
     }
     let then = Prefix { left: 2, ..alone };
-    let (order, pair) = way_into(table, raw, &target, dead, 0, 1, then)?;
+    let (order, pair) = way_into(table, raw, target, dead, 0, 1, then)?;
     Some((order, pair))
 }
 
@@ -87,6 +89,8 @@ fn first_beta(
     let target = Target {
         process: 0,
         set: &pair,
+        states: with(0, state),
+        images: subject.images,
     };
     let end = (first + 1).min(n + 1);
     let (beta, _) = first_order_into(subject, Team::B, &target, first, end, dead)?;
@@ -100,11 +104,9 @@ fn led_collision(
     subject: &Subject<'_>,
     moves: &OtherMoves,
     answers: &Answers,
-    images: &Images,
     dead: &mut DeadEnds,
 ) -> Option<(ArrayVec<u8, MOST_PROCESSES>, ArrayVec<u8, MOST_PROCESSES>)>
     requires subject { IsSubject subject.now }
-    requires images { images.now ≡ subject.now.table.now }
     requires some { 1 ≤ length subject.now.choice.now.a + length subject.now.choice.now.b }
     requires leads { slice_get subject.now.raw.now.marks 0 ≡ Some A }
     requires moves { AreOtherMoves subject.now.table.now subject.now.raw.now moves.now }
@@ -116,12 +118,17 @@ fn led_collision(
         IsFirstCollision subject.now.table.now subject.now.raw.now 0
         found.0.items found.1.items) }
 {
-    let table = subject.table;
-    let raw = subject.raw;
+    let (table, raw, images) = (subject.table, subject.raw, subject.images);
     let asked = start_response(table, raw, 0, answers);
     let rows = length_rows(table, raw, moves, asked, images);
     let may = OutcomeSet::of_response(asked.response, rows.all);
-    let (alpha, (response, state)) = short_alpha(table, raw, &may, dead)?;
+    let target = Target {
+        process: 0,
+        set: &may,
+        states: rows.all,
+        images,
+    };
+    let (alpha, (response, state)) = short_alpha(table, raw, &target, dead)?;
     let beta = first_beta(subject, &rows, response, state, dead)?;
     Some((alpha, beta))
 }
@@ -132,11 +139,9 @@ fn collision_by_lengths(
     subject: &Subject<'_>,
     moves: &OtherMoves,
     answers: &Answers,
-    images: &Images,
     dead: &mut DeadEnds,
 ) -> Option<(ArrayVec<u8, MOST_PROCESSES>, ArrayVec<u8, MOST_PROCESSES>)>
     requires subject { IsSubject subject.now }
-    requires images { images.now ≡ subject.now.table.now }
     requires some { 1 ≤ length subject.now.choice.now.a + length subject.now.choice.now.b }
     requires moves { AreOtherMoves subject.now.table.now subject.now.raw.now moves.now }
     requires team { moves.now.team ≡ B }
@@ -152,18 +157,19 @@ fn collision_by_lengths(
 {
     let table = subject.table;
     let raw = subject.raw;
-    let may = pairs_of_rows(table, raw, moves, answers, images);
+    let may = pairs_of_rows(table, raw, moves, answers, subject.images);
     let target = Target {
         process: 0,
         set: &may,
+        states: may.states(),
+        images: subject.images,
     };
-    let found = first_order_into(subject, Team::A, &target, 0, 3, dead)?;
-    let (alpha, (response, state)) = found;
+    let (alpha, (response, state)) = first_order_into(subject, Team::A, &target, 0, 3, dead)?;
     let asked = AskedResponse {
         response,
         states: answers.states[response as usize],
     };
-    let rows = length_rows(table, raw, moves, asked, images);
+    let rows = length_rows(table, raw, moves, asked, subject.images);
     let beta = first_beta(subject, &rows, response, state, dead)?;
     Some((alpha, beta))
 }
@@ -172,26 +178,23 @@ fn collision_by_lengths(
 /// none.
 pub(crate) fn short_collision(
     subject: &Subject<'_>,
-    images: &Images,
     dead: &mut DeadEnds,
 ) -> Option<(ArrayVec<u8, MOST_PROCESSES>, ArrayVec<u8, MOST_PROCESSES>)>
     requires subject { IsSubject subject.now }
-    requires images { images.now ≡ subject.now.table.now }
     requires some { 1 ≤ length subject.now.choice.now.a + length subject.now.choice.now.b }
     ensures { IfSome result (λ found.
         IsFirstCollision subject.now.table.now subject.now.raw.now 0
         found.0.items found.1.items) }
 {
-    let table = subject.table;
-    let raw = subject.raw;
+    let (table, raw, images) = (subject.table, subject.raw, subject.images);
     if !is_in(raw, 0, Team::A) {
         return None;
     }
     let moves = other_moves(table, raw, Team::B, images);
     let answers = answers_of(table, raw, 0);
-    let led = led_collision(subject, &moves, &answers, images, dead);
+    let led = led_collision(subject, &moves, &answers, dead);
     if let Some(found) = led {
         return Some(found);
     }
-    collision_by_lengths(subject, &moves, &answers, images, dead)
+    collision_by_lengths(subject, &moves, &answers, dead)
 }

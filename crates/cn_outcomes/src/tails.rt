@@ -3,15 +3,18 @@ ghost use Rattle.std.specs.Prelude.{◌≡◌, ◌≢◌, ◌+◌, ◌-◌, ◌^
 ghost use Rattle.std.specs.Prelude.{IfNone, IfSome, IsBitSet, IsFalse, IsTrue, Some};
 ghost use Rattle.std.specs.Int.Bits.{bit_or};
 ghost use Rattle.cn_table.specs.declared.limits.TheConstants.{MOST_RESPONSES, MOST_STATES};
+ghost use Rattle.cn_outcomes.specs.Images.{MayLeave};
 ghost use Rattle.cn_outcomes.specs.PairSets.{Has};
+ghost use Rattle.cn_outcomes.specs.Targets.{IsTarget};
 ghost use Rattle.cn_choice.specs.RawChoices.{IsRawChoice};
 ghost use Rattle.cn_choice.specs.Moves.{answer_of, next_of};
 ghost use Rattle.cn_outcomes.specs.Tails.{AreDead, IsFirstWay, IsPassed, IsTurn, NoWay, StayDead, count_moved, seen_after};
 ghost use Rattle.cn_choice.specs.declared.limits.TheConstants.{MOST_PROCESSES};
 ghost use Rattle.cn_outcomes.specs.declared.limits.TheConstants.{SUBSETS};
 
-use crate::bits::{contains, with};
+use crate::bits::{contains, share, with};
 use crate::dead_ends::DeadEnds;
+use crate::images::Images;
 use crate::outcome_sets::OutcomeSet;
 use crate::subset_rows::operation_of;
 use arrayvec::ArrayVec;
@@ -28,11 +31,13 @@ pub(crate) struct Prefix {
     pub seen: Option<u8>,
 }
 
-/// The end that is looked for: the process gets a pair of the set.
+/// The end that is looked for: the process gets a pair of the set, in one of these states.
 #[derive(Clone, Copy)]
 pub(crate) struct Target<'s> {
     pub process: u8,
     pub set: &'s OutcomeSet,
+    pub states: u16,
+    pub images: &'s Images<'s>,
 }
 
 /// The response that process j has got: the first.
@@ -140,6 +145,20 @@ fn tried_after(choice: &RawChoice, j: u8, tried: u16, process: u8) -> u16
     }
 }
 
+/// Whether no moves that are left lead from the prefix to a state of the target.
+fn is_lost(table: &Table, target: &Target<'_>, prefix: Prefix) -> bool
+    requires target { IsTarget table.now target.now }
+    requires left { prefix.left < MOST_PROCESSES }
+    requires state { prefix.state.0 < length table.now.states }
+    ensures { IsTrue result → (q : ℕ) → IsBitSet target.now.states q
+        → ¬ MayLeave table.now prefix.left prefix.state.0 q }
+{
+    !share(
+        target.images.reach(prefix.left, prefix.state),
+        target.states,
+    )
+}
+
 /// From which process on, and below which, the next one is tried: j alone where there is no time for
 /// another.
 fn turns(j: u8, prefix: Prefix, n: u8) -> (u8, u8)
@@ -166,6 +185,7 @@ pub(crate) fn way_into(
 ) -> Option<(ArrayVec<u8, MOST_PROCESSES>, (u8, u8))>
     requires few { length choice.now.operations ≤ MOST_PROCESSES }
     requires fits { IsRawChoice table.now (length choice.now.operations) choice.now }
+    requires target { IsTarget table.now target.now }
     requires left { prefix.left ≤ MOST_PROCESSES }
     requires high { high ≤ length choice.now.operations }
     requires used { prefix.used < SUBSETS }
@@ -199,6 +219,9 @@ pub(crate) fn way_into(
         tried = tried_after(choice, target.process, tried, process);
         let next = prefix_after(table, choice, target.process, prefix, process);
         if process == target.process && is_unwanted(target.set, next) {
+            continue;
+        }
+        if is_lost(table, target, next) {
             continue;
         }
         if dead.has(next) {

@@ -3,7 +3,7 @@ use Rattle.cn_choice.specs.RawChoices.{RawChoice}
 use Rattle.std.specs.Int.Bits.{bit_or}
 use Rattle.cn_choice.specs.Moves.{answer_of, next_of}
 use Rattle.cn_outcomes.specs.Tails.{AreDead, count_moved, seen_after}
-use Rattle.cn_outcomes.proofs.TailLemmas.{dead_closed, dead_here, dead_kept, dead_more, dead_unwanted, first_way, long_after, tried_more, tried_next, turn_first, turn_none}
+use Rattle.cn_outcomes.proofs.TailLemmas.{dead_closed, dead_here, dead_kept, dead_more, dead_unwanted, first_way, long_after, no_way_from, tried_more, tried_next, turn_first, turn_none}
 use Rattle.cn_outcomes.proofs.tails.+way_into.Goals as goal
 
 pub loop-process-preserved-then-not-is_open : goal.loop-process-preserved-then-not-is_open
@@ -29,6 +29,25 @@ loop-process-preserved-then-is_unwanted t c =
     let free = c.if-not-is_open.ensures.open refl in
     let unwanted = c.if-is_unwanted.ensures refl in
     let here = dead_unwanted a.table.now a.choice.now j set a.prefix.left a.low a.high a.prefix.used a.prefix.state.0 a.prefix.seen p unwanted.0 (sym c.prefix_after-next.ensures.seen ∙ unwanted.1) unwanted.2 in
+    record {
+      dead = dead_more a.table.now a.choice.now j set a.prefix.left a.low a.high a.prefix.used a.prefix.state.0 a.prefix.seen p c.loop-process.invariant.dead here;
+      kept = c.loop-process.invariant.kept;
+      tried = tried_next a.choice.now j a.low p a.prefix.used c.loop-process.tried c.tried_after-tried.result c.loop-process.auto.process free c.loop-process.invariant.tried c.tried_after-tried.ensures;
+    }
+
+pub loop-process-preserved-then-is_lost : goal.loop-process-preserved-then-is_lost
+loop-process-preserved-then-is_lost t c =
+    let a = c.args in
+    let j = a.target.now.process in
+    let set = a.target.now.set.now in
+    let p = c.loop-process.process in
+    let next = c.prefix_after-next.ensures in
+    let free = c.if-not-is_open.ensures.open refl in
+    let some : 1 ≤ a.prefix.left = omega (arith, c.if-prefix-eq0.false) in
+    let lost = rw (next.state, next.left) at (c.if-is_lost.ensures refl) in
+    let none = no_way_from a.table.now a.choice.now c.requires.fits j set (a.prefix.left - 1) 0 (length a.choice.now.operations) (bit_or a.prefix.used (2 ^ p)) (next_of a.table.now a.choice.now p a.prefix.state.0)
+    (seen_after j p (answer_of a.table.now a.choice.now p a.prefix.state.0) a.prefix.seen) a.target.now.states c.requires.target.covers lost in
+    let here = dead_here a.table.now a.choice.now j set a.prefix.left a.low a.high a.prefix.used a.prefix.state.0 a.prefix.seen p (length a.choice.now.operations) refl some none in
     record {
       dead = dead_more a.table.now a.choice.now j set a.prefix.left a.low a.high a.prefix.used a.prefix.state.0 a.prefix.seen p c.loop-process.invariant.dead here;
       kept = c.loop-process.invariant.kept;
@@ -67,16 +86,19 @@ way_into-found-requires t c =
         (
           c.requires.fits,
           (
-            omega (arith, next.left, c.requires.left),
+            c.requires.target,
             (
-              elim (rw (next.left, next.seen) at c.turns-from.ensures) [ inl a ↦ omega (arith, every, a.1) | inr b ↦ omega (arith, every, b.3, b.4) ],
+              omega (arith, next.left, c.requires.left),
               (
-                next.small,
+                elim (rw (next.left, next.seen) at c.turns-from.ensures) [ inl a ↦ omega (arith, every, a.1) | inr b ↦ omega (arith, every, b.3, b.4) ],
                 (
-                  next.in_range,
+                  next.small,
                   (
-                    next.known,
-                    λ more. rw (next.used, next.left, sum) (c.loop-process.invariant.kept (c.requires.dead (omega (arith, more, next.left)))),
+                    next.in_range,
+                    (
+                      next.known,
+                      λ more. rw (next.used, next.left, sum) (c.loop-process.invariant.kept (c.requires.dead (omega (arith, more, next.left)))),
+                    ),
                   ),
                 ),
               ),
