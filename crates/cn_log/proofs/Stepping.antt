@@ -341,6 +341,9 @@ module _ {R : Type 0} {L : Setting R} {Good : R → Type 0} {s : List Event} {ke
   pub looks_next : q < L.processes
   looks_next = looking.next
 
+  pub looks_phase : here.phase ≡ Looks mine q batch
+  looks_phase = looks_is.phase ∙ look.at.phase_is
+
   pub looks_in_announced : q < length kept.announced
   looks_in_announced = let a = looking.next in let b = look.at.keeps.fits.announced_many in omega (arith, a, b)
 

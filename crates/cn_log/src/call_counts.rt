@@ -26,28 +26,27 @@ impl CallCounts {
     }
 
     /// How many calls of process `p`.
-    pub fn of(self, p: u8) -> u16
+    pub fn of(&self, p: u8) -> u16
         requires { p < MOST_PROCESSES }
-        ensures { result ≡ count_at self p }
+        ensures { result ≡ count_at self.now p }
     {
         self.calls[usize::from(p)]
     }
 
-    /// The same with the calls of the first so many processes in the batch.
-    pub fn with_batch(self, processes: u8, batch: Batch) -> CallCounts
+    /// Also the calls of the first so many processes in the batch.
+    pub fn add(&mut self, processes: u8, batch: &Batch)
         requires processes { processes ≤ MOST_PROCESSES }
-        requires places { length self.calls ≡ MOST_PROCESSES }
-        requires few { (q : ℕ) → q < processes → count_at self q ≤ MOST_ENTRIES }
-        ensures places { length result.calls ≡ MOST_PROCESSES }
+        requires places { length self.old.calls ≡ MOST_PROCESSES }
+        requires few { (q : ℕ) → q < processes → count_at self.old q ≤ MOST_ENTRIES }
+        ensures places { length self.new.calls ≡ MOST_PROCESSES }
         ensures number { (q : ℕ) → q < processes
-            → count_at result q ≡ count_at self q + length (and_entry (entry_at batch q) []) }
+            → count_at self.new q
+            ≡ count_at self.old q + length (and_entry (entry_at batch.now q) []) }
     {
-        let mut calls = self.calls;
         for p in 0..processes {
             if let Some(_entry) = batch.of(p) {
-                calls[usize::from(p)] += 1;
+                self.calls[usize::from(p)] += 1;
             }
         }
-        CallCounts { calls }
     }
 }

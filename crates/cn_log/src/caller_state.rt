@@ -1,4 +1,11 @@
 //! What a process knows of the log.
+ghost use Rattle.std.specs.Prelude.{◌≡◌, ◌+◌, ◌<◌, ℕ};
+ghost use Rattle.cn_log.specs.declared.batch.Batch.{Batch as BatchOf};
+ghost use Rattle.cn_log.specs.declared.entry.Entry.{Entry as EntryOf};
+ghost use Rattle.cn_log.specs.declared.caller_state.Phase.TheVariants.{Looks, Runs};
+ghost use Rattle.cn_log.specs.Fields.{batch_with_calls, count_at};
+ghost use Rattle.cn_choice.specs.declared.limits.TheConstants.{MOST_PROCESSES};
+
 use crate::batch::Batch;
 use crate::call_counts::CallCounts;
 use crate::entry::Entry;
@@ -27,4 +34,38 @@ pub(crate) struct CallerState {
     pub calls: u16,
     pub phase: Phase,
     pub state: State,
+}
+
+impl CallerState {
+    /// The process, which looks at the announcement of process `q`, reads this there: what it gathers
+    /// goes to its batch, and the next process is next.
+    pub fn look(&mut self, q: u8, announced: Option<Entry>)
+        requires { q < MOST_PROCESSES }
+        ensures { (mine : EntryOf) (batch : BatchOf) → self.old.phase ≡ Looks mine q batch
+            → self.new ≡ record self.old {
+              phase = Looks mine (q + 1)
+                  (batch_with_calls announced (count_at self.old.calls_seen q) q batch);
+            } }
+    {
+        if let Phase::Looks(_, next, batch) = &mut self.phase {
+            batch.gather(q, announced, self.calls_seen.of(q));
+            *next = q + 1;
+        }
+    }
+
+    /// The process, which has looked at all announcements, begins in the round of its next slot with
+    /// what it has gathered.
+    pub fn begin(&mut self) -> Batch
+        requires { (mine : EntryOf) × (q : ℕ) × (batch : BatchOf) × (self.old.phase ≡ Looks mine q batch) }
+        ensures { (mine : EntryOf) (q : ℕ) (batch : BatchOf) → self.old.phase ≡ Looks mine q batch
+            → (result ≡ batch) × (self.new ≡ record self.old { phase = Runs mine }) }
+    {
+        match self.phase {
+            Phase::Looks(mine, _, batch) => {
+                self.phase = Phase::Runs(mine);
+                batch
+            }
+            Phase::Idle | Phase::Runs(_) => unreachable!(),
+        }
+    }
 }
