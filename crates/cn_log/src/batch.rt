@@ -95,20 +95,6 @@ pub(crate) fn put_batch(
     }
 }
 
-/// How many entries the first so many processes have in the batch.
-pub(crate) fn count(processes: u8, batch: &Batch) -> u16
-    requires processes { processes ≤ MOST_PROCESSES }
-    ensures number { result ≡ length (members processes 0 batch.now) }
-{
-    let mut count: u16 = 0;
-    for p in 0..processes {
-        if let Some(_entry) = batch.of(p) {
-            count += 1;
-        }
-    }
-    count
-}
-
 /// The state of the object after the calls of the first so many processes in the batch.
 pub(crate) fn state_after(object: &Table, processes: u8, batch: &Batch, start: State) -> State
     requires processes { processes ≤ MOST_PROCESSES }

@@ -19,7 +19,7 @@ ghost use Rattle.cn_log.specs.Log.{MayInvoke, MayStep, answer, first_look, opera
 ghost use Rattle.cn_log.specs.Opening.{setting_of};
 ghost use Rattle.cn_choice.specs.declared.limits.TheConstants.{MOST_PROCESSES};
 
-use crate::batch::{Batch, count, put_batch, state_after};
+use crate::batch::{Batch, put_batch, state_after};
 use crate::call_counts::CallCounts;
 use crate::caller_state::{CallerState, Phase};
 use crate::entry::Entry;
@@ -154,6 +154,8 @@ impl LogState {
     }
 
     /// The process takes one atomic step in the round of its next slot, and replays what it decides.
+    // Apart, so that a look has no part in what this keeps on the stack.
+    #[inline(never)]
     fn run(&mut self, opening: &Opening, p: u8, mine: Entry) -> StepAnswer
         requires room { HasRoom opening.now self.old }
         requires at { (s : List EventOf) × IsStateAt opening.now s self.old p (Runs mine) }
@@ -168,7 +170,7 @@ impl LogState {
         let here = &mut self.callers[usize::from(p)];
         let slot = here.applied_slots;
         let round = &mut self.rounds[usize::from(slot)];
-        let decision = round.step(&opening.plan, p);
+        round.step(&opening.plan, p);
         let processes = opening.plan.processes();
         enter(
             &mut self.entries,
@@ -178,7 +180,8 @@ impl LogState {
             slot,
             round,
         );
-        match decision {
+        // Asked here, so that only a step that decides copies a batch.
+        match round.decision(p) {
             None => StepAnswer::Working,
             Some(batch) => replay_batch(opening, here, mine, &batch),
         }
@@ -281,11 +284,9 @@ fn replay_batch(opening: &Opening, here: &mut CallerState, mine: Entry, batch: &
     } else {
         (first_look(mine), StepAnswer::Working)
     };
+    here.apply(&opening.object, processes, batch);
     here.applied_slots = slot + 1;
-    here.applied_entries += count(processes, batch);
-    here.calls_seen.add(processes, batch);
     here.phase = phase;
-    here.state = state_after(&opening.object, processes, batch, here.state);
     answer
 }
 
