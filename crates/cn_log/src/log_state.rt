@@ -193,9 +193,9 @@ fn untouched_rounds(alloc: Global, opening: &Opening) -> Result<Vec<Round<Batch>
     ensures { IfOk result (λ rounds. rounds.items
         ≡ replicate opening.now.capacity (setting_of opening.now).untouched) }
 {
-    let mut rounds = Vec::new(alloc);
+    let mut rounds = Vec::with_capacity(alloc, usize::from(opening.capacity))?;
     for _slot in 0..opening.capacity {
-        rounds.push(Round::new(alloc, &opening.plan)?)?;
+        rounds.push_reserved(Round::new(alloc, &opening.plan)?);
     }
     Ok(rounds)
 }
