@@ -2,7 +2,7 @@
 ghost use Rattle.std.specs.Prelude.{◌≡◌, ◌<◌, length};
 ghost use Rattle.cn_proto.specs.Plan.{protocol_of, processes_of};
 ghost use Rattle.cn_agree.specs.declared.local.Local.TheVariants.{Active};
-ghost use Rattle.cn_agree.specs.Steps.{node_after, local_after, first_after as record_after, onward as local_onward};
+ghost use Rattle.cn_agree.specs.Steps.{node_after, local_after, first_after as record_after, onward};
 
 use crate::local::{Local, Stage};
 use crate::node::Node;
@@ -54,27 +54,27 @@ pub(crate) fn act<V: Copy>(plan: &Plan, turn: Turn, node: &mut Node<V>, local: &
         Stage::Read(response) => local.go_on(Stage::Take(response, node.state)),
         Stage::Take(response, state) => {
             // Who has applied finds the register of the first team written.
-            if let Some(value) = node.register(plan.judge(here.role, response, state)) {
-                *local = onward(places, place, value);
+            if let Some(value) = *node.register(plan.judge(here.role, response, state)) {
+                go_onward(local, places, place, value);
             }
         }
     }
 }
 
-/// Where a process goes from a place with the value that it took there: to the next place of its
-/// path, and from the last one to its decision.
-fn onward<V: Copy>(places: usize, place: usize, value: V) -> Local<V>
+/// A process goes on from a place with the value that it took there: to the next place of its path,
+/// and from the last one to its decision.
+fn go_onward<V: Copy>(local: &mut Local<V>, places: usize, place: usize, value: V)
     requires { place < places }
-    ensures { result ≡ local_onward places place value }
+    ensures { local.new ≡ onward places place value }
 {
     if place + 1 < places {
-        Local::Active {
+        *local = Local::Active {
             place: place + 1,
             value,
             stage: Stage::Write,
-        }
+        };
     } else {
-        Local::Decided(value)
+        *local = Local::Decided(value);
     }
 }
 

@@ -95,7 +95,7 @@ pub(crate) fn action_at<V: Copy>(
         }),
         Stage::Take(response, state) => {
             let team = plan.judge(here.role, response, state);
-            let value = node.register(team)?;
+            let value = (*node.register(team))?;
             Some(if place + 1 < places {
                 Action::Take {
                     node: at,

@@ -17,12 +17,12 @@ pub struct Node<V> {
 }
 
 impl<V: Copy> Node<V> {
-    pub(crate) fn register(&self, team: Team) -> Option<V>
-        ensures { result ≡ register self.now team }
+    pub(crate) fn register(&self, team: Team) -> &Option<V>
+        ensures { result.now ≡ register self.now team }
     {
         match team {
-            Team::A => self.register_a,
-            Team::B => self.register_b,
+            Team::A => &self.register_a,
+            Team::B => &self.register_b,
         }
     }
 

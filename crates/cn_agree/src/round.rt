@@ -190,16 +190,16 @@ impl<V: Copy> Round<V> {
             → IsSome result ↔ IsAppliedAtRoot (protocol_of plan) (processes_of plan) self.now }
     {
         let root = &self.nodes[0];
-        root.register(self.first?)
+        *root.register(self.first?)
     }
 }
 
 fn copies<T: Copy>(alloc: Global, value: T, count: usize) -> Result<Vec<T>, AllocError>
     ensures { IfOk result (λ values. values.items ≡ replicate count value) }
 {
-    let mut values = Vec::new(alloc);
+    let mut values = Vec::with_capacity(alloc, count)?;
     for _i in 0..count {
-        values.push(value)?;
+        values.push_reserved(value);
     }
     Ok(values)
 }

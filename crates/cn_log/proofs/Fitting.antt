@@ -1,7 +1,7 @@
 -- The fields of a core: at its opening, and after a call.
 use Rattle.std.proofs.Common.{ℕ, zero, suc, ◌≡◌, inl, inr, Bool, true, false, ◌==◌, ◌+◌, ◌<◌, ◌≤◌, List, [], ◌∷◌, ◌++◌, length, replicate, Option, Some, None, refl, sym, ap, ◌∙◌, arith, subst, slice_index_or, slice_set, get_or, length-set, get_or-set_same, get_or-set_other, length-append}
 use Rattle.std.proofs.lemmas.Bool.{cases_eq}
-use Rattle.std.proofs.lemmas.List.{get_or_default, length-replicate}
+use Rattle.std.proofs.lemmas.List.{get_or_default, length-replicate, set-get_or}
 use Rattle.cn_table.specs.declared.elements.State.{State}
 use Rattle.cn_log.specs.declared.batch.Batch.{Batch}
 use Rattle.cn_log.specs.declared.entry.Entry.{Entry}
@@ -24,6 +24,10 @@ use Rattle.cn_log.proofs.EntryLists.{fixed_from_is}
 -- what was read at a place, where that is one of another name
 pub read_at : {A : Type 0} (xs : List A) {x : A} {k p : ℕ} → x ≡ get_or xs k x → k ≡ p → x ≡ get_or xs p x
 read_at xs {x = x} there same = there ∙ ap (λ k. get_or xs k x) same
+
+-- and put back there
+pub put_back : {A : Type 0} (xs : List A) {x : A} (k : ℕ) → x ≡ get_or xs k x → slice_set xs k x ≡ xs
+put_back xs {x = x} k there = ap (λ y. slice_set xs k y) there ∙ set-get_or xs k x
 
 -- the fields keep what they show
 pub keeps_shown : {R : Type 0} {L : Setting R} {s : List Event} {shown kept : Fields R} → Keeps L s kept → shown ≡ kept → Keeps L s shown

@@ -197,6 +197,9 @@ module _ {R : Type 0} {L : Setting R} {Good : R → Type 0} {s : List Event} {ke
     stepped_is : r' ≡ L.consensus.step p ((w run).round (k0 run))
     stepped_is = e' ∙ ap (L.consensus.step p) (round_is run runs_pending r e)
 
+    pub runs_good_then : Good r'
+    runs_good_then = subst Good (sym stepped_is) (run.agrees.good_step ((w run).round (k0 run)) p has_begun.0 run.at.process (runs_holds.good (k0 run)) has_begun.1)
+
     abbrev after_with : Option Batch → World R
     after_with o = after_decision L (record (w run) { round = put (w run).round (k0 run) (L.consensus.step p ((w run).round (k0 run))) }) p (caller run) mine o
 
@@ -340,6 +343,9 @@ module _ {R : Type 0} {L : Setting R} {Good : R → Type 0} {s : List Event} {ke
 
   pub looks_next : q < L.processes
   looks_next = looking.next
+
+  pub looks_phase : here.phase ≡ Looks mine q batch
+  looks_phase = looks_is.phase ∙ look.at.phase_is
 
   pub looks_in_announced : q < length kept.announced
   looks_in_announced = let a = looking.next in let b = look.at.keeps.fits.announced_many in omega (arith, a, b)

@@ -4,6 +4,7 @@ ghost use Rattle.cn_log.specs.Batches.{no_entries, each_slot, entry_at, has, mem
 ghost use Rattle.cn_log.specs.declared.entry.Entry.{Entry as EntryOf};
 ghost use Rattle.std.specs.Vec.{vec_len, vec_capacity};
 ghost use Rattle.cn_table.specs.Run.{state_after as run_of};
+ghost use Rattle.cn_log.specs.Fields.{batch_with_calls};
 ghost use Rattle.cn_log.specs.Log.{operations_of};
 ghost use Rattle.cn_choice.specs.declared.limits.TheConstants.{MOST_PROCESSES};
 
@@ -28,17 +29,17 @@ impl Batch {
     }
 
     /// The entry of process `p`.
-    pub(crate) fn of(self, p: u8) -> Option<Entry>
+    pub(crate) fn of(&self, p: u8) -> Option<Entry>
         requires { p < MOST_PROCESSES }
-        ensures { result ≡ entry_at self p }
+        ensures { result ≡ entry_at self.now p }
     {
         self.entries[usize::from(p)]
     }
 
     /// Whether the entry is in the batch.
-    pub(crate) fn has(self, entry: Entry) -> bool
+    pub(crate) fn has(&self, entry: Entry) -> bool
         requires { entry.process < MOST_PROCESSES }
-        ensures { result ≡ has self entry }
+        ensures { result ≡ has self.now entry }
     {
         match self.of(entry.process) {
             None => false,
@@ -46,14 +47,26 @@ impl Batch {
         }
     }
 
-    /// The same with this entry of process `p`.
-    pub(crate) fn with(self, p: u8, entry: Entry) -> Batch
+    /// This is the entry of process `p`.
+    pub(crate) fn put(&mut self, p: u8, entry: Entry)
         requires { p < MOST_PROCESSES }
-        ensures { result ≡ with_entry self p entry }
+        ensures { self.new ≡ with_entry self.old p entry }
     {
-        let mut entries = self.entries;
-        entries[usize::from(p)] = Some(entry);
-        Batch { entries }
+        self.entries[usize::from(p)] = Some(entry);
+    }
+
+    /// What a process has gathered that has read the announcement of process `q`: also the call that
+    /// it finds there, unless that is one of the calls of process `q` in the slots that it has
+    /// applied, which are its first so many.
+    pub(crate) fn gather(&mut self, q: u8, announced: Option<Entry>, calls_seen: u16)
+        requires { q < MOST_PROCESSES }
+        ensures { self.new ≡ batch_with_calls announced calls_seen q self.old }
+    {
+        if let Some(other) = announced
+            && other.call >= calls_seen
+        {
+            self.put(q, other);
+        }
     }
 }
 
@@ -63,14 +76,14 @@ pub(crate) fn put_batch(
     slots: &mut Vec<u16>,
     processes: u8,
     slot: u16,
-    batch: Batch,
+    batch: &Batch,
 )
     requires processes { processes ≤ MOST_PROCESSES }
     requires room { vec_len entries.old + processes ≤ vec_capacity entries.old }
     requires slots_room { vec_len slots.old + processes ≤ vec_capacity slots.old }
-    ensures entries { entries.new.items ≡ entries.old.items ++ members processes 0 batch }
+    ensures entries { entries.new.items ≡ entries.old.items ++ members processes 0 batch.now }
     ensures slots { slots.new.items
-        ≡ slots.old.items ++ each_slot slot (members processes 0 batch) }
+        ≡ slots.old.items ++ each_slot slot (members processes 0 batch.now) }
     ensures room { vec_capacity entries.new ≡ vec_capacity entries.old }
     ensures slots_room { vec_capacity slots.new ≡ vec_capacity slots.old }
 {
@@ -82,28 +95,14 @@ pub(crate) fn put_batch(
     }
 }
 
-/// How many entries the first so many processes have in the batch.
-pub(crate) fn count(processes: u8, batch: Batch) -> u16
-    requires processes { processes ≤ MOST_PROCESSES }
-    ensures number { result ≡ length (members processes 0 batch) }
-{
-    let mut count: u16 = 0;
-    for p in 0..processes {
-        if let Some(_entry) = batch.of(p) {
-            count += 1;
-        }
-    }
-    count
-}
-
 /// The state of the object after the calls of the first so many processes in the batch.
-pub(crate) fn state_after(object: &Table, processes: u8, batch: Batch, start: State) -> State
+pub(crate) fn state_after(object: &Table, processes: u8, batch: &Batch, start: State) -> State
     requires processes { processes ≤ MOST_PROCESSES }
     requires start { start.0 < length object.now.states }
-    requires operations { (q : ℕ) (e : EntryOf) → entry_at batch q ≡ Some e
+    requires operations { (q : ℕ) (e : EntryOf) → entry_at batch.now q ≡ Some e
         → e.operation.0 < length object.now.operations }
     ensures state { result.0
-        ≡ run_of object.now start.0 (operations_of (members processes 0 batch)) }
+        ≡ run_of object.now start.0 (operations_of (members processes 0 batch.now)) }
     ensures known { result.0 < length object.now.states }
 {
     let mut state = start;

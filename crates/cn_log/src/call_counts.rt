@@ -1,11 +1,9 @@
 //! How many calls of each process a process has applied.
-ghost use Rattle.std.specs.Prelude.{◌≡◌, ◌≤◌, ◌<◌, ◌+◌, ℕ, [], length};
-ghost use Rattle.cn_log.specs.Batches.{and_entry, entry_at};
+ghost use Rattle.std.specs.Prelude.{◌≡◌, ◌≤◌, ◌<◌, ◌+◌, slice_set};
 ghost use Rattle.cn_log.specs.Fields.{count_at, no_calls};
 ghost use Rattle.cn_choice.specs.declared.limits.TheConstants.{MOST_PROCESSES};
 ghost use Rattle.cn_log.specs.declared.limits.TheConstants.{MOST_ENTRIES};
 
-use crate::batch::Batch;
 use cn_choice::MOST_PROCESSES;
 
 /// At the place of each process, how many of its calls stand in the slots applied: its first so
@@ -26,28 +24,20 @@ impl CallCounts {
     }
 
     /// How many calls of process `p`.
-    pub fn of(self, p: u8) -> u16
+    pub fn of(&self, p: u8) -> u16
         requires { p < MOST_PROCESSES }
-        ensures { result ≡ count_at self p }
+        ensures { result ≡ count_at self.now p }
     {
         self.calls[usize::from(p)]
     }
 
-    /// The same with the calls of the first so many processes in the batch.
-    pub fn with_batch(self, processes: u8, batch: Batch) -> CallCounts
-        requires processes { processes ≤ MOST_PROCESSES }
-        requires places { length self.calls ≡ MOST_PROCESSES }
-        requires few { (q : ℕ) → q < processes → count_at self q ≤ MOST_ENTRIES }
-        ensures places { length result.calls ≡ MOST_PROCESSES }
-        ensures number { (q : ℕ) → q < processes
-            → count_at result q ≡ count_at self q + length (and_entry (entry_at batch q) []) }
+    /// One call more of process `p`.
+    pub fn add_one(&mut self, p: u8)
+        requires process { p < MOST_PROCESSES }
+        requires few { count_at self.old p ≤ MOST_ENTRIES }
+        ensures { self.new
+            ≡ record { calls = slice_set self.old.calls p (count_at self.old p + 1) } }
     {
-        let mut calls = self.calls;
-        for p in 0..processes {
-            if let Some(_entry) = batch.of(p) {
-                calls[usize::from(p)] += 1;
-            }
-        }
-        CallCounts { calls }
+        self.calls[usize::from(p)] += 1;
     }
 }

@@ -7,18 +7,19 @@ ghost use Rattle.cn_table.specs.TypeTable.{transition};
 ghost use Rattle.cn_proto.specs.Plan.{processes_of};
 ghost use Rattle.cn_agree.specs.Rounds.{fixed_value};
 ghost use Rattle.cn_log.specs.Batches.{and_entry, entry_at, members, entries_in, slots_from};
+ghost use Rattle.cn_log.specs.declared.batch.Batch.{Batch as BatchOf};
 ghost use Rattle.cn_log.specs.declared.entry.Entry.{Entry as EntryOf};
 ghost use Rattle.cn_log.specs.declared.event.Event.{Event as EventOf};
 ghost use Rattle.cn_log.specs.declared.event.Event.TheVariants.{Invoke, Step};
 ghost use Rattle.cn_log.specs.declared.limits.TheConstants.{MOST_SLOTS, MOST_ENTRIES};
 ghost use Rattle.cn_log.specs.declared.caller_state.Phase.TheVariants.{Idle, Looks, Runs};
 ghost use Rattle.cn_log.specs.Callers.{HasResponse};
-ghost use Rattle.cn_log.specs.Fields.{count_at, batch_with_calls, next_batch, step_answer, HasRoom, HasSameRoom, IsStateAfter, IsStateAt};
+ghost use Rattle.cn_log.specs.Fields.{count_at, next_batch, step_answer, HasRoom, HasSameRoom, IsStateAfter, IsStateAt};
 ghost use Rattle.cn_log.specs.Log.{MayInvoke, MayStep, answer, first_look, operations_of, phase_after, state_of};
 ghost use Rattle.cn_log.specs.Opening.{setting_of};
 ghost use Rattle.cn_choice.specs.declared.limits.TheConstants.{MOST_PROCESSES};
 
-use crate::batch::{Batch, count, put_batch, state_after};
+use crate::batch::{Batch, put_batch, state_after};
 use crate::call_counts::CallCounts;
 use crate::caller_state::{CallerState, Phase};
 use crate::entry::Entry;
@@ -97,18 +98,15 @@ impl LogState {
             → IsStateAfter opening.now (s ++ Invoke p operation.0 ∷ []) self.new }
     {
         openings_are_valid(opening);
-        let here = self.callers[usize::from(p)];
+        let here = &mut self.callers[usize::from(p)];
         let entry = Entry {
             process: p,
             operation,
             call: here.calls,
         };
+        here.calls += 1;
+        here.phase = first_look(entry);
         self.announced[usize::from(p)] = Some(entry);
-        self.callers[usize::from(p)] = CallerState {
-            calls: here.calls + 1,
-            phase: first_look(entry),
-            ..here
-        };
     }
 
     /// One step of process p, which is in a call.
@@ -127,8 +125,8 @@ impl LogState {
     {
         match self.callers[usize::from(p)].phase {
             Phase::Idle => unreachable!(),
-            Phase::Looks(mine, q, batch) => {
-                self.look(opening, p, mine, q, batch);
+            Phase::Looks(_, q, _) => {
+                self.look(opening, p, q);
                 StepAnswer::Working
             }
             Phase::Runs(mine) => self.run(opening, p, mine),
@@ -137,27 +135,27 @@ impl LogState {
 
     /// The process reads the announcement of process q, and after that of the last process it begins
     /// with what it has gathered in the round of its next slot.
-    fn look(&mut self, opening: &Opening, p: u8, mine: Entry, q: u8, batch: Batch)
-        requires { (s : List EventOf) × IsStateAt opening.now s self.old p (Looks mine q batch) }
+    fn look(&mut self, opening: &Opening, p: u8, q: u8)
+        requires { (s : List EventOf) × (mine : EntryOf) × (batch : BatchOf)
+            × IsStateAt opening.now s self.old p (Looks mine q batch) }
         ensures room { HasSameRoom self.old self.new }
-        ensures keeps { (s : List EventOf) → IsStateAt opening.now s self.old p (Looks mine q batch)
+        ensures keeps { (s : List EventOf) (mine : EntryOf) (batch : BatchOf)
+            → IsStateAt opening.now s self.old p (Looks mine q batch)
             → IsStateAfter opening.now (s ++ Step p ∷ []) self.new }
     {
         openings_are_valid(opening);
-        let here = self.callers[usize::from(p)];
+        let here = &mut self.callers[usize::from(p)];
         let announced = self.announced[usize::from(q)];
-        let batch = batch_with_calls(announced, here.calls_seen.of(q), q, batch);
-        let phase = if q + 1 == opening.plan.processes() {
+        here.look(q, announced);
+        if q + 1 == opening.plan.processes() {
             let round = &mut self.rounds[usize::from(here.applied_slots)];
-            round.begin(p, batch);
-            Phase::Runs(mine)
-        } else {
-            Phase::Looks(mine, q + 1, batch)
-        };
-        self.callers[usize::from(p)] = CallerState { phase, ..here };
+            round.begin(p, here.begin());
+        }
     }
 
     /// The process takes one atomic step in the round of its next slot, and replays what it decides.
+    // Apart, so that a look has no part in what this keeps on the stack.
+    #[inline(never)]
     fn run(&mut self, opening: &Opening, p: u8, mine: Entry) -> StepAnswer
         requires room { HasRoom opening.now self.old }
         requires at { (s : List EventOf) × IsStateAt opening.now s self.old p (Runs mine) }
@@ -169,26 +167,23 @@ impl LogState {
         ensures range { HasResponse opening.now.object result }
     {
         openings_are_valid(opening);
-        let here = &self.callers[usize::from(p)];
-        let slot = usize::from(here.applied_slots);
-        let round = &mut self.rounds[slot];
-        let decision = round.step(&opening.plan, p);
+        let here = &mut self.callers[usize::from(p)];
+        let slot = here.applied_slots;
+        let round = &mut self.rounds[usize::from(slot)];
+        round.step(&opening.plan, p);
         let processes = opening.plan.processes();
         enter(
             &mut self.entries,
             &mut self.slots,
             &mut self.fixed,
             processes,
-            here.applied_slots,
+            slot,
             round,
         );
-        match decision {
+        // Asked here, so that only a step that decides copies a batch.
+        match round.decision(p) {
             None => StepAnswer::Working,
-            Some(batch) => {
-                let effect = replay_batch(opening, *here, mine, batch);
-                self.callers[usize::from(p)] = effect.caller;
-                effect.answer
-            }
+            Some(batch) => replay_batch(opening, here, mine, &batch),
         }
     }
 }
@@ -198,9 +193,9 @@ fn untouched_rounds(alloc: Global, opening: &Opening) -> Result<Vec<Round<Batch>
     ensures { IfOk result (λ rounds. rounds.items
         ≡ replicate opening.now.capacity (setting_of opening.now).untouched) }
 {
-    let mut rounds = Vec::new(alloc);
+    let mut rounds = Vec::with_capacity(alloc, usize::from(opening.capacity))?;
     for _slot in 0..opening.capacity {
-        rounds.push(Round::new(alloc, &opening.plan)?)?;
+        rounds.push_reserved(Round::new(alloc, &opening.plan)?);
     }
     Ok(rounds)
 }
@@ -210,25 +205,6 @@ fn first_look(mine: Entry) -> Phase
     ensures { result ≡ first_look mine }
 {
     Phase::Looks(mine, 0, Batch::new())
-}
-
-/// What a process has gathered that has read the announcement of process q: also the call that it
-/// finds there, unless that is one of the calls of process q in the slots that it has applied,
-/// which are its first so many.
-fn batch_with_calls(announced: Option<Entry>, calls_seen: u16, q: u8, batch: Batch) -> Batch
-    requires { q < MOST_PROCESSES }
-    ensures { result ≡ batch_with_calls announced calls_seen q batch }
-{
-    match announced {
-        None => batch,
-        Some(other) => {
-            if other.call < calls_seen {
-                batch
-            } else {
-                batch.with(q, other)
-            }
-        }
-    }
 }
 
 /// Where the slot is the next one and its round has just fixed a batch, the entries of that go behind
@@ -260,51 +236,45 @@ fn enter(
     if *fixed == slot
         && let Some(batch) = round.fixed_value()
     {
-        put_batch(entries, slots, processes, slot, batch);
+        put_batch(entries, slots, processes, slot, &batch);
         *fixed += 1;
     }
 }
 
-/// How far a process has come by a batch, and what its step answers.
-#[derive(Clone, Copy)]
-struct BatchEffect {
-    caller: CallerState,
-    answer: StepAnswer,
-}
-
 /// The process, with a call of its own pending, replays the batch of its next slot.
-fn replay_batch(opening: &Opening, here: CallerState, mine: Entry, batch: Batch) -> BatchEffect
-    requires slot { here.applied_slots < opening.now.capacity }
+fn replay_batch(opening: &Opening, here: &mut CallerState, mine: Entry, batch: &Batch) -> StepAnswer
+    requires slot { here.old.applied_slots < opening.now.capacity }
     requires few { opening.now.capacity ≤ MOST_SLOTS }
-    requires applied_entries { here.applied_entries ≤ MOST_ENTRIES }
-    requires calls_places { length here.calls_seen.calls ≡ MOST_PROCESSES }
+    requires applied_entries { here.old.applied_entries ≤ MOST_ENTRIES }
+    requires calls_places { length here.old.calls_seen.calls ≡ MOST_PROCESSES }
     requires calls_seen { (q : ℕ) → q < processes_of opening.now.plan
-        → count_at here.calls_seen q ≤ MOST_ENTRIES }
+        → count_at here.old.calls_seen q ≤ MOST_ENTRIES }
     requires mine { mine.process < processes_of opening.now.plan }
     requires operation { mine.operation.0 < length opening.now.object.operations }
-    requires operations { (q : ℕ) (e : EntryOf) → entry_at batch q ≡ Some e
+    requires operations { (q : ℕ) (e : EntryOf) → entry_at batch.now q ≡ Some e
         → e.operation.0 < length opening.now.object.operations }
-    requires state { here.state.0 < length opening.now.object.states }
-    ensures applied_slots { result.caller.applied_slots ≡ here.applied_slots + 1 }
-    ensures applied_entries { result.caller.applied_entries
-        ≡ here.applied_entries + length (members (processes_of opening.now.plan) 0 batch) }
-    ensures calls_places { length result.caller.calls_seen.calls ≡ MOST_PROCESSES }
+    requires state { here.old.state.0 < length opening.now.object.states }
+    ensures applied_slots { here.new.applied_slots ≡ here.old.applied_slots + 1 }
+    ensures applied_entries { here.new.applied_entries
+        ≡ here.old.applied_entries
+        + length (members (processes_of opening.now.plan) 0 batch.now) }
+    ensures calls_places { length here.new.calls_seen.calls ≡ MOST_PROCESSES }
     ensures calls_seen { (q : ℕ) → q < processes_of opening.now.plan
-        → count_at result.caller.calls_seen q
-        ≡ count_at here.calls_seen q + length (and_entry (entry_at batch q) []) }
-    ensures calls { result.caller.calls ≡ here.calls }
-    ensures phase { result.caller.phase
-        ≡ phase_after (setting_of opening.now) here.applied_slots mine batch }
-    ensures state { result.caller.state.0
-        ≡ run_of opening.now.object here.state.0
-        (operations_of (members (processes_of opening.now.plan) 0 batch)) }
-    ensures known { result.caller.state.0 < length opening.now.object.states }
-    ensures answer { result.answer
-        ≡ step_answer (setting_of opening.now) here.applied_slots here.state.0 mine batch }
-    ensures range { HasResponse opening.now.object result.answer }
+        → count_at here.new.calls_seen q
+        ≡ count_at here.old.calls_seen q + length (and_entry (entry_at batch.now q) []) }
+    ensures calls { here.new.calls ≡ here.old.calls }
+    ensures phase { here.new.phase
+        ≡ phase_after (setting_of opening.now) here.old.applied_slots mine batch.now }
+    ensures state { here.new.state.0
+        ≡ run_of opening.now.object here.old.state.0
+        (operations_of (members (processes_of opening.now.plan) 0 batch.now)) }
+    ensures known { here.new.state.0 < length opening.now.object.states }
+    ensures answer { result
+        ≡ step_answer (setting_of opening.now) here.old.applied_slots here.old.state.0 mine
+        batch.now }
+    ensures range { HasResponse opening.now.object result }
 {
     let processes = opening.plan.processes();
-    let state = state_after(&opening.object, processes, batch, here.state);
     let slot = here.applied_slots;
     let (phase, answer) = if batch.has(mine) {
         let response = response_at(opening, here.state, batch, mine);
@@ -314,28 +284,22 @@ fn replay_batch(opening: &Opening, here: CallerState, mine: Entry, batch: Batch)
     } else {
         (first_look(mine), StepAnswer::Working)
     };
-    BatchEffect {
-        caller: CallerState {
-            applied_slots: slot + 1,
-            applied_entries: here.applied_entries + count(processes, batch),
-            calls_seen: here.calls_seen.with_batch(processes, batch),
-            calls: here.calls,
-            phase,
-            state,
-        },
-        answer,
-    }
+    here.apply(&opening.object, processes, batch);
+    here.applied_slots = slot + 1;
+    here.phase = phase;
+    answer
 }
 
 /// The response to this call at its place in the batch, where the object was in this state before.
-fn response_at(opening: &Opening, state: State, batch: Batch, mine: Entry) -> Response
+fn response_at(opening: &Opening, state: State, batch: &Batch, mine: Entry) -> Response
     requires mine { mine.process ≤ MOST_PROCESSES }
     requires operation { mine.operation.0 < length opening.now.object.operations }
-    requires operations { (q : ℕ) (e : EntryOf) → entry_at batch q ≡ Some e
+    requires operations { (q : ℕ) (e : EntryOf) → entry_at batch.now q ≡ Some e
         → e.operation.0 < length opening.now.object.operations }
     requires state { state.0 < length opening.now.object.states }
     ensures number { result.0 ≡ (transition opening.now.object mine.operation.0
-        (run_of opening.now.object state.0 (operations_of (members mine.process 0 batch)))).0 }
+        (run_of opening.now.object state.0
+        (operations_of (members mine.process 0 batch.now)))).0 }
     ensures range { result.0 < length opening.now.object.responses }
 {
     let before = state_after(&opening.object, mine.process, batch, state);

@@ -10,12 +10,12 @@ use Rattle.cn_log.proofs.batch.state_after.Goals as goal
 pub loop-p-preserved : goal.loop-p-preserved
 loop-p-preserved c =
     let i = c.loop-p.invariant in
-    let done = members c.loop-p.p 0 c.args.batch in
+    let done = members c.loop-p.p 0 c.args.batch.now in
     let t = c.args.object.now in
     elim c.match-of.branch [
       | in-Some w ↦ (
           let e = w.in-Some.call in
-          let n = next_some c.loop-p.p c.args.batch e (sym c.of.ensures ∙ w.in-Some.is) in
+          let n = next_some c.loop-p.p c.args.batch.now e (sym c.of.ensures ∙ w.in-Some.is) in
           record {
             state = ap (λ s. s.0) w.state-is ∙ ap (λ x. x.1) w.apply.ensures.value ∙ ap (λ s. (transition t e.operation.0 s).1) i.state ∙ sym (run_push t c.args.start.0 done e)
                 ∙ ap (λ l. state_after t c.args.start.0 (operations_of l)) (sym n);
@@ -23,7 +23,7 @@ loop-p-preserved c =
           }
           )
       | in_default w ↦ (
-          let n = next_none c.loop-p.p c.args.batch (sym c.of.ensures ∙ w.in_default.is) in
+          let n = next_none c.loop-p.p c.args.batch.now (sym c.of.ensures ∙ w.in_default.is) in
           record {
             state = ap (λ s. s.0) w.state-is ∙ i.state ∙ ap (λ l. state_after t c.args.start.0 (operations_of l)) (sym n);
             known = subst (λ s. s.0 < length t.states) (sym w.state-is) i.known;

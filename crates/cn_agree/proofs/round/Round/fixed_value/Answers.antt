@@ -21,9 +21,9 @@ returns-clause-value g c =
 pub returns-clause-valid : goal.returns-clause-valid
 returns-clause-valid g c =
     let w : World g.row.V.Denot = record { nodes = c.self.inside.nodes.items; locals = c.self.inside.locals.items; inputs = c.self.inside.inputs.items; first = c.self.inside.first } in
-    fixed_valid_of c.args.self.now c.register.result (c.register.ensures ∙ fixed_some w c.args.self.now c.in_ok-self.field-0 c.index-root.result.now c.self.view_is (has_root w c.self.invariant) c.in_ok-self.was c.index-root.ensures)
+    fixed_valid_of c.args.self.now c.register.result.now (c.register.ensures ∙ fixed_some w c.args.self.now c.in_ok-self.field-0 c.index-root.result.now c.self.view_is (has_root w c.self.invariant) c.in_ok-self.was c.index-root.ensures)
 
 pub returns-clause-since : goal.returns-clause-since
 returns-clause-since g c =
     let w : World g.row.V.Denot = record { nodes = c.self.inside.nodes.items; locals = c.self.inside.locals.items; inputs = c.self.inside.inputs.items; first = c.self.inside.first } in
-    fixed_since c.args.self.now c.register.result (c.register.ensures ∙ fixed_some w c.args.self.now c.in_ok-self.field-0 c.index-root.result.now c.self.view_is (has_root w c.self.invariant) c.in_ok-self.was c.index-root.ensures)
+    fixed_since c.args.self.now c.register.result.now (c.register.ensures ∙ fixed_some w c.args.self.now c.in_ok-self.field-0 c.index-root.result.now c.self.view_is (has_root w c.self.invariant) c.in_ok-self.was c.index-root.ensures)
