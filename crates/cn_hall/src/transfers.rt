@@ -8,13 +8,21 @@ ghost use Rattle.crossbeam_queue.specs.Passes.{view, IsPassOf, IsSamePass, ruled
 use crate::rule::{Item, Pass, Puts, Queue, Takes};
 use std::sync::Wait;
 use std::sync::atomic::{AtomicU64, Ordering};
-use std::thread;
+use std::thread::Parker;
+use std::time::Duration;
 
-/// How far a thread counts before it looks for the core again: for some 10 microseconds.
-const SPINS: u32 = 2_000;
+/// How often a thread looks for the core before it sleeps.
+const LOOKS: u8 = 4;
+
+/// How far a thread counts between two looks: for some half of a microsecond.
+const SPINS: u32 = 100;
+
+/// For so many microseconds a thread sleeps before it looks again.
+const SLEEP: u64 = 50;
 
 /// Takes the core out of the queue, and waits until it is there. Each look disturbs the thread that
-/// has the core: who waits looks seldom, so that the other does many events in a row.
+/// has the core: who waits looks a few times and then sleeps, so that the other does many events in a
+/// row, and its processor is free for others.
 pub(crate) fn take<R: Wait>(rt: &R, queue: &Queue, pass: &mut Pass) -> Item
     requires queue { IsPassOf queue.now pass.old }
     requires live { (view pass.old).status ≡ Live }
@@ -22,19 +30,28 @@ pub(crate) fn take<R: Wait>(rt: &R, queue: &Queue, pass: &mut Pass) -> Item
     ensures held { view pass.new ≡ holding_view (view pass.old) result }
     ensures agrees { FitsItem (view pass.old) result }
 {
+    let mut looks = 0;
     for _ in rt.forever() {
         if let Some(item) = queue.try_pop_as::<Takes>(pass) {
             return item;
         }
-        give_way();
+        looks = if looks < LOOKS { looks + 1 } else { 0 };
+        wait_awhile(rt, looks);
     }
     unreachable!()
 }
 
-/// Lets another thread run, once, and then counts. Where other programs want the processor, to give
-/// way is to wait for as long as they please. The count is atomic so that it is made at all.
-fn give_way() {
-    thread::yield_now();
+/// Counts between the looks of one row, and sleeps before the first one of the next row.
+fn wait_awhile<R: Wait>(rt: &R, looks: u8) {
+    if looks == 0 {
+        Parker::new().park_timeout(rt, Duration::from_micros(SLEEP));
+    } else {
+        spin();
+    }
+}
+
+/// The count is atomic so that it is made at all.
+fn spin() {
     let count = AtomicU64::new(0);
     for _spin in 0..SPINS {
         count.fetch_add(1, Ordering::Relaxed);
