@@ -34,7 +34,7 @@ fn is_discerning<T: Threads + Sync>(
 
 /// The number up to the limit. What is refuted for one process more than the number is refuted for
 /// every greater number of processes, so that the search ends there.
-fn number_up_to<T: Threads + Sync>(
+pub(crate) fn number_up_to<T: Threads + Sync>(
     rt: &T,
     alloc: Global,
     table: &Table,
