@@ -121,6 +121,25 @@ size_moved p subset rest l s n w =
     let other = count_more 8 (p + 1) rest l (λ a. ((w (p + 1)).0 a).1 refl) in
     one ∙ (sym other ∙ ap (count_below 8) (filled subset (p + 1) rest s w))
 
+-- what holds of a subset, and of each that comes from it where a linked process moves down, holds of a packed one of its size
+pub packed_down : (links n : ℕ) (P : ℕ → Type 0) → n ≤ 8 → ((p subset other : ℕ) → IsBitSet links (p + 1) → ¬ IsBitSet subset p → IsExchanged p (p + 1) subset other → P subset → P other)
+    → (fuel subset : ℕ) → subset < fuel → subset < 2 ^ n → P subset → (packed : ℕ) × (packed < 2 ^ n) × IsPacked links packed × P packed × (count_below 8 packed ≡ count_below 8 subset)
+packed_down links n P few moves zero subset l u g = absurd (omega (arith, l))
+packed_down links n P few moves (suc fuel) subset l u g = elim (packed_or_not links subset (omega (arith, u, pow_below n 16 (omega (arith, few))))) [
+  | inl p ↦ (subset, u, p, g, refl)
+  | inr h ↦ (
+      let p = h.0 in
+      let small : subset < 2 ^ 16 = omega (arith, u, pow_below n 16 (omega (arith, few))) in
+      let rest = cleared subset (p + 1) in
+      let v : IsWithout subset (p + 1) rest = cleared_is subset (p + 1) (member_below 16 subset (p + 1) small h.2) small in
+      let less = moved_less p subset rest h.2 h.3 v in
+      let inside : p + 1 < 8 = omega (arith, few, member_below n subset (p + 1) u h.2) in
+      let found = packed_down links n P few moves fuel (bit_or rest (2 ^ p)) (omega (arith, less, l)) (omega (arith, less, u)) (moves p subset (bit_or rest (2 ^ p)) h.1 h.3 (moved_down p subset rest h.2 h.3 v) g) in
+      let size : count_below 8 found.0 ≡ count_below 8 subset = omega (arith, found.4, size_moved p subset rest inside h.2 h.3 v) in
+      (found.0, found.1, found.2, found.3, size)
+      )
+]
+
 -- a subset without one of its processes is less
 pub rest_less : (subset p rest : ℕ) → rest + 2 ^ p ≡ subset → rest < subset
 rest_less subset p rest e = omega (arith, pow_pos p, e)
@@ -188,24 +207,10 @@ module _ (t : TypeTable) (c : RawChoice) (team : Team) (links : ℕ) (linked : A
     -- what a subset gives, a packed one of its size gives
     pub packing : (fuel subset r q : ℕ) → subset < fuel → subset < 2 ^ length c.operations → length c.operations ≤ 8 → GivesPair t c team j subset r q
         → (packed : ℕ) × (packed < 2 ^ length c.operations) × IsPacked links packed × GivesPair t c team j packed r q × (count_below 8 packed ≡ count_below 8 subset)
-    packing zero subset r q l u few g = absurd (omega (arith, l))
-    packing (suc fuel) subset r q l u few g = elim (packed_or_not links subset (omega (arith, u, pow_below (length c.operations) 16 (omega (arith, few))))) [
-      | inl p ↦ (subset, u, p, g, refl)
-      | inr h ↦ (
-          let p = h.0 in
-          let small : subset < 2 ^ 16 = omega (arith, u, pow_below (length c.operations) 16 (omega (arith, few))) in
-          let rest = cleared subset (p + 1) in
-          let v = without subset (p + 1) small h.2 in
-          let other = bit_or rest (2 ^ p) in
-          let x = moved_down p subset rest h.2 h.3 v in
-          let less = moved_less p subset rest h.2 h.3 v in
-          let not_p : j ≢ p = λ e. h.3 (subst (IsBitSet subset) e (gives_member t c team j subset r q g)) in
-          let inside : p + 1 < 8 = omega (arith, few, member_below (length c.operations) subset (p + 1) u h.2) in
-          let found = packing fuel other r q (omega (arith, less, l)) (omega (arith, less, u)) few (gives_exchanged t c p (linked.twins p h.1) team j subset other r q not_p (not_linked p h.1) x g) in
-          let size : count_below 8 found.0 ≡ count_below 8 subset = omega (arith, found.4, size_moved p subset rest inside h.2 h.3 v) in
-          (found.0, found.1, found.2, found.3, size)
-          )
-    ]
+    packing fuel subset r q l u few g =
+        packed_down links (length c.operations) (λ s. GivesPair t c team j s r q) few
+        (λ p s o link n x h. gives_exchanged t c p (linked.twins p link) team j s o r q (λ e. n (subst (IsBitSet s) e (gives_member t c team j s r q h))) (not_linked p link) x h)
+        fuel subset l u g
 
 -- all twins of a run get the same
 pub run_results : (t : TypeTable) (c : RawChoice) (team : Team) (links : ℕ) → AreLinks c links → (first j : ℕ) (pair : ℕ × ℕ) → first ≤ j → IsRun links first j → InOutcomeSet t c team first pair ↔ InOutcomeSet t c team j pair

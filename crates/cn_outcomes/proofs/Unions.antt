@@ -10,10 +10,12 @@ use Rattle.cn_choice.specs.OutcomeSets.{InOutcomeSet}
 use Rattle.std.proofs.Math.ListN.{set}
 use Rattle.cn_outcomes.specs.Subsets.{AreRowsOf, ArePairRows, IsRow, Below, LeavesState, GivesPair, FindsState, IsWithout, OtherLast, OwnLast}
 use Rattle.cn_choice.specs.Moves.{answer_of, next_of}
+use Rattle.cn_outcomes.specs.LeftStates.{LeavesIn}
 use Rattle.cn_outcomes.specs.Twins.{AreLinks, IsMover, IsPacked, IsRun}
-use Rattle.cn_outcomes.proofs.Packing.{below_or_last, finds_last, gives_by_mover, leaves_by_mover, packing}
-use Rattle.cn_outcomes.proofs.LastProcess.{zero_has_none, LeavesLast, leaves_to, leaves_from, leaves_some, same_or_not}
-use Rattle.cn_outcomes.proofs.LastAnswers.{gives_to, gives_from, gives_member, outcome_subset, pair_parts}
+use Rattle.cn_outcomes.proofs.Exchange.{leaves_exchanged}
+use Rattle.cn_outcomes.proofs.Packing.{below_or_last, finds_last, gives_by_mover, leaves_by_mover, packed_down, packing}
+use Rattle.cn_outcomes.proofs.LastProcess.{exactly_to, known_from, zero_has_none, LeavesLast, leaves_to, leaves_from, leaves_some, same_or_not}
+use Rattle.cn_outcomes.proofs.LastAnswers.{exactly_subset, gives_to, gives_from, gives_member, outcome_subset, pair_parts, subset_below, subset_of}
 use Rattle.cn_outcomes.proofs.BitSets.{below_or_not, cleared, cleared_is, without_one, member_below}
 
 -- the set has what the parts below k have
@@ -287,13 +289,34 @@ gives_leaves t c team j subset r q g = (g.0, g.1, g.2, (pair_parts t c j g.0 r q
 pub row_set : (t : TypeTable) (row : List ℕ) (a w : ℕ) → IsRow t row → IsRow t (set row a w)
 row_set t row a w i = record { long = length-set row a w ∙ i.long }
 
+-- ---- the parts of packed subsets
+
+module _ (links : ℕ) (part : ℕ → ℕ → Type 0) where
+  abbrev pub packed_part : ℕ → ℕ → Type 0
+  packed_part s q = IsPacked links s × part s q
+
+  pub packed_first : (set : ℕ) → set ≡ 0 → ((q : ℕ) → ¬ part 0 q) → Gathers packed_part 1 set
+  packed_first set e none q = (
+    λ b. absurd (zero_has_none q (subst (λ (x : ℕ). IsBitSet x q) e b)),
+    λ h. absurd (let first : h.0 ≡ 0 = omega (arith, h.1) in none q (subst (λ (s : ℕ). part s q) first h.2.1)),
+  )
+
+  pub packed_more : (k set row more : ℕ) → IsPacked links k → Gathers packed_part k set → ((q : ℕ) → IsBitSet row q ↔ part k q) → ((q : ℕ) → IsBitSet more q ↔ (IsBitSet set q ⊎ IsBitSet row q)) → Gathers packed_part (k + 1) more
+  packed_more k set row more p g h m = gathers_more packed_part k set more g (λ q. (
+    λ b. elim ((m q).0 b) [ inl a ↦ inl a | inr x ↦ inr (p, (h q).0 x) ],
+    λ b. (m q).1 (elim b [ inl a ↦ inl a | inr x ↦ inr ((h q).1 x.1) ]),
+  ))
+
+  pub packed_passed : (k set : ℕ) → ¬ IsPacked links k → Gathers packed_part k set → Gathers packed_part (k + 1) set
+  packed_passed k set n g = gathers_none packed_part k set g (λ q p. n p.0)
+
 gives_some : (t : TypeTable) (c : RawChoice) (team : Team) (j s r q : ℕ) → s ≡ 0 → GivesPair t c team j s r q → ⊥
 gives_some t c team j s r q e g = zero_has_none j (subst (λ (x : ℕ). IsBitSet x j) e (gives_member t c team j s r q g))
 
 module _ (t : TypeTable) (c : RawChoice) (team : Team) (j links : ℕ) where
   -- the pairs of the packed subsets so far
   abbrev pub subset_part : ℕ → ℕ → ℕ → Type 0
-  subset_part q s r = IsPacked links s × GivesPair t c team j s r q
+  subset_part q = packed_part links (λ s r. GivesPair t c team j s r q)
 
   pub pairs_first : (rows : List (List ℕ)) → length rows ≡ 256 → ((r : ℕ) → get_or (get_or rows 0 []) r 0 ≡ 0) → length (get_or rows 0 []) ≡ 16 → ArePairRows t c team j links 1 rows
   pairs_first rows e z y = record {
@@ -334,17 +357,14 @@ module _ (t : TypeTable) (c : RawChoice) (team : Team) (j links : ℕ) where
   }
 
   pub subsets_first : (q set : ℕ) → set ≡ 0 → Gathers (subset_part q) 1 set
-  subsets_first q set e r = (λ b. absurd (zero_has_none r (subst (λ (x : ℕ). IsBitSet x r) e b)), λ h. absurd (gives_some t c team j h.0 r q (omega (arith, h.1)) h.2.1))
+  subsets_first q set e = packed_first links (λ s r. GivesPair t c team j s r q) set e (λ r. gives_some t c team j 0 r q refl)
 
   pub subsets_more : (q k set row more : ℕ) → IsPacked links k → Gathers (subset_part q) k set → ((r : ℕ) → IsBitSet row r ↔ GivesPair t c team j k r q) → ((r : ℕ) → IsBitSet more r ↔ (IsBitSet set r ⊎ IsBitSet row r))
       → Gathers (subset_part q) (k + 1) more
-  subsets_more q k set row more p g h m = gathers_more (subset_part q) k set more g (λ r. (
-    λ b. elim ((m r).0 b) [ inl a ↦ inl a | inr x ↦ inr (p, (h r).0 x) ],
-    λ b. (m r).1 (elim b [ inl a ↦ inl a | inr x ↦ inr ((h r).1 x.1) ]),
-  ))
+  subsets_more q = packed_more links (λ s r. GivesPair t c team j s r q)
 
   pub subsets_passed : (q k set : ℕ) → ¬ IsPacked links k → Gathers (subset_part q) k set → Gathers (subset_part q) (k + 1) set
-  subsets_passed q k set n g = gathers_none (subset_part q) k set g (λ r p. n p.0)
+  subsets_passed q = packed_passed links (λ s r. GivesPair t c team j s r q)
 
   pub subsets_all : AreLinks c links → ¬ IsBitSet links j → length c.operations ≤ 8 → (r q k set : ℕ) → k ≡ 2 ^ length c.operations → Gathers (subset_part q) k set → IsBitSet set r ↔ InOutcomeSet t c team j (r, q)
   subsets_all linked first few r q k set e g = (
@@ -354,6 +374,30 @@ module _ (t : TypeTable) (c : RawChoice) (team : Team) (j links : ℕ) where
         let y = packing t c team links linked j first (x.0 + 1) x.0 r q (omega arith) x.1 few x.3 in
         (g r).1 (y.0, omega (arith, y.1, e), (y.2, y.3)),
   )
+
+-- ---- the states that orders leave
+
+-- an order that leaves a state is one of some subset
+pub left_subset : (t : TypeTable) (c : RawChoice) (team : Team) (q : ℕ) → LeavesIn t c team q ↔ ((subset : ℕ) × (subset < 2 ^ length c.operations) × LeavesState t c team subset q)
+left_subset t c team q = (
+  λ o. (
+    subset_of o.0,
+    subset_below (length c.operations) o.0 (known_from (length c.operations) o.0 o.1).below,
+    (o.0, record { ordered = o.1; exactly = exactly_to (subset_of o.0) o.0 (exactly_subset o.0) }, o.2, o.3),
+  ),
+  λ g. (g.2.0, g.2.1.ordered, g.2.2, g.2.3),
+)
+
+-- the states that the packed subsets leave are all that are left
+pub left_all : (t : TypeTable) (c : RawChoice) (team : Team) (links : ℕ) → AreLinks c links → length c.operations ≤ 8 → (k set : ℕ) → k ≡ 2 ^ length c.operations → Gathers (packed_part links (LeavesState t c team)) k set
+    → (q : ℕ) → IsBitSet set q ↔ LeavesIn t c team q
+left_all t c team links linked few k set e g q = (
+  λ b. (let x = (g q).0 b in (left_subset t c team q).1 (x.0, omega (arith, x.1, e), x.2.1)),
+  λ o.
+      let x = (left_subset t c team q).0 o in
+      let y = packed_down links (length c.operations) (λ s. LeavesState t c team s q) few (λ p s d link n h. leaves_exchanged t c p (linked.twins p link) team s d q h) (x.0 + 1) x.0 (omega arith) x.1 x.2 in
+      (g q).1 (y.0, omega (arith, y.1, e), (y.2, y.3)),
+)
 
 -- the count of subsets
 pub subsets_of : (n : ℕ) → n ≤ 8 → (1 * 2 ^ n % 65536 ≡ 2 ^ n) × (2 ^ n ≤ 256) × (1 ≤ 2 ^ n)

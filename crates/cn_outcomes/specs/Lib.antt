@@ -2,6 +2,7 @@ pub mod AskedStates
 pub mod EarlyPairs
 pub mod Examination
 pub mod Images
+pub mod LeftStates
 pub mod LengthRows
 pub mod ShortOrders
 pub mod OutcomeOrders

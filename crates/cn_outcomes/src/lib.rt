@@ -1,5 +1,6 @@
 //! What each process of a choice can see, computed fast: outcome sets as sets of bits, whether a
-//! choice is a witness, and the recorded collision where it is none.
+//! choice is a witness, and the recorded collision where it is none; and the states that the orders
+//! of a team leave.
 #![tactic(auto)]
 
 mod asked_responses;
@@ -14,6 +15,7 @@ mod limits;
 mod outcome_sets;
 mod row_setting;
 mod short_collisions;
+mod state_sets;
 mod subject;
 mod subset_rows;
 mod tails;
@@ -22,3 +24,4 @@ mod twins;
 pub use examination::{Examined, Room, examine, examine_in};
 pub use images::Images;
 pub use outcome_sets::{OutcomeSet, is_witness, outcomes};
+pub use state_sets::{StateSet, left_states};

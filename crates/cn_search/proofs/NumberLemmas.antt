@@ -8,10 +8,17 @@ use Rattle.cn_search.specs.Evidence.{IsFirstAmong, NoneIsWitness}
 use Rattle.cn_choice.specs.Live.{live_choices}
 use Rattle.cn_search.proofs.ListLemmas.{Contains-between}
 
--- before n processes are tried: the number up to n - 1
-abbrev pub HasTried : TypeTable → ℕ → Option ℕ → Type 0
-HasTried t n None = n ≡ 2
-HasTried t n (Some m) = (n ≡ m + 1) × (2 ≤ m) × IsDiscerning t m
+-- before n is tried: the greatest number up to n - 1 with the property
+abbrev pub HasTried : (ℕ → Type 0) → ℕ → Option ℕ → Type 0
+HasTried P n None = n ≡ 2
+HasTried P n (Some m) = (n ≡ m + 1) × (2 ≤ m) × P m
+
+-- a property of numbers of processes, a limit, and how the greatest number up to it is found
+module _ (P : ℕ → Type 0) (limit : ℕ) (Greatest : Option ℕ → Type 0) (found : (n : ℕ) → 2 ≤ n → n ≤ limit → P n → (n < limit → ¬ P (n + 1)) → Greatest (Some n)) (none : ¬ P 2 → Greatest None) where
+  -- n has not the property
+  pub greatest_refuted : (n : ℕ) (number : Option ℕ) → HasTried P n number → n ≤ limit → ¬ P n → Greatest number
+  greatest_refuted n None two within fails = none (subst (λ (k : ℕ). ¬ P k) two fails)
+  greatest_refuted n (Some m) (next, two, is) within fails = found m two (omega (arith, next, within)) is (λ _. subst (λ (k : ℕ). ¬ P k) next fails)
 
 -- a first witness, or that there is none, tells whether the type is discerning
 pub discerning_by_witness : (t : TypeTable) (n : ℕ) → (NoneIsWitness t (live_choices t n) → ¬ IsDiscerning t n)
@@ -24,11 +31,6 @@ discerning_by_witness t n refuted shown (Some w) h = ((λ _. shown w (Contains-b
 module _ (t : TypeTable) (limit : ℕ)
     (number_found : (n : ℕ) → 2 ≤ n → n ≤ limit → IsDiscerning t n → (n < limit → ¬ IsDiscerning t (n + 1)) → IsNumberUpTo t limit (Some n))
     (no_number : ¬ IsDiscerning t 2 → IsNumberUpTo t limit None) where
-  -- the type is not n-discerning
-  pub number_refuted : (n : ℕ) (number : Option ℕ) → HasTried t n number → n ≤ limit → ¬ IsDiscerning t n → IsNumberUpTo t limit number
-  number_refuted n None two within fails = no_number (subst (λ (k : ℕ). ¬ IsDiscerning t k) two fails)
-  number_refuted n (Some m) (next, two, is) within fails = number_found m two (omega (arith, next, within)) is (λ _. subst (λ (k : ℕ). ¬ IsDiscerning t k) next fails)
-
   -- the number up to a lower limit, below that
   pub number_of_lower : (lower : ℕ) (number : Option ℕ) → 2 ≤ lower → lower ≤ limit → IsNumberUpTo t lower number → number ≢ Some lower → IsNumberUpTo t limit number
   number_of_lower lower None some within none below = no_number (none 2 (omega arith) some)

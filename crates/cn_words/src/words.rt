@@ -19,13 +19,15 @@ macro_rules! help {
             "\
 Limits: a table has 1 to 16 states, 1 to 16 responses and 1 to 8 operations, and at most 65536
 bytes; a name is 1 to 32 bytes, each a to z, 0 to 9 or an underscore.
-Codes: man cnum and docs/FORMATS.md explain the code of a fault, as that of table: 8 RowLength.
+Codes: cnum lint < FILE shows every mistake of a table with its place. man cnum and docs/FORMATS.md
+explain the code of a fault, as that of table: 8 RowLength.
 
 Exit status:
   0  done
   1  the check refuses the certificate, or it has no witness, or a call found no slot
   2  the text of a table or of the certificate is refused, or a file behind @ is too long
-  3  the words, an argument, the limit, the count of choices, the schedule or an event are refused
+  3  wrong command line: unknown option, bad argument, limit not 2 to 8, or a type too large for
+     this limit
   4  reading or writing failed, or a thread could not be started
   5  out of memory
 
@@ -44,8 +46,9 @@ Input: a type table in TOML on standard input, at most 65536 bytes; CERT is a fi
 certificate, at most 16777216 bytes, OBJECT one that holds the table of an object, at most 65536.
 classify reads a table from each FILE. INPUTS, SCHEDULE, EVENTS and CALLS are lists, or @ and the
 name of a file that holds the list, at most 1048576 bytes.
-Output: on standard output, whole or not at all; a fault is one line on standard error. In classify
-each table has a line of output or of a fault.
+Output: on standard output, written at once. After a fault there is none, but for two: lint writes
+the flaws of a refused table, and after a failed write it is open how much went out. A fault is one
+line on standard error. In classify each table has a line of output or of a fault.
 ",
     "  cnum find --limit 3 < types/test_and_set.toml"
 );
@@ -61,11 +64,11 @@ agreement, as far as N shows. N is from 2 to 8. A search of more than 100000 cho
 processes is refused. Processes can read the whole state of an object, in a step that changes
 nothing; the table need not have such an operation.
 
-Writes a certificate, one line of JSON: the number, or null; a witness for it; and for each
-choice of operations and teams for one process more in which every operation leads away from the
-start state a collision, which shows that it is none. \"number\":null stands for 1: the type is
-n-discerning for no n. A number equal to N stands for at least N; a smaller one is that for every
-greater limit too.
+Writes a certificate, one line of JSON: the number, or null; a witness for it; and, for one process
+more, a counterexample (collision) to every choice of a start state, operations and teams; choices
+where an operation leaves the start state unchanged cannot work and are skipped. \"number\":null means
+1: not even two processes can agree. A number equal to N stands for at least N; a smaller one is
+that for every greater limit too.
 
 ",
     "  cnum find --limit 3 < types/test_and_set.toml
@@ -114,9 +117,10 @@ const CHECK_ABOUT: &str = "Checks a certificate against the type";
 const CHECK_AFTER: &str = help!(
     "\
 Reads a type table in TOML from standard input and a certificate in JSON from the file CERT.
-Writes ok where the certificate is of this type and shows its number: its witness is one, and it
-has a collision for each choice for one process more, in order. What find writes is accepted, and
-so is a certificate with another witness or other collisions.
+Writes ok where the certificate is of this type and shows its number: its witness is one, and, for
+one process more, it has a counterexample (collision) to every choice, in order; choices where an
+operation leaves the start state unchanged cannot work, and version 2 skips them. What find writes
+is accepted, and so is a certificate with another witness or other collisions.
 
 ",
     "  cnum check tests/certificates/test_and_set_at_3.json < types/test_and_set.toml
@@ -149,8 +153,9 @@ that team A came first, and a line for each process with its places, from its lo
 root. Behind its operation a process reads the whole state of the object, in a step that changes
 nothing; the table need not have such an operation.
 
-A certificate with \"number\":null stands for the number 1: it has no witness, and so no plan. A
-number equal to its limit stands for at least so many: there is a plan for as many processes.
+A certificate with \"number\":null means 1: not even two processes can agree. It has no witness, and
+so no plan. A number equal to its limit stands for at least so many: there is a plan for as many
+processes.
 
 With --as json this is one JSON object; with --as dot, the tournament as a picture in the language
 DOT, for Graphviz; with --as promela, a model in Promela, in which the model checker spin finds that

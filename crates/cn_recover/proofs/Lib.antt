@@ -1,0 +1,7 @@
+pub mod Gap
+pub mod Numbers
+pub mod Recordings
+pub mod Searching
+pub mod ShortOrders
+pub mod StateTests
+pub mod TeamSizes

@@ -1,0 +1,91 @@
+//! The laws that hold of recording witnesses and of recoverable numbers for every type and limit.
+//!
+//! A law is a function that does nothing: its contract is the law.
+ghost use Rattle.std.specs.Prelude.{◌≡◌, ◌<◌, ◌≤◌, ◌+◌, ◌-◌, ℕ, All, Contains, IsSomeAnd, List, None, Option, Some};
+ghost use Rattle.cn_table.specs.TypeTable.{TypeTable};
+ghost use Rattle.cn_choice.specs.Canonical.{Choice, raw_choice_of};
+ghost use Rattle.cn_choice.specs.Discerning.{IsDiscerning, IsNumberUpTo, IsWitness};
+ghost use Rattle.cn_choice.specs.Live.{live_choices};
+ghost use Rattle.cn_choice.specs.RawChoices.{RawChoice};
+ghost use Rattle.cn_choice.specs.Renumbering.{Embeds, with_other_teams};
+ghost use Rattle.cn_choice.specs.declared.team.Team.TheVariants.{A, B};
+ghost use Rattle.cn_recover.specs.Recording.{IsRecording, IsRecordingWitness, IsRecoverableNumberUpTo, Misses};
+
+use cn_choice::laws::{
+    canonical_choices_decide, choice_by_teams, coverage, live_list, witnesses_are_live,
+};
+
+/// A recording witness is a witness: where the state tells which team moved first, the response and
+/// the state do.
+pub fn recording_witness_is_witness()
+    ensures witness { (t : TypeTable) (c : RawChoice) → IsRecordingWitness t c → IsWitness t c }
+    ensures discerning { (t : TypeTable) (n : ℕ) → IsRecording t n → IsDiscerning t n }
+{}
+
+/// Some of the processes of a recording witness, under other numbers, are one too; and so is it with
+/// the teams exchanged.
+pub fn renumbering()
+    ensures some { (t : TypeTable) (f : ℕ → ℕ) (d c : RawChoice) → Embeds f d c
+        → IsRecordingWitness t c → IsRecordingWitness t d }
+    ensures exchanged { (t : TypeTable) (c : RawChoice) → IsRecordingWitness t c
+        → IsRecordingWitness t (with_other_teams c) }
+{}
+
+/// Monotonicity: for n of at least 3, a type that is n-recording is (n-1)-recording.
+pub fn monotonicity()
+    ensures { (t : TypeTable) (n : ℕ) → 3 ≤ n → IsRecording t n → IsRecording t (n - 1) }
+{}
+
+/// By monotonicity one failure is enough: where a type is n-recording and n is the limit or the type
+/// is not (n+1)-recording, n is the recoverable number up to the limit; where it is not 2-recording
+/// there is none.
+pub fn number_before_failure()
+    ensures found { (t : TypeTable) (limit n : ℕ) → 2 ≤ n → n ≤ limit → IsRecording t n
+        → (n < limit → ¬ IsRecording t (n + 1)) → IsRecoverableNumberUpTo t limit (Some n) }
+    ensures none { (t : TypeTable) (limit : ℕ) → ¬ IsRecording t 2
+        → IsRecoverableNumberUpTo t limit None }
+{}
+
+/// There is only one recoverable number up to a limit.
+pub fn unique_number()
+    ensures { (t : TypeTable) (limit : ℕ) (m n : Option ℕ) → IsRecoverableNumberUpTo t limit m
+        → IsRecoverableNumberUpTo t limit n → m ≡ n }
+{}
+
+/// The recoverable number up to a limit is at most the number up to it.
+pub fn at_most_the_number()
+    ensures { (t : TypeTable) (limit n : ℕ) (number : Option ℕ)
+        → IsRecoverableNumberUpTo t limit (Some n) → IsNumberUpTo t limit number
+        → IsSomeAnd number (λ most. n ≤ most) }
+{}
+
+/// The live canonical choices decide for which numbers of processes a type is recording.
+pub fn live_choices_decide()
+    ensures refuted { (t : TypeTable) (n : ℕ)
+        → All (λ c. ¬ IsRecordingWitness t (raw_choice_of c)) (live_choices t n)
+        → ¬ IsRecording t n }
+    ensures shown { (t : TypeTable) (n : ℕ) (c : Choice) → Contains (live_choices t n) c
+        → IsRecordingWitness t (raw_choice_of c) → IsRecording t n }
+{
+    coverage();
+    live_list();
+    witnesses_are_live();
+}
+
+/// A witness without one process of each team is a recording witness.
+pub fn witness_less_one_of_each()
+    ensures { (t : TypeTable) (f : ℕ → ℕ) (d c : RawChoice) → Embeds f d c → IsWitness t c
+        → Misses f d c A → Misses f d c B → IsRecordingWitness t d }
+{}
+
+/// A type that is n-discerning for n of at least 4 is (n-2)-recording: so from 4 on the recoverable
+/// number up to a limit is at least the number up to it, less 2.
+pub fn at_least_the_number_less_two()
+    ensures recording { (t : TypeTable) (n : ℕ) → 4 ≤ n → IsDiscerning t n → IsRecording t (n - 2) }
+    ensures number { (t : TypeTable) (limit n : ℕ) (recoverable : Option ℕ) → 4 ≤ n
+        → IsNumberUpTo t limit (Some n) → IsRecoverableNumberUpTo t limit recoverable
+        → IsSomeAnd recoverable (λ least. n ≤ least + 2) }
+{
+    coverage();
+    choice_by_teams();
+}

@@ -1,0 +1,147 @@
+//! The recoverable number, one number of processes after the other.
+ghost use Rattle.std.specs.Prelude.{◌≡◌, ◌≤◌, ◌⊎◌, ◌↔◌, All, Any, Err, IfErr, IfOk, IsTrue, None, OnOk, Some};
+ghost use Rattle.cn_choice.specs.Canonical.{raw_choice_of};
+ghost use Rattle.cn_choice.specs.Live.{live_in};
+ghost use Rattle.cn_choice.specs.RawChoices.{IsRawChoice};
+ghost use Rattle.cn_choice.specs.declared.limits.TheConstants.{MOST_PROCESSES};
+ghost use Rattle.cn_search.specs.Evidence.{IsListedBlock, choices_of_all};
+ghost use Rattle.cn_search.specs.Faults.{number_fault};
+ghost use Rattle.cn_search.specs.declared.limits.TheConstants.{GREATEST_LIMIT, LEAST_LIMIT};
+ghost use Rattle.cn_search.specs.declared.fault.FindFault.{FindFault};
+ghost use Rattle.cn_search.specs.declared.fault.FindFault.TheVariants.{OutOfMemory};
+ghost use Rattle.cn_recover.specs.Recording.{IsRecording, IsRecordingWitness, IsRecoverableNumberUpTo, SomeRecords};
+
+use crate::{is_recording_witness, laws};
+use cn_choice::{Block, Choice, Choices};
+use cn_search::{FindFault, blocks_for};
+use cn_table::Table;
+use rayon::prelude::*;
+use std::alloc::{AllocError, Global};
+use std::thread::Threads;
+
+/// Whether the choice, which is one for n processes, is a recording witness.
+fn is_recording_witness_for(table: &Table, choice: &Choice, n: u8) -> bool
+    requires some { 2 ≤ n }
+    requires few { n ≤ MOST_PROCESSES }
+    requires fits { IsRawChoice table.now n (raw_choice_of choice.now) }
+    ensures { IsTrue result ↔ IsRecordingWitness table.now (raw_choice_of choice.now) }
+{
+    is_recording_witness(table, choice)
+}
+
+/// Whether some choice of the block is a recording witness.
+fn some_records_in(table: &Table, block: &Block) -> bool
+    requires { IsListedBlock table.now block.now }
+    ensures { IsTrue result ↔ SomeRecords table.now (live_in table.now block.now) }
+{
+    cn_choice::laws::block_list();
+    for choice in Choices::of_block(table, block) {
+        if is_recording_witness_for(table, &choice, block.n) {
+            return true;
+        }
+    }
+    false
+}
+
+/// Whether some choice of the batch of blocks is a recording witness, from several threads.
+fn some_records_in_batch<T: Threads + Sync>(rt: &T, table: &Table, blocks: &[Block]) -> bool
+    requires { All (IsListedBlock table.now) blocks.now }
+    ensures { IsTrue result
+        ↔ Any (λ block. SomeRecords table.now (live_in table.now block)) blocks.now }
+{
+    blocks.par_iter().with_min_len(1).any(
+        rt,
+        |block: &Block| -> bool
+            requires { IsListedBlock table.now block.now }
+            ensures { IsTrue result ↔ SomeRecords table.entry.now (live_in table.entry.now block.now) }
+        { some_records_in(table, block) },
+    )
+}
+
+/// Whether some choice of the blocks is a recording witness. They are searched batch by batch, each
+/// as long as all before it: so little is searched behind a witness that comes early.
+fn some_records<T: Threads + Sync>(rt: &T, table: &Table, blocks: &[Block]) -> bool
+    requires { All (IsListedBlock table.now) blocks.now }
+    ensures { IsTrue result
+        ↔ Any (λ block. SomeRecords table.now (live_in table.now block)) blocks.now }
+{
+    let mut remaining = blocks;
+    while !remaining.is_empty() {
+        let searched = blocks.len() - remaining.len();
+        let (batch, rest) = remaining.split_at(remaining.len().min(searched + 1));
+        if some_records_in_batch(rt, table, batch) {
+            return true;
+        }
+        remaining = rest;
+    }
+    false
+}
+
+/// Whether the type is n-recording.
+fn is_recording<T: Threads + Sync>(
+    rt: &T,
+    alloc: Global,
+    table: &Table,
+    n: u8,
+) -> Result<bool, AllocError>
+    requires some { 2 ≤ n }
+    requires few { n ≤ MOST_PROCESSES }
+    ensures { IfOk result (λ yes. IsTrue yes ↔ IsRecording table.now n) }
+{
+    cn_choice::laws::block_list();
+    laws::live_choices_decide();
+    let blocks = blocks_for(alloc, table, n)?;
+    Ok(some_records(rt, table, blocks.as_slice()))
+}
+
+/// The recoverable number up to the limit. What is refuted for one process more than the number is
+/// refuted for every greater number of processes, so that the search ends there.
+fn recoverable_up_to<T: Threads + Sync>(
+    rt: &T,
+    alloc: Global,
+    table: &Table,
+    limit: u8,
+) -> Result<Option<u8>, AllocError>
+    requires some { LEAST_LIMIT ≤ limit }
+    requires few { limit ≤ GREATEST_LIMIT }
+    ensures { IfOk result (IsRecoverableNumberUpTo table.now limit) }
+{
+    laws::number_before_failure();
+    let mut number = None;
+    for n in 2..limit + 1 {
+        if !is_recording(rt, alloc, table, n)? {
+            return Ok(number);
+        }
+        number = Some(n);
+    }
+    Ok(number)
+}
+
+/// The recoverable number of a type up to a limit, from [`LEAST_LIMIT`](cn_search::LEAST_LIMIT) to
+/// [`GREATEST_LIMIT`](cn_search::GREATEST_LIMIT): the greatest n from 2 to the limit for which the
+/// type is n-recording, if there is one.
+///
+/// It is at most the number of the type up to the limit
+/// ([`laws::at_most_the_number`](crate::laws::at_most_the_number)). The type may have any number of
+/// choices. The blocks of choices are searched in several threads, and of each number of processes
+/// little behind the first recording witness.
+///
+/// # Errors
+///
+/// `BadLimit` where the limit is not one of these. `OutOfMemory` can stand in place of a number.
+pub fn recoverable_number<T: Threads + Sync>(
+    rt: &T,
+    alloc: Global,
+    table: &Table,
+    limit: u8,
+) -> Result<Option<u8>, FindFault>
+    ensures number { IfOk result (IsRecoverableNumberUpTo table.now limit) }
+    ensures searched { OnOk result (number_fault limit ≡ None) }
+    ensures told { (e : FindFault) → number_fault limit ≡ Some e → result ≡ Err e }
+    ensures refused { IfErr result (λ e. (e ≡ OutOfMemory) ⊎ (number_fault limit ≡ Some e)) }
+{
+    if let Some(fault) = FindFault::of_limit(limit) {
+        return Err(fault);
+    }
+    Ok(recoverable_up_to(rt, alloc, table, limit)?)
+}

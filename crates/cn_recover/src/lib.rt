@@ -1,0 +1,14 @@
+//! How many processes can record which team moved first in the state alone, for good.
+//!
+//! A process that crashes and comes back has lost the response that it got: it has the state of the
+//! object alone. [`is_recording_witness`] says of a choice whether the state always tells which team
+//! moved first. [`recoverable_number`] answers the greatest number of processes up to a limit for
+//! which a type has such a choice.
+#![tactic(auto)]
+
+pub mod laws;
+mod levels;
+mod witness;
+
+pub use levels::recoverable_number;
+pub use witness::is_recording_witness;
