@@ -67,8 +67,11 @@ def flaws(name, states, responses, operations):
     for what, texts, most in groups:
         if not texts or len(texts) > most:
             yield "6 Count", f"{len(texts)} {what}; at {f'most {most}' if texts else 'least 1'}"
-    for what, texts, _ in groups:
-        yield from (("7 Repeated", f'two {what} are called "{it}"') for i, it in enumerate(texts) if it in texts[i + 1 :])
+    for what, texts in (("state", states), ("response", responses), ("operation", names)):
+        for it in dict.fromkeys(texts):
+            *others, last = (f"{what}[{i}]" for i, text in enumerate(texts) if text == it)
+            if others:
+                yield "7 Repeated", f'{", ".join(others)} and {last} are {"both" if len(others) == 1 else "all"} called "{it}"'
     there = "there is 1 state" if len(states) == 1 else f"there are {len(states)} states"
     for i, (_, *rows) in enumerate(operations):
         for row, entries in zip(("response", "next"), rows):

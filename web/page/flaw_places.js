@@ -38,8 +38,8 @@ var Cnum = globalThis.Cnum || {};
             return [{ from, to: Math.min(from + 1, table.text.length) }];
         }],
         [/^\d+ (state|response|operation)s; /, (table, [, kind]) => [table.list(LISTS[kind])]],
-        [/^two (state|response|operation)s are called "(.*)"$/, (table, [, kind, name]) =>
-            named(table, kind).filter(it => shown(it.text) === name).slice(1)],
+        [/^(state|response|operation)\[\d+\](?:, | and )\1\[(\d+)\].* are (?:both|all) called "/, (table, [, kind, place]) =>
+            [named(table, kind)[place]]],
         [/^(name|state|response|operation) "(.*)": 1 to /, (table, [, kind, name]) =>
             named(table, kind).filter(it => shown(it.text) === name && !NAME.test(it.text))],
         [/^operation(?: "(\w+)"|\[(\d+)\]): not a table$/, (table, found) => operationsOf(table, found)],

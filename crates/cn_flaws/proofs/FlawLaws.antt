@@ -1,8 +1,12 @@
 -- The first flaw of bytes is of the first fault that they have.
-use Rattle.std.proofs.Common.{◌≡◌, codes, ℕ, ◌+◌, List, [], ◌∷◌, ◌++◌, length, take, Option, Some, None, Bool, true, false, ◌&&◌, ◌||◌, not, cond, is_none, is_some, ◌≤◌, Vec, Global, Result, Ok, Err, IfOk, refl, ap, ◌∙◌}
+use Rattle.std.proofs.Common.{◌≡◌, codes, ℕ, ◌+◌, List, [], ◌∷◌, ◌++◌, length, take, Option, Some, None, Bool, true, false, ◌&&◌, ◌||◌, not, cond, is_none, is_some, ◌≤◌, Vec, Global, Result, Ok, Err, IfOk, append_assoc, refl, ap, sym, true≢false, ◌∙◌}
 use Rattle.std.specs.Prelude.{flat_map, nat_le, ◌==◌, option_map, option_and_then}
 use Rattle.std.specs.Prelude.{IsUtf8}
 use Rattle.std.proofs.lemmas.Bool.{or_parts}
+use Rattle.std.proofs.Math.Seq.{drop-append-add, take-append_seam}
+use Rattle.std.proofs.lemmas.List.{length_push}
+use Rattle.std.proofs.lemmas.List.Folds.{list_any-append}
+use Rattle.std.proofs.lemmas.Slice.Eq.{bytes_eq-Decides}
 use Rattle.std.proofs.lemmas.Str.{is_utf8-from_IsUtf8}
 use Rattle.std.specs.List.{list_all, list_any}
 use Rattle.std.specs.Option.{option_map_or, option_or}
@@ -14,7 +18,7 @@ use Rattle.cn_table.specs.Draft.{Draft, DraftRow, row_names, draft_of}
 use Rattle.cn_table.specs.Faults.{root_keys, operation_keys, has_other_key, lacks_a_key, some_table, some_operation, has_unknown_key, has_missing_key, is_at, is_text, is_array_of, is_operation, has_wrong_kind, has_bad_name, is_miscounted, has_bad_count, has_repeated_name, is_misfit, has_bad_length, are_among, has_unknown_name, fault_of}
 use Rattle.cn_table.specs.Names.{is_name, has_repeat, number_of}
 use Rattle.cn_flaws.specs.FlawText.{kind_text, too_many_text, too_few_text, repeated_text, operation_text, no_operation_text, place_after, not_toml_text}
-use Rattle.cn_flaws.specs.Flaws.{Flaw, flaw, each, other_keys, missing_keys, wrong_kind, is_array, is_of, kind_name, table_flaws, item_flaws, operation_flaws, root_flaws, flaws_by, bad_name, name_flaws, bad_count, count_flaws, repeats, repeat_flaws, row_lengths, length_flaws, unknown_entry, row_entries, entry_flaws, draft_flaws, document_flaws, text_flaws, flaws_at, flaws_view, first_fault}
+use Rattle.cn_flaws.specs.Flaws.{Flaw, flaw, each, places_of, repeat_at, stands_in, other_keys, missing_keys, wrong_kind, is_array, is_of, kind_name, table_flaws, item_flaws, operation_flaws, root_flaws, flaws_by, bad_name, name_flaws, bad_count, count_flaws, repeats, repeat_flaws, row_lengths, length_flaws, unknown_entry, row_entries, entry_flaws, draft_flaws, document_flaws, text_flaws, flaws_at, flaws_view, first_fault}
 use Rattle.cn_table.specs.declared.fault.TableFault.{TableFault}
 use Rattle.cn_table.specs.declared.fault.TableFault.TheVariants.{NotToml, UnknownKey, MissingKey, WrongKind, BadName, Count, Repeated, RowLength, UnknownName}
 use Rattle.cn_flaws.specs.declared.flaw.Flaw as code_flaw
@@ -242,18 +246,56 @@ counts_first draft =
     (told_append Count _ _ (is_miscounted MOST_RESPONSES draft.responses) (is_miscounted MOST_OPERATIONS draft.operations)
     (count_told (codes "responses") MOST_RESPONSES draft.responses) (count_told (codes "operations") MOST_OPERATIONS draft.operations))
 
+stands_itself : (t : List ℕ) (ts : List (List ℕ)) → stands_in (t ∷ ts) t ≡ true
+stands_itself t ts = rw ((bytes_eq-Decides t t).1 refl) refl
+
+-- none of these names stands in those behind
+abbrev IsNew : List (List ℕ) → List (List ℕ) → Type 0
+IsNew before names = (name : List ℕ) → stands_in before name ≡ true → stands_in names name ≡ false
+
+-- a name that stands first here and not again behind joins those before
+new_joined : (before : List (List ℕ)) (t : List ℕ) (ts : List (List ℕ)) → IsNew before (t ∷ ts) → stands_in ts t ≡ false → IsNew (before ++ t ∷ []) ts
+new_joined before t ts new once name there = by_place (stands_in before name) refl (sym (list_any-append (λ u. bytes_eq u name) before (t ∷ [])) ∙ there)
+  where
+    by_place : (b : Bool) → stands_in before name ≡ b → (b || (bytes_eq t name || false)) ≡ true → stands_in ts name ≡ false
+    by_place true e h = (or_parts (bytes_eq t name) (stands_in ts name) (new name e)).1
+    by_place false e h = by_name (bytes_eq t name) refl h
+      where
+        by_name : (b : Bool) → bytes_eq t name ≡ b → (b || false) ≡ true → stands_in ts name ≡ false
+        by_name true is h = ap (stands_in ts) (sym ((bytes_eq-Decides t name).0 is)) ∙ once
+        by_name false is h = absurd (true≢false (sym h))
+
+-- the names from one place on, where none of those before stands in them
+repeats_from : (what : List ℕ) (names before rest : List (List ℕ)) → before ++ rest ≡ names → IsNew before rest
+    → first_fault (each (repeat_at what names) (length before) rest) ≡ told Repeated (has_repeat rest)
+repeats_from what names before [] split new = refl
+repeats_from what names before (t ∷ ts) split new =
+    ap (λ f. first_fault (f ++ each (repeat_at what names) (length before + 1) ts)) here ∙ by_test (stands_in ts t) refl (λ once.
+    rw (← length_push before t) (repeats_from what names (before ++ t ∷ []) ts (append_assoc before (t ∷ []) ts ∙ split) (new_joined before t ts new once)))
+  where
+    first : stands_in before t ≡ false
+    first = by_place (stands_in before t) refl
+      where
+        by_place : (b : Bool) → stands_in before t ≡ b → b ≡ false
+        by_place true e = absurd (true≢false (sym (stands_itself t ts) ∙ new t e))
+        by_place false e = refl
+
+    here : repeat_at what names (length before) t ≡ cond (stands_in ts t) (flaw Repeated (repeated_text what (places_of t 0 names) t)) []
+    here = rw (← split, take-append_seam before (t ∷ ts), drop-append-add before (t ∷ ts) 1, first) refl
+
+    by_test : (b : Bool) → stands_in ts t ≡ b → (b ≡ false → first_fault (each (repeat_at what names) (length before + 1) ts) ≡ told Repeated (has_repeat ts))
+        → first_fault (cond b (flaw Repeated (repeated_text what (places_of t 0 names) t)) [] ++ each (repeat_at what names) (length before + 1) ts) ≡ told Repeated (b || has_repeat ts)
+    by_test true e later = refl
+    by_test false e later = later refl
+
 repeats_told : (what : List ℕ) (names : List (List ℕ)) → first_fault (repeats what names) ≡ told Repeated (has_repeat names)
-repeats_told what [] = refl
-repeats_told what (t ∷ ts) = told_append Repeated _ (repeats what ts) (list_any (λ u. bytes_eq u t) ts) (has_repeat ts) (of_test (list_any (λ u. bytes_eq u t) ts)) (repeats_told what ts) where
-  of_test : (b : Bool) → first_fault (cond b (flaw Repeated (repeated_text what t)) []) ≡ told Repeated b
-  of_test true = refl
-  of_test false = refl
+repeats_told what names = repeats_from what names [] names refl (λ name h. absurd (true≢false (sym h)))
 
 repeats_first : (draft : Draft) → first_fault (repeat_flaws draft) ≡ told Repeated (has_repeated_name draft)
 unfolding repeat_flaws
 repeats_first draft =
-    told_append Repeated _ _ (has_repeat draft.states) (has_repeat draft.responses || has_repeat (row_names draft.operations)) (repeats_told (codes "states") draft.states)
-    (told_append Repeated _ _ (has_repeat draft.responses) (has_repeat (row_names draft.operations)) (repeats_told (codes "responses") draft.responses) (repeats_told (codes "operations") (row_names draft.operations)))
+    told_append Repeated _ _ (has_repeat draft.states) (has_repeat draft.responses || has_repeat (row_names draft.operations)) (repeats_told (codes "state") draft.states)
+    (told_append Repeated _ _ (has_repeat draft.responses) (has_repeat (row_names draft.operations)) (repeats_told (codes "response") draft.responses) (repeats_told (codes "operation") (row_names draft.operations)))
 
 lengths_first : (draft : Draft) → first_fault (length_flaws draft) ≡ told RowLength (has_bad_length draft)
 unfolding length_flaws

@@ -1,11 +1,11 @@
 -- Flaws that are found in one thing after another, and the keys and items in which they are found.
-use Rattle.std.proofs.Common.{◌≡◌, ℕ, ◌<◌, ◌≤◌, ◌+◌, List, [], ◌∷◌, ◌++◌, length, drop, get_or, map, Bool, true, false, Option, Some, None, Bor, String, Vec, Global, Result, Ok, Err, IfOk, string_bytes, append_assoc, refl, ap, sym, ◌∙◌}
-use Rattle.std.specs.Prelude.{if◌then◌else◌, option_map}
+use Rattle.std.proofs.Common.{◌≡◌, ℕ, ◌<◌, ◌≤◌, ◌+◌, List, [], ◌∷◌, ◌++◌, length, drop, take, get_or, map, Bool, true, false, Option, Some, None, Bor, String, Vec, Global, Result, Ok, Err, IfOk, string_bytes, append_assoc, refl, ap, sym, ◌∙◌}
+use Rattle.std.specs.Prelude.{option_map}
 use Rattle.std.specs.List.{list_all, list_any}
 use Rattle.std.specs.Option.{option_map_or}
 use Rattle.std.specs.Map.{keys_of}
 use Rattle.std.specs.Str.{bytes_eq}
-use Rattle.std.proofs.lemmas.List.{drop_more}
+use Rattle.std.proofs.lemmas.List.{drop_more, drop-map, take-map}
 use Rattle.std.proofs.lemmas.List.Folds.{list_all-map}
 use Rattle.toml.specs.Data.{Data, Items, as_array}
 use Rattle.toml.specs.declared.value.Value.{Value}
@@ -13,7 +13,7 @@ use Rattle.toml.specs.View.{members_view, view}
 use Rattle.cn_table.specs.Document.{keys_in, list_of}
 use Rattle.cn_table.specs.Faults.{is_array_of}
 use Rattle.cn_flaws.specs.FlawText.{other_key_text, repeated_text}
-use Rattle.cn_flaws.specs.Flaws.{Flaw, flaw, flaws_view, each, other_keys, repeats, text_flaws}
+use Rattle.cn_flaws.specs.Flaws.{Flaw, flaw, flaws_view, each, other_keys, places_of, repeat_at, stands_in, text_flaws}
 use Rattle.cn_flaws.specs.declared.flaw.Flaw as code_flaw
 use Rattle.cn_table.specs.declared.fault.TableFault.TheVariants.{UnknownKey, Repeated}
 use Rattle.cn_table.proofs.Lists.{list_any-map}
@@ -52,13 +52,24 @@ other_key_more before after known key keys old new all none step so_far =
     let split = rw (list_any-map (λ k. bytes_eq k key) (λ k. k.now) known, none) at so_far in
     rw step (append_assoc old (flaw UnknownKey (other_key_text before after key)) _ ∙ split)
 
--- a thing whose name stands again behind it, or does not
-pub repeats_more : {V : Type 0} (what name : List ℕ) (f : V → List ℕ) (old new all : List Flaw) (vs : List V) (i : ℕ) (v : V) → i < length vs → v ≡ get_or vs i v
-    → name ≡ f v → new ≡ old ++ (if list_any (λ x. bytes_eq (f x) name) (drop (i + 1) vs) then flaw Repeated (repeated_text what name) else [])
-    → old ++ repeats what (map f (drop i vs)) ≡ all → new ++ repeats what (map f (drop (i + 1) vs)) ≡ all
-repeats_more what name f old new all vs i v within is named step before =
-    let split = rw (drop_more vs i v within, ← is, list_any-map (λ u. bytes_eq u (f v)) f (drop (i + 1) vs), ← named) at before in
-    rw step (append_assoc old _ _ ∙ split)
+-- a name stands among the names of the first things, or of those behind, where it stands among theirs
+pub stands_before : {V : Type 0} (f : V → List ℕ) (vs : List V) (i : ℕ) (name : List ℕ) → list_any (λ v. bytes_eq (f v) name) (take i vs) ≡ stands_in (take i (map f vs)) name
+stands_before f vs i name = sym (list_any-map (λ t. bytes_eq t name) f (take i vs)) ∙ ap (λ ts. stands_in ts name) (sym (take-map f i vs))
+
+pub stands_behind : {V : Type 0} (f : V → List ℕ) (vs : List V) (i : ℕ) (name : List ℕ) → list_any (λ v. bytes_eq (f v) name) (drop i vs) ≡ stands_in (drop i (map f vs)) name
+stands_behind f vs i name = sym (list_any-map (λ t. bytes_eq t name) f (drop i vs)) ∙ ap (λ ts. stands_in ts name) (sym (drop-map f i vs))
+
+-- a name that stands at an earlier place, one that does not stand again, and one that does
+pub repeat_before : (what : List ℕ) (names : List (List ℕ)) (i : ℕ) (name : List ℕ) → stands_in (take i names) name ≡ true → repeat_at what names i name ≡ []
+repeat_before what names i name before = rw before refl
+
+pub repeat_once : (what : List ℕ) (names : List (List ℕ)) (i : ℕ) (name : List ℕ) → stands_in (take i names) name ≡ false → stands_in (drop (i + 1) names) name ≡ false
+    → repeat_at what names i name ≡ []
+repeat_once what names i name first once = rw (first, once) refl
+
+pub repeat_again : (what : List ℕ) (names : List (List ℕ)) (i : ℕ) (name : List ℕ) → stands_in (take i names) name ≡ false → stands_in (drop (i + 1) names) name ≡ true
+    → repeat_at what names i name ≡ flaw Repeated (repeated_text what (places_of name 0 names) name)
+repeat_again what names i name first again = rw (first, again) refl
 
 -- flaws that are those of a text at some place
 pub placed : {E : Type 0} (r : Result (Vec code_flaw.Flaw Global) E) (there : List Flaw) (place : ℕ) (text : List ℕ) → place ≤ length text → text_flaws place text ≡ there

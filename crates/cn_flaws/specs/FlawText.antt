@@ -55,8 +55,22 @@ too_many_text what most count = decimal count ++ (codes " " ++ (what ++ (codes "
 abbrev pub too_few_text : List ℕ → List ℕ
 too_few_text what = codes "0 " ++ (what ++ codes "; at least 1")
 
-abbrev pub repeated_text : List ℕ → List ℕ → List ℕ
-repeated_text what name = codes "two " ++ (what ++ (codes " are called " ++ in_quotes name))
+-- what stands before so many more places
+abbrev pub before_places : ℕ → List ℕ
+before_places more = if more == 0 then [] else (if more == 1 then codes " and " else codes ", ")
+
+-- places of things that are called `what`, with a comma between two, and `and` before the last
+abbrev pub places_text : List ℕ → List ℕ → List ℕ
+places_text what [] = []
+places_text what (i ∷ others) = what ++ (codes "[" ++ (decimal i ++ (codes "]" ++ (before_places (length others) ++ places_text what others))))
+
+-- so many things
+abbrev pub both_or_all : ℕ → List ℕ
+both_or_all count = if count == 2 then codes "both" else codes "all"
+
+-- the things at these places have one name
+abbrev pub repeated_text : List ℕ → List ℕ → List ℕ → List ℕ
+repeated_text what places name = places_text what places ++ (codes " are " ++ (both_or_all (length places) ++ (codes " called " ++ in_quotes name)))
 
 abbrev pub entries_text : ℕ → List ℕ
 entries_text n = if n == 1 then codes "1 entry" else decimal n ++ codes " entries"

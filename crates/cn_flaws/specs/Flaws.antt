@@ -1,5 +1,5 @@
 -- What is wrong with the bytes of a table, and where: flaws, in the order of the faults.
-use Rattle.std.specs.Prelude.{codes, ℕ, ◌+◌, List, [], ◌∷◌, ◌++◌, length, map, flat_map, take, if◌then◌else◌, Bool}
+use Rattle.std.specs.Prelude.{codes, ℕ, ◌+◌, List, [], ◌∷◌, ◌++◌, length, map, flat_map, take, drop, if◌then◌else◌, Bool}
 use Rattle.std.specs.Prelude.{true, ◌==◌, Option, Some, None, is_some, nat_le, unwrap_or, Vec, string_bytes}
 use Rattle.std.specs.List.{list_any}
 use Rattle.std.specs.Option.{option_map_or}
@@ -134,14 +134,28 @@ count_flaws draft =
     bad_count (codes "states") MOST_STATES (length draft.states)
     ++ (bad_count (codes "responses") MOST_RESPONSES (length draft.responses) ++ bad_count (codes "operations") MOST_OPERATIONS (length draft.operations))
 
--- each name that stands again behind it
+-- the places, counted from i on, at which the name stands
+abbrev pub places_of : List ℕ → ℕ → List (List ℕ) → List ℕ
+places_of name i [] = []
+places_of name i (t ∷ ts) = if bytes_eq t name then i ∷ places_of name (i + 1) ts else places_of name (i + 1) ts
+
+-- the name stands among these
+abbrev pub stands_in : List (List ℕ) → List ℕ → Bool
+stands_in names name = list_any (λ t. bytes_eq t name) names
+
+-- the name at place i, where it stands there first and again behind, with all its places
+abbrev pub repeat_at : List ℕ → List (List ℕ) → ℕ → List ℕ → List Flaw
+repeat_at what names i name =
+    if stands_in (take i names) name then [] else
+    (if stands_in (drop (i + 1) names) name then flaw Repeated (repeated_text what (places_of name 0 names) name) else [])
+
+-- each name that stands more than once
 abbrev pub repeats : List ℕ → List (List ℕ) → List Flaw
-repeats what [] = []
-repeats what (t ∷ ts) = (if list_any (λ u. bytes_eq u t) ts then flaw Repeated (repeated_text what t) else []) ++ repeats what ts
+repeats what names = each (repeat_at what names) 0 names
 
 unfoldable pub repeat_flaws : Draft → List Flaw
 repeat_flaws draft =
-    repeats (codes "states") draft.states ++ (repeats (codes "responses") draft.responses ++ repeats (codes "operations") (row_names draft.operations))
+    repeats (codes "state") draft.states ++ (repeats (codes "response") draft.responses ++ repeats (codes "operation") (row_names draft.operations))
 
 -- a row that has not an entry for each state
 abbrev pub bad_length : List ℕ → List ℕ → ℕ → ℕ → List Flaw

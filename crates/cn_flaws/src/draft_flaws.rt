@@ -1,15 +1,15 @@
 //! The flaws of a draft: names, counts, lengths of rows and their entries.
-ghost use Rattle.std.specs.Prelude.{◌≡◌, ◌++◌, [], OnOk, IfOk, flat_map, if◌then◌else◌, map, string_bytes};
-ghost use Rattle.std.specs.List.{list_any};
-ghost use Rattle.std.specs.Str.{bytes_eq};
+ghost use Rattle.std.specs.Prelude.{◌≡◌, ◌+◌, ◌<◌, ◌++◌, OnOk, IfOk, drop, flat_map, length, map, string_bytes, take};
 ghost use Rattle.cn_table.specs.Draft.{row_names};
 ghost use Rattle.cn_table.specs.DraftView.{draft_view, row_view, texts_view};
-ghost use Rattle.cn_flaws.specs.Flaws.{flaw, flaws_view, each, bad_name, name_flaws, bad_count, count_flaws, repeats, repeat_flaws};
+ghost use Rattle.cn_flaws.specs.Flaws.{flaw, flaws_view, each, bad_name, name_flaws, bad_count, count_flaws, places_of, repeat_at, repeats, repeat_flaws, stands_in};
 ghost use Rattle.cn_flaws.specs.Flaws.{bad_length, row_lengths, length_flaws, unknown_entry, row_entries, entry_flaws, draft_flaws};
 ghost use Rattle.cn_flaws.specs.FlawText.{bad_name_text, too_many_text, too_few_text, repeated_text, length_text, entry_text, names_in_brackets};
 
 use crate::flaw::{Flaw, push_flaw};
-use crate::flaw_text::{entries_text, in_quotes, names_in_brackets, operation_text, states_text};
+use crate::flaw_text::{
+    entries_text, in_quotes, names_in_brackets, operation_text, places_text, states_text,
+};
 use cn_table::draft::{Draft, DraftRow};
 use cn_table::names::{has_namesake, number_of};
 use cn_table::{LONGEST_NAME, MOST_OPERATIONS, MOST_RESPONSES, MOST_STATES, TableFault, is_name};
@@ -130,30 +130,84 @@ fn push_count_flaws(alloc: Global, flaws: &mut Vec<Flaw>, draft: &Draft) -> Resu
     )
 }
 
-fn repeated_text(alloc: Global, what: &str, name: &str) -> Result<String, AllocError>
-    ensures { IfOk result (λ s. string_bytes s ≡ repeated_text what.now name.now) }
+/// The places at which a name stands.
+fn places_of(alloc: Global, names: &[String], name: &str) -> Result<Vec<usize>, AllocError>
+    ensures { IfOk result (λ places. places.items
+        ≡ places_of name.now 0 (map (λ s. string_bytes s) names.now)) }
 {
-    let name = in_quotes(alloc, name)?;
-    format!(in alloc; "two {what} are called {name}")
+    let mut places = Vec::new(alloc);
+    for (i, other) in names.iter().enumerate() {
+        if other.as_str() == name {
+            places.push(i)?;
+        }
+    }
+    Ok(places)
 }
 
-/// A flaw, where a name stands again behind it.
+fn repeated_text(
+    alloc: Global,
+    what: &str,
+    places: &[usize],
+    name: &str,
+) -> Result<String, AllocError>
+    ensures { IfOk result (λ s. string_bytes s ≡ repeated_text what.now places.now name.now) }
+{
+    let all = if places.len() == 2 { "both" } else { "all" };
+    let places = places_text(alloc, what, places)?;
+    let name = in_quotes(alloc, name)?;
+    format!(in alloc; "{places} are {all} called {name}")
+}
+
+/// A name that stands more than once, with all its places.
 fn push_repeated(
     alloc: Global,
     flaws: &mut Vec<Flaw>,
     what: &str,
-    name: &String,
-    behind: &[String],
+    names: &[String],
+    name: &str,
 ) -> Result<(), AllocError>
     ensures { OnOk result (flaws_view flaws.new ≡ flaws_view flaws.old
-        ++ (if list_any (λ x. bytes_eq (string_bytes x) (string_bytes name.now)) behind.now
-        then flaw TableFault.Repeated (repeated_text what.now (string_bytes name.now)) else [])) }
+        ++ flaw TableFault.Repeated (repeated_text what.now
+        (places_of name.now 0 (map (λ s. string_bytes s) names.now)) name.now)) }
 {
-    if has_namesake(behind, name.as_str()) {
-        let text = repeated_text(alloc, what, name.as_str())?;
-        push_flaw(flaws, TableFault::Repeated, text)?;
+    let places = places_of(alloc, names, name)?;
+    let text = repeated_text(alloc, what, &places, name)?;
+    push_flaw(flaws, TableFault::Repeated, text)
+}
+
+/// Whether the name stands before this place.
+fn stands_before(names: &[String], i: usize, name: &str) -> bool
+    requires { i < length names.now }
+    ensures { result ≡ stands_in (take i (map (λ s. string_bytes s) names.now)) name.now }
+{
+    has_namesake(&names[..i], name)
+}
+
+/// Whether the name stands behind this place.
+fn stands_behind(names: &[String], i: usize, name: &str) -> bool
+    requires { i < length names.now }
+    ensures { result ≡ stands_in (drop (i + 1) (map (λ s. string_bytes s) names.now)) name.now }
+{
+    has_namesake(&names[i + 1..], name)
+}
+
+/// A flaw, where the name at this place stands there first, and again behind.
+fn push_repeat_at(
+    alloc: Global,
+    flaws: &mut Vec<Flaw>,
+    what: &str,
+    names: &[String],
+    i: usize,
+    name: &str,
+) -> Result<(), AllocError>
+    requires { i < length names.now }
+    ensures { OnOk result (flaws_view flaws.new ≡ flaws_view flaws.old
+        ++ repeat_at what.now (map (λ s. string_bytes s) names.now) i name.now) }
+{
+    if stands_before(names, i, name) || !stands_behind(names, i, name) {
+        return Ok(());
     }
-    Ok(())
+    push_repeated(alloc, flaws, what, names, name)
 }
 
 fn push_repeats(
@@ -166,21 +220,21 @@ fn push_repeats(
         ≡ flaws_view flaws.old ++ repeats what.now (map (λ s. string_bytes s) names.now)) }
 {
     for (i, name) in names.iter().enumerate() {
-        push_repeated(alloc, flaws, what, name, &names[i + 1..])?;
+        push_repeat_at(alloc, flaws, what, names, i, name.as_str())?;
     }
     Ok(())
 }
 
-/// The names that stand twice.
+/// The names that stand more than once.
 #[tactic(auto, unfolding(crate::specs::Flaws::repeat_flaws))]
 fn push_repeat_flaws(alloc: Global, flaws: &mut Vec<Flaw>, draft: &Draft) -> Result<(), AllocError>
     ensures { OnOk result (flaws_view flaws.new
         ≡ flaws_view flaws.old ++ repeat_flaws (draft_view draft.now)) }
 {
-    push_repeats(alloc, flaws, "states", &draft.states)?;
-    push_repeats(alloc, flaws, "responses", &draft.responses)?;
+    push_repeats(alloc, flaws, "state", &draft.states)?;
+    push_repeats(alloc, flaws, "response", &draft.responses)?;
     let operations = operation_names(alloc, &draft.operations)?;
-    push_repeats(alloc, flaws, "operations", &operations)
+    push_repeats(alloc, flaws, "operation", &operations)
 }
 
 fn length_text(

@@ -1,6 +1,6 @@
 //! The parts of which the texts of flaws are made.
 ghost use Rattle.std.specs.Prelude.{codes, ◌≡◌, ◌<◌, ◌^◌, ◌++◌, IfOk, OnOk, length, map, string_bytes};
-ghost use Rattle.cn_flaws.specs.FlawText.{shown_byte, in_quotes, operation_text, goes_on, place_after, entries_text, states_text, names_in_brackets};
+ghost use Rattle.cn_flaws.specs.FlawText.{shown_byte, in_quotes, operation_text, goes_on, place_after, entries_text, states_text, before_places, places_text, names_in_brackets};
 ghost use Rattle.cn_table.specs.Texts.{joined_texts};
 
 use cn_table::names::have_names;
@@ -88,6 +88,29 @@ pub(crate) fn states_text(alloc: Global, count: usize) -> Result<String, AllocEr
         return String::from_str(alloc, "there is 1 state");
     }
     format!(in alloc; "there are {count} states")
+}
+
+/// What stands before so many more places.
+fn before_places(more: usize) -> &'static str
+    ensures { result.now ≡ before_places more }
+{
+    match more {
+        0 => "",
+        1 => " and ",
+        _ => ", ",
+    }
+}
+
+/// The places in words, with a comma between two, and `and` before the last.
+pub(crate) fn places_text(alloc: Global, what: &str, places: &[usize]) -> Result<String, AllocError>
+    ensures { IfOk result (λ s. string_bytes s ≡ places_text what.now places.now) }
+{
+    let mut text = String::new(alloc);
+    for (k, place) in places.iter().enumerate() {
+        let behind = before_places(places.len() - 1 - k);
+        write!(text, "{what}[{place}]{behind}")?;
+    }
+    Ok(text)
 }
 
 fn push_names(text: &mut String, names: &[String]) -> Result<(), AllocError>

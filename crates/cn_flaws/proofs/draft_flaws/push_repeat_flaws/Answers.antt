@@ -9,9 +9,9 @@ pub returns : goal.returns
 unfolding repeat_flaws
 returns c =
     let draft = draft_view c.args.draft.now in
-    let states = repeats (codes "states") draft.states in
-    let responses = repeats (codes "responses") draft.responses in
-    let operations = repeats (codes "operations") (row_names draft.operations) in
+    let states = repeats (codes "state") draft.states in
+    let responses = repeats (codes "response") draft.responses in
+    let operations = repeats (codes "operation") (row_names draft.operations) in
     let new = flaws_view c.push_repeats-3.new.flaws in
     two_parts c.push_repeats-3.result (flaws_view c.args.flaws.now) (flaws_view c.push_repeats.new.flaws) new states (responses ++ operations)
     (rw c.deref.ensures.value at c.in_ok-push_repeats.ensures)
