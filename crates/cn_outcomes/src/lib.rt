@@ -3,7 +3,7 @@
 #![tactic(auto)]
 
 mod asked_responses;
-mod bits;
+pub mod bits;
 mod dead_ends;
 mod early_pairs;
 mod examination;
@@ -22,3 +22,4 @@ mod twins;
 pub use examination::{Examined, Room, examine, examine_in};
 pub use images::Images;
 pub use outcome_sets::{OutcomeSet, is_witness, outcomes};
+pub use subset_rows::image;
