@@ -1,5 +1,5 @@
 -- A start state, and what words from there lead to, stock by stock.
-use Rattle.std.specs.Prelude.{◌≡◌, ◌×◌, ◌↔◌, ℕ, ◌<◌, List, length, slice_get, slice_index, slice_index_or, [], Some, Vec, IsBitSet}
+use Rattle.std.specs.Prelude.{◌≡◌, ◌↔◌, ℕ, ◌<◌, List, length, slice_get, slice_index, slice_index_or, [], Some, Vec, IsBitSet}
 use Rattle.std.specs.declared.alloc.Global.{Global}
 use Rattle.cn_table.specs.TypeTable.{TypeTable}
 use Rattle.cn_outcomes.specs.Subsets.{Below}

@@ -94,7 +94,7 @@ fn by_start<T: Threads + Sync>(
         .with_min_len(1)
         .map(
             |start: &u8| -> Result<bool, AllocError>
-                requires { start.now < length table.entry.now.states }
+                requires { start.now < length table.now.states }
                 ensures { IfOk result (λ yes. IsTrue yes ↔ SplitsFrom table.entry.now n start.now) }
             { splits_from(alloc, table, stocks, n, *start) },
         )
