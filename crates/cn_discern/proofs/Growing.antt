@@ -13,12 +13,12 @@ use Rattle.cn_discern.proofs.StockLemmas.{all_longer, before_or_behind, children
 
 -- ---- the links of a child
 
-nones_at : (n x : ℕ) → get_or (replicate n (None {T = ℕ})) x None ≡ None
+nones_at : (n x : ℕ) → get_or {A = Option ℕ} (replicate n None) x None ≡ None
 nones_at zero x = refl
 nones_at (suc n) zero = refl
 nones_at (suc n) (suc x) = nones_at n x
 
-pub eight_nones : (x : ℕ) → get_or (None {T = ℕ} ∷ None ∷ None ∷ None ∷ None ∷ None ∷ None ∷ None ∷ []) x None ≡ None
+pub eight_nones : (x : ℕ) → get_or {A = Option ℕ} (None ∷ None ∷ None ∷ None ∷ None ∷ None ∷ None ∷ None ∷ []) x None ≡ None
 eight_nones x = nones_at 8 x
 
 -- one place set
@@ -148,7 +148,7 @@ up_to_none operations s stocks children e f is none = subst (λ (all : List Stoc
   children_are = λ i l. absurd (omega (arith, l));
   inside = omega arith;
   long = one_long;
-  all = λ list known l. (0, (s.operations.items, refl, λ o. ap (times o) (none ∙ sym (empty list l))));
+  all = λ list known l. (0, (s.operations.items, refl, λ o. ap (times o) (none ∙ sym (empty list l)), ap length none));
 }))
   where
     empty : (list : List ℕ) → length list ≡ 0 → list ≡ []

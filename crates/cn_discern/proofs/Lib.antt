@@ -5,3 +5,4 @@ pub mod Steps
 pub mod StockLemmas
 pub mod SplitLemmas
 pub mod Growing
+pub mod Decisions

@@ -244,7 +244,11 @@ all_longer operations n old new children all count are kept (y ∷ list) known e
     let below : g.x < operations = known g.x (omega (arith, g.same g.x, times_at g.x g.rest)) in
     let up : UpTo g.x items = λ o l. g.up_to o (omega (arith, l, same o)) in
     let child = are here.0 (omega (arith, items_within old here.0 items here.1.1, count)) items (kept here.0 items here.1.1) g.x below up in
-    (slice_index (slice_index_or children here.0 []) g.x, (items ++ g.x ∷ [], child, λ o. omega (arith, same o, g.same o, times_last o g.x items, times_cons o g.x g.rest)))
+    (slice_index (slice_index_or children here.0 []) g.x, (items ++ g.x ∷ [], child, λ o. omega (arith, same o, g.same o, times_last o g.x items, times_cons o g.x g.rest), omega (arith, here.1.3, length_one items g.x)))
+  where
+    length_one : (xs : List ℕ) (x : ℕ) → length (xs ++ x ∷ []) ≡ length xs + 1
+    length_one [] x = refl
+    length_one (y ∷ xs) x = omega (arith, length_one xs x)
 
 -- ---- what is known stock by stock
 

@@ -42,7 +42,7 @@ AreStocks operations stocks = (i : ℕ) (s : Stock) → slice_get stocks i ≡ S
 abbrev pub HaveAll : ℕ → ℕ → List Stock → Type 0
 HaveAll operations n stocks =
     (list : List ℕ) → IsKnown operations list → length list ≡ n
-    → (i : ℕ) × ((items : List ℕ) × (items_at stocks i ≡ Some items) × HaveSame items list)
+    → (i : ℕ) × ((items : List ℕ) × (items_at stocks i ≡ Some items) × HaveSame items list × (length items ≡ n))
 
 -- the row has for each operation below the end that is not below one of the stock's the place of the stock with that operation more
 abbrev pub HasChildren : List Stock → ℕ → ℕ → List ℕ → Type 0

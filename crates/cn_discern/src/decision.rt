@@ -1,5 +1,5 @@
 //! Whether a type is n-discerning.
-ghost use Rattle.std.specs.Prelude.{◌≡◌, ◌<◌, ◌≤◌, ◌↔◌, ℕ, length, All, Contains, IfOk, IsTrue};
+ghost use Rattle.std.specs.Prelude.{◌≡◌, ◌<◌, ◌≤◌, ◌↔◌, ℕ, length, All, Contains, IfOk, IsTrue, true};
 ghost use Rattle.std.specs.List.{AllZip};
 ghost use Rattle.cn_choice.specs.Discerning.{IsDiscerning};
 ghost use Rattle.cn_choice.specs.declared.limits.TheConstants.{MOST_PROCESSES};
@@ -101,6 +101,18 @@ fn by_start<T: Threads + Sync>(
         .collect::<Result<Vec<bool>, AllocError>>(rt, alloc)?
 }
 
+/// Whether one of the answers is yes.
+fn some_yes(answers: &[bool]) -> bool
+    ensures { IsTrue result ↔ Contains answers.now true }
+{
+    for yes in answers {
+        if *yes {
+            return true;
+        }
+    }
+    false
+}
+
 /// Whether the type is n-discerning, for n of at least 3: whether some list of n operations splits
 /// from some state ([`laws::splits_decide`]). The start states are looked at in several threads.
 ///
@@ -121,5 +133,5 @@ pub fn is_discerning<T: Threads + Sync>(
     let stocks = stocks_up_to(alloc, table.operations(), n)?;
     let starts = all_starts(alloc, table)?;
     let answers = by_start(rt, alloc, table, stocks.as_slice(), n as usize, starts.as_slice())?;
-    Ok(answers.as_slice().contains(&true))
+    Ok(some_yes(answers.as_slice()))
 }

@@ -1,5 +1,5 @@
 //! Stocks: lists of operations, of which a word may use each as often as it stands there.
-ghost use Rattle.std.specs.Prelude.{◌≡◌, ◌<◌, ◌≤◌, ◌+◌, ◌++◌, ℕ, List, [], ◌∷◌, length, IfOk, Some};
+ghost use Rattle.std.specs.Prelude.{◌≡◌, ◌<◌, ◌≤◌, ◌+◌, ◌++◌, ℕ, List, [], ◌∷◌, length, IfOk, Some, slice_index, slice_index_or};
 ghost use Rattle.cn_choice.specs.declared.limits.TheConstants.{MOST_PROCESSES};
 ghost use Rattle.cn_table.specs.declared.limits.TheConstants.{MOST_OPERATIONS};
 ghost use Rattle.cn_discern.specs.Stocks.{AreChildren, AreLinks, AreStocks, AreUpTo, GoesOn, HasChildren, HaveAll, IsStock, UpTo, items_at};
@@ -63,6 +63,15 @@ fn longer(list: &[u8], operation: u8) -> ArrayVec<u8, MOST_PROCESSES>
     items
 }
 
+/// The place of the child by this operation of the stock at the place.
+fn child_place(children: &[Children], place: usize, operation: u8) -> usize
+    requires place { place < length children.now }
+    requires operation { operation < MOST_OPERATIONS }
+    ensures { result ≡ slice_index (slice_index_or children.now place []) operation }
+{
+    children[place][operation as usize]
+}
+
 /// For each operation the place of the stock with one of it less than the stock at the place has with
 /// one more of the given operation.
 fn less_with(
@@ -86,7 +95,7 @@ fn less_with(
     let mut less = [None; MOST_OPERATIONS];
     for other in 0..operations {
         if let Some(rest) = stock.less[other as usize] {
-            less[other as usize] = Some(children[rest][operation as usize]);
+            less[other as usize] = Some(child_place(children, rest, operation));
         }
     }
     less[operation as usize] = Some(place);
@@ -134,6 +143,7 @@ fn add_children(
     requires stocks { AreStocks operations stocks.old.items }
     requires children { AreChildren operations stocks.old.items children.now }
     requires place { (place < length stocks.old.items) × (place ≤ length children.now) }
+    requires inside { length children.now ≤ length stocks.old.items }
     requires short { (items : List ℕ) → items_at stocks.old.items place ≡ Some items
         → length items < MOST_PROCESSES }
     ensures stocks { IfOk result (λ _. AreStocks operations stocks.new.items) }
