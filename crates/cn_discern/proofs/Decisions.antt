@@ -1,5 +1,5 @@
 -- Whether some stock splits, from what was found for each stock and each start state.
-use Rattle.std.proofs.Common.{◌≡◌, ℕ, zero, suc, ◌+◌, ◌<◌, ◌≤◌, inl, inr, ◌↔◌, List, [], ◌∷◌, length, get_or, refl, sym, ap, ◌∙◌, subst, arith, Bool, true, false, IsTrue, Some, All, Contains, true≢false}
+use Rattle.std.proofs.Common.{◌≡◌, ℕ, zero, suc, ◌+◌, ◌<◌, ◌≤◌, inl, inr, ◌↔◌, List, [], ◌∷◌, ◌++◌, length, get_or, refl, sym, ap, ◌∙◌, subst, arith, Bool, true, false, IsTrue, Some, All, Contains, true≢false, map, Result, Ok, Err, IfOk, MatchResult}
 use Rattle.std.specs.List.{AllZip, range_with_len}
 use Rattle.std.proofs.lemmas.List.FromFn.{length-range_with_len, get_or-range_with_len}
 use Rattle.cn_table.specs.TypeTable.{TypeTable}
@@ -30,6 +30,18 @@ none_splits t n start stocks all none s =
     none here.0 h.0 (items_within stocks here.0 h.0 h.1) h.1 h.3 (splits_same t start s.0 h.0 (same_sym h.0 s.0 h.2) s.3)
 
 -- ---- start states
+
+-- what is collected of results that are all there
+AllZip-of_oks : {X Y : Type 0} (E : Type 0) (R : X → Y → Type 0) (xs : List X) (ys : List Y) → AllZip (λ x (r : Result Y E). IfOk r (R x)) xs (map Ok ys) → AllZip R xs ys
+AllZip-of_oks E R [] [] h = tt
+AllZip-of_oks E R [] (y ∷ ys) h = absurd h
+AllZip-of_oks E R (x ∷ xs) [] h = absurd h
+AllZip-of_oks E R (x ∷ xs) (y ∷ ys) h = (h.0, AllZip-of_oks E R xs ys h.1)
+
+pub collected : {X Y V : Type 0} (E : Type 0) (R : X → Y → Type 0) (items : V → List Y) (xs : List X) (rs : List (Result Y E)) (r : Result V E) → AllZip (λ x (r : Result Y E). IfOk r (R x)) xs rs
+    → MatchResult r (λ v. (ys : List Y) × (rs ≡ map Ok ys) × (items v ≡ ys)) (λ e. Contains rs (Err e)) → IfOk r (λ v. AllZip R xs (items v))
+collected {Y = Y} E R items xs rs (Ok v) h m = subst (λ ys. AllZip R xs ys) (sym m.2) (AllZip-of_oks E R xs m.0 (subst (λ rs. AllZip (λ x (r : Result Y E). IfOk r (R x)) xs rs) m.1 h))
+collected E R items xs rs (Err e) h m = tt
 
 zip_some : (P : ℕ → Type 0) (xs : List ℕ) (bs : List Bool) → AllZip (λ x b. IsTrue b ↔ P x) xs bs → (k : ℕ) → k < length bs → get_or bs k true ≡ true → (x : ℕ) × IsIn x xs × P x
 zip_some P [] [] h k l e = absurd (omega arith)
@@ -65,3 +77,13 @@ starts_known n starts e = subst (λ (xs : List ℕ). All (λ x. x < n) xs) (sym 
 
 pub starts_all : (n : ℕ) (starts : List ℕ) → starts ≡ range_with_len 0 n → (x : ℕ) → x < n → Contains starts x
 starts_all n starts e x l = subst (λ (xs : List ℕ). Contains xs x) (sym e) (x, omega (arith, l, length-range_with_len 0 n), get_or-range_with_len 0 n x x l ∙ omega arith)
+
+pub range_last : (a n : ℕ) → range_with_len a n ++ (a + n) ∷ [] ≡ range_with_len a (suc n)
+range_last a zero = let e : a + 0 ≡ a = omega arith in ap (λ (x : ℕ). x ∷ []) e
+range_last a (suc n) = let e : a + suc n ≡ a + 1 + n = omega arith in ap (λ (l : List ℕ). a ∷ l) (ap (λ (x : ℕ). range_with_len (a + 1) n ++ x ∷ []) e ∙ range_last (a + 1) n)
+
+pub starts_push : (starts new : List ℕ) (n : ℕ) → new ≡ starts ++ n ∷ [] → starts ≡ range_with_len 0 n → new ≡ range_with_len 0 (n + 1)
+starts_push starts new n e is =
+    let zero_first : 0 + n ≡ n = omega arith in
+    let more : suc n ≡ n + 1 = omega arith in
+    e ∙ (ap (λ (l : List ℕ). l ++ n ∷ []) is ∙ (ap (λ (x : ℕ). range_with_len 0 n ++ x ∷ []) (sym zero_first) ∙ (range_last 0 n ∙ ap (range_with_len 0) more)))

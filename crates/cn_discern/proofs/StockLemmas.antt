@@ -295,3 +295,20 @@ rows_push {X} fits rows new row n e count fit are o l = subst (λ (all : List X)
     get_last : (xs : List X) → slice_get (xs ++ row ∷ []) (length xs) ≡ Some row
     get_last [] = refl
     get_last (y ∷ xs) = get_last xs
+
+-- the greatest operation of a list is in it
+pub greatest_in : (items : List ℕ) (greatest : ℕ) → IsGreatest items greatest → 1 ≤ length items → 1 ≤ times greatest items
+greatest_in [] greatest is l = absurd (omega (arith, l))
+greatest_in (x ∷ xs) zero is l =
+    let first : x ≤ 0 = is.up_to x (times_at x xs) in
+    let same : x ≡ 0 = omega (arith, first) in
+    subst (λ (y : ℕ). 1 ≤ times y (x ∷ xs)) same (times_at x xs)
+greatest_in (x ∷ xs) (suc g) is l = elim (before_or_behind 0 (times (suc g) (x ∷ xs))) [
+  | inl u ↦ omega (arith, u)
+  | inr u ↦ absurd (
+      let below : UpTo g (x ∷ xs) = λ o h. elim (same_or o (suc g)) [
+        | inl e ↦ absurd (let k : times o (x ∷ xs) ≡ times (suc g) (x ∷ xs) = ap (λ (y : ℕ). times y (x ∷ xs)) e in omega (arith, h, k, u))
+        | inr n ↦ (let r = is.up_to o h in omega (arith, r, n))
+      ] in
+      omega (arith, is.least g below))
+]

@@ -1,12 +1,13 @@
 -- A start state, and what words from there lead to, stock by stock.
-use Rattle.std.specs.Prelude.{◌≡◌, ◌↔◌, ℕ, ◌<◌, List, length, slice_get, slice_index, slice_index_or, [], Some, Vec, IsBitSet}
+use Rattle.std.specs.Prelude.{◌≡◌, ◌↔◌, ℕ, ◌<◌, ◌≤◌, List, length, slice_get, slice_index, slice_index_or, [], Some, Vec, IsBitSet}
 use Rattle.std.specs.declared.alloc.Global.{Global}
 use Rattle.cn_table.specs.TypeTable.{TypeTable}
 use Rattle.cn_outcomes.specs.Subsets.{Below}
 use Rattle.cn_outcomes.specs.PairSets.{Has}
 use Rattle.cn_discern.specs.declared.setting.Setting.{Setting}
 use Rattle.cn_discern.specs.Words.{EndsIn, Shows}
-use Rattle.cn_discern.specs.Stocks.{AreStocks, items_at}
+use Rattle.cn_discern.specs.declared.stocks.Stock.{Stock}
+use Rattle.cn_discern.specs.Stocks.{AreStocks, HaveAll, items_at}
 
 pub record IsSetting (s : Setting) : Type 0 where
   pub start : s.start.0 < length s.table.now.states
@@ -41,3 +42,10 @@ AreByAsked s f end rows = (o : ℕ) → o < end → (sets : Vec (List ℕ) Globa
 -- and for each f below the end
 abbrev pub AreByFirst : Setting → ℕ → List (Vec (Vec (List ℕ) Global) Global) → Type 0
 AreByFirst s end rows = (f : ℕ) → f < end → (by_asked : Vec (Vec (List ℕ) Global) Global) × (slice_get rows f ≡ Some by_asked) × AreByAsked s f (length s.table.now.operations) by_asked.items
+
+-- a start state of the table, and all stocks of n of its operations
+pub record IsReady (t : TypeTable) (n : ℕ) (stocks : List Stock) (start : ℕ) : Type 0 where
+  pub start_is : start < length t.states
+  pub stocks_are : AreStocks (length t.operations) stocks
+  pub all : HaveAll (length t.operations) n stocks
+  pub some : 1 ≤ n

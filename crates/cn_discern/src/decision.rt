@@ -3,7 +3,7 @@ ghost use Rattle.std.specs.Prelude.{◌≡◌, ◌<◌, ◌≤◌, ◌↔◌, �
 ghost use Rattle.std.specs.List.{AllZip};
 ghost use Rattle.cn_choice.specs.Discerning.{IsDiscerning};
 ghost use Rattle.cn_choice.specs.declared.limits.TheConstants.{MOST_PROCESSES};
-ghost use Rattle.cn_discern.specs.Settings.{AreByFirst, IsSetting};
+ghost use Rattle.cn_discern.specs.Settings.{AreByFirst, IsReady, IsSetting};
 ghost use Rattle.cn_discern.specs.Splits.{SomeSplits, SplitsFrom};
 ghost use Rattle.cn_discern.specs.Stocks.{AreStocks, HaveAll};
 
@@ -43,10 +43,7 @@ fn splits_from(
     n: usize,
     start: u8,
 ) -> Result<bool, AllocError>
-    requires start { start < length table.now.states }
-    requires stocks { AreStocks (length table.now.operations) stocks.now }
-    requires all { HaveAll (length table.now.operations) n stocks.now }
-    requires some { 1 ≤ n }
+    requires { IsReady table.now n stocks.now start }
     ensures { IfOk result (λ yes. IsTrue yes ↔ SplitsFrom table.now n start) }
 {
     let start = State(start);
@@ -94,7 +91,7 @@ fn by_start<T: Threads + Sync>(
         .with_min_len(1)
         .map(
             |start: &u8| -> Result<bool, AllocError>
-                requires { start.now < length table.now.states }
+                requires { IsReady table.now n stocks.now start.now }
                 ensures { IfOk result (λ yes. IsTrue yes ↔ SplitsFrom table.entry.now n start.now) }
             { splits_from(alloc, table, stocks, n, *start) },
         )
