@@ -6,14 +6,16 @@ ghost use Rattle.cn_choice.specs.declared.limits.TheConstants.{MOST_PROCESSES};
 
 use cn_choice::MOST_PROCESSES;
 
-pub(crate) fn contains(set: u16, number: u8) -> bool
+/// Whether the number is in the set.
+pub fn contains(set: u16, number: u8) -> bool
     requires { number < 16 }
     ensures { IsTrue result ↔ IsBitSet set number }
 {
     set & (1 << number) != 0
 }
 
-pub(crate) fn with(set: u16, number: u8) -> u16
+/// The set with the number.
+pub fn with(set: u16, number: u8) -> u16
     requires { number < 16 }
     ensures { (q : ℕ) → IsBitSet result q ↔ (IsBitSet set q ⊎ (q ≡ number)) }
 {
@@ -21,7 +23,7 @@ pub(crate) fn with(set: u16, number: u8) -> u16
 }
 
 /// The numbers of both sets.
-pub(crate) fn union(a: u16, b: u16) -> u16
+pub fn union(a: u16, b: u16) -> u16
     ensures { (q : ℕ) → IsBitSet result q ↔ (IsBitSet a q ⊎ IsBitSet b q) }
 {
     a | b

@@ -4,7 +4,7 @@
 #![tactic(auto)]
 
 mod asked_responses;
-mod bits;
+pub mod bits;
 mod dead_ends;
 mod early_pairs;
 mod examination;
@@ -25,3 +25,4 @@ pub use examination::{Examined, Room, examine, examine_in};
 pub use images::Images;
 pub use outcome_sets::{OutcomeSet, is_witness, outcomes};
 pub use state_sets::{StateSet, left_states};
+pub use subset_rows::image;

@@ -2,6 +2,8 @@
 //! first.
 ghost use Rattle.std.specs.Prelude.{◌≡◌, ◌≤◌, ◌<◌, ◌↔◌, ◌⊎◌, ◌+◌, ◌^◌, ℕ, length, IsBitSet, IsTrue};
 ghost use Rattle.cn_table.specs.declared.limits.TheConstants.{MOST_RESPONSES, MOST_STATES};
+ghost use Rattle.cn_table.specs.TypeTable.{transition};
+ghost use Rattle.cn_outcomes.specs.Subsets.{Below};
 ghost use Rattle.cn_choice.specs.RawChoices.{IsRawChoice};
 ghost use Rattle.cn_choice.specs.Canonical.{FitsTable, raw_choice_of};
 ghost use Rattle.cn_choice.specs.Discerning.{IsWitness};
@@ -14,10 +16,10 @@ use crate::bits::{contains, least, share, union, with, without};
 use crate::early_pairs::some_meet_soon;
 use crate::limits::SUBSETS;
 use crate::row_setting::RowSetting;
-use crate::subset_rows::{outcome_row, rows};
+use crate::subset_rows::{answer_row, images, outcome_row, row_union, rows};
 use crate::twins::{first_twin, links};
 use cn_choice::{Choice, RawChoice, Team};
-use cn_table::{MOST_RESPONSES, MOST_STATES, Response, State, Table};
+use cn_table::{MOST_RESPONSES, MOST_STATES, Operation, Response, State, Table};
 use std::marker::Model;
 
 /// A set of pairs of a response and a state.
@@ -40,7 +42,7 @@ impl Model for OutcomeSet {
 
 impl OutcomeSet {
     /// The set of no pairs.
-    pub(crate) fn none() -> OutcomeSet
+    pub fn none() -> OutcomeSet
         ensures { (r q : ℕ) → ¬ Has result r q }
     {
         OutcomeSet {
@@ -49,7 +51,7 @@ impl OutcomeSet {
     }
 
     /// Puts the pair into the set.
-    pub(crate) fn add(&mut self, response: u8, state: u8)
+    pub fn add(&mut self, response: u8, state: u8)
         requires response { response < MOST_RESPONSES }
         requires state { state < MOST_STATES }
         ensures { (r q : ℕ) → Has self.new r q
@@ -82,6 +84,40 @@ impl OutcomeSet {
             left = without(left, state);
             self.add(response, state);
         }
+    }
+
+    /// The set of what the operation answers in one of these states and where it leads.
+    pub fn of_answers(table: &Table, operation: Operation, from: u16) -> OutcomeSet
+        requires operation { operation.0 < length table.now.operations }
+        requires known { Below (length table.now.states) from }
+        ensures { (r q : ℕ) → Has result r q
+            ↔ ((found : ℕ) × IsBitSet from found
+            × ((transition table.now operation.0 found).0 ≡ r)
+            × ((transition table.now operation.0 found).1 ≡ q)) }
+    {
+        let row = answer_row(table, operation, from);
+        OutcomeSet { row }
+    }
+
+    /// The set with the pairs of another one, whose states are among these, once the operation was
+    /// applied to their states.
+    pub fn with_moved(
+        &self,
+        table: &Table,
+        operation: Operation,
+        other: &OutcomeSet,
+        from: u16,
+    ) -> OutcomeSet
+        requires operation { operation.0 < length table.now.operations }
+        requires known { Below (length table.now.states) from }
+        requires among { (r q : ℕ) → Has other.now r q → IsBitSet from q }
+        ensures { (r q : ℕ) → Has result r q ↔ (Has self.now r q
+            ⊎ ((found : ℕ) × Has other.now r found
+            × ((transition table.now operation.0 found).1 ≡ q))) }
+    {
+        let moved = images(table, operation, &other.row, from);
+        let row = row_union(table, &self.row, &moved);
+        OutcomeSet { row }
     }
 
     /// The set of the pairs of the response and one of the states.

@@ -19,7 +19,7 @@ use cn_choice::{RawChoice, Team};
 use cn_table::{MOST_STATES, Operation, State, Table};
 
 /// The states in which the operation leaves the object, from one of these states.
-pub(crate) fn image(table: &Table, operation: Operation, from: u16) -> u16
+pub fn image(table: &Table, operation: Operation, from: u16) -> u16
     requires operation { operation.0 < length table.now.operations }
     requires known { Below (length table.now.states) from }
     ensures same { (q : ℕ) → IsBitSet result q
@@ -39,7 +39,7 @@ pub(crate) fn image(table: &Table, operation: Operation, from: u16) -> u16
 }
 
 /// What a process gets by the operation, and the states that it leaves, from one of these states.
-fn answer_row(table: &Table, operation: Operation, from: u16) -> [u16; MOST_STATES]
+pub(crate) fn answer_row(table: &Table, operation: Operation, from: u16) -> [u16; MOST_STATES]
     requires operation { operation.0 < length table.now.operations }
     requires known { Below (length table.now.states) from }
     ensures same { (r q : ℕ) → Has result r q
@@ -142,7 +142,7 @@ pub(crate) fn rows(setting: &RowSetting<'_>) -> [u16; SUBSETS]
 }
 
 /// The pairs with the operation applied to their states, which are among these.
-fn images(
+pub(crate) fn images(
     table: &Table,
     operation: Operation,
     row: &[u16; MOST_STATES],
@@ -169,7 +169,7 @@ fn images(
 }
 
 /// The pairs of both rows.
-fn row_union(table: &Table, a: &[u16; MOST_STATES], b: &[u16; MOST_STATES]) -> [u16; MOST_STATES]
+pub(crate) fn row_union(table: &Table, a: &[u16; MOST_STATES], b: &[u16; MOST_STATES]) -> [u16; MOST_STATES]
     requires a { IsRow table.now a.now }
     requires b { IsRow table.now b.now }
     ensures same { (r q : ℕ) → Has result r q ↔ (Has a.now r q ⊎ Has b.now r q) }

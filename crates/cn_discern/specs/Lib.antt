@@ -1,0 +1,5 @@
+pub mod Words
+pub mod Splits
+pub mod Stocks
+pub mod Settings
+pub mod LastMoves
