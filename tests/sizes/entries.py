@@ -99,7 +99,7 @@ def written(number, places, spellings):
         yield f"{count} entries, with a space", lambda spelling=spelling: checked(spelling, table), OK
     for change, it, said in certificate.changed(places):
         yield f"{count} entries, {change}", lambda it=it: checked(it.text(), table), fault(said)
-    ways = f"Why not {number + 1}: {count} ways to choose a start state, operations and teams; each has a process that cannot tell."
+    ways = f"Why not {number + 1}: {count} ways to choose a start state, operations and teams; in each a process cannot tell."
     wanted = [ways, f"  and {count - 12} more (--all tells them)"], b"", 0
     yield f"{count} entries, explained", lambda: explained(certificate.text(), table), wanted
 

@@ -8,15 +8,16 @@ var Cnum = globalThis.Cnum || {};
     const { button, element, tableOf, wide } = Cnum;
     const PAIRS = 'what each process gets and reads';
     const AT_ONCE = 100; // how many collisions are shown more at each demand
-    const COLLISION = /^ +(\d+)\. (start .*?) {2,}(p\d+) cannot tell:$/;
-    const RUN = /^ +([AB]) first: +(.*?) {2,}(p\d+ got .*)$/;
+    const COLLISION = /^ +(\d+)\. (start .*?) +(p\d+) cannot tell:$/;
+    const RUN = /^ +([AB]) first: +(.*?) +(p\d+ got .*)$/;
+    const FOLD = /\n {10}(?=\S)/g; // where a line of more than 100 columns goes on in the next one
     const STEP = / --(p\d+) (\w+)\/(\w+)--> (\w+)/g;
     const MORE = /^ +and (\d+) more \(--all tells them\)$/;
 
     // The parts of the text: its head line, the lines on the witness, the collisions, how many more there
     // are, and the sentences around them.
     function read(text) {
-        const [head, , why, rest = ''] = text.trimEnd().split('\n\n');
+        const [head, , why, rest = ''] = text.trimEnd().replace(FOLD, ' ').split('\n\n');
         const found = { head, why: why.split('\n'), title: '', collisions: [], more: 0, sentences: [] };
         const lines = rest.split('\n');
         found.title = lines[0];
@@ -35,16 +36,22 @@ var Cnum = globalThis.Cnum || {};
     }
 
     // The pairs of each process: what it gets and reads where team A was first, and where team B was. The
-    // columns of the text tell which team a pair is of.
+    // columns of the text tell which team a pair is of; where they have no room side by side, those of team
+    // B stand below.
     function pairs(lines) {
         const found = [];
         for (const line of lines) {
-            const begun = /^ {2}(p\d+) +A first: .*B first: /.exec(line);
-            if (begun) found.push({ process: begun[1], column: line.indexOf('B first: '), A: [], B: [] });
+            const begun = /^ {2}(p\d+) +A first: /.exec(line);
+            if (begun) found.push({ process: begun[1], column: line.indexOf('B first: '), side: 'A', A: [], B: [] });
             const last = found[found.length - 1];
             const put = (team, part) => part.trim() && last[team].push(part.replace(`${team} first: `, '').trim());
-            put('A', line.slice(5, last.column));
-            put('B', line.slice(last.column));
+            if (last.column < 0) {
+                if (/^ +B first: /.test(line)) last.side = 'B';
+                put(last.side, line.slice(5));
+            } else {
+                put('A', line.slice(5, last.column));
+                put('B', line.slice(last.column));
+            }
         }
         return found;
     }

@@ -1,7 +1,7 @@
 -- The text of `explain`: the number, the table, why the number is so much, and why it is no more.
-use Rattle.std.specs.Prelude.{ℕ, ◌+◌, ◌-◌, List, [], ◌∷◌, ◌++◌, length, codes, Bool, ◌==◌, nat_lt, Option, Some, None}
-use Rattle.std.specs.Prelude.{if◌then◌else◌, flat_map, slice_index, take}
-use Rattle.std.specs.List.{range_with_len}
+use Rattle.std.specs.Prelude.{ℕ, ◌+◌, ◌-◌, List, [], ◌∷◌, ◌++◌, length, codes, Bool, not, ◌&&◌, ◌==◌, nat_le, nat_lt, Option, Some, None}
+use Rattle.std.specs.Prelude.{if◌then◌else◌, drop, flat_map, slice_index, take, unwrap_or}
+use Rattle.std.specs.List.{position, range_with_len}
 use Rattle.std.specs.Fmt.{decimal}
 use Rattle.cn_forms.specs.Grid.{cells_text}
 use Rattle.cn_table.specs.TypeTable.{TypeTable, operation_names, transition}
@@ -14,6 +14,7 @@ use Rattle.cn_choice.specs.declared.team.Team.{Team}
 use Rattle.cn_choice.specs.declared.team.Team.TheVariants.{A, B}
 use Rattle.cn_cert.specs.Certificate.{Certificate}
 use Rattle.cn_table.specs.Names.{name_at}
+use Rattle.cn_forms.specs.Folded.{folded}
 use Rattle.cn_forms.specs.Pairs.{pair_words, seen_rows}
 use Rattle.cn_forms.specs.declared.limits.TheConstants.{MOST_TOLD}
 
@@ -29,19 +30,40 @@ number_line t limit number = t.name ++ codes ": consensus number " ++ number_tol
 
 -- ---- processes and runs
 
--- a process, the word between, and its operation; a comma before all but the first
-abbrev pub member : TypeTable → RawChoice → List ℕ → ℕ → ℕ → List ℕ
-member t c word first p =
-    (if p == first then [] else codes ", ") ++ codes "p" ++ decimal p ++ word ++ name_at (operation_names t) (slice_index c.operations p)
+-- how many of the operations, from the first on, are this one
+abbrev pub alike : List ℕ → ℕ → ℕ
+alike operations own = unwrap_or (position (λ other. not (other == own)) operations) (length operations)
+
+-- so many processes from p on
+abbrev pub processes : ℕ → ℕ → List ℕ
+processes p count =
+    codes "p" ++ decimal p ++ (if nat_le count 1 then [] else ((if count == 2 then codes " and p" else codes " to p") ++ decimal (p + (count - 1))))
+
+abbrev pub does : ℕ → List ℕ
+does count = if nat_le count 1 then codes " does " else codes " do "
+
+-- process p and those behind it, before the end, that do the same one after the other; their team; and their operation
+abbrev pub like_members : TypeTable → RawChoice → List ℕ → ℕ → ℕ → List ℕ
+like_members t c team end p =
+    let own = slice_index c.operations p in let count = alike (take (end - p) (drop p c.operations)) own in
+    processes p count ++ (team ++ (does count ++ name_at (operation_names t) own))
+
+-- process p does the same as the one before it, which is not before the first
+abbrev pub goes_along : RawChoice → ℕ → ℕ → Bool
+goes_along c first p = nat_lt first p && (slice_index c.operations (p - 1) == slice_index c.operations p)
+
+-- with a comma before all but the first; one that goes along is told with those before it
+abbrev pub member : TypeTable → RawChoice → List ℕ → ℕ → ℕ → ℕ → List ℕ
+member t c team first end p = if goes_along c first p then [] else ((if p == first then [] else codes ", ") ++ like_members t c team end p)
 
 -- so many processes from the first on
 unfoldable pub members : TypeTable → RawChoice → List ℕ → ℕ → ℕ → List ℕ
-members t c word first count = flat_map (member t c word first) (range_with_len first count)
+members t c team first count = flat_map (member t c team first (first + count)) (range_with_len first count)
 
--- who does what in a choice: the processes of team A, and those of team B, each with its team's word
+-- who does what in a choice: the processes of team A, and those of team B, with what is told of each team
 unfoldable pub both_teams : TypeTable → Choice → List ℕ → List ℕ → List ℕ → List ℕ
-both_teams t c a_word between b_word =
-    members t (raw_choice_of c) a_word 0 (length c.a) ++ between ++ members t (raw_choice_of c) b_word (length c.a) (length c.b)
+both_teams t c a_team between b_team =
+    members t (raw_choice_of c) a_team 0 (length c.a) ++ between ++ members t (raw_choice_of c) b_team (length c.a) (length c.b)
 
 -- the step of process p in a state: its operation, the response and the next state
 abbrev pub step_text : TypeTable → RawChoice → ℕ → ℕ → List ℕ
@@ -69,7 +91,7 @@ run_line t c team order j =
 -- ---- why the number is so much
 
 unfoldable pub movers : TypeTable → Choice → List ℕ
-movers t w = both_teams t w (codes " (team A) does ") (codes ", ") (codes " (team B) does ")
+movers t w = both_teams t w (codes " (team A)") (codes ", ") (codes " (team B)")
 
 unfoldable pub witness_start : TypeTable → ℕ → Choice → List ℕ
 witness_start t n w = codes "Why " ++ decimal n ++ codes ": from state " ++ name_at t.states w.state ++ codes ", "
@@ -83,7 +105,7 @@ apart_line = codes "  No process has a pair on both sides, so each can tell whic
 -- the witness, and what each of its processes gets and reads
 abbrev pub witness_text : TypeTable → ℕ → Choice → List ℕ
 witness_text t n w =
-    witness_line t n w ++ flat_map (seen_rows t w) (range_with_len 0 (length w.a + length w.b)) ++ apart_line
+    folded (witness_line t n w) ++ flat_map (seen_rows t w) (range_with_len 0 (length w.a + length w.b)) ++ apart_line
 
 abbrev pub why : TypeTable → Option ℕ → Option Choice → List ℕ
 why t (Some n) (Some w) = witness_text t n w
@@ -98,7 +120,7 @@ pub record IsRefuted (t : TypeTable) (e : Collision) : Type 0 where
   pub collision : IsCollision t (raw_choice_of e.choice) e.process e.alpha e.beta
 
 unfoldable pub choice_text : TypeTable → Choice → List ℕ
-choice_text t c = codes "start " ++ name_at t.states c.state ++ codes "; A: " ++ both_teams t c (codes " ") (codes "; B: ") (codes " ")
+choice_text t c = codes "start " ++ name_at t.states c.state ++ codes "; A: " ++ both_teams t c [] (codes "; B: ") []
 
 unfoldable pub way_number : ℕ → List ℕ
 way_number number = codes "  " ++ decimal number ++ codes ". "
@@ -140,14 +162,14 @@ told_ways t entries all = ways t 0 (entries_told all entries) ++ more_line (leng
 abbrev pub ways_words : ℕ → List ℕ
 ways_words count =
     if count == 0 then codes "no way to choose a start state, operations and teams is left.\n"
-    else (if count == 1 then codes "1 way to choose a start state, operations and teams; it has a process that cannot tell.\n"
-    else (decimal count ++ codes " ways to choose a start state, operations and teams; each has a process that cannot tell.\n"))
+    else (if count == 1 then codes "1 way to choose a start state, operations and teams; in it a process cannot tell.\n"
+    else (decimal count ++ codes " ways to choose a start state, operations and teams; in each a process cannot tell.\n"))
 
 -- which ways are left out in a certificate of this version
 abbrev pub left_out : ℕ → List ℕ
 left_out version =
     if version == 1 then []
-    else codes "  Left out are those in which some operation leaves the start state as it is: the other team cannot tell whether it was done.\n"
+    else codes "  Ways in which an operation leaves the start state unchanged cannot work, and are left out.\n"
 
 -- which ways count as one
 unfoldable pub same_ways : List ℕ
@@ -174,5 +196,5 @@ why_not t version limit entries all (Some n) =
 
 unfoldable pub explain_text : TypeTable → Certificate → Bool → List ℕ
 explain_text t c all =
-    number_line t c.limit c.number ++ codes "\n" ++ cells_text t ++ codes "\n" ++ why t c.number c.witness ++ codes "\n"
-    ++ why_not t c.version c.limit c.collisions all c.number
+    folded (number_line t c.limit c.number) ++ codes "\n" ++ cells_text t ++ codes "\n" ++ why t c.number c.witness ++ codes "\n"
+    ++ folded (why_not t c.version c.limit c.collisions all c.number)

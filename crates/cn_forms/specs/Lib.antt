@@ -1,6 +1,7 @@
 pub mod Diagram
 pub mod Dot
 pub mod Explained
+pub mod Folded
 pub mod Grid
 pub mod Json
 pub mod Pairs

@@ -1,8 +1,8 @@
 -- The pairs that the processes of a choice can get, by the team that moves first.
-use Rattle.std.specs.Prelude.{ℕ, List, [], ◌∷◌, ◌++◌, length, codes, Bool, false, ◌&&◌, ◌==◌, max, Option, Some, None, if◌then◌else◌, flat_map, slice_get}
+use Rattle.std.specs.Prelude.{ℕ, ◌+◌, nat_le, List, [], ◌∷◌, ◌++◌, length, codes, Bool, false, ◌&&◌, ◌==◌, max, Option, Some, None, if◌then◌else◌, flat_map, slice_get}
 use Rattle.std.specs.List.{list_any, range_with_len}
 use Rattle.std.specs.Fmt.{decimal}
-use Rattle.cn_forms.specs.Grid.{pair_padding}
+use Rattle.cn_forms.specs.Grid.{pair_padding, widest}
 use Rattle.cn_table.specs.TypeTable.{TypeTable}
 use Rattle.cn_choice.specs.declared.team.Team.{Team}
 use Rattle.cn_choice.specs.declared.team.Team.TheVariants.{A, B}
@@ -10,6 +10,7 @@ use Rattle.cn_choice.specs.Canonical.{Choice, raw_choice_of}
 use Rattle.cn_choice.specs.OutcomeSets.{pair_of}
 use Rattle.cn_choice.specs.TeamOrders.{orders_of}
 use Rattle.cn_table.specs.Names.{name_at}
+use Rattle.cn_forms.specs.declared.limits.TheConstants.{MOST_BESIDE}
 
 -- ---- which pairs
 
@@ -69,8 +70,29 @@ pair_row t j k a b = before_left j k ++ left_part t a ++ right_part t k a b ++ c
 abbrev pub rows : List (ℕ × ℕ) → List (ℕ × ℕ) → ℕ
 rows a b = max (length a) (length b)
 
+-- the pairs of the two sides side by side
+abbrev pub rows_beside : TypeTable → ℕ → List (ℕ × ℕ) → List (ℕ × ℕ) → List ℕ
+rows_beside t j a b = flat_map (λ k. pair_row t j k (slice_get a k) (slice_get b k)) (range_with_len 0 (rows a b))
+
+-- what stands before pair k of a side that has lines of its own
+abbrev pub before_pair : ℕ → Team → ℕ → List ℕ
+before_pair j A k = before_left j k
+before_pair j B k = if k == 0 then codes "       B first: " else codes "                "
+
+abbrev pub pair_line : TypeTable → ℕ → Team → ℕ → Option (ℕ × ℕ) → List ℕ
+pair_line t j team k pair = before_pair j team k ++ left_part t pair ++ codes "\n"
+
+-- the pairs of a side, each in a line of its own
+abbrev pub side_lines : TypeTable → ℕ → Team → List (ℕ × ℕ) → List ℕ
+side_lines t j team pairs = flat_map (λ k. pair_line t j team k (slice_get pairs k)) (range_with_len 0 (length pairs))
+
+-- two of the widest pairs of the table have room in a line
+abbrev pub has_room : TypeTable → Bool
+has_room t = nat_le (widest t.responses + widest t.states) MOST_BESIDE
+
+-- the two sides, one below the other where they have no room side by side
 abbrev pub pair_rows : TypeTable → ℕ → List (ℕ × ℕ) → List (ℕ × ℕ) → List ℕ
-pair_rows t j a b = flat_map (λ k. pair_row t j k (slice_get a k) (slice_get b k)) (range_with_len 0 (rows a b))
+pair_rows t j a b = if has_room t then rows_beside t j a b else side_lines t j A a ++ side_lines t j B b
 
 -- all that process j can get, on the left where team A is first, and on the right where B is
 abbrev pub seen_rows : TypeTable → Choice → ℕ → List ℕ

@@ -5,11 +5,14 @@ ghost use Rattle.std.specs.List.{range_with_len};
 ghost use Rattle.cn_choice.specs.Canonical.{FitsTable};
 ghost use Rattle.cn_check.specs.Verdict.{IsAccepted};
 ghost use Rattle.cn_forms.specs.Explained.{apart_line, explain_text, number_line, left_out, more_line, movers, notes, number_told, refutation, same_ways, theorem_line, entries_told, told_ways, ways_words, why, why_not, witness_line, witness_start, witness_text, IsRefuted};
+ghost use Rattle.cn_forms.specs.Folded.{folded};
 ghost use Rattle.cn_forms.specs.Pairs.{seen_rows};
 
+mod folded;
 mod pairs;
 mod ways;
 
+use crate::explained::folded::push_folded;
 use crate::explained::pairs::push_pair_rows;
 use crate::explained::ways::{push_both_teams, push_ways};
 use crate::grid::push_cells;
@@ -32,7 +35,7 @@ fn push_number(text: &mut String, limit: u8, number: Option<u8>) -> Result<(), A
     }
 }
 
-fn push_head(
+fn push_number_line(
     text: &mut String,
     table: &Table,
     limit: u8,
@@ -45,6 +48,22 @@ fn push_head(
     write!(text, "{name}: consensus number ")?;
     push_number(text, limit, number)?;
     text.push_str(" (for processes that can read the whole state)\n")
+}
+
+/// The number, in as many lines as it needs.
+fn push_head(
+    alloc: Global,
+    text: &mut String,
+    table: &Table,
+    limit: u8,
+    number: Option<u8>,
+) -> Result<(), AllocError>
+    ensures { OnOk result (string_bytes text.new
+        ≡ string_bytes text.old ++ folded (number_line table.now limit number)) }
+{
+    let mut line = String::new(alloc);
+    push_number_line(&mut line, table, limit, number)?;
+    push_folded(alloc, text, line.as_str())
 }
 
 /// What each process of a witness can get.
@@ -73,8 +92,7 @@ fn push_movers(text: &mut String, table: &Table, witness: &Choice) -> Result<(),
     ensures { OnOk result (string_bytes text.new
         ≡ string_bytes text.old ++ movers table.now witness.now) }
 {
-    let (a_word, b_word) = (" (team A) does ", " (team B) does ");
-    push_both_teams(text, table, witness, a_word, ", ", b_word)
+    push_both_teams(text, table, witness, " (team A)", ", ", " (team B)")
 }
 
 #[tactic(auto, unfolding(crate::specs::Explained::witness_start))]
@@ -115,6 +133,23 @@ fn push_apart_line(text: &mut String) -> Result<(), AllocError>
     text.push_str("  No process has a pair on both sides, so each can tell which team was first.\n")
 }
 
+/// The line of the witness, in as many lines as it needs.
+fn push_witness_lines(
+    alloc: Global,
+    text: &mut String,
+    table: &Table,
+    number: u8,
+    witness: &Choice,
+) -> Result<(), AllocError>
+    requires { FitsTable table.now witness.now }
+    ensures { OnOk result (string_bytes text.new
+        ≡ string_bytes text.old ++ folded (witness_line table.now number witness.now)) }
+{
+    let mut line = String::new(alloc);
+    push_witness_line(&mut line, table, number, witness)?;
+    push_folded(alloc, text, line.as_str())
+}
+
 /// The witness, and what each of its processes gets and reads.
 fn push_witness(
     alloc: Global,
@@ -127,7 +162,7 @@ fn push_witness(
     ensures { OnOk result (string_bytes text.new
         ≡ string_bytes text.old ++ witness_text table.now number witness.now) }
 {
-    push_witness_line(text, table, number, witness)?;
+    push_witness_lines(alloc, text, table, number, witness)?;
     push_all_pair_rows(alloc, text, table, witness)?;
     push_apart_line(text)
 }
@@ -167,11 +202,11 @@ fn push_count(text: &mut String, count: usize) -> Result<(), AllocError>
     match count {
         0 => text.push_str("no way to choose a start state, operations and teams is left.\n"),
         1 => text.push_str(
-            "1 way to choose a start state, operations and teams; it has a process that cannot tell.\n",
+            "1 way to choose a start state, operations and teams; in it a process cannot tell.\n",
         ),
         _ => write!(
             text,
-            "{count} ways to choose a start state, operations and teams; each has a process that cannot tell.\n"
+            "{count} ways to choose a start state, operations and teams; in each a process cannot tell.\n"
         ),
     }
 }
@@ -209,7 +244,7 @@ fn push_left_out(text: &mut String, version: u8) -> Result<(), AllocError>
         return Ok(());
     }
     text.push_str(
-        "  Left out are those in which some operation leaves the start state as it is: the other team cannot tell whether it was done.\n",
+        "  Ways in which an operation leaves the start state unchanged cannot work, and are left out.\n",
     )
 }
 
@@ -282,6 +317,26 @@ fn push_why_not(
     }
 }
 
+/// Why the number is no more, in as many lines as it needs.
+fn push_reasons(
+    alloc: Global,
+    text: &mut String,
+    table: &Table,
+    certificate: &Certificate,
+    all: bool,
+) -> Result<(), AllocError>
+    requires { All (IsRefuted table.now) certificate.now.collisions }
+    ensures { OnOk result (string_bytes text.new ≡ string_bytes text.old
+        ++ folded (why_not table.now certificate.now.version certificate.now.limit
+        certificate.now.collisions all certificate.now.number)) }
+{
+    let (version, limit, number) = (certificate.version, certificate.limit, certificate.number);
+    let entries = certificate.collisions.as_slice();
+    let mut reasons = String::new(alloc);
+    push_why_not(&mut reasons, table, version, limit, entries, all, number)?;
+    push_folded(alloc, text, reasons.as_str())
+}
+
 /// The text that tells people why the number of a certificate is what it is: the number; the cells
 /// of the table; by what each process of the witness can tell which team was first; and for the
 /// choices that the certificate refutes two runs each by which a process cannot. Of these the first
@@ -306,15 +361,14 @@ pub fn explanation_of(
     // So each entry is of a choice of the table.
     canonical_list();
     live_list();
-    let (version, limit, number) = (certificate.version, certificate.limit, certificate.number);
-    let entries = certificate.collisions.as_slice();
+    let (limit, number) = (certificate.limit, certificate.number);
     let mut text = String::new(alloc);
-    push_head(&mut text, table, limit, number)?;
+    push_head(alloc, &mut text, table, limit, number)?;
     text.push_str("\n")?;
     push_cells(&mut text, table)?;
     text.push_str("\n")?;
     push_why(alloc, &mut text, table, number, &certificate.witness)?;
     text.push_str("\n")?;
-    push_why_not(&mut text, table, version, limit, entries, all, number)?;
+    push_reasons(alloc, &mut text, table, certificate, all)?;
     Ok(text)
 }

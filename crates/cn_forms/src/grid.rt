@@ -190,7 +190,7 @@ fn push_padding(text: &mut String, width: usize, shown: &str) -> Result<(), Allo
     push_spaces(text, width.saturating_sub(shown.len()))
 }
 
-fn push_spaces(text: &mut String, count: usize) -> Result<(), AllocError>
+pub(crate) fn push_spaces(text: &mut String, count: usize) -> Result<(), AllocError>
     ensures { OnOk result (string_bytes text.new ≡ string_bytes text.old ++ spaces count) }
 {
     for i in 0..count {
@@ -200,7 +200,7 @@ fn push_spaces(text: &mut String, count: usize) -> Result<(), AllocError>
 }
 
 /// How wide the widest name of a state is.
-fn state_width(table: &Table) -> usize
+pub(crate) fn state_width(table: &Table) -> usize
     ensures { result ≡ widest table.now.states }
 {
     let mut width = 0;
@@ -211,7 +211,7 @@ fn state_width(table: &Table) -> usize
 }
 
 /// How wide the widest name of a response is.
-fn response_width(table: &Table) -> usize
+pub(crate) fn response_width(table: &Table) -> usize
     ensures { result ≡ widest table.now.responses }
 {
     let mut width = 0;

@@ -2,10 +2,11 @@
 ghost use Rattle.std.specs.Prelude.{◌≡◌, ◌↔◌, ◌+◌, ◌<◌, ◌++◌, ℕ, Bool, length, slice_get, string_bytes, All, IfOk, IfSome, IsTrue, OnOk};
 ghost use Rattle.cn_choice.specs.Canonical.{FitsTable};
 ghost use Rattle.cn_outcomes.specs.PairSets.{Has};
-ghost use Rattle.cn_forms.specs.Pairs.{before_left, before_right, pair_words, pairs_if, left_gap, left_part, pair_row, pair_rows, right_part, seen_pairs, seen_rows};
+ghost use Rattle.cn_forms.specs.Pairs.{before_left, before_pair, before_right, has_room, pair_words, pairs_if, left_gap, left_part, pair_line, pair_row, pair_rows, right_part, rows_beside, seen_pairs, seen_rows, side_lines};
 
-use crate::grid::push_pair_padding;
+use crate::grid::{push_pair_padding, response_width, state_width};
 use crate::laws::told_pairs;
+use crate::limits::MOST_BESIDE;
 use cn_choice::{Choice, Team};
 use cn_outcomes::{OutcomeSet, outcomes};
 use cn_table::{Response, State, Table};
@@ -175,7 +176,92 @@ fn pair_at(pairs: &[(u8, u8)], place: usize) -> Option<(u8, u8)>
     pairs.get(place).copied()
 }
 
-/// The rows of a process, as many as the longer side has pairs.
+/// The rows of a process with the sides side by side, as many as the longer side has pairs.
+fn push_rows_beside(
+    text: &mut String,
+    table: &Table,
+    process: u8,
+    left: &[(u8, u8)],
+    right: &[(u8, u8)],
+) -> Result<(), AllocError>
+    requires left { All (λ x. (x.0 < length table.now.responses) × (x.1 < length table.now.states))
+        left.now }
+    requires right { All (λ x. (x.0 < length table.now.responses) × (x.1 < length table.now.states))
+        right.now }
+    ensures { OnOk result (string_bytes text.new
+        ≡ string_bytes text.old ++ rows_beside table.now process left.now right.now) }
+{
+    for row in 0..left.len().max(right.len()) {
+        let (a, b) = (pair_at(left, row), pair_at(right, row));
+        push_row(text, table, process, row, a, b)?;
+    }
+    Ok(())
+}
+
+/// The words or the spaces before a pair of a side that has lines of its own.
+fn push_before_pair(
+    text: &mut String,
+    process: u8,
+    team: Team,
+    place: usize,
+) -> Result<(), AllocError>
+    ensures { OnOk result (string_bytes text.new
+        ≡ string_bytes text.old ++ before_pair process team place) }
+{
+    match team {
+        Team::A => push_before_left(text, process, place),
+        Team::B if place == 0 => text.push_str("       B first: "),
+        Team::B => text.push_str("                "),
+    }
+}
+
+fn push_pair_line(
+    text: &mut String,
+    table: &Table,
+    process: u8,
+    team: Team,
+    place: usize,
+    pair: Option<(u8, u8)>,
+) -> Result<(), AllocError>
+    requires { IfSome pair (λ x. (x.0 < length table.now.responses)
+        × (x.1 < length table.now.states)) }
+    ensures { OnOk result (string_bytes text.new
+        ≡ string_bytes text.old ++ pair_line table.now process team place pair) }
+{
+    push_before_pair(text, process, team, place)?;
+    push_left_part(text, table, pair)?;
+    text.push_str("\n")
+}
+
+/// The pairs of a side, each in a line of its own.
+fn push_side(
+    text: &mut String,
+    table: &Table,
+    process: u8,
+    team: Team,
+    pairs: &[(u8, u8)],
+) -> Result<(), AllocError>
+    requires { All (λ x. (x.0 < length table.now.responses) × (x.1 < length table.now.states))
+        pairs.now }
+    ensures { OnOk result (string_bytes text.new
+        ≡ string_bytes text.old ++ side_lines table.now process team pairs.now) }
+{
+    for place in 0..pairs.len() {
+        let pair = pair_at(pairs, place);
+        push_pair_line(text, table, process, team, place, pair)?;
+    }
+    Ok(())
+}
+
+/// Whether two of the widest pairs of the table have room in a line.
+fn has_room(table: &Table) -> bool
+    ensures { result ≡ has_room table.now }
+{
+    let responses = response_width(table);
+    responses <= MOST_BESIDE && state_width(table) <= MOST_BESIDE - responses
+}
+
+/// The rows of a process, with the sides one below the other where they have no room side by side.
 fn push_rows(
     text: &mut String,
     table: &Table,
@@ -190,11 +276,11 @@ fn push_rows(
     ensures { OnOk result (string_bytes text.new
         ≡ string_bytes text.old ++ pair_rows table.now process left.now right.now) }
 {
-    for row in 0..left.len().max(right.len()) {
-        let (a, b) = (pair_at(left, row), pair_at(right, row));
-        push_row(text, table, process, row, a, b)?;
+    if has_room(table) {
+        return push_rows_beside(text, table, process, left, right);
     }
-    Ok(())
+    push_side(text, table, process, Team::A, left)?;
+    push_side(text, table, process, Team::B, right)
 }
 
 /// All that a process can get, by the team that is first.

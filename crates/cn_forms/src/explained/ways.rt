@@ -1,10 +1,11 @@
 //! The ways that a certificate refutes: a choice of each, and the two runs by which a process of it
 //! cannot tell which team was first.
-ghost use Rattle.std.specs.Prelude.{◌≡◌, ◌+◌, ◌≤◌, ◌<◌, ◌++◌, length, string_bytes, slice_index, All, IfOk, IfSome, OnOk};
+ghost use Rattle.std.specs.Prelude.{◌≡◌, ◌+◌, ◌≤◌, ◌<◌, ◌==◌, ◌++◌, length, not, string_bytes, slice_index, All, IfOk, IfSome, OnOk};
+ghost use Rattle.std.specs.List.{position};
 ghost use Rattle.cn_table.specs.TypeTable.{transition};
 ghost use Rattle.cn_choice.specs.Canonical.{FitsTable};
 ghost use Rattle.cn_choice.specs.RawChoices.{IsRawChoice};
-ghost use Rattle.cn_forms.specs.Explained.{both_teams, cannot_tell, choice_text, member, members, run_line, run_lines, sight, step_text, steps_text, way, way_line, way_number, ways, IsRefuted};
+ghost use Rattle.cn_forms.specs.Explained.{alike, both_teams, cannot_tell, choice_text, does, goes_along, like_members, member, members, processes, run_line, run_lines, sight, step_text, steps_text, way, way_line, way_number, ways, IsRefuted};
 
 use crate::explained::pairs::push_pair_words;
 use cn_choice::reference::raw_pair;
@@ -12,33 +13,108 @@ use cn_choice::{Choice, Collision, RawChoice, Team};
 use cn_table::{Operation, State, Table};
 use std::alloc::AllocError;
 
+fn first_other(operations: &[u8], own: u8) -> Option<usize>
+    ensures place { result ≡ position (λ other. not (other == own)) operations.now }
+    ensures range { IfSome result (λ k. k < length operations.now) }
+{
+    operations.iter().position(|other| *other != own)
+}
+
+/// How many of the operations, from the first on, are this one.
+fn alike(operations: &[u8], own: u8) -> usize
+    ensures count { result ≡ alike operations.now own }
+    ensures range { result ≤ length operations.now }
+{
+    first_other(operations, own).unwrap_or(operations.len())
+}
+
+/// So many processes from this one on.
+fn push_processes(text: &mut String, process: u8, count: usize) -> Result<(), AllocError>
+    requires { count ≤ 8 }
+    ensures { OnOk result (string_bytes text.new
+        ≡ string_bytes text.old ++ processes process count) }
+{
+    let last = process as usize + count.saturating_sub(1);
+    match count {
+        0 | 1 => write!(text, "p{process}"),
+        2 => write!(text, "p{process} and p{last}"),
+        _ => write!(text, "p{process} to p{last}"),
+    }
+}
+
+fn does(count: usize) -> &'static str
+    ensures { result.now ≡ does count }
+{
+    if count <= 1 { " does " } else { " do " }
+}
+
+/// A process and those behind it, before the end, that do the same one after the other; what is
+/// told of their team; and their operation.
+fn push_like_members(
+    text: &mut String,
+    table: &Table,
+    choice: &RawChoice,
+    team: &str,
+    end: u8,
+    process: u8,
+) -> Result<(), AllocError>
+    requires fits { IsRawChoice table.now (length choice.now.operations) choice.now }
+    requires process { process < end }
+    requires within { end ≤ length choice.now.operations }
+    requires few { length choice.now.operations ≤ 8 }
+    ensures { OnOk result (string_bytes text.new
+        ≡ string_bytes text.old ++ like_members table.now choice.now team.now end process) }
+{
+    let operations = choice.operations.as_slice();
+    let own = operations[process as usize];
+    let count = alike(&operations[process as usize..end as usize], own);
+    let (does, operation) = (does(count), table.operation_name(Operation(own)));
+    push_processes(text, process, count)?;
+    write!(text, "{team}{does}{operation}")
+}
+
+/// Whether a process does the same as the one before it, which is not before the first.
+fn goes_along(choice: &RawChoice, first: u8, process: u8) -> bool
+    requires { process < length choice.now.operations }
+    ensures { result ≡ goes_along choice.now first process }
+{
+    let operations = choice.operations.as_slice();
+    process > first && operations[process as usize - 1] == operations[process as usize]
+}
+
+/// A process with those that do the same, but for one that goes along with those before it.
 fn push_member(
     text: &mut String,
     table: &Table,
     choice: &RawChoice,
-    word: &str,
+    team: &str,
     first: u8,
+    end: u8,
     process: u8,
 ) -> Result<(), AllocError>
     requires fits { IsRawChoice table.now (length choice.now.operations) choice.now }
-    requires process { process < length choice.now.operations }
+    requires process { process < end }
+    requires within { end ≤ length choice.now.operations }
+    requires few { length choice.now.operations ≤ 8 }
     ensures { OnOk result (string_bytes text.new
-        ≡ string_bytes text.old ++ member table.now choice.now word.now first process) }
+        ≡ string_bytes text.old ++ member table.now choice.now team.now first end process) }
 {
+    if goes_along(choice, first, process) {
+        return Ok(());
+    }
     if process != first {
         text.push_str(", ")?;
     }
-    let operation = table.operation_name(Operation(choice.operations[process as usize]));
-    write!(text, "p{process}{word}{operation}")
+    push_like_members(text, table, choice, team, end, process)
 }
 
-/// So many processes from the first on, each with the word and its operation behind it.
+/// So many processes from the first on, with what is told of their team, and their operations.
 #[tactic(auto, unfolding(crate::specs::Explained::members))]
 fn push_members(
     text: &mut String,
     table: &Table,
     choice: &RawChoice,
-    word: &str,
+    team: &str,
     first: u8,
     count: u8,
 ) -> Result<(), AllocError>
@@ -46,10 +122,11 @@ fn push_members(
     requires within { first + count ≤ length choice.now.operations }
     requires few { length choice.now.operations ≤ 8 }
     ensures { OnOk result (string_bytes text.new
-        ≡ string_bytes text.old ++ members table.now choice.now word.now first count) }
+        ≡ string_bytes text.old ++ members table.now choice.now team.now first count) }
 {
+    let end = first + count;
     for place in 0..count {
-        push_member(text, table, choice, word, first, first + place)?;
+        push_member(text, table, choice, team, first, end, first + place)?;
     }
     Ok(())
 }
@@ -144,27 +221,27 @@ fn push_run(
     text.push_str("\n")
 }
 
-/// Who does what in a choice: the processes of team A, and those of team B, each with its team's
-/// word and its operation behind it.
+/// Who does what in a choice: the processes of team A, and those of team B, with what is told of
+/// each team.
 #[tactic(auto, unfolding(crate::specs::Explained::both_teams))]
 pub(crate) fn push_both_teams(
     text: &mut String,
     table: &Table,
     choice: &Choice,
-    a_word: &str,
+    a_team: &str,
     between: &str,
-    b_word: &str,
+    b_team: &str,
 ) -> Result<(), AllocError>
     requires { FitsTable table.now choice.now }
     ensures { OnOk result (string_bytes text.new
         ≡ string_bytes text.old
-        ++ both_teams table.now choice.now a_word.now between.now b_word.now) }
+        ++ both_teams table.now choice.now a_team.now between.now b_team.now) }
 {
     let raw = RawChoice::of(choice);
     let (a, b) = (choice.a.len() as u8, choice.b.len() as u8);
-    push_members(text, table, &raw, a_word, 0, a)?;
+    push_members(text, table, &raw, a_team, 0, a)?;
     text.push_str(between)?;
-    push_members(text, table, &raw, b_word, a, b)
+    push_members(text, table, &raw, b_team, a, b)
 }
 
 #[tactic(auto, unfolding(crate::specs::Explained::choice_text))]
@@ -175,7 +252,7 @@ fn push_choice(text: &mut String, table: &Table, choice: &Choice) -> Result<(), 
 {
     let start = table.state_name(choice.state);
     write!(text, "start {start}; A: ")?;
-    push_both_teams(text, table, choice, " ", "; B: ", " ")
+    push_both_teams(text, table, choice, "", "; B: ", "")
 }
 
 #[tactic(auto, unfolding(crate::specs::Explained::way_number))]

@@ -1,7 +1,7 @@
 use Rattle.std.proofs.Common.{◌≡◌, ◌++◌, flat_map, slice_get, string_bytes}
 use Rattle.std.specs.List.{range_with_len}
 use Rattle.cn_forms.specs.Pairs.{pair_row}
-use Rattle.cn_forms.proofs.explained.pairs.push_rows.Given as goal
+use Rattle.cn_forms.proofs.explained.pairs.push_rows_beside.Given as goal
 
 -- the rows so far
 abbrev pub invariant-loop-row : goal.invariant-loop-row

@@ -1,7 +1,7 @@
 use Rattle.std.proofs.Common.{ℕ, arith, slice_get}
 use Rattle.cn_forms.specs.Pairs.{pair_row}
 use Rattle.cn_forms.proofs.Pieces.{piece_more}
-use Rattle.cn_forms.proofs.explained.pairs.push_rows.Goals as goal
+use Rattle.cn_forms.proofs.explained.pairs.push_rows_beside.Goals as goal
 
 pub loop-row-preserved : goal.loop-row-preserved
 loop-row-preserved c =

@@ -1,0 +1,111 @@
+//! Lines that go on in the next line where they would be too wide.
+ghost use Rattle.std.specs.Prelude.{◌≡◌, ◌++◌, ◌==◌, flat_map, map, string_bytes, IfOk, OnOk};
+ghost use Rattle.std.specs.List.{slice_split};
+ghost use Rattle.std.specs.Str.Lines.{lines};
+ghost use Rattle.cn_forms.specs.Folded.{fits, folded, folded_line, kept_together, laid, left_behind, placed};
+
+use crate::grid::push_spaces;
+use crate::limits::{MARGIN, WIDEST_LINE};
+use std::alloc::{AllocError, Global};
+
+/// How much has to end in the line: the word, or, behind a gap of more than two spaces that does not
+/// begin the line, all that is left.
+fn kept_together(left: usize, gap: usize, rest: usize, word: &str) -> usize
+    ensures { result ≡ kept_together left gap rest word.now }
+{
+    if left < WIDEST_LINE && gap > 2 {
+        rest
+    } else {
+        word.len()
+    }
+}
+
+fn fits(left: usize, gap: usize, rest: usize, word: &str) -> bool
+    ensures { result ≡ fits left gap rest word.now }
+{
+    let needed = kept_together(left, gap, rest, word);
+    needed <= left && gap <= left - needed
+}
+
+/// The word behind so many spaces, or at the margin of the next line. Answers how much is left of
+/// its line behind it.
+fn push_word(
+    text: &mut String,
+    left: usize,
+    gap: usize,
+    rest: usize,
+    word: &str,
+) -> Result<usize, AllocError>
+    ensures written { OnOk result (string_bytes text.new
+        ≡ string_bytes text.old ++ placed left gap rest word.now) }
+    ensures left { IfOk result (λ behind. behind ≡ left_behind left gap rest word.now) }
+{
+    if fits(left, gap, rest, word) {
+        push_spaces(text, gap)?;
+        text.push_str(word)?;
+        return Ok(left.saturating_sub(gap).saturating_sub(word.len()));
+    }
+    text.push_str("\n")?;
+    push_spaces(text, MARGIN)?;
+    text.push_str(word)?;
+    Ok((WIDEST_LINE - MARGIN).saturating_sub(word.len()))
+}
+
+/// The words of a line of so many columns. Between two spaces stands an empty word.
+fn push_words(text: &mut String, columns: usize, words: &[&str]) -> Result<(), AllocError>
+    ensures { OnOk result (string_bytes text.new ≡ string_bytes text.old
+        ++ laid WIDEST_LINE 0 columns (map (λ word. word.now) words.now)) }
+{
+    let (mut left, mut gap, mut rest) = (WIDEST_LINE, 0, columns);
+    for word in words {
+        if word.is_empty() {
+            gap += 1;
+        } else {
+            left = push_word(text, left, gap, rest, *word)?;
+            gap = 1;
+        }
+        rest = rest.saturating_sub(word.len()).saturating_sub(1);
+    }
+    Ok(())
+}
+
+fn words_of(alloc: Global, line: &str) -> Result<Vec<&str>, AllocError>
+    ensures { IfOk result (λ words. map (λ word. word.now) words.items
+        ≡ slice_split (λ byte. byte == 32) line.now) }
+{
+    line.split(' ').collect(alloc)
+}
+
+fn lines_of(alloc: Global, text: &str) -> Result<Vec<&str>, AllocError>
+    ensures { IfOk result (λ texts. map (λ line. line.now) texts.items ≡ lines text.now) }
+{
+    text.lines().collect(alloc)
+}
+
+fn push_line(alloc: Global, text: &mut String, line: &str) -> Result<(), AllocError>
+    ensures { OnOk result (string_bytes text.new
+        ≡ string_bytes text.old ++ folded_line line.now) }
+{
+    let words = words_of(alloc, line)?;
+    push_words(text, line.len(), &words)?;
+    text.push_str("\n")
+}
+
+fn push_lines(alloc: Global, text: &mut String, lines: &[&str]) -> Result<(), AllocError>
+    ensures { OnOk result (string_bytes text.new ≡ string_bytes text.old
+        ++ flat_map folded_line (map (λ line. line.now) lines.now)) }
+{
+    for line in lines {
+        push_line(alloc, text, *line)?;
+    }
+    Ok(())
+}
+
+/// Puts the lines of a text behind the other, each in as many lines as it needs.
+#[tactic(auto, unfolding(crate::specs::Folded::folded))]
+pub(crate) fn push_folded(alloc: Global, text: &mut String, wide: &str) -> Result<(), AllocError>
+    ensures { OnOk result (string_bytes text.new ≡ string_bytes text.old ++ folded wide.now) }
+{
+    let lines = lines_of(alloc, wide)?;
+    push_lines(alloc, text, &lines)
+}
