@@ -78,8 +78,19 @@ module _ (t : TypeTable) (start : ℕ) (stock : List ℕ) (f : ℕ) where
         let within : IsWithin stock ((f ∷ last.0) ++ x ∷ []) = subst (λ (l : List ℕ). IsWithin stock l) split w in
         let has : 1 ≤ times x stock = omega (arith, within x, times_last x x (f ∷ last.0), one_at x) in
         let rest = removal x has in
-        inr (x, known x has, (rest.0, rest.1, (state_after t start (f ∷ last.0), (last.0, within_before x stock rest.0 (f ∷ last.0) rest.1 within, refl),
-        sym (state_last t start (f ∷ last.0) x) ∙ (ap (state_after t start) (sym split) ∙ e))))
+        inr (
+          x,
+          known x has,
+          (
+            rest.0,
+            rest.1,
+            (
+              state_after t start (f ∷ last.0),
+              (last.0, within_before x stock rest.0 (f ∷ last.0) rest.1 within, refl),
+              sym (state_last t start (f ∷ last.0) x) ∙ (ap (state_after t start) (sym split) ∙ e),
+            ),
+          ),
+        )
 
     pub lead_all : (q : ℕ) (here : Type 0) → Gathered (LeadBase q) (LeadPart q) k here → here ↔ EndsIn t start stock f q
     lead_all q here g = (
@@ -179,18 +190,26 @@ module _ (t : TypeTable) (start : ℕ) (stock : List ℕ) (f o : ℕ) where
         let within : IsWithin stock ((before ++ o ∷ last.0) ++ x ∷ []) = subst (λ (l : List ℕ). IsWithin stock l) word w in
         let has : 1 ≤ times x stock = omega (arith, within x, times_last x x (before ++ o ∷ last.0), one_at x) in
         let rest = removal x has in
-        inr (x, known x has, (rest.0, rest.1, (
-          state_after t start (before ++ o ∷ last.0),
-          record {
-            before = before;
-            after = last.0;
-            within = within_before x stock rest.0 (before ++ o ∷ last.0) rest.1 within;
-            begins = begins_less (before ++ o ∷ last.0) x (some before last.0) (subst (λ (l : List ℕ). BeginsWith f l) word b);
-            answer = a;
-            ends = refl;
-          },
-          sym (state_last t start (before ++ o ∷ last.0) x) ∙ (ap (state_after t start) (sym word) ∙ e),
-        )))
+        inr (
+          x,
+          known x has,
+          (
+            rest.0,
+            rest.1,
+            (
+              state_after t start (before ++ o ∷ last.0),
+              record {
+                before = before;
+                after = last.0;
+                within = within_before x stock rest.0 (before ++ o ∷ last.0) rest.1 within;
+                begins = begins_less (before ++ o ∷ last.0) x (some before last.0) (subst (λ (l : List ℕ). BeginsWith f l) word b);
+                answer = a;
+                ends = refl;
+              },
+              sym (state_last t start (before ++ o ∷ last.0) x) ∙ (ap (state_after t start) (sym word) ∙ e),
+            ),
+          ),
+        )
       where
         begins_less : (word : List ℕ) (x : ℕ) → 1 ≤ length word → BeginsWith f (word ++ x ∷ []) → BeginsWith f word
         begins_less [] x l b = absurd (omega (arith, l))

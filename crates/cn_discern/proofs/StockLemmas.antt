@@ -170,9 +170,9 @@ less_of_self operation stocks place items at = (items_within stocks place items 
 pub greatest_of_child : (operation : ℕ) (items : List ℕ) → UpTo operation items → IsGreatest (items ++ operation ∷ []) operation
 greatest_of_child operation items up = record {
   up_to = λ o l. elim (same_or operation o) [
-      | inl e ↦ omega (arith, e)
-      | inr n ↦ up o (omega (arith, l, times_last o operation items, else_none o n))
-    ];
+    | inl e ↦ omega (arith, e)
+    | inr n ↦ up o (omega (arith, l, times_last o operation items, else_none o n))
+  ];
   least = λ x h. h operation (omega (arith, times_last operation operation items, one_at operation));
 }
   where
@@ -209,9 +209,9 @@ greatest_of x (y ∷ list) = by_order (greatest_of y list)
         same = λ o. refl;
         long = refl;
         up_to = λ o h. elim (same_or g.x o) [
-            | inl e ↦ omega (arith, e, l)
-            | inr n ↦ (let r = g.up_to o (omega (arith, h, g.same o, times_cons o g.x g.rest, other o n)) in omega (arith, r, l))
-          ];
+          | inl e ↦ omega (arith, e, l)
+          | inr n ↦ (let r = g.up_to o (omega (arith, h, g.same o, times_cons o g.x g.rest, other o n)) in omega (arith, r, l))
+        ];
       }
       | inr l ↦ record {
         x = g.x;
@@ -219,9 +219,9 @@ greatest_of x (y ∷ list) = by_order (greatest_of y list)
         same = swap x g.x g.rest (y ∷ list) g.same;
         long = omega (arith, g.long);
         up_to = λ o h. elim (same_or x o) [
-            | inl e ↦ omega (arith, e, l)
-            | inr n ↦ g.up_to o (omega (arith, h, times_cons o x g.rest, none o n))
-          ];
+          | inl e ↦ omega (arith, e, l)
+          | inr n ↦ g.up_to o (omega (arith, h, times_cons o x g.rest, none o n))
+        ];
       }
     ]
       where

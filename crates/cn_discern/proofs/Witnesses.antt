@@ -116,7 +116,7 @@ module _ (t : TypeTable) (n : ℕ) (some : 3 ≤ n) (c : RawChoice) (is : IsRawC
   outcome team f o r q j marked l e s =
       let order = order_for c j l s.before s.after (subst (λ (x : ℕ). IsWithin c.operations (s.before ++ x ∷ s.after)) (sym e) s.within) in
       let word : operations_of c (order.front ++ j ∷ order.back) ≡ s.before ++ o ∷ s.after =
-          map-append (λ p. slice_index c.operations p) order.front (j ∷ order.back) ∙ rw (order.front_is, order.back_is, e) refl in
+      map-append (λ p. slice_index c.operations p) order.front (j ∷ order.back) ∙ rw (order.front_is, order.back_is, e) refl in
       let head = head_of (λ p. slice_index c.operations p) f (order.front ++ j ∷ order.back) order.order.someone (subst (λ (w : List ℕ). BeginsWith f w) (sym word) s.begins) in
       let known : head.0 < length c.operations = subst (λ (l : List ℕ). (0 < length l) → get_or l 0 0 < length c.operations) head.2 (order.order.known 0 0) (omega arith) in (
         order.front ++ j ∷ order.back,
@@ -233,7 +233,7 @@ module _ (t : TypeTable) (n start : ℕ) (known_start : start < length t.states)
   shown team j r q o =
       let x = seen witness t o.0 j r q o.3 in
       let word : operations_of witness o.0 ≡ operations_of witness x.before ++ slice_index stock j ∷ operations_of witness x.after =
-          ap (operations_of witness) x.is ∙ map-append (λ p. slice_index stock p) x.before (j ∷ x.after) in (
+      ap (operations_of witness) x.is ∙ map-append (λ p. slice_index stock p) x.before (j ∷ x.after) in (
         slice_index stock o.2.0,
         team_at (λ (x : ℕ). team_of (s.chosen x)) stock o.2.0 team o.2.2,
         record {
