@@ -1,13 +1,12 @@
 -- What words lead to, by their last operation.
-use Rattle.std.proofs.Common.{◌≡◌, ◌≢◌, ℕ, zero, suc, ◌+◌, ◌<◌, ◌≤◌, ◌⊎◌, inl, inr, ◌↔◌, List, [], ◌∷◌, ◌++◌, length, refl, sym, ap, ◌∙◌, subst, arith, append_assoc}
-use Rattle.std.specs.Prelude.{IsBitSet}
+use Rattle.std.proofs.Common.{◌≡◌, ℕ, ◌+◌, ◌<◌, ◌≤◌, ◌⊎◌, inl, inr, ◌↔◌, List, [], ◌∷◌, ◌++◌, length, refl, sym, ap, ◌∙◌, subst, arith, append_assoc}
 use Rattle.cn_table.specs.TypeTable.{TypeTable, transition}
 use Rattle.cn_table.specs.Run.{state_after}
 use Rattle.cn_outcomes.proofs.LastProcess.{last_of, state_last}
 use Rattle.cn_outcomes.proofs.Packing.{below_or_last}
 use Rattle.cn_discern.specs.LastMoves.{AloneShows, AskedLast}
 use Rattle.cn_discern.specs.Words.{BeginsWith, EndsIn, HaveSame, IsKnown, IsWithin, Shows, times}
-use Rattle.cn_discern.proofs.Times.{one, one_at, one_else, one_of, same_has, same_or, same_rest, times_at, times_between, times_cons, times_last, times_none, within_before, within_last, within_same}
+use Rattle.cn_discern.proofs.Times.{one_at, one_else, one_of, same_has, same_or, same_rest, times_at, times_between, times_cons, times_last, times_none, within_before, within_last, within_same}
 
 -- ---- what is gathered, operation by operation
 
@@ -78,8 +77,19 @@ module _ (t : TypeTable) (start : ℕ) (stock : List ℕ) (f : ℕ) where
         let within : IsWithin stock ((f ∷ last.0) ++ x ∷ []) = subst (λ (l : List ℕ). IsWithin stock l) split w in
         let has : 1 ≤ times x stock = omega (arith, within x, times_last x x (f ∷ last.0), one_at x) in
         let rest = removal x has in
-        inr (x, known x has, (rest.0, rest.1, (state_after t start (f ∷ last.0), (last.0, within_before x stock rest.0 (f ∷ last.0) rest.1 within, refl),
-        sym (state_last t start (f ∷ last.0) x) ∙ (ap (state_after t start) (sym split) ∙ e))))
+        inr (
+          x,
+          known x has,
+          (
+            rest.0,
+            rest.1,
+            (
+              state_after t start (f ∷ last.0),
+              (last.0, within_before x stock rest.0 (f ∷ last.0) rest.1 within, refl),
+              sym (state_last t start (f ∷ last.0) x) ∙ (ap (state_after t start) (sym split) ∙ e),
+            ),
+          ),
+        )
 
     pub lead_all : (q : ℕ) (here : Type 0) → Gathered (LeadBase q) (LeadPart q) k here → here ↔ EndsIn t start stock f q
     lead_all q here g = (
@@ -179,18 +189,26 @@ module _ (t : TypeTable) (start : ℕ) (stock : List ℕ) (f o : ℕ) where
         let within : IsWithin stock ((before ++ o ∷ last.0) ++ x ∷ []) = subst (λ (l : List ℕ). IsWithin stock l) word w in
         let has : 1 ≤ times x stock = omega (arith, within x, times_last x x (before ++ o ∷ last.0), one_at x) in
         let rest = removal x has in
-        inr (x, known x has, (rest.0, rest.1, (
-          state_after t start (before ++ o ∷ last.0),
-          record {
-            before = before;
-            after = last.0;
-            within = within_before x stock rest.0 (before ++ o ∷ last.0) rest.1 within;
-            begins = begins_less (before ++ o ∷ last.0) x (some before last.0) (subst (λ (l : List ℕ). BeginsWith f l) word b);
-            answer = a;
-            ends = refl;
-          },
-          sym (state_last t start (before ++ o ∷ last.0) x) ∙ (ap (state_after t start) (sym word) ∙ e),
-        )))
+        inr (
+          x,
+          known x has,
+          (
+            rest.0,
+            rest.1,
+            (
+              state_after t start (before ++ o ∷ last.0),
+              record {
+                before = before;
+                after = last.0;
+                within = within_before x stock rest.0 (before ++ o ∷ last.0) rest.1 within;
+                begins = begins_less (before ++ o ∷ last.0) x (some before last.0) (subst (λ (l : List ℕ). BeginsWith f l) word b);
+                answer = a;
+                ends = refl;
+              },
+              sym (state_last t start (before ++ o ∷ last.0) x) ∙ (ap (state_after t start) (sym word) ∙ e),
+            ),
+          ),
+        )
       where
         begins_less : (word : List ℕ) (x : ℕ) → 1 ≤ length word → BeginsWith f (word ++ x ∷ []) → BeginsWith f word
         begins_less [] x l b = absurd (omega (arith, l))

@@ -1,13 +1,13 @@
 -- Stocks, and where they stand.
-use Rattle.std.proofs.Common.{◌≡◌, ◌≢◌, ℕ, zero, suc, ◌+◌, ◌<◌, ◌≤◌, ◌⊎◌, inl, inr, ◌↔◌, List, [], ◌∷◌, ◌++◌, length, get_or, refl, sym, ap, ◌∙◌, subst, arith, Bool, true, false, true≢false, IsTrue, Option, Some, None, is_some, append_assoc, length-append}
+use Rattle.std.proofs.Common.{◌≡◌, ◌≢◌, ℕ, zero, suc, ◌+◌, ◌<◌, ◌≤◌, ◌⊎◌, inl, inr, ◌↔◌, List, [], ◌∷◌, ◌++◌, length, get_or, refl, sym, ap, ◌∙◌, subst, arith, Bool, true≢false, IsTrue, Option, Some, None, is_some, append_assoc}
 use Rattle.std.specs.Prelude.{slice_get, slice_index, slice_index_or}
 use Rattle.std.specs.Option.{option_map}
 use Rattle.std.proofs.lemmas.Option.{none-some, same_Some, slice_get_read, slice_get_within}
 use Rattle.std.proofs.lemmas.List.{get_or_append_left}
 use Rattle.cn_discern.specs.declared.stocks.Stock.{Stock}
-use Rattle.cn_discern.specs.Stocks.{AreChildren, AreLinks, AreLong, AreStocks, AreUpTo, GoesOn, HasChildren, HasLess, HaveAll, IsGreatest, IsStock, UpTo, items_at}
+use Rattle.cn_discern.specs.Stocks.{AreChildren, AreLinks, AreLong, AreStocks, GoesOn, HasLess, HaveAll, IsGreatest, IsStock, UpTo, items_at}
 use Rattle.cn_discern.specs.Words.{HaveSame, IsKnown, times}
-use Rattle.cn_discern.proofs.Times.{one, one_at, one_some, place_in, same_has, same_or, times_at, times_cons, times_last, times_none, times_of_place}
+use Rattle.cn_discern.proofs.Times.{one, one_at, one_some, same_has, same_or, times_at, times_cons, times_last, times_none}
 
 -- ---- links
 
@@ -170,9 +170,9 @@ less_of_self operation stocks place items at = (items_within stocks place items 
 pub greatest_of_child : (operation : ℕ) (items : List ℕ) → UpTo operation items → IsGreatest (items ++ operation ∷ []) operation
 greatest_of_child operation items up = record {
   up_to = λ o l. elim (same_or operation o) [
-      | inl e ↦ omega (arith, e)
-      | inr n ↦ up o (omega (arith, l, times_last o operation items, else_none o n))
-    ];
+    | inl e ↦ omega (arith, e)
+    | inr n ↦ up o (omega (arith, l, times_last o operation items, else_none o n))
+  ];
   least = λ x h. h operation (omega (arith, times_last operation operation items, one_at operation));
 }
   where
@@ -209,9 +209,9 @@ greatest_of x (y ∷ list) = by_order (greatest_of y list)
         same = λ o. refl;
         long = refl;
         up_to = λ o h. elim (same_or g.x o) [
-            | inl e ↦ omega (arith, e, l)
-            | inr n ↦ (let r = g.up_to o (omega (arith, h, g.same o, times_cons o g.x g.rest, other o n)) in omega (arith, r, l))
-          ];
+          | inl e ↦ omega (arith, e, l)
+          | inr n ↦ (let r = g.up_to o (omega (arith, h, g.same o, times_cons o g.x g.rest, other o n)) in omega (arith, r, l))
+        ];
       }
       | inr l ↦ record {
         x = g.x;
@@ -219,9 +219,9 @@ greatest_of x (y ∷ list) = by_order (greatest_of y list)
         same = swap x g.x g.rest (y ∷ list) g.same;
         long = omega (arith, g.long);
         up_to = λ o h. elim (same_or x o) [
-            | inl e ↦ omega (arith, e, l)
-            | inr n ↦ g.up_to o (omega (arith, h, times_cons o x g.rest, none o n))
-          ];
+          | inl e ↦ omega (arith, e, l)
+          | inr n ↦ g.up_to o (omega (arith, h, times_cons o x g.rest, none o n))
+        ];
       }
     ]
       where

@@ -1,25 +1,24 @@
 -- A witness splits its operations, and a stock that splits is that of a witness.
-use Rattle.std.proofs.Common.{◌≡◌, ◌≢◌, ℕ, zero, suc, ◌+◌, ◌<◌, ◌≤◌, ◌⊎◌, inl, inr, List, [], ◌∷◌, ◌++◌, length, map, get_or, refl, sym, ap, ◌∙◌, subst, arith, Some, None, Bool, true, false, cond, nat_eq, true≢false, Contains, All}
+use Rattle.std.proofs.Common.{◌≡◌, ◌≢◌, ℕ, zero, suc, ◌<◌, ◌≤◌, ◌⊎◌, inl, inr, List, [], ◌∷◌, ◌++◌, length, map, get_or, refl, sym, ap, ◌∙◌, subst, arith, Some, Bool, true, false, cond, nat_eq, true≢false, Contains}
 use Rattle.std.specs.Prelude.{slice_index, slice_get}
 use Rattle.std.proofs.Math.ListN.{get_or-map}
 use Rattle.std.proofs.lemmas.Bool.{eqb-true, eq-eqb}
 use Rattle.std.proofs.lemmas.List.{length-map, get_or_default}
-use Rattle.std.proofs.lemmas.Option.{get_or_from_slice_get, slice_get-get_or, slice_get-map, slice_get_within, same_Some}
-use Rattle.std.specs.Option.{option_map}
+use Rattle.std.proofs.lemmas.Option.{get_or_from_slice_get, slice_get-get_or, slice_get_within, same_Some}
 use Rattle.cn_table.specs.TypeTable.{TypeTable, transition}
 use Rattle.cn_table.specs.Run.{state_after}
 use Rattle.cn_choice.specs.declared.team.Team.{Team}
 use Rattle.cn_choice.specs.declared.team.Team.TheVariants.{A, B}
 use Rattle.cn_choice.specs.Discerning.{IsDiscerning, IsWitness}
 use Rattle.cn_choice.specs.Orders.{IsOrder}
-use Rattle.cn_choice.specs.OutcomeSets.{BeginsIn, InOutcomeSet, operations_of, pair_of}
+use Rattle.cn_choice.specs.OutcomeSets.{InOutcomeSet, operations_of, pair_of}
 use Rattle.cn_choice.specs.RawChoices.{IsRawChoice, RawChoice}
 use Rattle.cn_choice.proofs.LastMoves.{last_self, pair_whole}
 use Rattle.std.proofs.lemmas.List.{map-append}
-use Rattle.cn_discern.specs.Splits.{AreJoined, SomeSplits, Splits}
+use Rattle.cn_discern.specs.Splits.{SomeSplits, Splits}
 use Rattle.cn_discern.specs.Words.{BeginsWith, IsKnown, IsWithin, Shows, times}
-use Rattle.cn_discern.proofs.Times.{place_in, times_between, times_of_place, one_at, same_or}
-use Rattle.cn_discern.proofs.WordOrders.{OrderFor, Seen, order_for, order_within, seen, sees, to_order}
+use Rattle.cn_discern.proofs.Times.{place_in, times_between, times_of_place, one_at}
+use Rattle.cn_discern.proofs.WordOrders.{order_for, order_within, seen, sees, to_order}
 
 -- ---- the operations of team A
 
@@ -116,7 +115,7 @@ module _ (t : TypeTable) (n : ℕ) (some : 3 ≤ n) (c : RawChoice) (is : IsRawC
   outcome team f o r q j marked l e s =
       let order = order_for c j l s.before s.after (subst (λ (x : ℕ). IsWithin c.operations (s.before ++ x ∷ s.after)) (sym e) s.within) in
       let word : operations_of c (order.front ++ j ∷ order.back) ≡ s.before ++ o ∷ s.after =
-          map-append (λ p. slice_index c.operations p) order.front (j ∷ order.back) ∙ rw (order.front_is, order.back_is, e) refl in
+      map-append (λ p. slice_index c.operations p) order.front (j ∷ order.back) ∙ rw (order.front_is, order.back_is, e) refl in
       let head = head_of (λ p. slice_index c.operations p) f (order.front ++ j ∷ order.back) order.order.someone (subst (λ (w : List ℕ). BeginsWith f w) (sym word) s.begins) in
       let known : head.0 < length c.operations = subst (λ (l : List ℕ). (0 < length l) → get_or l 0 0 < length c.operations) head.2 (order.order.known 0 0) (omega arith) in (
         order.front ++ j ∷ order.back,
@@ -233,7 +232,7 @@ module _ (t : TypeTable) (n start : ℕ) (known_start : start < length t.states)
   shown team j r q o =
       let x = seen witness t o.0 j r q o.3 in
       let word : operations_of witness o.0 ≡ operations_of witness x.before ++ slice_index stock j ∷ operations_of witness x.after =
-          ap (operations_of witness) x.is ∙ map-append (λ p. slice_index stock p) x.before (j ∷ x.after) in (
+      ap (operations_of witness) x.is ∙ map-append (λ p. slice_index stock p) x.before (j ∷ x.after) in (
         slice_index stock o.2.0,
         team_at (λ (x : ℕ). team_of (s.chosen x)) stock o.2.0 team o.2.2,
         record {

@@ -1,8 +1,7 @@
 -- An order of processes is a word within the stock of their operations, and each such word is one, with any process that has the operation at a place.
-use Rattle.std.proofs.Common.{◌≡◌, ◌≢◌, ℕ, zero, suc, ◌+◌, ◌<◌, ◌≤◌, inl, inr, List, [], ◌∷◌, ◌++◌, length, map, get_or, refl, sym, ap, ◌∙◌, subst, arith, Option, Some, None, Bool, true, false, cond, nat_eq, true≢false, append_assoc}
-use Rattle.std.specs.Prelude.{slice_index, slice_get}
+use Rattle.std.proofs.Common.{◌≡◌, ◌≢◌, ℕ, zero, suc, ◌+◌, ◌<◌, ◌≤◌, inl, inr, List, [], ◌∷◌, ◌++◌, length, map, get_or, refl, sym, ap, ◌∙◌, subst, arith, Some, Bool, true, false, cond, nat_eq, append_assoc}
+use Rattle.std.specs.Prelude.{slice_index}
 use Rattle.std.specs.List.{range_with_len, remove}
-use Rattle.std.specs.Option.{option_map}
 use Rattle.std.proofs.Math.Seq.{get_or-append_seam}
 use Rattle.std.proofs.lemmas.Bool.{eqb-true, eq-eqb, ne_eqb}
 use Rattle.std.proofs.lemmas.Option.{same_Some}
@@ -19,7 +18,6 @@ use Rattle.cn_choice.proofs.Listing.{differ_from, distinct_from}
 use Rattle.cn_choice.proofs.LastMoves.{pair_whole}
 use Rattle.cn_choice.proofs.Members.{IsIn, IsIn-append_cases, IsIn-append_left, IsIn-append_right, each_at, each_from}
 use Rattle.cn_choice.proofs.Permutations.{in_range, range_in, range_rises}
-use Rattle.cn_choice.proofs.Walks.{pair_of-response_of}
 use Rattle.cn_discern.specs.Words.{IsWithin, times}
 use Rattle.cn_outcomes.proofs.LastAnswers.{pair_parts}
 use Rattle.cn_discern.proofs.Times.{one, one_of, times_append, times_between, times_cons, times_none}
@@ -54,8 +52,8 @@ to_taken f [] free w = ([], tt, refl)
 to_taken f (x ∷ word) free w =
     let here = at_place f x free (omega (arith, w x, times_cons x x word, one_of x x refl)) in
     let later = to_taken f word (remove free here.0) (λ o.
-        let e : one o (f (get_or free here.0 0)) ≡ one o x = ap (one o) here.2 in
-        omega (arith, w o, e, times_cons o x word, times_remove f o free here.0 here.1)) in
+    let e : one o (f (get_or free here.0 0)) ≡ one o x = ap (one o) here.2 in
+    omega (arith, w o, e, times_cons o x word, times_remove f o free here.0 here.1)) in
     (get_or free here.0 0 ∷ later.0, (here.0, here.1, refl, later.1), cons_same (f (get_or free here.0 0)) x (map f later.0) word here.2 later.2)
   where
     cons_same : (a b : ℕ) (us vs : List ℕ) → a ≡ b → us ≡ vs → a ∷ us ≡ b ∷ vs
@@ -68,8 +66,8 @@ range_map before (x ∷ xs) =
     let e : (before ++ x ∷ []) ++ xs ≡ before ++ x ∷ xs = append_assoc before (x ∷ []) xs in
     let long : length (before ++ x ∷ []) ≡ length before + 1 = length_last before in
     let rest : map (λ i. slice_index (before ++ x ∷ xs) i) (range_with_len (length before + 1) (length xs)) ≡ xs =
-        subst (λ (n : ℕ). map (λ i. slice_index (before ++ x ∷ xs) i) (range_with_len n (length xs)) ≡ xs) long
-        (subst (λ (l : List ℕ). map (λ i. slice_index l i) (range_with_len (length (before ++ x ∷ [])) (length xs)) ≡ xs) e (range_map (before ++ x ∷ []) xs)) in
+    subst (λ (n : ℕ). map (λ i. slice_index (before ++ x ∷ xs) i) (range_with_len n (length xs)) ≡ xs) long
+    (subst (λ (l : List ℕ). map (λ i. slice_index l i) (range_with_len (length (before ++ x ∷ [])) (length xs)) ≡ xs) e (range_map (before ++ x ∷ []) xs)) in
     two (slice_index (before ++ x ∷ xs) (length before)) _ (get_or-append_seam before x xs 0) rest
   where
     length_last : (l : List ℕ) → length (l ++ x ∷ []) ≡ length l + 1
@@ -103,10 +101,13 @@ differ_spread : (j : ℕ) (ys zs : List ℕ) → Differ (j ∷ ys ++ zs) → Dif
 differ_spread j [] zs d = (d, λ i. i)
 differ_spread j (y ∷ ys) zs d =
     let later = differ_spread j ys zs (d.0.1, d.1.1) in (
-      (each_from (λ x. y ≢ x) (ys ++ j ∷ zs) (λ x i. elim (spread_in x j ys zs i) [
+      (
+        each_from (λ x. y ≢ x) (ys ++ j ∷ zs) (λ x i. elim (spread_in x j ys zs i) [
           | inl e ↦ (λ g. d.0.0 (e ∙ sym g))
           | inr k ↦ each_at (λ x. y ≢ x) (ys ++ zs) x d.1.0 k
-        ]), later.0),
+        ]),
+        later.0,
+      ),
       λ i. elim i [ inl e ↦ d.0.0 (sym e) | inr k ↦ later.1 k ],
     )
 
@@ -130,7 +131,7 @@ module _ (c : RawChoice) where
   order_within order o =
       let known = recursion_from_All (λ p. p < length c.operations) order o.known in
       let taken = differ_taken order (range_with_len 0 (length c.operations)) (differ_from order o.distinct)
-          (λ p i. range_in 0 (length c.operations) p (omega arith) (let l = each_at (λ x. x < length c.operations) order p known i in omega (arith, l))) in
+      (λ p i. range_in 0 (length c.operations) p (omega arith) (let l = each_at (λ x. x < length c.operations) order p known i in omega (arith, l))) in
       subst (λ (stock : List ℕ). IsWithin stock (operations_of c order)) whole (taken_within (λ p. slice_index c.operations p) order (range_with_len 0 (length c.operations)) taken)
 
   -- ---- what a process sees in an order
@@ -180,9 +181,9 @@ module _ (c : RawChoice) where
       let long : j < length range = omega (arith, l, length-range_with_len 0 (length c.operations)) in
       let at : get_or range j 0 ≡ j = get_or-range_with_len 0 (length c.operations) j 0 l ∙ omega arith in
       let taken = to_taken f (before ++ after) (remove range j) (λ o.
-          let e : one o (f (get_or range j 0)) ≡ one o (f j) = ap (λ (p : ℕ). one o (f p)) at in
-          let g : times o (map f range) ≡ times o c.operations = ap (times o) whole in
-          omega (arith, w o, e, g, times_remove f o range j long, times_between o (f j) before after, times_append o before after)) in
+      let e : one o (f (get_or range j 0)) ≡ one o (f j) = ap (λ (p : ℕ). one o (f p)) at in
+      let g : times o (map f range) ≡ times o c.operations = ap (times o) whole in
+      omega (arith, w o, e, g, times_remove f o range j long, times_between o (f j) before after, times_append o before after)) in
       let all : IsTaken range (j ∷ taken.0) = (j, long, at, taken.1) in
       let differ = taken_differ (j ∷ taken.0) range (range_rises 0 (length c.operations)) all in
       let parts = map_parts f before after taken.0 taken.2 in

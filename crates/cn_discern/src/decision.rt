@@ -129,6 +129,13 @@ pub fn is_discerning<T: Threads + Sync>(
     laws::splits_decide();
     let stocks = stocks_up_to(alloc, table.operations(), n)?;
     let starts = all_starts(alloc, table)?;
-    let answers = by_start(rt, alloc, table, stocks.as_slice(), n as usize, starts.as_slice())?;
+    let answers = by_start(
+        rt,
+        alloc,
+        table,
+        stocks.as_slice(),
+        n as usize,
+        starts.as_slice(),
+    )?;
     Ok(some_yes(answers.as_slice()))
 }

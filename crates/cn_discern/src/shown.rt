@@ -21,12 +21,7 @@ pub(crate) struct Question {
 
 /// The pairs that words within the stock show the asked operation where it is the last and not the
 /// first.
-fn shown_last(
-    setting: &Setting<'_>,
-    question: Question,
-    stock: &Stock,
-    lead: &[u16],
-) -> OutcomeSet
+fn shown_last(setting: &Setting<'_>, question: Question, stock: &Stock, lead: &[u16]) -> OutcomeSet
     requires setting { IsSetting setting.now }
     requires asked { question.asked < length setting.now.table.now.operations }
     requires stock { IsStock (length setting.now.table.now.operations) setting.now.stocks.now
@@ -66,7 +61,9 @@ fn shown_at_once(
     let (_responses, _states) = (setting.table.responses(), setting.table.states());
     let mut set = shown_last(setting, question, stock, lead);
     if question.first == question.asked && stock.has(question.asked) {
-        let (response, next) = setting.table.apply(Operation(question.asked), setting.start);
+        let (response, next) = setting
+            .table
+            .apply(Operation(question.asked), setting.start);
         set.add(response.0, next.0);
     }
     set

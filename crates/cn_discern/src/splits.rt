@@ -39,12 +39,7 @@ fn are_joined(
 }
 
 /// The operations that are joined with this one, by words within the stock at the place.
-fn joined_with(
-    setting: &Setting<'_>,
-    rows: &[Vec<Vec<OutcomeSet>>],
-    place: usize,
-    first: u8,
-) -> u16
+fn joined_with(setting: &Setting<'_>, rows: &[Vec<Vec<OutcomeSet>>], place: usize, first: u8) -> u16
     requires setting { IsSetting setting.now }
     requires rows { AreByFirst setting.now (length setting.now.table.now.operations) rows.now }
     requires place { place < length setting.now.stocks.now }

@@ -1,5 +1,4 @@
 use Rattle.std.proofs.Common.{ℕ, ◌≡◌, ◌∙◌, ◌+◌, ◌<◌, ◌↔◌, List, [], arith, get_or, length, subst, sym}
-use Rattle.std.specs.Prelude.{IsBitSet}
 use Rattle.std.proofs.lemmas.List.{get_or_default}
 use Rattle.cn_table.specs.TypeTable.{transition}
 use Rattle.cn_outcomes.specs.PairSets.{Has}
@@ -32,10 +31,10 @@ loop-operation-preserved c =
           let shown = c.requires.before w.in-Some.place less.1.0 less.0 less.1.1 in
           let same : w.index-before-place.result ≡ get_or c.args.before.now w.in-Some.place [] = w.index-before-place.is ∙ get_or_default c.args.before.now w.in-Some.place w.index-before-place.result [] less.0 in
           λ r q. subst (λ (set : List ℕ). Gathered (ShownBase t u items f a r q) (ShownPart t u items f a r q) (o + 1) (Has set r q)) (sym w.set-is)
-              (gathered_more (ShownBase t u items f a r q) (ShownPart t u items f a r q) o (Has c.loop-operation.set r q) ((found : ℕ) × Has w.index-before-place.result r found × ((transition t o found).1 ≡ q))
-              (Has w.with_moved-set.result r q) (c.loop-operation.invariant r q) (w.with_moved-set.ensures r q)
-              (shown_part_is t u items f a o less.1.0 less.1.2 (λ q. Has w.index-before-place.result r q) (λ q. (found : ℕ) × Has w.index-before-place.result r found × ((transition t o found).1 ≡ q)) r
-              (λ q. subst (λ (set : List ℕ). Has set r q ↔ Shows t u less.1.0 f a r q) (sym same) (shown r q)) (λ q. ((λ h. h), (λ h. h))) q))
+          (gathered_more (ShownBase t u items f a r q) (ShownPart t u items f a r q) o (Has c.loop-operation.set r q) ((found : ℕ) × Has w.index-before-place.result r found × ((transition t o found).1 ≡ q))
+          (Has w.with_moved-set.result r q) (c.loop-operation.invariant r q) (w.with_moved-set.ensures r q)
+          (shown_part_is t u items f a o less.1.0 less.1.2 (λ q. Has w.index-before-place.result r q) (λ q. (found : ℕ) × Has w.index-before-place.result r found × ((transition t o found).1 ≡ q)) r
+          (λ q. subst (λ (set : List ℕ). Has set r q ↔ Shows t u less.1.0 f a r q) (sym same) (shown r q)) (λ q. ((λ h. h), (λ h. h))) q))
           )
       | in_default w ↦ (λ r q. subst (λ (set : List ℕ). Gathered (ShownBase t u items f a r q) (ShownPart t u items f a r q) (o + 1) (Has set r q)) (sym w.set-is)
           (gathered_none (ShownBase t u items f a r q) (ShownPart t u items f a r q) o (Has c.loop-operation.set r q) (c.loop-operation.invariant r q)

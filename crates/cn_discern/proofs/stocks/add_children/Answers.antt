@@ -1,4 +1,4 @@
-use Rattle.std.proofs.Common.{ℕ, ◌≡◌, ◌<◌, ◌≤◌, ◌+◌, ◌++◌, ◌∷◌, ◌∙◌, List, [], Some, ap, arith, get_or, length, length-set, refl, replicate, subst, sym}
+use Rattle.std.proofs.Common.{ℕ, ◌≡◌, ◌<◌, ◌≤◌, ◌+◌, ◌++◌, ◌∷◌, ◌∙◌, List, [], Some, ap, arith, length, length-set, refl, replicate, subst, sym}
 use Rattle.cn_discern.specs.declared.stocks.Stock.{Stock}
 use Rattle.cn_discern.specs.Stocks.{AreChildren, AreStocks, GoesOn, IsStock, items_at}
 use Rattle.cn_discern.specs.Words.{times}
@@ -63,7 +63,7 @@ loop-operation-preserved c =
     let inside : place < length now = omega (arith, longer, c.requires.place.0) in
     let is : IsStock c.args.operations now (length now) child = subst (λ (stocks : List Stock). IsStock c.args.operations stocks (length stocks) child) c.as_slice.ensures.value c.child_of-child.ensures.stock in
     let items_are : (items : List ℕ) → items_at now place ≡ Some items → child.operations.items ≡ items ++ c.loop-operation.operation ∷ [] =
-        λ items at. c.child_of-child.ensures.items items (subst (λ (stocks : List Stock). items_at stocks place ≡ Some items) (sym c.as_slice.ensures.value) at) in
+    λ items at. c.child_of-child.ensures.items items (subst (λ (stocks : List Stock). items_at stocks place ≡ Some items) (sym c.as_slice.ensures.value) at) in
     record {
       stocks_are = subst (λ (stocks : List Stock). AreStocks c.args.operations stocks) (sym pushed) (stocks_push c.args.operations now child i.stocks_are is);
       row = row_push now c.push.new.self.items place c.loop-operation.operation c.loop-operation.row child c.len.result pushed (omega (arith, c.len.ensures, c.loop-operation.stocks.ok.0)) inside

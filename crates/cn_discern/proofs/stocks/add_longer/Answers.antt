@@ -1,6 +1,5 @@
-use Rattle.std.proofs.Common.{ℕ, ◌≡◌, ◌<◌, ◌≤◌, ◌+◌, ◌∙◌, List, [], Some, ap, arith, length, refl, subst, sym}
-use Rattle.cn_discern.specs.declared.stocks.Stock.{Stock}
-use Rattle.cn_discern.specs.Stocks.{AreChildren, GoesOn, items_at}
+use Rattle.std.proofs.Common.{ℕ, ◌≡◌, ◌<◌, ◌+◌, List, ap, arith, length, subst, sym}
+use Rattle.cn_discern.specs.Stocks.{AreChildren, GoesOn}
 use Rattle.cn_discern.proofs.Growing.{children_push, goes_on_back, goes_on_children, goes_on_longer, some_items, up_to_longer}
 use Rattle.cn_discern.proofs.StockLemmas.{count_push, goes_on_none, goes_on_trans}
 use Rattle.cn_discern.proofs.stocks.add_longer.Goals as goal
@@ -48,7 +47,7 @@ loop-place-preserved c =
     let n : length some.0 ≡ c.args.n = c.requires.up_to.long place some.0 i.from (goes_on_back old now (c.args.n + 1) place some.0 i.more inside some.1) in
     let more : GoesOn now (length some.0 + 1) new = c.in_ok-row.ensures.more some.0 some.1 in
     let rows : AreChildren c.args.operations new c.loop-place.children.items =
-        goes_on_children c.args.operations now new (length some.0 + 1) c.loop-place.children.items more (omega (arith, i.count, there)) i.children_are in
+    goes_on_children c.args.operations now new (length some.0 + 1) c.loop-place.children.items more (omega (arith, i.count, there)) i.children_are in
     record {
       stocks_are = c.in_ok-row.ensures.stocks;
       children_are = children_push c.args.operations new c.loop-place.children.items c.push.new.self.items c.in_ok-row.row place c.in_ok-push.ensures.items i.count rows c.in_ok-row.ensures.row;
@@ -61,5 +60,5 @@ pub returns : goal.returns
 returns c =
     let i = c.loop-place.invariant in
     let whole : length c.loop-place.children.items ≡ length c.args.stocks.now.items =
-        omega (arith, i.count, i.from, c.loop-place-test.false, c.loop-place.auto.place-end, c.len-place-end.ensures, c.args.stocks.now.ok.0, c.len-place.ensures, c.args.children.now.ok.0, c.requires.up_to.inside) in
+    omega (arith, i.count, i.from, c.loop-place-test.false, c.loop-place.auto.place-end, c.len-place-end.ensures, c.args.stocks.now.ok.0, c.len-place.ensures, c.args.children.now.ok.0, c.requires.up_to.inside) in
     up_to_longer c.args.operations c.args.n c.args.stocks.now.items c.loop-place.stocks.items c.loop-place.children.items c.args.children.now.items c.requires.up_to i.stocks_are i.children_are whole i.more

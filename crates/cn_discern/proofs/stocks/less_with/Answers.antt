@@ -1,8 +1,7 @@
 use Rattle.std.proofs.lemmas.Option.{none-some}
-use Rattle.std.proofs.Common.{ℕ, ◌≡◌, ◌<◌, ◌≤◌, ◌+◌, ◌++◌, ◌∷◌, ◌∙◌, List, [], Option, Some, None, arith, ap, get_or, inl, inr, length, length-set, refl, subst, sym}
-use Rattle.std.specs.Prelude.{slice_get, slice_index, slice_index_or}
-use Rattle.std.proofs.Math.ListN.{set}
-use Rattle.cn_discern.specs.Stocks.{AreLinks, HasLess, IsStock, items_at}
+use Rattle.std.proofs.Common.{ℕ, ◌≡◌, ◌<◌, ◌≤◌, ◌++◌, ◌∷◌, ◌∙◌, List, [], Option, Some, None, arith, ap, get_or, inl, inr, length, length-set, refl, subst, sym}
+use Rattle.std.specs.Prelude.{slice_index, slice_index_or}
+use Rattle.cn_discern.specs.Stocks.{HasLess}
 use Rattle.cn_discern.specs.Words.{times}
 use Rattle.cn_outcomes.proofs.Packing.{below_or_last}
 use Rattle.cn_discern.proofs.Growing.{eight_nones, links_of_child, set_none, set_some}
@@ -44,7 +43,7 @@ loop-other-preserved c =
             some = λ items at x j e.
                 let same = same_items stocks place s.operations.items items (items_of stocks place s here) at in
                 let first = less_of_child c.args.operations c.args.operation stocks c.args.children.now place s.operations.items k w.in-Some.rest c.requires.children c.requires.place.1 c.requires.operation
-                    (c.requires.up_to s.operations.items (items_of stocks place s here)) less in
+                (c.requires.up_to s.operations.items (items_of stocks place s here)) less in
                 set_some (HasLess stocks (length stocks) (items ++ c.args.operation ∷ [])) c.loop-other.less k w.child_place.result room
                 (subst (λ (v : ℕ). HasLess stocks (length stocks) (items ++ c.args.operation ∷ []) k v) (sym child) (subst (λ (list : List ℕ). HasLess stocks (length stocks) (list ++ c.args.operation ∷ []) k (slice_index (slice_index_or c.args.children.now w.in-Some.rest []) c.args.operation)) same first))
                 (i.some items at) x j (sym (ap (λ (l : List (Option ℕ)). get_or l x None) w.less-is) ∙ e);
@@ -57,12 +56,12 @@ loop-other-preserved c =
         long = ap length w.less-is ∙ i.long;
         some = λ items at x j e. i.some items at x j (sym (ap (λ (l : List (Option ℕ)). get_or l x None) w.less-is) ∙ e);
         none = λ items at x l e. elim (below_or_last x k l) [
-            | inl u ↦ i.none items at x u (sym (ap (λ (l : List (Option ℕ)). get_or l x None) w.less-is) ∙ e)
-            | inr same ↦ (
-                let list = same_items stocks place s.operations.items items (items_of stocks place s here) at in
-                subst (λ (list : List ℕ). times x list ≡ 0) list (subst (λ (y : ℕ). times y s.operations.items ≡ 0) (sym same) (no_less stocks place s.operations.items s.less is.links k w.in_default.not-Some))
-                )
-          ];
+          | inl u ↦ i.none items at x u (sym (ap (λ (l : List (Option ℕ)). get_or l x None) w.less-is) ∙ e)
+          | inr same ↦ (
+              let list = same_items stocks place s.operations.items items (items_of stocks place s here) at in
+              subst (λ (list : List ℕ). times x list ≡ 0) list (subst (λ (y : ℕ). times y s.operations.items ≡ 0) (sym same) (no_less stocks place s.operations.items s.less is.links k w.in_default.not-Some))
+              )
+        ];
       }
     ]
 
