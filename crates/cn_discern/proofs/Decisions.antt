@@ -1,13 +1,13 @@
 -- Whether some stock splits, from what was found for each stock and each start state.
-use Rattle.std.proofs.Common.{◌≡◌, ℕ, zero, suc, ◌+◌, ◌<◌, ◌≤◌, inl, inr, ◌↔◌, List, [], ◌∷◌, ◌++◌, length, get_or, refl, sym, ap, ◌∙◌, subst, arith, Bool, true, false, IsTrue, Some, All, Contains, true≢false, map, Result, Ok, Err, IfOk, MatchResult}
+use Rattle.std.proofs.Common.{◌≡◌, ℕ, zero, suc, ◌+◌, ◌<◌, inl, inr, ◌↔◌, List, [], ◌∷◌, ◌++◌, length, get_or, refl, sym, ap, ◌∙◌, subst, arith, Bool, true, IsTrue, Some, All, Contains, map, Result, Ok, Err, IfOk, MatchResult}
 use Rattle.std.specs.List.{AllZip, range_with_len}
 use Rattle.std.proofs.lemmas.List.FromFn.{length-range_with_len, get_or-range_with_len}
 use Rattle.cn_table.specs.TypeTable.{TypeTable}
 use Rattle.cn_choice.proofs.Members.{IsIn, IsIn-from_Contains}
 use Rattle.cn_discern.specs.declared.stocks.Stock.{Stock}
-use Rattle.cn_discern.specs.Splits.{AreJoined, SomeSplits, Splits, SplitsFrom}
+use Rattle.cn_discern.specs.Splits.{SomeSplits, Splits, SplitsFrom}
 use Rattle.cn_discern.specs.Stocks.{HaveAll, items_at}
-use Rattle.cn_discern.specs.Words.{HaveSame, IsKnown, times}
+use Rattle.cn_discern.specs.Words.{HaveSame}
 use Rattle.cn_discern.proofs.Steps.{shows_same}
 use Rattle.cn_discern.proofs.StockLemmas.{items_within}
 use Rattle.cn_discern.proofs.Times.{same_sym}

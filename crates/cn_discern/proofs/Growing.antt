@@ -1,15 +1,15 @@
 -- How a list of stocks grows.
-use Rattle.std.proofs.Common.{◌≡◌, ◌≢◌, ℕ, zero, suc, ◌+◌, ◌<◌, ◌≤◌, ◌⊎◌, inl, inr, List, [], ◌∷◌, ◌++◌, length, get_or, replicate, refl, sym, ap, ◌∙◌, subst, arith, Option, Some, None, append-nil, length-append, length-set, get_or-set_other, get_or-set_same}
-use Rattle.std.specs.Prelude.{slice_get, slice_index, slice_index_or}
+use Rattle.std.proofs.Common.{◌≡◌, ◌≢◌, ℕ, zero, suc, ◌+◌, ◌<◌, ◌≤◌, inl, inr, List, [], ◌∷◌, ◌++◌, length, get_or, replicate, refl, sym, ap, ◌∙◌, subst, arith, Option, Some, None, length-append, get_or-set_other, get_or-set_same}
+use Rattle.std.specs.Prelude.{slice_index, slice_index_or}
 use Rattle.std.specs.Option.{option_map}
 use Rattle.std.proofs.Math.ListN.{set}
 use Rattle.std.proofs.lemmas.List.{get_or_append_left}
-use Rattle.std.proofs.lemmas.Option.{none-some, same_Some, slice_get-get_or}
+use Rattle.std.proofs.lemmas.Option.{none-some, same_Some}
 use Rattle.cn_discern.specs.declared.stocks.Stock.{Stock}
-use Rattle.cn_discern.specs.Stocks.{AreChildren, AreLinks, AreLong, AreStocks, AreUpTo, GoesOn, HasChildren, HasLess, HaveAll, IsStock, UpTo, items_at}
-use Rattle.cn_discern.specs.Words.{HaveSame, IsKnown, times}
-use Rattle.cn_discern.proofs.Times.{one_else, same_or, times_last, times_none}
-use Rattle.cn_discern.proofs.StockLemmas.{all_longer, before_or_behind, children_more, count_push, get_before, get_behind, get_seam, goes_on_none, goes_on_push, goes_on_trans, greatest_of_child, items_before, items_last, items_of, items_within, known_of_child, less_of_self, no_less, read_stock, same_items, stock_at, stocks_push}
+use Rattle.cn_discern.specs.Stocks.{AreChildren, AreLinks, AreStocks, AreUpTo, GoesOn, HasChildren, HasLess, IsStock, UpTo, items_at}
+use Rattle.cn_discern.specs.Words.{IsKnown, times}
+use Rattle.cn_discern.proofs.Times.{one_else, same_or, times_last}
+use Rattle.cn_discern.proofs.StockLemmas.{all_longer, before_or_behind, children_more, count_push, get_before, get_behind, get_seam, greatest_of_child, items_before, items_last, items_of, known_of_child, less_of_self, read_stock, same_items, stocks_push}
 
 -- ---- the links of a child
 

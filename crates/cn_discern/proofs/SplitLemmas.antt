@@ -1,5 +1,5 @@
 -- When a stock splits, by the set of the operations that are reached from one.
-use Rattle.std.proofs.Common.{◌≡◌, ◌≢◌, ℕ, zero, suc, ◌+◌, ◌<◌, ◌≤◌, ◌⊎◌, inl, inr, ◌↔◌, List, [], length, get_or, bit_or, Some, refl, sym, ap, ◌∙◌, subst, arith, Bool, true, false, not, nat_eq, true≢false}
+use Rattle.std.proofs.Common.{◌≡◌, ℕ, zero, suc, ◌<◌, ◌≤◌, ◌⊎◌, inl, inr, ◌↔◌, List, [], length, get_or, bit_or, Some, refl, sym, ap, ◌∙◌, subst, arith, Bool, true, false, not, nat_eq, true≢false}
 use Rattle.std.specs.Prelude.{IsBitSet, Vec}
 use Rattle.std.specs.declared.alloc.Global.{Global}
 use Rattle.std.proofs.lemmas.List.{get_or_default}

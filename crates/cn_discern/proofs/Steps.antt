@@ -1,13 +1,12 @@
 -- What words lead to, by their last operation.
-use Rattle.std.proofs.Common.{◌≡◌, ◌≢◌, ℕ, zero, suc, ◌+◌, ◌<◌, ◌≤◌, ◌⊎◌, inl, inr, ◌↔◌, List, [], ◌∷◌, ◌++◌, length, refl, sym, ap, ◌∙◌, subst, arith, append_assoc}
-use Rattle.std.specs.Prelude.{IsBitSet}
+use Rattle.std.proofs.Common.{◌≡◌, ℕ, ◌+◌, ◌<◌, ◌≤◌, ◌⊎◌, inl, inr, ◌↔◌, List, [], ◌∷◌, ◌++◌, length, refl, sym, ap, ◌∙◌, subst, arith, append_assoc}
 use Rattle.cn_table.specs.TypeTable.{TypeTable, transition}
 use Rattle.cn_table.specs.Run.{state_after}
 use Rattle.cn_outcomes.proofs.LastProcess.{last_of, state_last}
 use Rattle.cn_outcomes.proofs.Packing.{below_or_last}
 use Rattle.cn_discern.specs.LastMoves.{AloneShows, AskedLast}
 use Rattle.cn_discern.specs.Words.{BeginsWith, EndsIn, HaveSame, IsKnown, IsWithin, Shows, times}
-use Rattle.cn_discern.proofs.Times.{one, one_at, one_else, one_of, same_has, same_or, same_rest, times_at, times_between, times_cons, times_last, times_none, within_before, within_last, within_same}
+use Rattle.cn_discern.proofs.Times.{one_at, one_else, one_of, same_has, same_or, same_rest, times_at, times_between, times_cons, times_last, times_none, within_before, within_last, within_same}
 
 -- ---- what is gathered, operation by operation
 

@@ -1,13 +1,13 @@
 -- Stocks, and where they stand.
-use Rattle.std.proofs.Common.{◌≡◌, ◌≢◌, ℕ, zero, suc, ◌+◌, ◌<◌, ◌≤◌, ◌⊎◌, inl, inr, ◌↔◌, List, [], ◌∷◌, ◌++◌, length, get_or, refl, sym, ap, ◌∙◌, subst, arith, Bool, true, false, true≢false, IsTrue, Option, Some, None, is_some, append_assoc, length-append}
+use Rattle.std.proofs.Common.{◌≡◌, ◌≢◌, ℕ, zero, suc, ◌+◌, ◌<◌, ◌≤◌, ◌⊎◌, inl, inr, ◌↔◌, List, [], ◌∷◌, ◌++◌, length, get_or, refl, sym, ap, ◌∙◌, subst, arith, Bool, true≢false, IsTrue, Option, Some, None, is_some, append_assoc}
 use Rattle.std.specs.Prelude.{slice_get, slice_index, slice_index_or}
 use Rattle.std.specs.Option.{option_map}
 use Rattle.std.proofs.lemmas.Option.{none-some, same_Some, slice_get_read, slice_get_within}
 use Rattle.std.proofs.lemmas.List.{get_or_append_left}
 use Rattle.cn_discern.specs.declared.stocks.Stock.{Stock}
-use Rattle.cn_discern.specs.Stocks.{AreChildren, AreLinks, AreLong, AreStocks, AreUpTo, GoesOn, HasChildren, HasLess, HaveAll, IsGreatest, IsStock, UpTo, items_at}
+use Rattle.cn_discern.specs.Stocks.{AreChildren, AreLinks, AreLong, AreStocks, GoesOn, HasLess, HaveAll, IsGreatest, IsStock, UpTo, items_at}
 use Rattle.cn_discern.specs.Words.{HaveSame, IsKnown, times}
-use Rattle.cn_discern.proofs.Times.{one, one_at, one_some, place_in, same_has, same_or, times_at, times_cons, times_last, times_none, times_of_place}
+use Rattle.cn_discern.proofs.Times.{one, one_at, one_some, same_has, same_or, times_at, times_cons, times_last, times_none}
 
 -- ---- links
 

@@ -1,25 +1,24 @@
 -- A witness splits its operations, and a stock that splits is that of a witness.
-use Rattle.std.proofs.Common.{◌≡◌, ◌≢◌, ℕ, zero, suc, ◌+◌, ◌<◌, ◌≤◌, ◌⊎◌, inl, inr, List, [], ◌∷◌, ◌++◌, length, map, get_or, refl, sym, ap, ◌∙◌, subst, arith, Some, None, Bool, true, false, cond, nat_eq, true≢false, Contains, All}
+use Rattle.std.proofs.Common.{◌≡◌, ◌≢◌, ℕ, zero, suc, ◌<◌, ◌≤◌, ◌⊎◌, inl, inr, List, [], ◌∷◌, ◌++◌, length, map, get_or, refl, sym, ap, ◌∙◌, subst, arith, Some, Bool, true, false, cond, nat_eq, true≢false, Contains}
 use Rattle.std.specs.Prelude.{slice_index, slice_get}
 use Rattle.std.proofs.Math.ListN.{get_or-map}
 use Rattle.std.proofs.lemmas.Bool.{eqb-true, eq-eqb}
 use Rattle.std.proofs.lemmas.List.{length-map, get_or_default}
-use Rattle.std.proofs.lemmas.Option.{get_or_from_slice_get, slice_get-get_or, slice_get-map, slice_get_within, same_Some}
-use Rattle.std.specs.Option.{option_map}
+use Rattle.std.proofs.lemmas.Option.{get_or_from_slice_get, slice_get-get_or, slice_get_within, same_Some}
 use Rattle.cn_table.specs.TypeTable.{TypeTable, transition}
 use Rattle.cn_table.specs.Run.{state_after}
 use Rattle.cn_choice.specs.declared.team.Team.{Team}
 use Rattle.cn_choice.specs.declared.team.Team.TheVariants.{A, B}
 use Rattle.cn_choice.specs.Discerning.{IsDiscerning, IsWitness}
 use Rattle.cn_choice.specs.Orders.{IsOrder}
-use Rattle.cn_choice.specs.OutcomeSets.{BeginsIn, InOutcomeSet, operations_of, pair_of}
+use Rattle.cn_choice.specs.OutcomeSets.{InOutcomeSet, operations_of, pair_of}
 use Rattle.cn_choice.specs.RawChoices.{IsRawChoice, RawChoice}
 use Rattle.cn_choice.proofs.LastMoves.{last_self, pair_whole}
 use Rattle.std.proofs.lemmas.List.{map-append}
-use Rattle.cn_discern.specs.Splits.{AreJoined, SomeSplits, Splits}
+use Rattle.cn_discern.specs.Splits.{SomeSplits, Splits}
 use Rattle.cn_discern.specs.Words.{BeginsWith, IsKnown, IsWithin, Shows, times}
-use Rattle.cn_discern.proofs.Times.{place_in, times_between, times_of_place, one_at, same_or}
-use Rattle.cn_discern.proofs.WordOrders.{OrderFor, Seen, order_for, order_within, seen, sees, to_order}
+use Rattle.cn_discern.proofs.Times.{place_in, times_between, times_of_place, one_at}
+use Rattle.cn_discern.proofs.WordOrders.{order_for, order_within, seen, sees, to_order}
 
 -- ---- the operations of team A
 

@@ -1,8 +1,7 @@
 -- An order of processes is a word within the stock of their operations, and each such word is one, with any process that has the operation at a place.
-use Rattle.std.proofs.Common.{◌≡◌, ◌≢◌, ℕ, zero, suc, ◌+◌, ◌<◌, ◌≤◌, inl, inr, List, [], ◌∷◌, ◌++◌, length, map, get_or, refl, sym, ap, ◌∙◌, subst, arith, Option, Some, None, Bool, true, false, cond, nat_eq, true≢false, append_assoc}
-use Rattle.std.specs.Prelude.{slice_index, slice_get}
+use Rattle.std.proofs.Common.{◌≡◌, ◌≢◌, ℕ, zero, suc, ◌+◌, ◌<◌, ◌≤◌, inl, inr, List, [], ◌∷◌, ◌++◌, length, map, get_or, refl, sym, ap, ◌∙◌, subst, arith, Some, Bool, true, false, cond, nat_eq, append_assoc}
+use Rattle.std.specs.Prelude.{slice_index}
 use Rattle.std.specs.List.{range_with_len, remove}
-use Rattle.std.specs.Option.{option_map}
 use Rattle.std.proofs.Math.Seq.{get_or-append_seam}
 use Rattle.std.proofs.lemmas.Bool.{eqb-true, eq-eqb, ne_eqb}
 use Rattle.std.proofs.lemmas.Option.{same_Some}
@@ -19,7 +18,6 @@ use Rattle.cn_choice.proofs.Listing.{differ_from, distinct_from}
 use Rattle.cn_choice.proofs.LastMoves.{pair_whole}
 use Rattle.cn_choice.proofs.Members.{IsIn, IsIn-append_cases, IsIn-append_left, IsIn-append_right, each_at, each_from}
 use Rattle.cn_choice.proofs.Permutations.{in_range, range_in, range_rises}
-use Rattle.cn_choice.proofs.Walks.{pair_of-response_of}
 use Rattle.cn_discern.specs.Words.{IsWithin, times}
 use Rattle.cn_outcomes.proofs.LastAnswers.{pair_parts}
 use Rattle.cn_discern.proofs.Times.{one, one_of, times_append, times_between, times_cons, times_none}

@@ -1,5 +1,5 @@
 -- Stocks in a list, each with the places of those that have one operation less.
-use Rattle.std.specs.Prelude.{◌≡◌, ℕ, ◌+◌, ◌≤◌, ◌<◌, List, [], ◌∷◌, ◌++◌, length, slice_get, slice_index, slice_index_or, Option, Some, None, option_map}
+use Rattle.std.specs.Prelude.{◌≡◌, ℕ, ◌≤◌, ◌<◌, List, [], ◌∷◌, ◌++◌, length, slice_get, slice_index, slice_index_or, Option, Some, None, option_map}
 use Rattle.cn_discern.specs.declared.stocks.Stock.{Stock}
 use Rattle.cn_discern.specs.Words.{HaveSame, IsKnown, times}
 

@@ -15,18 +15,6 @@ use Rattle.cn_choice.specs.Discerning.{IsWitness}
 use Rattle.cn_search.specs.Evidence.{IsListedBlock, IsRefutedBlock, AreRecordedFor, IsFirstAmong, IsFirstWitness, IsRecordedFor, NoneIsWitness, choices_of_all}
 use Rattle.cn_choice.specs.Live.{live_blocks, live_in}
 
--- what is collected of results that are all there
-AllZip-of_oks : {X Y : Type 0} (E : Type 0) (R : X → Y → Type 0) (xs : List X) (ys : List Y) → AllZip (λ x (r : Result Y E). IfOk r (R x)) xs (map Ok ys) → AllZip R xs ys
-AllZip-of_oks E R [] [] h = tt
-AllZip-of_oks E R [] (y ∷ ys) h = absurd h
-AllZip-of_oks E R (x ∷ xs) [] h = absurd h
-AllZip-of_oks E R (x ∷ xs) (y ∷ ys) h = (h.0, AllZip-of_oks E R xs ys h.1)
-
-pub collected : {X Y V : Type 0} (E : Type 0) (R : X → Y → Type 0) (items : V → List Y) (xs : List X) (rs : List (Result Y E)) (r : Result V E) → AllZip (λ x (r : Result Y E). IfOk r (R x)) xs rs
-    → MatchResult r (λ v. (ys : List Y) × (rs ≡ map Ok ys) × (items v ≡ ys)) (λ e. Contains rs (Err e)) → IfOk r (λ v. AllZip R xs (items v))
-collected {Y = Y} E R items xs rs (Ok v) h m = subst (λ ys. AllZip R xs ys) (sym m.2) (AllZip-of_oks E R xs m.0 (subst (λ rs. AllZip (λ x (r : Result Y E). IfOk r (R x)) xs rs) m.1 h))
-collected E R items xs rs (Err e) h m = tt
-
 module _ (t : TypeTable) where
   abbrev Fails : Choice → Type 0
   Fails c = ¬ IsWitness t (raw_choice_of c)

@@ -14,8 +14,12 @@ use cn_table::Table;
 use std::alloc::{AllocError, Global};
 use std::thread::Threads;
 
-/// Whether the type is n-discerning.
-fn is_discerning<T: Threads + Sync>(
+/// The least number of processes for which [`cn_discern::is_discerning`] decides. With two processes
+/// both teams may have one operation.
+const LEAST_WITHOUT_TEAMS: u8 = 3;
+
+/// Whether the type is n-discerning, by the choices of teams.
+fn has_witness<T: Threads + Sync>(
     rt: &T,
     alloc: Global,
     table: &Table,
@@ -30,6 +34,24 @@ fn is_discerning<T: Threads + Sync>(
     let blocks = blocks_for(alloc, table, n)?;
     let witness = first_witness(rt, alloc, table, blocks.as_slice())?;
     Ok(witness.is_some())
+}
+
+/// Whether the type is n-discerning.
+fn is_discerning<T: Threads + Sync>(
+    rt: &T,
+    alloc: Global,
+    table: &Table,
+    n: u8,
+) -> Result<bool, AllocError>
+    requires some { 2 ≤ n }
+    requires few { n ≤ MOST_PROCESSES }
+    ensures { IfOk result (λ yes. IsTrue yes ↔ IsDiscerning table.now n) }
+{
+    if n < LEAST_WITHOUT_TEAMS {
+        has_witness(rt, alloc, table, n)
+    } else {
+        cn_discern::is_discerning(rt, alloc, table, n)
+    }
 }
 
 /// The number up to the limit. What is refuted for one process more than the number is refuted for
@@ -61,8 +83,8 @@ pub(crate) fn number_up_to<T: Threads + Sync>(
 ///
 /// It is the number of the [`Finding`](crate::Finding) of the type and the limit
 /// ([`laws::number_of_finding`](crate::laws::number_of_finding)), and of a type with any number of
-/// choices. The blocks of choices are searched in several threads, and of each number of processes
-/// as far as the first witness.
+/// choices. For two processes the blocks of choices are searched as far as the first witness; for
+/// more the operations are looked at, without teams. Both go on in several threads.
 ///
 /// # Errors
 ///

@@ -1,4 +1,4 @@
-use Rattle.std.proofs.Common.{◌≡◌, List, ℕ, arith, length, subst}
+use Rattle.std.proofs.Common.{◌≡◌, ℕ, arith, length, subst}
 use Rattle.std.specs.List.{range_with_len}
 use Rattle.cn_discern.proofs.Decisions.{starts_all, starts_known, starts_push}
 use Rattle.cn_discern.proofs.decision.all_starts.Goals as goal

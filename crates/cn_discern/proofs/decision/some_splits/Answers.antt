@@ -1,4 +1,4 @@
-use Rattle.std.proofs.Common.{ℕ, ◌≡◌, ◌<◌, ◌≤◌, ◌∙◌, List, Some, ap, arith, get_or, inl, inr, length, refl, subst, sym, true≢false}
+use Rattle.std.proofs.Common.{ℕ, ◌≡◌, ◌∙◌, List, Some, ap, arith, get_or, inl, inr, length, refl, subst, sym, true≢false}
 use Rattle.std.proofs.lemmas.Option.{slice_get-get_or}
 use Rattle.cn_outcomes.proofs.Packing.{below_or_last}
 use Rattle.cn_discern.specs.Splits.{Splits}

@@ -1,6 +1,5 @@
-use Rattle.std.proofs.Common.{inl, inr, ℕ, ◌≡◌, ◌∙◌, ◌+◌, arith, length, subst, sym, get_or}
+use Rattle.std.proofs.Common.{inl, inr, ℕ, ◌≡◌, ◌+◌, arith, length, subst, sym, get_or}
 use Rattle.std.specs.Prelude.{IsBitSet}
-use Rattle.cn_outcomes.specs.Subsets.{Below}
 use Rattle.cn_discern.proofs.StockLemmas.{no_less, removal_of}
 use Rattle.cn_discern.proofs.Steps.{Gathered, LeadBase, LeadPart, gathered_first, gathered_more, gathered_none, lead_all, lead_part_is, lead_part_none}
 use Rattle.cn_discern.proofs.lead.lead_set.Goals as goal

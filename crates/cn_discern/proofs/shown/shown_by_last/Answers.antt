@@ -1,5 +1,4 @@
 use Rattle.std.proofs.Common.{ℕ, ◌≡◌, ◌∙◌, ◌+◌, ◌<◌, ◌↔◌, List, [], arith, get_or, length, subst, sym}
-use Rattle.std.specs.Prelude.{IsBitSet}
 use Rattle.std.proofs.lemmas.List.{get_or_default}
 use Rattle.cn_table.specs.TypeTable.{transition}
 use Rattle.cn_outcomes.specs.PairSets.{Has}

@@ -1,4 +1,4 @@
-use Rattle.std.proofs.Common.{ℕ, get_or, length}
+use Rattle.std.proofs.Common.{get_or}
 use Rattle.std.specs.Prelude.{IsBitSet}
 use Rattle.cn_outcomes.specs.PairSets.{Has}
 use Rattle.cn_discern.proofs.Steps.{asked_last_is, asked_last_none}

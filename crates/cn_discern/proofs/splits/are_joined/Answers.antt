@@ -1,4 +1,4 @@
-use Rattle.std.proofs.Common.{ℕ, ◌≡◌, ◌<◌, ◌∙◌, List, inl, inr, arith, length, refl, subst, sym, true≢false}
+use Rattle.std.proofs.Common.{ℕ, ◌<◌, ◌∙◌, inl, inr, arith, length, refl, subst, sym, true≢false}
 use Rattle.cn_outcomes.proofs.Packing.{below_or_last}
 use Rattle.cn_discern.specs.Words.{Shows}
 use Rattle.cn_discern.proofs.SplitLemmas.{by_asked_at, by_asked_long, known_at, shown_at}

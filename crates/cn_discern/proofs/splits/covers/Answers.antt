@@ -1,4 +1,4 @@
-use Rattle.std.proofs.Common.{ℕ, ◌≡◌, ◌≤◌, ◌∙◌, inl, inr, arith, refl, subst, sym, true≢false}
+use Rattle.std.proofs.Common.{ℕ, ◌≤◌, ◌∙◌, inl, inr, arith, refl, subst, sym, true≢false}
 use Rattle.std.specs.Prelude.{IsBitSet}
 use Rattle.cn_outcomes.proofs.Packing.{below_or_last}
 use Rattle.cn_discern.specs.Words.{times}

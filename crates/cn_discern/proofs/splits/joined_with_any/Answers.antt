@@ -1,4 +1,4 @@
-use Rattle.std.proofs.Common.{ℕ, ◌≡◌, ◌<◌, ◌+◌, ◌↔◌, ◌∙◌, List, inl, inr, arith, length, subst, sym, true≢false}
+use Rattle.std.proofs.Common.{ℕ, ◌≡◌, ◌<◌, ◌+◌, ◌↔◌, ◌∙◌, inl, inr, arith, length, subst, sym, true≢false}
 use Rattle.std.specs.Prelude.{IsBitSet}
 use Rattle.cn_outcomes.proofs.LastProcess.{zero_has_none}
 use Rattle.cn_outcomes.proofs.Packing.{below_or_last}

@@ -1,7 +1,6 @@
-use Rattle.std.proofs.Common.{ℕ, ◌≡◌, ◌<◌, ◌≤◌, ◌-◌, ◌∙◌, inl, inr, arith, length, refl, subst, sym, true≢false}
+use Rattle.std.proofs.Common.{ℕ, ◌∙◌, inl, inr, arith, length, refl, subst, sym, true≢false}
 use Rattle.std.specs.Prelude.{IsBitSet}
 use Rattle.cn_outcomes.proofs.LastProcess.{zero_has_none}
-use Rattle.cn_discern.specs.Splits.{AreJoined}
 use Rattle.cn_discern.proofs.SplitLemmas.{reached_first, reached_more, splits_by, uncovered, union_above, whole}
 use Rattle.cn_discern.proofs.StockLemmas.{items_within}
 use Rattle.cn_discern.proofs.splits.splits.Goals as goal

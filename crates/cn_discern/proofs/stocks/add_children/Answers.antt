@@ -1,4 +1,4 @@
-use Rattle.std.proofs.Common.{ℕ, ◌≡◌, ◌<◌, ◌≤◌, ◌+◌, ◌++◌, ◌∷◌, ◌∙◌, List, [], Some, ap, arith, get_or, length, length-set, refl, replicate, subst, sym}
+use Rattle.std.proofs.Common.{ℕ, ◌≡◌, ◌<◌, ◌≤◌, ◌+◌, ◌++◌, ◌∷◌, ◌∙◌, List, [], Some, ap, arith, length, length-set, refl, replicate, subst, sym}
 use Rattle.cn_discern.specs.declared.stocks.Stock.{Stock}
 use Rattle.cn_discern.specs.Stocks.{AreChildren, AreStocks, GoesOn, IsStock, items_at}
 use Rattle.cn_discern.specs.Words.{times}

@@ -1,6 +1,5 @@
-use Rattle.std.proofs.Common.{ℕ, ◌≡◌, ◌<◌, ◌≤◌, ◌+◌, ◌∙◌, List, [], Some, ap, arith, length, refl, subst, sym}
-use Rattle.cn_discern.specs.declared.stocks.Stock.{Stock}
-use Rattle.cn_discern.specs.Stocks.{AreChildren, GoesOn, items_at}
+use Rattle.std.proofs.Common.{ℕ, ◌≡◌, ◌<◌, ◌+◌, List, ap, arith, length, subst, sym}
+use Rattle.cn_discern.specs.Stocks.{AreChildren, GoesOn}
 use Rattle.cn_discern.proofs.Growing.{children_push, goes_on_back, goes_on_children, goes_on_longer, some_items, up_to_longer}
 use Rattle.cn_discern.proofs.StockLemmas.{count_push, goes_on_none, goes_on_trans}
 use Rattle.cn_discern.proofs.stocks.add_longer.Goals as goal

@@ -1,8 +1,7 @@
 use Rattle.std.proofs.lemmas.Option.{none-some}
-use Rattle.std.proofs.Common.{ℕ, ◌≡◌, ◌<◌, ◌≤◌, ◌+◌, ◌++◌, ◌∷◌, ◌∙◌, List, [], Option, Some, None, arith, ap, get_or, inl, inr, length, length-set, refl, subst, sym}
-use Rattle.std.specs.Prelude.{slice_get, slice_index, slice_index_or}
-use Rattle.std.proofs.Math.ListN.{set}
-use Rattle.cn_discern.specs.Stocks.{AreLinks, HasLess, IsStock, items_at}
+use Rattle.std.proofs.Common.{ℕ, ◌≡◌, ◌<◌, ◌≤◌, ◌++◌, ◌∷◌, ◌∙◌, List, [], Option, Some, None, arith, ap, get_or, inl, inr, length, length-set, refl, subst, sym}
+use Rattle.std.specs.Prelude.{slice_index, slice_index_or}
+use Rattle.cn_discern.specs.Stocks.{HasLess}
 use Rattle.cn_discern.specs.Words.{times}
 use Rattle.cn_outcomes.proofs.Packing.{below_or_last}
 use Rattle.cn_discern.proofs.Growing.{eight_nones, links_of_child, set_none, set_some}

@@ -4,7 +4,7 @@ use Rattle.cn_choice.specs.Discerning.{IsDiscerning}
 use Rattle.cn_search.specs.Evidence.{IsFirstAmong, choices_of_all}
 use Rattle.cn_search.proofs.Batches.{all_listed}
 use Rattle.cn_search.proofs.NumberLemmas.{discerning_by_witness}
-use Rattle.cn_search.proofs.levels.is_discerning.Goals as goal
+use Rattle.cn_search.proofs.levels.has_witness.Goals as goal
 
 pub first_witness-requires-after_bounds : goal.first_witness-requires-after_bounds
 first_witness-requires-after_bounds g c =
