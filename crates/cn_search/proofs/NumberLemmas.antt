@@ -1,11 +1,13 @@
 -- Numbers with no evidence, from what was tried.
-use Rattle.std.proofs.Common.{◌≡◌, ◌≢◌, ◌⊎◌, inl, inr, ◌↔◌, ℕ, ◌+◌, ◌≤◌, ◌<◌, Contains, IsTrue, Option, Some, None, is_some, arith, ap, refl, sym, subst, true≢false}
+use Rattle.std.proofs.Common.{◌≡◌, ◌≢◌, ◌⊎◌, inl, inr, ◌↔◌, ℕ, ◌+◌, ◌≤◌, ◌<◌, Contains, IsTrue, List, ◌++◌, Option, Some, None, is_some, arith, ap, refl, sym, subst, ◌∙◌, true≢false}
 use Rattle.std.proofs.Math.Nat.{eq-or-lt_of_le}
 use Rattle.cn_table.specs.TypeTable.{TypeTable}
+use Rattle.cn_choice.specs.Blocks.{Block}
 use Rattle.cn_choice.specs.Canonical.{Choice, raw_choice_of}
 use Rattle.cn_choice.specs.Discerning.{IsDiscerning, IsNumberUpTo, IsWitness}
-use Rattle.cn_search.specs.Evidence.{IsFirstAmong, NoneIsWitness}
+use Rattle.cn_search.specs.Evidence.{IsFirstAmong, NoneIsWitness, choices_of_all}
 use Rattle.cn_choice.specs.Live.{live_choices}
+use Rattle.cn_search.proofs.Batches.{search_found, search_start}
 use Rattle.cn_search.proofs.ListLemmas.{Contains-between}
 
 -- before n is tried: the greatest number up to n - 1 with the property
@@ -39,3 +41,12 @@ module _ (t : TypeTable) (limit : ℕ)
       by_place : (m ≡ lower) ⊎ (m < lower) → IsNumberUpTo t limit (Some m)
       by_place (inl same) = absurd (below (ap Some same))
       by_place (inr less) = number_found m two (omega (arith, up_to, within)) is (λ _. above (m + 1) (omega arith) (omega (arith, less)))
+
+-- a first witness among the first blocks tells that the type is discerning
+pub discerning_by_early_witness : (t : TypeTable) (n : ℕ) → ((c : Choice) → Contains (live_choices t n) c → IsWitness t (raw_choice_of c) → IsDiscerning t n)
+    → (blocks front back : List Block) → blocks ≡ front ++ back → choices_of_all t blocks ≡ live_choices t n
+    → (found : Option Choice) → IsFirstAmong t (choices_of_all t front) found → IsTrue (is_some found) → IsDiscerning t n
+discerning_by_early_witness t n shown blocks front back split whole None h some = absurd (true≢false (sym some))
+discerning_by_early_witness t n shown blocks front back split whole (Some w) h some =
+    let first = search_found t blocks blocks front back w (search_start t blocks) split h in
+    shown w (Contains-between _ first.before first.after w (sym first.listed ∙ whole)) first.witness

@@ -9,7 +9,7 @@ ghost use Rattle.cn_search.specs.declared.fault.FindFault.TheVariants.{OutOfMemo
 
 use crate::FindFault;
 use crate::search::{blocks_for, first_witness};
-use cn_choice::laws;
+use cn_choice::{count, laws};
 use cn_table::Table;
 use std::alloc::{AllocError, Global};
 use std::thread::Threads;
@@ -17,6 +17,12 @@ use std::thread::Threads;
 /// The least number of processes for which [`cn_discern::is_discerning`] decides. With two processes
 /// both teams may have one operation.
 const LEAST_WITHOUT_TEAMS: u8 = 3;
+
+/// So many choices of teams are gone through in less time than the operations without teams.
+const FEW_CHOICES: u64 = 30_000;
+
+/// So many blocks of choices are looked at first, where there are more choices.
+const EARLY_BLOCKS: usize = 64;
 
 /// Whether the type is n-discerning, by the choices of teams.
 fn has_witness<T: Threads + Sync>(
@@ -36,7 +42,28 @@ fn has_witness<T: Threads + Sync>(
     Ok(witness.is_some())
 }
 
-/// Whether the type is n-discerning.
+/// Whether one of the first choices of teams is a witness for n processes, so that the type is
+/// n-discerning.
+fn has_early_witness<T: Threads + Sync>(
+    rt: &T,
+    alloc: Global,
+    table: &Table,
+    n: u8,
+) -> Result<bool, AllocError>
+    requires some { 2 ≤ n }
+    requires few { n ≤ MOST_PROCESSES }
+    ensures { IfOk result (λ yes. IsTrue yes → IsDiscerning table.now n) }
+{
+    laws::block_list();
+    laws::live_choices_decide();
+    let blocks = blocks_for(alloc, table, n)?;
+    let (first, _rest) = blocks.split_at(blocks.len().min(EARLY_BLOCKS));
+    let witness = first_witness(rt, alloc, table, first)?;
+    Ok(witness.is_some())
+}
+
+/// Whether the type is n-discerning. Few choices of teams are gone through. Of many the first ones
+/// are, since mostly a witness is among them; then the operations are looked at without teams.
 fn is_discerning<T: Threads + Sync>(
     rt: &T,
     alloc: Global,
@@ -47,11 +74,14 @@ fn is_discerning<T: Threads + Sync>(
     requires few { n ≤ MOST_PROCESSES }
     ensures { IfOk result (λ yes. IsTrue yes ↔ IsDiscerning table.now n) }
 {
-    if n < LEAST_WITHOUT_TEAMS {
-        has_witness(rt, alloc, table, n)
-    } else {
-        cn_discern::is_discerning(rt, alloc, table, n)
+    let choices = count(table.states(), table.operations(), n);
+    if n < LEAST_WITHOUT_TEAMS || choices <= FEW_CHOICES {
+        return has_witness(rt, alloc, table, n);
     }
+    if has_early_witness(rt, alloc, table, n)? {
+        return Ok(true);
+    }
+    cn_discern::is_discerning(rt, alloc, table, n)
 }
 
 /// The number up to the limit. What is refuted for one process more than the number is refuted for
@@ -83,8 +113,8 @@ pub(crate) fn number_up_to<T: Threads + Sync>(
 ///
 /// It is the number of the [`Finding`](crate::Finding) of the type and the limit
 /// ([`laws::number_of_finding`](crate::laws::number_of_finding)), and of a type with any number of
-/// choices. For two processes the blocks of choices are searched as far as the first witness; for
-/// more the operations are looked at, without teams. Both go on in several threads.
+/// choices. Few choices are gone through as far as the first witness; where there are many, the
+/// operations are looked at without teams. Both go on in several threads.
 ///
 /// # Errors
 ///
