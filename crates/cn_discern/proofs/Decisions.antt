@@ -7,7 +7,7 @@ use Rattle.cn_choice.proofs.Members.{IsIn, IsIn-from_Contains}
 use Rattle.cn_discern.specs.declared.stocks.Stock.{Stock}
 use Rattle.cn_discern.specs.Splits.{SomeSplits, Splits, SplitsFrom}
 use Rattle.cn_discern.specs.Stocks.{HaveAll, items_at}
-use Rattle.cn_discern.specs.Words.{HaveSame, times, Shows, IsKnown}
+use Rattle.cn_discern.specs.Words.{HaveSame, times, Shows}
 use Rattle.cn_discern.proofs.Steps.{shows_same}
 use Rattle.cn_discern.proofs.StockLemmas.{items_within}
 use Rattle.cn_discern.proofs.Times.{one_else, same_or, same_sym, times_at, times_cons, times_none}

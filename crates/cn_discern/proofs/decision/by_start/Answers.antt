@@ -1,4 +1,4 @@
-use Rattle.std.proofs.Common.{ℕ, ◌<◌, ◌↔◌, ◌∙◌, length, subst, sym, ap, Bool, Global, IfOk, IsTrue, List, Result}
+use Rattle.std.proofs.Common.{ℕ, ◌↔◌, ◌∙◌, subst, sym, ap, Bool, Global, IfOk, IsTrue, List, Result}
 use Rattle.std.specs.declared.alloc.AllocError.{AllocError}
 use Rattle.std.specs.declared.vec.Vec.{Vec as VecOf}
 use Rattle.rayon.proofs.ToStd.{slice-AllZip}

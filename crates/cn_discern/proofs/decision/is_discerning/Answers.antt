@@ -1,4 +1,4 @@
-use Rattle.std.proofs.Common.{ℕ, ◌↔◌, All, Bool, Contains, IsTrue, List, length, subst, sym, true}
+use Rattle.std.proofs.Common.{ℕ, ◌↔◌, All, Bool, Contains, IsTrue, List, subst, sym, true}
 use Rattle.std.specs.List.{AllZip}
 use Rattle.cn_discern.specs.Settings.{IsStart}
 use Rattle.cn_discern.specs.Splits.{SplitsFrom}

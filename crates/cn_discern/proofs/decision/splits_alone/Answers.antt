@@ -1,4 +1,4 @@
-use Rattle.std.proofs.Common.{ℕ, List, arith, length, subst, sym}
+use Rattle.std.proofs.Common.{ℕ, List, arith, subst, sym}
 use Rattle.cn_discern.specs.declared.stocks.Stock.{Stock}
 use Rattle.cn_discern.specs.Settings.{IsReady}
 use Rattle.cn_discern.specs.Stocks.{AreStocks, HaveAll}

@@ -1,4 +1,4 @@
-use Rattle.std.proofs.Common.{ℕ, ◌≤◌, ◌∙◌, arith, sym, true≢false}
+use Rattle.std.proofs.Common.{◌∙◌, arith, sym, true≢false}
 use Rattle.cn_discern.proofs.Decisions.{fewer_to}
 use Rattle.cn_discern.proofs.decision.splits_by_size.Goals as goal
 
