@@ -169,7 +169,11 @@ pub(crate) fn images(
 }
 
 /// The pairs of both rows.
-pub(crate) fn row_union(table: &Table, a: &[u16; MOST_STATES], b: &[u16; MOST_STATES]) -> [u16; MOST_STATES]
+pub(crate) fn row_union(
+    table: &Table,
+    a: &[u16; MOST_STATES],
+    b: &[u16; MOST_STATES],
+) -> [u16; MOST_STATES]
     requires a { IsRow table.now a.now }
     requires b { IsRow table.now b.now }
     ensures same { (r q : ℕ) → Has result r q ↔ (Has a.now r q ⊎ Has b.now r q) }

@@ -1,4 +1,4 @@
-use Rattle.std.proofs.Common.{ℕ, ◌↔◌, All, Bool, Contains, IsTrue, List, subst, sym, true}
+use Rattle.std.proofs.Common.{arith, refl, ℕ, ◌↔◌, All, Bool, Contains, IsTrue, List, subst, sym, true}
 use Rattle.std.specs.List.{AllZip}
 use Rattle.cn_discern.specs.Settings.{IsStart}
 use Rattle.cn_discern.specs.Splits.{SplitsFrom}
@@ -7,6 +7,15 @@ use Rattle.cn_discern.proofs.decision.is_discerning.Goals as goal
 
 pub by_start-requires-after_bounds : goal.by_start-requires-after_bounds
 by_start-requires-after_bounds g c κs within = subst (λ (starts : List ℕ). All (IsStart c.args.table.now c.args.n) starts) (sym c.as_slice.ensures.value) (λ k d l. record { start_is = c.in_ok-starts.ensures.known k d l; some = c.requires.some; few = c.requires.few })
+
+pub splits_by_size-requires : goal.splits_by_size-requires
+splits_by_size-requires g c = record { start_is = omega (arith, c.states-states.ensures.number, c.states-states.ensures.range.0); some = c.requires.some; few = c.requires.few }
+
+pub returns-then-branch : goal.returns-then-branch
+returns-then-branch g c =
+    let law = c.splits_decide.ensures c.args.table.now c.args.n c.requires.some in
+    let first = c.in_ok-splits_by_size.ensures.0 c.if-branch.true in
+    (λ h. law.1 (0, omega (arith, c.states-states.ensures.number, c.states-states.ensures.range.0), first), λ d. refl)
 
 pub returns : goal.returns
 returns g c =
