@@ -1,5 +1,5 @@
 -- Whether some stock splits, from what was found for each stock and each start state.
-use Rattle.std.proofs.Common.{◌≡◌, ℕ, zero, suc, ◌+◌, ◌<◌, inl, inr, ◌↔◌, List, [], ◌∷◌, ◌++◌, length, get_or, refl, sym, ap, ◌∙◌, subst, arith, Bool, true, IsTrue, Some, All, Contains, map, Result, Ok, Err, IfOk, MatchResult}
+use Rattle.std.proofs.Common.{◌≡◌, ℕ, zero, suc, ◌+◌, ◌<◌, inl, inr, ◌↔◌, List, [], ◌∷◌, ◌++◌, length, get_or, refl, sym, ap, ◌∙◌, subst, arith, Bool, true, IsTrue, Some, All, Contains, map, Result, Ok, Err, IfOk, MatchResult, ◌≢◌, ◌-◌, ◌≤◌, true≢false}
 use Rattle.std.specs.List.{AllZip, range_with_len}
 use Rattle.std.proofs.lemmas.List.FromFn.{length-range_with_len, get_or-range_with_len}
 use Rattle.cn_table.specs.TypeTable.{TypeTable}
@@ -7,10 +7,10 @@ use Rattle.cn_choice.proofs.Members.{IsIn, IsIn-from_Contains}
 use Rattle.cn_discern.specs.declared.stocks.Stock.{Stock}
 use Rattle.cn_discern.specs.Splits.{SomeSplits, Splits, SplitsFrom}
 use Rattle.cn_discern.specs.Stocks.{HaveAll, items_at}
-use Rattle.cn_discern.specs.Words.{HaveSame}
+use Rattle.cn_discern.specs.Words.{HaveSame, times, Shows}
 use Rattle.cn_discern.proofs.Steps.{shows_same}
 use Rattle.cn_discern.proofs.StockLemmas.{items_within}
-use Rattle.cn_discern.proofs.Times.{same_sym}
+use Rattle.cn_discern.proofs.Times.{one_else, same_or, same_sym, times_at, times_cons, times_none}
 
 -- the same operations split alike
 splits_same : (t : TypeTable) (start : ℕ) (a b : List ℕ) → HaveSame a b → Splits t start a → Splits t start b
@@ -87,3 +87,75 @@ starts_push starts new n e is =
     let zero_first : 0 + n ≡ n = omega arith in
     let more : suc n ≡ n + 1 = omega arith in
     e ∙ (ap (λ (l : List ℕ). l ++ n ∷ []) is ∙ (ap (λ (x : ℕ). range_with_len 0 n ++ x ∷ []) (sym zero_first) ∙ (range_last 0 n ∙ ap (range_with_len 0) more)))
+
+-- ---- with one operation less
+
+-- what is left of a list without one occurrence of x
+taken_out : (x : ℕ) (list : List ℕ) → 1 ≤ times x list → (rest : List ℕ) × HaveSame list (x ∷ rest) × (length list ≡ suc (length rest))
+taken_out x [] l = absurd (omega (arith, l, times_none x))
+taken_out x (y ∷ list) l = elim (same_or y x) [
+  | inl e ↦ (list, (λ o. ap (λ (z : ℕ). times o (z ∷ list)) e), refl)
+  | inr n ↦ (
+      let r = taken_out x list (omega (arith, l, times_cons x y list, one_else x y n)) in
+      (y ∷ r.0, (λ o. omega (arith, r.1 o, times_cons o y list, times_cons o x r.0, times_cons o x (y ∷ r.0), times_cons o y r.0)), omega (arith, r.2))
+      )
+]
+
+-- some operation of a list of three is there beside two given ones
+beside : (f g : ℕ) (list : List ℕ) → 3 ≤ length list → 1 ≤ times f list → 1 ≤ times g list → f ≢ g
+    → (rest : List ℕ) × ((x : ℕ) × HaveSame list (x ∷ rest)) × (length list ≡ suc (length rest)) × (1 ≤ times f rest) × (1 ≤ times g rest)
+beside f g list l a b n =
+    let first = taken_out f list a in
+    let left : 1 ≤ times g first.0 = omega (arith, b, first.1 g, times_cons g f first.0, one_else g f n) in
+    let second = taken_out g first.0 left in
+    third second.0 (omega (arith, l, first.2, second.2)) first.0 first.1 second.1 first.2 second.2
+  where
+    third : (rest : List ℕ) → 1 ≤ length rest → (first : List ℕ) → HaveSame list (f ∷ first) → HaveSame first (g ∷ rest) → length list ≡ suc (length first) → length first ≡ suc (length rest)
+        → (rest : List ℕ) × ((x : ℕ) × HaveSame list (x ∷ rest)) × (length list ≡ suc (length rest)) × (1 ≤ times f rest) × (1 ≤ times g rest)
+    third [] l first s u p q = absurd (omega (arith, l))
+    third (x ∷ rest) l first s u p q = (
+      f ∷ g ∷ rest,
+      (x, λ o. omega (arith, s o, u o, times_cons o f first, times_cons o g (x ∷ rest), times_cons o x rest, times_cons o x (f ∷ g ∷ rest), times_cons o f (g ∷ rest), times_cons o g rest)),
+      omega (arith, p, q),
+      times_at f (g ∷ rest),
+      omega (arith, times_cons g f (g ∷ rest), times_at g rest),
+    )
+
+more_shows : (t : TypeTable) (start : ℕ) (stock rest : List ℕ) (x f o r q : ℕ) → HaveSame stock (x ∷ rest) → Shows t start rest f o r q → Shows t start stock f o r q
+more_shows t start stock rest x f o r q same s = record {
+  before = s.before;
+  after = s.after;
+  within = λ p. omega (arith, s.within p, same p, times_cons p x rest);
+  begins = s.begins;
+  answer = s.answer;
+  ends = s.ends;
+}
+
+one_less : (t : TypeTable) (n start : ℕ) → 2 ≤ n → SplitsFrom t (n + 1) start → SplitsFrom t n start
+one_less t n start l h =
+    let s = h.3 in
+    let apart : s.inside.0 ≢ s.outside.0 = λ e. true≢false (sym s.inside.2 ∙ (ap s.chosen e ∙ s.outside.2)) in
+    let r = beside s.inside.0 s.outside.0 h.0 (omega (arith, l, h.2)) s.inside.1 s.outside.1 apart in
+    let x = r.1.0 in
+    let same = r.1.1 in (
+      r.0,
+      λ o k. h.1 o (omega (arith, k, same o, times_cons o x r.0)),
+      omega (arith, r.2, h.2),
+      record {
+        chosen = s.chosen;
+        inside = (s.inside.0, r.3, s.inside.2);
+        outside = (s.outside.0, r.4, s.outside.2);
+        apart = λ f g sure unsure j. s.apart f g sure unsure
+            (j.0, j.1, j.2, more_shows t start h.0 r.0 x f j.0 j.1 j.2 same j.3, more_shows t start h.0 r.0 x g j.0 j.1 j.2 same j.4);
+      },
+    )
+
+-- where no stock of some number of operations splits from a state, no larger one does
+pub fewer : (t : TypeTable) (m more start : ℕ) → 2 ≤ m → SplitsFrom t (m + more) start → SplitsFrom t m start
+fewer t m zero start l h = let e : m + 0 ≡ m = omega arith in subst (λ (k : ℕ). SplitsFrom t k start) e h
+fewer t m (suc more) start l h =
+    let e : m + suc more ≡ m + more + 1 = omega arith in
+    fewer t m more start l (one_less t (m + more) start (omega (arith, l)) (subst (λ (k : ℕ). SplitsFrom t k start) e h))
+
+pub fewer_to : (t : TypeTable) (m n start : ℕ) → 2 ≤ m → m ≤ n → SplitsFrom t n start → SplitsFrom t m start
+fewer_to t m n start l u h = let e : n ≡ m + (n - m) = omega (arith, u) in fewer t m (n - m) start l (subst (λ (k : ℕ). SplitsFrom t k start) e h)

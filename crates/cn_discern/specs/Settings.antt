@@ -2,6 +2,7 @@
 use Rattle.std.specs.Prelude.{◌≡◌, ◌↔◌, ℕ, ◌<◌, ◌≤◌, List, length, slice_get, slice_index, slice_index_or, [], Some, Vec, IsBitSet}
 use Rattle.std.specs.declared.alloc.Global.{Global}
 use Rattle.cn_table.specs.TypeTable.{TypeTable}
+use Rattle.cn_choice.specs.declared.limits.TheConstants.{MOST_PROCESSES}
 use Rattle.cn_outcomes.specs.Subsets.{Below}
 use Rattle.cn_outcomes.specs.PairSets.{Has}
 use Rattle.cn_discern.specs.declared.setting.Setting.{Setting}
@@ -49,3 +50,9 @@ pub record IsReady (t : TypeTable) (n : ℕ) (stocks : List Stock) (start : ℕ)
   pub stocks_are : AreStocks (length t.operations) stocks
   pub all : HaveAll (length t.operations) n stocks
   pub some : 1 ≤ n
+
+-- a start state of the table, and a number of processes for which stocks decide
+pub record IsStart (t : TypeTable) (n start : ℕ) : Type 0 where
+  pub start_is : start < length t.states
+  pub some : 3 ≤ n
+  pub few : n ≤ MOST_PROCESSES

@@ -3,7 +3,7 @@ ghost use Rattle.std.specs.Prelude.{◌≡◌, ◌<◌, ◌≤◌, ◌↔◌, �
 ghost use Rattle.std.specs.List.{AllZip};
 ghost use Rattle.cn_choice.specs.Discerning.{IsDiscerning};
 ghost use Rattle.cn_choice.specs.declared.limits.TheConstants.{MOST_PROCESSES};
-ghost use Rattle.cn_discern.specs.Settings.{AreByFirst, IsReady, IsSetting};
+ghost use Rattle.cn_discern.specs.Settings.{AreByFirst, IsReady, IsSetting, IsStart};
 ghost use Rattle.cn_discern.specs.Splits.{SomeSplits, SplitsFrom};
 ghost use Rattle.cn_discern.specs.Stocks.{AreStocks, HaveAll};
 
@@ -56,6 +56,29 @@ fn splits_from(
     Ok(some_splits(&setting, rows.as_slice(), n))
 }
 
+/// Whether some stock of n operations splits from the state, by its own stocks.
+fn splits_alone(alloc: Global, table: &Table, n: u8, start: u8) -> Result<bool, AllocError>
+    requires { IsStart table.now n start }
+    ensures { IfOk result (λ yes. IsTrue yes ↔ SplitsFrom table.now n start) }
+{
+    let stocks = stocks_up_to(alloc, table.operations(), n)?;
+    splits_from(alloc, table, stocks.as_slice(), n as usize, start)
+}
+
+/// Whether some stock of n operations splits from the state. Where none of some number of operations
+/// does no larger one does, so that the search ends there.
+fn splits_by_size(alloc: Global, table: &Table, n: u8, start: u8) -> Result<bool, AllocError>
+    requires { IsStart table.now n start }
+    ensures { IfOk result (λ yes. IsTrue yes ↔ SplitsFrom table.now n start) }
+{
+    for size in 3..n {
+        if !splits_alone(alloc, table, size, start)? {
+            return Ok(false);
+        }
+    }
+    splits_alone(alloc, table, n, start)
+}
+
 /// All states of the table.
 fn all_starts(alloc: Global, table: &Table) -> Result<Vec<u8>, AllocError>
     ensures known { IfOk result (λ starts. All (λ start. start < length table.now.states)
@@ -75,14 +98,10 @@ fn by_start<T: Threads + Sync>(
     rt: &T,
     alloc: Global,
     table: &Table,
-    stocks: &[Stock],
-    n: usize,
+    n: u8,
     starts: &[u8],
 ) -> Result<Vec<bool>, AllocError>
-    requires stocks { AreStocks (length table.now.operations) stocks.now }
-    requires all { HaveAll (length table.now.operations) n stocks.now }
-    requires some { 1 ≤ n }
-    requires starts { All (λ start. start < length table.now.states) starts.now }
+    requires { All (IsStart table.now n) starts.now }
     ensures { IfOk result (λ answers. AllZip
         (λ start answer. IsTrue answer ↔ SplitsFrom table.now n start) starts.now answers.items) }
 {
@@ -91,9 +110,9 @@ fn by_start<T: Threads + Sync>(
         .with_min_len(1)
         .map(
             |start: &u8| -> Result<bool, AllocError>
-                requires { IsReady table.now n stocks.now start.now }
+                requires { IsStart table.now n start.now }
                 ensures { IfOk result (λ yes. IsTrue yes ↔ SplitsFrom table.entry.now n start.now) }
-            { splits_from(alloc, table, stocks, n, *start) },
+            { splits_by_size(alloc, table, n, *start) },
         )
         .collect::<Result<Vec<bool>, AllocError>>(rt, alloc)?
 }
@@ -127,15 +146,12 @@ pub fn is_discerning<T: Threads + Sync>(
     ensures { IfOk result (λ yes. IsTrue yes ↔ IsDiscerning table.now n) }
 {
     laws::splits_decide();
-    let stocks = stocks_up_to(alloc, table.operations(), n)?;
+    let _states = table.states();
+    // Often the first state is enough.
+    if splits_by_size(alloc, table, n, 0)? {
+        return Ok(true);
+    }
     let starts = all_starts(alloc, table)?;
-    let answers = by_start(
-        rt,
-        alloc,
-        table,
-        stocks.as_slice(),
-        n as usize,
-        starts.as_slice(),
-    )?;
+    let answers = by_start(rt, alloc, table, n, starts.as_slice())?;
     Ok(some_yes(answers.as_slice()))
 }

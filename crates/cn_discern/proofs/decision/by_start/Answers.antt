@@ -1,7 +1,8 @@
-use Rattle.std.proofs.Common.{ℕ, ◌<◌, ◌↔◌, ◌∙◌, length, subst, sym, ap, Bool, Global, IfOk, IsTrue, List, Result}
+use Rattle.std.proofs.Common.{ℕ, ◌↔◌, ◌∙◌, subst, sym, ap, Bool, Global, IfOk, IsTrue, List, Result}
 use Rattle.std.specs.declared.alloc.AllocError.{AllocError}
 use Rattle.std.specs.declared.vec.Vec.{Vec as VecOf}
 use Rattle.rayon.proofs.ToStd.{slice-AllZip}
+use Rattle.cn_discern.specs.Settings.{IsStart}
 use Rattle.cn_discern.specs.Splits.{SplitsFrom}
 use Rattle.cn_discern.proofs.Decisions.{collected}
 use Rattle.cn_discern.proofs.decision.by_start.Goals as goal
@@ -17,12 +18,4 @@ returns g c =
     collected AllocError rel items c.args.starts.now h.0 c.in_ok-collect.field-0 (slice-AllZip chain.0 c.args.starts.now (chain.1 ∙ slice) whole h.0 chain.2) h.2
 
 pub collect-requires-clause-ready : goal.collect-requires-clause-ready
-collect-requires-clause-ready g c = rw (c.map.ensures.base, c.map.ensures.f, c.with_min_len.ensures.base, c.par_iter.ensures) (λ κs lives k d lt x e. (
-  record {
-    start_is = subst (λ (start : ℕ). start < length c.args.table.now.states) (sym e) (c.requires.starts k d lt);
-    stocks_are = c.requires.stocks;
-    all = c.requires.all;
-    some = c.requires.some;
-  },
-  λ y p. tt,
-))
+collect-requires-clause-ready g c = rw (c.map.ensures.base, c.map.ensures.f, c.with_min_len.ensures.base, c.par_iter.ensures) (λ κs lives k d lt x e. (subst (λ (start : ℕ). IsStart c.args.table.now c.args.n start) (sym e) (c.requires k d lt), λ y p. tt))
