@@ -1,10 +1,10 @@
 -- Numbers with no evidence, from what was tried.
-use Rattle.std.proofs.Common.{◌≡◌, ◌≢◌, ◌⊎◌, inl, inr, ◌↔◌, ℕ, ◌+◌, ◌≤◌, ◌<◌, Contains, IsTrue, List, ◌++◌, Option, Some, None, is_some, arith, ap, refl, sym, subst, ◌∙◌, true≢false}
+use Rattle.std.proofs.Common.{◌≡◌, ◌≢◌, inl, inr, ◌↔◌, ℕ, ◌+◌, ◌≤◌, ◌<◌, Contains, IsTrue, List, ◌++◌, Option, Some, None, is_some, arith, ap, refl, sym, subst, ◌∙◌, true≢false}
 use Rattle.std.proofs.Math.Nat.{eq-or-lt_of_le}
 use Rattle.cn_table.specs.TypeTable.{TypeTable}
 use Rattle.cn_choice.specs.Blocks.{Block}
 use Rattle.cn_choice.specs.Canonical.{Choice, raw_choice_of}
-use Rattle.cn_choice.specs.Discerning.{IsDiscerning, IsNumberUpTo, IsWitness}
+use Rattle.cn_choice.specs.Discerning.{IsDiscerning, IsWitness}
 use Rattle.cn_search.specs.Evidence.{IsFirstAmong, NoneIsWitness, choices_of_all}
 use Rattle.cn_choice.specs.Live.{live_choices}
 use Rattle.cn_search.proofs.Batches.{search_found, search_start}

@@ -1,4 +1,4 @@
-use Rattle.std.proofs.Common.{◌∙◌, ap, sym, subst, IsTrue}
+use Rattle.std.proofs.Common.{◌∙◌, ap, subst, IsTrue}
 use Rattle.std.proofs.lemmas.List.Elements.{All-take}
 use Rattle.cn_search.specs.Evidence.{IsListedBlock, choices_of_all}
 use Rattle.cn_search.proofs.Batches.{all_listed}
