@@ -1,7 +1,7 @@
 //! The laws that hold of recording witnesses and of recoverable numbers for every type and limit.
 //!
 //! A law is a function that does nothing: its contract is the law.
-ghost use Rattle.std.specs.Prelude.{◌≡◌, ◌<◌, ◌≤◌, ◌+◌, ◌-◌, ℕ, All, Contains, IsSomeAnd, List, None, Option, Some};
+ghost use Rattle.std.specs.Prelude.{◌≡◌, ◌≢◌, ◌<◌, ◌≤◌, ◌+◌, ◌-◌, ℕ, All, Contains, IsSomeAnd, List, None, Option, Some};
 ghost use Rattle.cn_table.specs.TypeTable.{TypeTable};
 ghost use Rattle.cn_choice.specs.Canonical.{Choice, raw_choice_of};
 ghost use Rattle.cn_choice.specs.Discerning.{IsDiscerning, IsNumberUpTo, IsWitness};
@@ -44,6 +44,14 @@ pub fn number_before_failure()
         → (n < limit → ¬ IsRecording t (n + 1)) → IsRecoverableNumberUpTo t limit (Some n) }
     ensures none { (t : TypeTable) (limit : ℕ) → ¬ IsRecording t 2
         → IsRecoverableNumberUpTo t limit None }
+{}
+
+/// A recoverable number below the limit is the one up to each greater limit too, and where there is
+/// none up to the limit there is none at all.
+pub fn number_below_the_limit()
+    ensures { (t : TypeTable) (limit more : ℕ) (number : Option ℕ) → 2 ≤ limit → limit ≤ more
+        → IsRecoverableNumberUpTo t limit number → number ≢ Some limit
+        → IsRecoverableNumberUpTo t more number }
 {}
 
 /// There is only one recoverable number up to a limit.

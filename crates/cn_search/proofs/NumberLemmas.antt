@@ -20,22 +20,21 @@ module _ (P : ℕ → Type 0) (limit : ℕ) (Greatest : Option ℕ → Type 0) (
   greatest_refuted n None two within fails = none (subst (λ (k : ℕ). ¬ P k) two fails)
   greatest_refuted n (Some m) (next, two, is) within fails = found m two (omega (arith, next, within)) is (λ _. subst (λ (k : ℕ). ¬ P k) next fails)
 
+  -- the greatest number up to a lower limit, below that
+  pub greatest_of_lower : (lower : ℕ) (Lower : Option ℕ → Type 0) → (Lower None → (m : ℕ) → 2 ≤ m → m ≤ lower → ¬ P m)
+      → ((n : ℕ) → Lower (Some n) → (2 ≤ n) × (n ≤ lower) × P n × ((m : ℕ) → n < m → m ≤ lower → ¬ P m))
+      → (number : Option ℕ) → 2 ≤ lower → lower ≤ limit → Lower number → number ≢ Some lower → Greatest number
+  greatest_of_lower lower Lower of_none of_some None least within is below = none (of_none is 2 (omega arith) least)
+  greatest_of_lower lower Lower of_none of_some (Some m) least within is below =
+      let at = of_some m is in
+      elim (eq-or-lt_of_le at.1) [
+        | inl same ↦ absurd (below (ap Some same))
+        | inr less ↦ found m at.0 (omega (arith, at.1, within)) at.2 (λ _. at.3 (m + 1) (omega arith) (omega (arith, less)))
+      ]
+
 -- a first witness, or that there is none, tells whether the type is discerning
 pub discerning_by_witness : (t : TypeTable) (n : ℕ) → (NoneIsWitness t (live_choices t n) → ¬ IsDiscerning t n)
     → ((c : Choice) → Contains (live_choices t n) c → IsWitness t (raw_choice_of c) → IsDiscerning t n)
     → (found : Option Choice) → IsFirstAmong t (live_choices t n) found → IsTrue (is_some found) ↔ IsDiscerning t n
 discerning_by_witness t n refuted shown None h = ((λ some. absurd (true≢false (sym some))), (λ is. absurd (refuted h is)))
 discerning_by_witness t n refuted shown (Some w) h = ((λ _. shown w (Contains-between _ h.before h.after w (sym h.listed)) h.witness), (λ _. refl))
-
--- a type and a limit, and what the law of numbers says of them
-module _ (t : TypeTable) (limit : ℕ)
-    (number_found : (n : ℕ) → 2 ≤ n → n ≤ limit → IsDiscerning t n → (n < limit → ¬ IsDiscerning t (n + 1)) → IsNumberUpTo t limit (Some n))
-    (no_number : ¬ IsDiscerning t 2 → IsNumberUpTo t limit None) where
-  -- the number up to a lower limit, below that
-  pub number_of_lower : (lower : ℕ) (number : Option ℕ) → 2 ≤ lower → lower ≤ limit → IsNumberUpTo t lower number → number ≢ Some lower → IsNumberUpTo t limit number
-  number_of_lower lower None some within none below = no_number (none 2 (omega arith) some)
-  number_of_lower lower (Some m) some within (two, up_to, is, above) below = by_place (eq-or-lt_of_le up_to)
-    where
-      by_place : (m ≡ lower) ⊎ (m < lower) → IsNumberUpTo t limit (Some m)
-      by_place (inl same) = absurd (below (ap Some same))
-      by_place (inr less) = number_found m two (omega (arith, up_to, within)) is (λ _. above (m + 1) (omega arith) (omega (arith, less)))

@@ -2,7 +2,7 @@ use Rattle.std.proofs.Common.{◌++◌, ◌∙◌, List, ap, append-nil, append_
 use Rattle.cn_choice.specs.Canonical.{Choice, raw_choice_of}
 use Rattle.cn_choice.specs.Blocks.{Block}
 use Rattle.cn_choice.specs.RawChoices.{IsRawChoice}
-use Rattle.cn_search.proofs.ListLemmas.{Contains-between}
+use Rattle.cn_table.proofs.Lists.{Contains-between}
 use Rattle.cn_recover.specs.Recording.{IsRecordingWitness, SomeRecords}
 use Rattle.cn_recover.proofs.Searching.{none_more, some_between}
 use Rattle.cn_recover.proofs.levels.some_records_in.Goals as goal

@@ -1,6 +1,7 @@
-use Rattle.std.proofs.Common.{codes}
+use Rattle.std.proofs.Common.{codes, refl, sym}
+use Rattle.clap.specs.Matches.{found_of}
 use Rattle.cn_words.specs.GivenCommands.{rows_in}
-use Rattle.cn_words.proofs.GivenLemmas.{wants}
+use Rattle.cn_words.proofs.GivenLemmas.{flag_read, wants}
 use Rattle.cn_words.proofs.commands.classify.Goals as goal
 
 pub returns-in_default : goal.returns-in_default
