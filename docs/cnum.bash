@@ -9,7 +9,7 @@ _cnum() {
         [[ $previous == --limit ]] && values='2 3 4 5 6 7 8'
         ;;
     classify)
-        options='--limit -h --help' arguments='FILE...'
+        options='--limit --recoverable -h --help' arguments='FILE...'
         [[ $previous == --limit ]] && values='2 3 4 5 6 7 8'
         ;;
     lint)

@@ -55,6 +55,7 @@ complete -c cnum -n '__cnum_is' -a help -d 'Print this message or the help of th
 complete -c cnum -n '__cnum_is find' -l limit -x -a '2 3 4 5 6 7 8' -d 'The greatest number looked for, from 2 to 8'
 complete -c cnum -n '__cnum_is find' -s h -l help -d 'Print help'
 complete -c cnum -n '__cnum_is classify' -l limit -x -a '2 3 4 5 6 7 8' -d 'The greatest number looked for, from 2 to 8'
+complete -c cnum -n '__cnum_is classify' -l recoverable -d 'Writes the recoverable number of each type too'
 complete -c cnum -n '__cnum_is classify' -s h -l help -d 'Print help'
 complete -c cnum -n '__cnum_from classify 1' -F
 complete -c cnum -n '__cnum_is lint' -s h -l help -d 'Print help'

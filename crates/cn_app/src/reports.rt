@@ -16,7 +16,9 @@ mod show;
 
 pub use agree::agree_report;
 pub use check::check_report;
-pub use classify::{check_limit, class_report};
+pub use classify::{
+    AskedNumbers, check_limit, class_report, numbers_report, recoverable_report,
+};
 pub use draw::draw_report;
 pub use explain::explain_report;
 pub use find::find_report;

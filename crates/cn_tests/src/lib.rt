@@ -35,6 +35,8 @@ mod many;
 #[cfg(test)]
 mod proto;
 #[cfg(test)]
+mod recover;
+#[cfg(test)]
 mod refused;
 #[cfg(test)]
 mod search;

@@ -81,7 +81,7 @@ Wants name rows =
 -- a command of this name has it
 pub wants : (name : Text) (rows : List Row) (c : Command) → IsNamed name rows c → Wants name rows
 wants name rows (Find limit) h = subst (λ n. Wants n rows) (sym h.0) (limit, h.1)
-wants name rows (Classify limit tables) h = subst (λ n. Wants n rows) (sym h.0) ((limit, h.1.0), (tables, h.1.1))
+wants name rows (Classify limit recoverable tables) h = subst (λ n. Wants n rows) (sym h.0) ((limit, h.1.0), (tables, h.1.2))
 wants name rows Lint h = subst (λ n. Wants n rows) (sym h.0) tt
 wants name rows Draw h = subst (λ n. Wants n rows) (sym h.0) tt
 wants name rows (Check certificate) h = subst (λ n. Wants n rows) (sym h.0) (certificate.now, h.1)

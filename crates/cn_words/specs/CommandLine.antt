@@ -68,7 +68,7 @@ find_words = command_with (codes "find") (record limit_option { required = true 
 
 abbrev pub classify_words : Shape
 classify_words = command_with (codes "classify")
-    (record limit_option { defaults = codes "8" ∷ [] } ∷ required_words (codes "FILE") ∷ [])
+    (record limit_option { defaults = codes "8" ∷ [] } ∷ flag (codes "recoverable") ∷ required_words (codes "FILE") ∷ [])
 
 abbrev pub lint_words : Shape
 lint_words = command_with (codes "lint") []

@@ -90,7 +90,7 @@ HasOpening rows opening = HasWord (codes "CERT") rows opening.certificate.now
 
 abbrev pub name_of : Command → Text
 name_of (Find limit) = codes "find"
-name_of (Classify limit tables) = codes "classify"
+name_of (Classify limit recoverable tables) = codes "classify"
 name_of Lint = codes "lint"
 name_of Draw = codes "draw"
 name_of (Check certificate) = codes "check"
@@ -103,8 +103,8 @@ name_of (Serve opening calls) = codes "serve"
 -- each argument is what its word says
 abbrev pub HasArguments : List Row → Command → Type 0
 HasArguments rows (Find limit) = HasNumber (codes "limit") rows limit
-HasArguments rows (Classify limit tables) =
-    HasNumber (codes "limit") rows limit × HasTables rows tables.items
+HasArguments rows (Classify limit recoverable tables) =
+    HasNumber (codes "limit") rows limit × HasFlag (codes "recoverable") rows recoverable × HasTables rows tables.items
 HasArguments rows Lint = Unit {0}
 HasArguments rows Draw = Unit {0}
 HasArguments rows (Check certificate) = HasWord (codes "CERT") rows certificate.now

@@ -54,6 +54,8 @@ pub enum Command<'a> {
     Classify {
         /// The greatest number looked for.
         limit: u8,
+        /// Whether the recoverable number is written too.
+        recoverable: bool,
         /// The tables of the types, one at least.
         tables: Vec<TableSource<'a>>,
     },
@@ -231,7 +233,11 @@ fn classify<'a>(alloc: Global, words: &ArgMatches<'a>) -> Result<Option<Command<
     let Some(tables) = tables(alloc, words)? else {
         return Ok(None);
     };
-    Ok(Some(Command::Classify { limit, tables }))
+    Ok(Some(Command::Classify {
+        limit,
+        recoverable: words.get_flag("recoverable"),
+        tables,
+    }))
 }
 
 fn check<'a>(words: &ArgMatches<'a>) -> Option<Command<'a>>

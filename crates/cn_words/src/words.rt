@@ -87,6 +87,10 @@ Writes for each type a line as soon as its number is known: its name, a colon, a
 where it is n-discerning for no such n; at least N where the number is N, since a greater limit may
 show a greater number. A number without at least is that for every greater limit too.
 
+With --recoverable a comma, the word recoverable and a second number follow: the greatest n from 2
+to N for which the type is n-recording, that is, the number of processes that can agree where each
+may crash and come back with its own memory lost.
+
 A table that cannot be read or is refused has a line on standard error that begins with the name of
 its file, and the others go on. The exit status is that of the first fault.
 
@@ -384,7 +388,9 @@ fn classify<'a>(alloc: Global) -> Result<Command<'a>, AllocError>
     ensures { IfOk result (IsCommand classify_words) }
 {
     let command = bare_command(alloc, "classify", CLASSIFY_ABOUT, CLASSIFY_AFTER);
+    let recoverable = "Writes the recoverable number of each type too";
     let command = with_argument(Ok(command), limit(alloc).default_value("8"));
+    let command = with_argument(command, flag(alloc, "recoverable", recoverable));
     with_argument(command, files(alloc))
 }
 

@@ -7,6 +7,7 @@ use Rattle.cn_app.specs.Streams.Writing.{IsSilent}
 use Rattle.cn_app.specs.declared.commands.of_several_tables.NamedTable.{NamedTable}
 use Rattle.cn_app.specs.declared.fault.AppFault.{AppFault}
 use Rattle.cn_app.specs.declared.fault.AppFault.TheVariants.{OutOfMemory}
+use Rattle.cn_app.specs.declared.reports.classify.AskedNumbers.{AskedNumbers}
 use Rattle.cn_app.specs.declared.streams.output.Output.{Output}
 
 -- the name of a table; a minus sign is that of standard input
@@ -26,11 +27,11 @@ pub record AreNamed {R : Type 0} (left : R → Option (List ℕ)) (bytes : Table
   pub bytes_left : map (λ t. left t.text.reader) tables ≡ map bytes sources
   pub unread : AreUnread tables
 
--- classifying the tables of these sources ends so: they were classified in order, up to this limit, with this first fault; or memory ran out before, and
+-- classifying the tables of these sources ends so: they were classified in order, for the numbers asked for, with this first fault; or memory ran out before, and
 -- nothing was written or told
 abbrev pub ClassifiesSources : {R W D : Type 0} → (R → Option (List ℕ)) → (W → Option (List ℕ)) → (D → Option (List ℕ) → AppFault → D → Type 0)
-    → (TableSource → Option (List ℕ)) → List TableSource → ℕ → Output W → D → Output W → D → Result (Option AppFault) AppFault → Type 0
-ClassifiesSources {R} left contents tells bytes sources limit u d v e (Ok first) =
+    → (TableSource → Option (List ℕ)) → List TableSource → AskedNumbers → Output W → D → Output W → D → Result (Option AppFault) AppFault → Type 0
+ClassifiesSources {R} left contents tells bytes sources asked u d v e (Ok first) =
     (tables : List (NamedTable R)) × (after : List (NamedTable R)) × AreNamed left bytes sources tables
-    × AreClassified left contents tells limit tables after u d first v e
-ClassifiesSources left contents tells bytes sources limit u d v e (Err fault) = (fault ≡ OutOfMemory) × IsSilent u v × (e ≡ d)
+    × AreClassified left contents tells asked tables after u d first v e
+ClassifiesSources left contents tells bytes sources asked u d v e (Err fault) = (fault ≡ OutOfMemory) × IsSilent u v × (e ≡ d)

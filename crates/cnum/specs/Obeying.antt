@@ -1,5 +1,5 @@
 -- What the program does with a command: what becomes of its streams, and how it ends.
-use Rattle.std.specs.Prelude.{◌≡◌, ◌≢◌, ◌⊎◌, ℕ, List, Option, Result, Vec}
+use Rattle.std.specs.Prelude.{◌≡◌, ◌≢◌, ◌⊎◌, Bool, ℕ, List, Option, Result, Vec}
 use Rattle.std.specs.Global.{Global}
 use Rattle.cn_words.specs.declared.commands.Command.{Command}
 use Rattle.cn_words.specs.declared.commands.Command.TheVariants.{Classify}
@@ -7,6 +7,7 @@ use Rattle.cn_words.specs.declared.commands.TableSource.{TableSource}
 use Rattle.cn_app.specs.Streams.Writing.{IsUnwritten}
 use Rattle.cn_app.specs.declared.fault.AppFault.{AppFault}
 use Rattle.cn_app.specs.declared.report.Outcome.{Outcome}
+use Rattle.cn_app.specs.declared.reports.classify.AskedNumbers.{AskedNumbers}
 use Rattle.cn_app.specs.declared.streams.output.Output.{Output}
 use Rattle.cnum.specs.Exits.{classify_status, command_status}
 use Rattle.cnum.specs.NamedTables.{ClassifiesSources, bytes_of}
@@ -23,17 +24,17 @@ module _ {S F D W : Type 0} (remaining : S → Option (List ℕ)) (left : LazyFi
   RunsOne stdin command u v status = (end : Result Outcome AppFault) × Runs remaining left contents files stdin command u v end
       × (status ≡ command_status end)
 
-  -- the tables of these sources were classified up to this limit, and the exit status is that of the first fault
-  abbrev pub ClassifiesAll : S → ℕ → List TableSource → Output W → Output W → ℕ → Type 0
-  ClassifiesAll stdin limit sources u v status = (first : Result (Option AppFault) AppFault) × (before : Faults D) × (after : Faults D)
-      × ClassifiesSources (left_of remaining left) contents (λ _ _ _ _. Unit {0}) (bytes_of (remaining stdin) files) sources limit u before v after first
+  -- the tables of these sources were classified for the numbers asked for, and the exit status is that of the first fault
+  abbrev pub ClassifiesAll : S → AskedNumbers → List TableSource → Output W → Output W → ℕ → Type 0
+  ClassifiesAll stdin asked sources u v status = (first : Result (Option AppFault) AppFault) × (before : Faults D) × (after : Faults D)
+      × ClassifiesSources (left_of remaining left) contents (λ _ _ _ _. Unit {0}) (bytes_of (remaining stdin) files) sources asked u before v after first
       × (status ≡ classify_status first)
 
   -- `classify` classifies the tables that its words name, and every other command is one of one table
   abbrev pub Does : S → Command → Output W → Output W → ℕ → Type 0
-  Does stdin command u v status = ((limit : ℕ) × (tables : Vec TableSource Global) × (command ≡ Classify limit tables)
-      × ClassifiesAll stdin limit tables.items u v status)
-      ⊎ (((limit : ℕ) (tables : Vec TableSource Global) → command ≢ Classify limit tables) × RunsOne stdin command u v status)
+  Does stdin command u v status = ((limit : ℕ) × (recoverable : Bool) × (tables : Vec TableSource Global) × (command ≡ Classify limit recoverable tables)
+      × ClassifiesAll stdin (record { limit = limit; recoverable = recoverable }) tables.items u v status)
+      ⊎ (((limit : ℕ) (recoverable : Bool) (tables : Vec TableSource Global) → command ≢ Classify limit recoverable tables) × RunsOne stdin command u v status)
 
   -- the command was done with these streams, of which nothing was used
   abbrev pub Obeys : S → W → Command → ℕ → Type 0

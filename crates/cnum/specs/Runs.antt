@@ -107,7 +107,7 @@ module _ {R L W : Type 0} (remaining : R → Option (List ℕ)) (left : L → Op
   RunsOn table (Agree certificate inputs schedule steps) u v r = RunsAgree table certificate.now inputs schedule steps u v r
   RunsOn table (Replay opening events) u v r = RunsReplay table opening events u v r
   RunsOn table (Serve opening calls) u v r = RunsServe table opening calls u v r
-  RunsOn table (Classify limit tables) u v r = (r ≡ Err Words) × IsSilent u v
+  RunsOn table (Classify limit recoverable tables) u v r = (r ≡ Err Words) × IsSilent u v
 
   -- the same of a table that the input gives, of which nothing was read
   abbrev pub Runs : R → Command → Output W → Output W → Result Outcome AppFault → Type 0

@@ -17,6 +17,7 @@ mod runs;
 mod table_reader;
 
 use cn_app::commands::Tell;
+use cn_app::reports::AskedNumbers;
 use cn_app::{AppFault, Outcome, Output};
 use cn_words::{Command, CommandFault, Reply};
 use disk::Disk;
@@ -72,9 +73,18 @@ fn obey<T: Threads + Wait + Sync + Disk + Eprint, I: Read + Copy + Drop, O: Writ
         (T.contents rt.now) stdin stdout command.now (exit_status result) }
 {
     let mut output = Output::new(alloc, stdout);
-    if let Command::Classify { limit, tables } = command {
+    if let Command::Classify {
+        limit,
+        recoverable,
+        tables,
+    } = command
+    {
         let mut faults = Faults { rt };
-        let first = classify(rt, alloc, stdin, &mut output, &mut faults, *limit, tables);
+        let asked = AskedNumbers {
+            limit: *limit,
+            recoverable: *recoverable,
+        };
+        let first = classify(rt, alloc, stdin, &mut output, &mut faults, asked, tables);
         return classify_exit(rt, first);
     }
     command_exit(rt, run(rt, alloc, stdin, &mut output, command))

@@ -12,6 +12,7 @@ use crate::lazy_file::{LazyFile, file_text};
 use crate::table_reader::TableReader;
 use cn_app::commands::{self, NamedTable, Tell};
 use cn_app::readers::OpeningArguments;
+use cn_app::reports::AskedNumbers;
 use cn_app::{AppFault, Argument, Outcome, Output, Text};
 use cn_hall::AlwaysOn;
 use cn_words::{Command, ListSource, OpeningWords, TableSource};
@@ -68,17 +69,17 @@ pub fn classify<T: Threads + Sync + Disk, S: Read + Copy, O: Write, F: Tell>(
     stdin: S,
     output: &mut Output<O>,
     faults: &mut F,
-    limit: u8,
+    asked: AskedNumbers,
     sources: &[TableSource<'_>],
 ) -> Result<Option<AppFault>, AppFault>
     requires { IsWritable output.old }
     ensures { ClassifiesSources (left_of S.remaining (left_in T.contents T.Reader.remaining))
-        O.contents F.tells (bytes_of (S.remaining stdin) (T.contents rt.now)) sources.now limit
+        O.contents F.tells (bytes_of (S.remaining stdin) (T.contents rt.now)) sources.now asked
         output.old faults.old output.new faults.new result }
 {
     let mut tables = named_tables(rt, alloc, stdin, sources)?;
     let tables = tables.as_mut_slice();
-    Ok(commands::classify_each(rt, alloc, tables, output, faults, limit))
+    Ok(commands::classify_each(rt, alloc, tables, output, faults, asked))
 }
 
 // The arguments of a command that opens a log, of which nothing was read.

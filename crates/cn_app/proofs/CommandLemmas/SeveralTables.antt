@@ -11,6 +11,7 @@ use Rattle.cn_app.specs.declared.fault.AppFault.{AppFault}
 use Rattle.cn_app.specs.declared.fault.AppFault.TheVariants.{Write}
 use Rattle.cn_app.specs.declared.report.Outcome.{Outcome}
 use Rattle.cn_app.specs.declared.report.Report.{Report}
+use Rattle.cn_app.specs.declared.reports.classify.AskedNumbers.{AskedNumbers}
 use Rattle.cn_app.specs.declared.streams.progress.Progress.TheVariants.{Done, Failed}
 use Rattle.cn_app.specs.declared.streams.output.Output.{Output}
 
@@ -29,48 +30,48 @@ no_fault outcome e r line fault = cc
 not_own : (e fault : AppFault) (r : Result Outcome AppFault) → r ≡ Err e → r ≡ Err fault → is_of_every_table fault ≡ false → e ≡ Write → ⊥
 not_own e fault r this that own write = let w : fault ≡ Write = cc in let t : is_of_every_table Write ≡ false = sym (ap is_of_every_table w) ∙ own in cc
 
-module _ {R W D : Type 0} (remaining : R → Option (List ℕ)) (contents : W → Option (List ℕ)) (tells : D → Option (List ℕ) → AppFault → D → Type 0) (limit : ℕ)
+module _ {R W D : Type 0} (remaining : R → Option (List ℕ)) (contents : W → Option (List ℕ)) (tells : D → Option (List ℕ) → AppFault → D → Type 0) (asked : AskedNumbers)
     (tables : List (NamedTable R)) (u : Output W) (c : D) where
   -- some tables came to be these; with what becomes of the rest it is known what becomes of all
   abbrev pub Leads : Option AppFault → List (NamedTable R) → List (NamedTable R) → Output W → D → Type 0
   Leads so_far before rest v d = (first : Option AppFault) (after : List (NamedTable R)) (w : Output W) (e : D)
-      → AreClassified remaining contents tells limit rest after v d first w e
-      → AreClassified remaining contents tells limit tables (before ++ after) u c (option_or so_far first) w e
+      → AreClassified remaining contents tells asked rest after v d first w e
+      → AreClassified remaining contents tells asked tables (before ++ after) u c (option_or so_far first) w e
 
   -- one more came to be this: that is known of the tables behind it
   behind : (before after : List (NamedTable R)) (new : NamedTable R) (first : Option AppFault) (w : Output W) (e : D)
-      → AreClassified remaining contents tells limit tables (before ++ new ∷ after) u c first w e
-      → AreClassified remaining contents tells limit tables ((before ++ new ∷ []) ++ after) u c first w e
+      → AreClassified remaining contents tells asked tables (before ++ new ∷ after) u c first w e
+      → AreClassified remaining contents tells asked tables ((before ++ new ∷ []) ++ after) u c first w e
   behind before after new first w e h =
-      subst (λ (l : List (NamedTable R)). AreClassified remaining contents tells limit tables l u c first w e) (sym (append_assoc before (new ∷ []) after)) h
+      subst (λ (l : List (NamedTable R)). AreClassified remaining contents tells asked tables l u c first w e) (sym (append_assoc before (new ∷ []) after)) h
 
   module _ (so_far : Option AppFault) (before rest more : List (NamedTable R)) (old new : NamedTable R) (v w : Output W) (d : D) (leads : Leads so_far before rest v d)
       (next : rest ≡ old ∷ more) where
     -- the next table has its line
-    pub leads_by_line : (r : Result Outcome AppFault) (outcome : Outcome) → r ≡ Ok outcome → HasClassified remaining contents limit old new r v w → Leads so_far (before ++ new ∷ []) more w d
+    pub leads_by_line : (r : Result Outcome AppFault) (outcome : Outcome) → r ≡ Ok outcome → HasClassified remaining contents asked old new r v w → Leads so_far (before ++ new ∷ []) more w d
     leads_by_line r outcome is step = λ first after x e h.
         behind before after new (option_or so_far first) x e (leads first (new ∷ after) x e
-        (subst (λ (l : List (NamedTable R)). AreClassified remaining contents tells limit l (new ∷ after) v d first x e) (sym next)
-        (HasLine (subst (λ (q : Result Outcome AppFault). HasClassified remaining contents limit old new q v w) is step) h)))
+        (subst (λ (l : List (NamedTable R)). AreClassified remaining contents tells asked l (new ∷ after) v d first x e) (sym next)
+        (HasLine (subst (λ (q : Result Outcome AppFault). HasClassified remaining contents asked old new q v w) is step) h)))
 
     -- its fault is told
-    pub leads_by_fault : (e : D) (r : Result Outcome AppFault) (fault : AppFault) (later : Option AppFault) → r ≡ Err fault → HasClassified remaining contents limit old new r v w
+    pub leads_by_fault : (e : D) (r : Result Outcome AppFault) (fault : AppFault) (later : Option AppFault) → r ≡ Err fault → HasClassified remaining contents asked old new r v w
         → is_of_every_table fault ≡ false → tells d (Some old.name.now) fault e → later ≡ option_or so_far (Some fault) → Leads later (before ++ new ∷ []) more w e
     leads_by_fault e r fault later is step own told later_is = λ first after x f h.
-        subst (λ (o : Option AppFault). AreClassified remaining contents tells limit tables ((before ++ new ∷ []) ++ after) u c o x f)
+        subst (λ (o : Option AppFault). AreClassified remaining contents tells asked tables ((before ++ new ∷ []) ++ after) u c o x f)
         (first_stays so_far first fault ∙ ap (λ (o : Option AppFault). option_or o first) (sym later_is))
         (behind before after new (option_or so_far (Some fault)) x f (leads (Some fault) (new ∷ after) x f
-        (subst (λ (l : List (NamedTable R)). AreClassified remaining contents tells limit l (new ∷ after) v d (Some fault) x f) (sym next)
-        (HasFault (subst (λ (q : Result Outcome AppFault). HasClassified remaining contents limit old new q v w) is step) own told h))))
+        (subst (λ (l : List (NamedTable R)). AreClassified remaining contents tells asked l (new ∷ after) v d (Some fault) x f) (sym next)
+        (HasFault (subst (λ (q : Result Outcome AppFault). HasClassified remaining contents asked old new q v w) is step) own told h))))
 
     -- its fault would be that of every table
-    pub ends_all : (e : D) (r : Result Outcome AppFault) (fault : AppFault) (later : Option AppFault) → r ≡ Err fault → HasClassified remaining contents limit old new r v w
+    pub ends_all : (e : D) (r : Result Outcome AppFault) (fault : AppFault) (later : Option AppFault) → r ≡ Err fault → HasClassified remaining contents asked old new r v w
         → is_of_every_table fault ≡ true → tells d None fault e → later ≡ option_or so_far (Some fault)
-        → AreClassified remaining contents tells limit tables (before ++ new ∷ more) u c later w e
+        → AreClassified remaining contents tells asked tables (before ++ new ∷ more) u c later w e
     ends_all e r fault later is step all told later_is =
-        subst (λ (o : Option AppFault). AreClassified remaining contents tells limit tables (before ++ new ∷ more) u c o w e) (sym later_is)
-        (leads (Some fault) (new ∷ more) w e (subst (λ (l : List (NamedTable R)). AreClassified remaining contents tells limit l (new ∷ more) v d (Some fault) w e) (sym next)
-        (EndsAll (subst (λ (q : Result Outcome AppFault). HasClassified remaining contents limit old new q v w) is step) all told)))
+        subst (λ (o : Option AppFault). AreClassified remaining contents tells asked tables (before ++ new ∷ more) u c o w e) (sym later_is)
+        (leads (Some fault) (new ∷ more) w e (subst (λ (l : List (NamedTable R)). AreClassified remaining contents tells asked l (new ∷ more) v d (Some fault) w e) (sym next)
+        (EndsAll (subst (λ (q : Result Outcome AppFault). HasClassified remaining contents asked old new q v w) is step) all told)))
 
   -- the table at a place came to be this
   pub one_place_on : (so_far : Option AppFault) (now : List (NamedTable R)) (i : ℕ) (new : NamedTable R) (v : Output W) (d : D) → i < length now
@@ -81,11 +82,11 @@ module _ {R W D : Type 0} (remaining : R → Option (List ℕ)) (contents : W �
 
   -- no table is left
   pub all_classified : (so_far : Option AppFault) (before rest : List (NamedTable R)) (v : Output W) (d : D) → Leads so_far before rest v d → rest ≡ []
-      → AreClassified remaining contents tells limit tables before u c so_far v d
+      → AreClassified remaining contents tells asked tables before u c so_far v d
   all_classified so_far before rest v d leads none =
-      subst (λ (l : List (NamedTable R)). AreClassified remaining contents tells limit tables l u c so_far v d) (append-nil before)
-      (subst (λ (o : Option AppFault). AreClassified remaining contents tells limit tables (before ++ []) u c o v d) (or_none so_far)
-      (leads None [] v d (subst (λ (l : List (NamedTable R)). AreClassified remaining contents tells limit l [] v d None v d) (sym none) NoneLeft)))
+      subst (λ (l : List (NamedTable R)). AreClassified remaining contents tells asked tables l u c so_far v d) (append-nil before)
+      (subst (λ (o : Option AppFault). AreClassified remaining contents tells asked tables (before ++ []) u c o v d) (or_none so_far)
+      (leads None [] v d (subst (λ (l : List (NamedTable R)). AreClassified remaining contents tells asked l [] v d None v d) (sym none) NoneLeft)))
 
 -- the writer has not failed, where what was reported is not that it did
 module _ {W : Type 0} (contents : W → Option (List ℕ)) (work : Result Report AppFault → Type 0) (u v : Output W) where

@@ -8,7 +8,8 @@ use Rattle.cn_search.specs.Finding.{Finding}
 use Rattle.cn_cert.specs.Certificate.{Certificate, certificate_of}
 use Rattle.cn_cert.specs.CertificateText.{certificate_text}
 use Rattle.cn_proto.specs.Plan.{Plan, IsPlan}
-use Rattle.cn_app.specs.Commands.Classify.{IsClassified, class_line}
+use Rattle.cn_recover.specs.Recording.{IsRecoverableNumberUpTo}
+use Rattle.cn_app.specs.Commands.Classify.{IsClassified, IsRecoverablyClassified, class_line, recoverable_line}
 use Rattle.cn_app.specs.Commands.Find.{IsFound}
 use Rattle.cn_app.specs.Texts.Plans.{IsPlanOf}
 
@@ -31,3 +32,11 @@ one_classified one t limit x y f g = f.written ∙ ap (class_line t.name limit) 
 pub classified_as_found : ((t : TypeTable) (limit : ℕ) (number : Option ℕ) (f : Finding) → IsFindingFor t limit f → IsNumberUpTo t limit number → number ≡ f.number)
     → (t : TypeTable) (limit : ℕ) (line : List ℕ) (f : Finding) → IsClassified t limit line → IsFindingFor t limit f → line ≡ class_line t.name limit f.number
 classified_as_found one t limit line f is found = is.written ∙ ap (class_line t.name limit) (one t limit is.number f found is.up_to)
+
+pub one_recoverably_classified : ((t : TypeTable) (limit : ℕ) (m n : Option ℕ) → IsNumberUpTo t limit m → IsNumberUpTo t limit n → m ≡ n)
+    → ((t : TypeTable) (limit : ℕ) (m n : Option ℕ) → IsRecoverableNumberUpTo t limit m → IsRecoverableNumberUpTo t limit n → m ≡ n)
+    → (t : TypeTable) (limit : ℕ) (x y : List ℕ) → IsRecoverablyClassified t limit x → IsRecoverablyClassified t limit y → x ≡ y
+one_recoverably_classified one two t limit x y f g =
+    f.written
+    ∙ (ap (λ (n : Option ℕ). recoverable_line t.name limit n f.recoverable) (one t limit f.number g.number f.up_to g.up_to)
+    ∙ (ap (recoverable_line t.name limit g.number) (two t limit f.recoverable g.recoverable f.recoverable_up_to g.recoverable_up_to) ∙ sym g.written))

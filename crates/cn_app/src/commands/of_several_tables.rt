@@ -4,6 +4,7 @@ ghost use Rattle.cn_app.specs.Streams.Writing.{IsWritable};
 
 use crate::commands::of_tables::classify;
 use crate::fault::AppFault;
+use crate::reports::AskedNumbers;
 use crate::streams::output::Output;
 use crate::streams::text::Text;
 use std::alloc::Global;
@@ -45,16 +46,16 @@ pub fn classify_each<T: Threads + Sync, R: Read, W: Write, F: Tell>(
     tables: &mut [NamedTable<'_, R>],
     output: &mut Output<W>,
     faults: &mut F,
-    limit: u8,
+    asked: AskedNumbers,
 ) -> Option<AppFault>
     requires tables { AreUnread tables.old }
     requires output { IsWritable output.old }
-    ensures { AreClassified R.remaining W.contents F.tells limit tables.old tables.new
+    ensures { AreClassified R.remaining W.contents F.tells asked tables.old tables.new
         output.old faults.old result output.new faults.new }
 {
     let mut first = None;
     for table in tables.iter_mut() {
-        let Err(fault) = classify(rt, alloc, &mut table.text, output, limit) else {
+        let Err(fault) = classify(rt, alloc, &mut table.text, output, asked) else {
             continue;
         };
         first = first.or(Some(fault));

@@ -11,7 +11,9 @@ ghost use Rattle.cn_app.specs.Streams.Writing.{IsWritable, Reports};
 use crate::fault::{AppFault, Source};
 use crate::readers::table::read_table;
 use crate::report::Outcome;
-use crate::reports::{check_limit, class_report, draw_report, find_report, lint_report};
+use crate::reports::{
+    AskedNumbers, check_limit, draw_report, find_report, lint_report, numbers_report,
+};
 use crate::streams::output::Output;
 use crate::streams::text::Text;
 use std::alloc::Global;
@@ -42,8 +44,8 @@ pub fn find<T: Threads + Sync, R: Read, W: Write>(
     output.report(find_report(rt, alloc, &table, limit))
 }
 
-/// Reads a type table and writes a line with its consensus number up to the limit
-/// ([`class_report`]).
+/// Reads a type table and writes a line with the numbers that are asked for
+/// ([`numbers_report`]).
 ///
 /// # Errors
 ///
@@ -54,19 +56,19 @@ pub fn classify<T: Threads + Sync, R: Read, W: Write>(
     alloc: Global,
     table: &mut Text<R>,
     output: &mut Output<W>,
-    limit: u8,
+    asked: AskedNumbers,
 ) -> Result<Outcome, AppFault>
     requires table { IsUnread table.old }
     requires output { IsWritable output.old }
 
     ensures read { HasRead Source.Table R.remaining table.old table.new }
-    ensures order { (table.new ≡ table.old) ⊎ (number_fault limit ≡ None) }
-    ensures classified { Reports W.contents (HasClassReport table.new limit)
+    ensures order { (table.new ≡ table.old) ⊎ (number_fault asked.limit ≡ None) }
+    ensures classified { Reports W.contents (HasClassReport table.new asked)
         output.old output.new result }
 {
-    check_limit(limit)?;
+    check_limit(asked.limit)?;
     let table = read_table(alloc, table)?;
-    output.report(class_report(rt, alloc, &table, limit))
+    output.report(numbers_report(rt, alloc, &table, asked))
 }
 
 /// Reads a type table and writes what is to be said of it ([`lint_report`]). A refused table is no

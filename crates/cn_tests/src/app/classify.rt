@@ -4,6 +4,7 @@ ghost use Rattle.cn_app.specs.Streams.Reading.{IsUnread};
 use super::streams::{Drip, Page};
 use crate::types::*;
 use cn_app::commands::{NamedTable, Tell, classify_each};
+use cn_app::reports::AskedNumbers;
 use cn_app::{AppFault, Output, Source, Text};
 use std::alloc::Global;
 use std::process::Abort;
@@ -52,7 +53,11 @@ fn is_told<T: Threads + Sync>(
     let mut kept = Kept {
         told: Vec::new(alloc),
     };
-    let fault = classify_each(rt, alloc, &mut tables, &mut output, &mut kept, 8);
+    let asked = AskedNumbers {
+        limit: 8,
+        recoverable: false,
+    };
+    let fault = classify_each(rt, alloc, &mut tables, &mut output, &mut kept, asked);
     let whole = "test_and_set: 2\nsticky_bit: at least 8\n".as_bytes();
     let page = output.into_writer();
     let written = page.written.as_slice();

@@ -6,6 +6,7 @@ use super::streams::{Drip, Page};
 use crate::certificates::*;
 use crate::types::*;
 use cn_app::readers::OpeningArguments;
+use cn_app::reports::AskedNumbers;
 use cn_app::{AppFault, Form, ListText, Outcome, Output, Source, Text, commands};
 use cn_hall::AlwaysOn;
 use cn_words::{Command, ListSource, OpeningWords};
@@ -82,14 +83,29 @@ fn opening() -> OpeningWords<'static> {
 }
 
 /// The examples. Their texts are given, whatever the names of files; `classify` names none.
-pub(crate) fn all_examples(alloc: Global) -> [Example; 10] {
+pub(crate) fn all_examples(alloc: Global) -> [Example; 11] {
     let (certificate, form) = ("CERT", Form::Text);
     let (inputs, schedule) = (ListSource::Word("10,20"), ListSource::Word("1,1,0,0,0,0"));
     let (events, calls) = (ListSource::Word(HELPED), ListSource::Word("0,0/none"));
-    let (tables, opening) = (Vec::new(alloc), opening());
+    let (tables, more_tables, opening) = (Vec::new(alloc), Vec::new(alloc), opening());
     [
         Example::new(Command::Find { limit: 3 }, found_test_and_set_at_3()),
-        Example::new(Command::Classify { limit: 8, tables }, "test_and_set: 2"),
+        Example::new(
+            Command::Classify {
+                limit: 8,
+                recoverable: false,
+                tables,
+            },
+            "test_and_set: 2",
+        ),
+        Example::new(
+            Command::Classify {
+                limit: 8,
+                recoverable: true,
+                tables: more_tables,
+            },
+            "test_and_set: 2, recoverable 1",
+        ),
         Example::new(Command::Lint, test_and_set_grid()),
         Example::new(Command::Draw, test_and_set_picture()),
         Example::new(Command::Check { certificate }, "ok"),
@@ -172,7 +188,14 @@ fn run_command<T: Threads + Wait + Sync>(
     let (table, certificate) = (&mut given.table, &mut given.certificate);
     match *command {
         Command::Find { limit } => commands::find(rt, alloc, table, output, limit),
-        Command::Classify { limit, .. } => commands::classify(rt, alloc, table, output, limit),
+        Command::Classify {
+            limit,
+            recoverable,
+            ..
+        } => {
+            let asked = AskedNumbers { limit, recoverable };
+            commands::classify(rt, alloc, table, output, asked)
+        }
         Command::Lint => commands::lint(alloc, table, output),
         Command::Draw => commands::draw(alloc, table, output),
         Command::Check { .. } => commands::check(alloc, table, certificate, output),

@@ -8,6 +8,7 @@ use arrayvec::ArrayVec;
 use cn_cert::{CertFault, Certificate, read_certificate, write_certificate};
 use cn_choice::reference::{plain_orders, raw_splits};
 use cn_choice::{RawChoice, Team};
+use cn_recover::recoverable_number;
 use cn_search::{FindFault, Finding, find, number};
 use cn_table::{State, Table, TableFault, read_table};
 use std::alloc::AllocError;
@@ -163,6 +164,19 @@ fn numbers(rt: HostRuntime) -> Result<(), Fail> {
         &rt,
         alloc,
         found = number(&rt, alloc, &table, 8),
+        number_ended(found)
+    );
+    Ok(())
+}
+
+#[test]
+fn recoverable_numbers(rt: HostRuntime) -> Result<(), Fail> {
+    let alloc = rt.alloc();
+    let table = table_of(alloc, three_shot())?;
+    sweep!(
+        &rt,
+        alloc,
+        found = recoverable_number(&rt, alloc, &table, 8),
         number_ended(found)
     );
     Ok(())

@@ -9,6 +9,7 @@ returns-in-Classify g c = (
   c.new-output.ensures.unwritten,
   inl (
     c.in-Classify.limit,
+    c.in-Classify.recoverable,
     c.in-Classify.tables,
     c.in-Classify.is,
     (

@@ -1,6 +1,7 @@
-use Rattle.std.proofs.Common.{codes}
+use Rattle.std.proofs.Common.{codes, refl}
+use Rattle.clap.specs.Matches.{found_of}
 use Rattle.cn_words.specs.GivenCommands.{rows_in}
-use Rattle.cn_words.proofs.GivenLemmas.{wants}
+use Rattle.cn_words.proofs.GivenLemmas.{flag_read, wants}
 use Rattle.cn_words.proofs.commands.classify.Goals as goal
 
 pub returns-in_default : goal.returns-in_default
@@ -12,3 +13,13 @@ pub returns-in_default-2 : goal.returns-in_default-2
 returns-in_default-2 c = λ command is.
     let w = wants (codes "classify") (rows_in c.args.words.now) command is in
     (rw c.in_default-2.is at c.in_ok-tables.ensures) w.1.0 w.1.1
+
+pub returns : goal.returns
+returns c = (
+  refl,
+  (
+    rw c.in-Some.is at c.limit.ensures,
+    flag_read (found_of c.args.words.now) (codes "recoverable") c.get_flag.result c.get_flag.ensures.none c.get_flag.ensures.value c.get_flag.ensures.other,
+    rw c.in-Some-2.is at c.in_ok-tables.ensures,
+  ),
+)

@@ -19,14 +19,14 @@ loop-table-preserved-in_default g c =
     let old = slice_index_or now i c.table-item.result in
     let new : NamedTable g.row.R.Denot = record { name = old.name; text = c.classify.new.table } in
     record {
-      leads = one_place_on g.R.Read.remaining g.W.Write.contents g.F.Tell.tells c.args.limit c.args.tables.now c.args.output.now c.args.faults.now c.loop-table.first now i new
+      leads = one_place_on g.R.Read.remaining g.W.Write.contents g.F.Tell.tells c.args.asked c.args.tables.now c.args.output.now c.args.faults.now c.loop-table.first now i new
           c.classify.new.output c.loop-table.faults less
-          (leads_by_line g.R.Read.remaining g.W.Write.contents g.F.Tell.tells c.args.limit c.args.tables.now c.args.output.now c.args.faults.now
+          (leads_by_line g.R.Read.remaining g.W.Write.contents g.F.Tell.tells c.args.asked c.args.tables.now c.args.output.now c.args.faults.now
           c.loop-table.first (take i now) (drop i now) (drop (i + 1) now) old new c.loop-table.output c.classify.new.output c.loop-table.faults c.loop-table.invariant.leads
           (drop_more now i c.table-item.result less) c.classify.result c.in_default.field-0 c.in_default.is
           (record { name = refl; read = h.read; order = h.order; classified = h.classified }));
       rest = still_behind now c.args.tables.now i c.table-item.result less c.loop-table.invariant.rest new;
-      writable = writable_after_line g.W.Write.contents (HasClassReport c.classify.new.table c.args.limit) c.loop-table.output c.classify.new.output c.classify.result c.in_default.field-0
+      writable = writable_after_line g.W.Write.contents (HasClassReport c.classify.new.table c.args.asked) c.loop-table.output c.classify.new.output c.classify.result c.in_default.field-0
           c.in_default.is h.classified;
     }
 
@@ -40,14 +40,14 @@ loop-table-preserved g c =
     let h = c.classify.ensures in
     let own = sym c.is_of_every_table.ensures ∙ c.if-is_of_every_table.false in
     record {
-      leads = one_place_on g.R.Read.remaining g.W.Write.contents g.F.Tell.tells c.args.limit c.args.tables.now c.args.output.now c.args.faults.now c.or-first.result now i new
+      leads = one_place_on g.R.Read.remaining g.W.Write.contents g.F.Tell.tells c.args.asked c.args.tables.now c.args.output.now c.args.faults.now c.or-first.result now i new
           c.classify.new.output c.tell-in-loop-table.new.self less
-          (leads_by_fault g.R.Read.remaining g.W.Write.contents g.F.Tell.tells c.args.limit c.args.tables.now c.args.output.now c.args.faults.now
+          (leads_by_fault g.R.Read.remaining g.W.Write.contents g.F.Tell.tells c.args.asked c.args.tables.now c.args.output.now c.args.faults.now
           c.loop-table.first (take i now) (drop i now) (drop (i + 1) now) old new c.loop-table.output c.classify.new.output c.loop-table.faults c.loop-table.invariant.leads
           (drop_more now i c.table-item.result less) c.tell-in-loop-table.new.self c.classify.result c.in-Err.fault c.or-first.result c.in-Err.is
           (record { name = refl; read = h.read; order = h.order; classified = h.classified }) own c.tell-in-loop-table.ensures c.or-first.ensures);
       rest = still_behind now c.args.tables.now i c.table-item.result less c.loop-table.invariant.rest new;
-      writable = writable_after_fault g.W.Write.contents (HasClassReport c.classify.new.table c.args.limit) c.loop-table.output c.classify.new.output c.classify.result c.in-Err.fault c.in-Err.is own
+      writable = writable_after_fault g.W.Write.contents (HasClassReport c.classify.new.table c.args.asked) c.loop-table.output c.classify.new.output c.classify.result c.in-Err.fault c.in-Err.is own
           h.classified c.loop-table.invariant.writable;
     }
 
@@ -59,10 +59,10 @@ returns-then-is_of_every_table g c =
     let less : i < length now = omega (arith, c.loop-table-test.true, c.loop-table.auto.tables) in
     let old = slice_index_or now i c.table-item.result in
     let new : NamedTable g.row.R.Denot = record { name = old.name; text = c.classify.new.table } in
-    subst (λ (l : List (NamedTable g.row.R.Denot)). AreClassified g.R.Read.remaining g.W.Write.contents g.F.Tell.tells c.args.limit c.args.tables.now l
+    subst (λ (l : List (NamedTable g.row.R.Denot)). AreClassified g.R.Read.remaining g.W.Write.contents g.F.Tell.tells c.args.asked c.args.tables.now l
     c.args.output.now c.args.faults.now c.or-first.result c.classify.new.output c.tell.new.self)
     (sym (placed now i new less))
-    (ends_all g.R.Read.remaining g.W.Write.contents g.F.Tell.tells c.args.limit c.args.tables.now c.args.output.now c.args.faults.now
+    (ends_all g.R.Read.remaining g.W.Write.contents g.F.Tell.tells c.args.asked c.args.tables.now c.args.output.now c.args.faults.now
     c.loop-table.first (take i now) (drop i now) (drop (i + 1) now) old new c.loop-table.output c.classify.new.output c.loop-table.faults c.loop-table.invariant.leads
     (drop_more now i c.table-item.result less) c.tell.new.self c.classify.result c.in-Err.fault c.or-first.result c.in-Err.is
     (record { name = refl; read = h.read; order = h.order; classified = h.classified }) (sym c.is_of_every_table.ensures ∙ c.if-is_of_every_table.true) c.tell.ensures c.or-first.ensures)
@@ -71,8 +71,8 @@ pub returns : goal.returns
 returns g c =
     let i = c.loop-table.table-index in
     let now = c.loop-table.tables in
-    subst (λ (l : List (NamedTable g.row.R.Denot)). AreClassified g.R.Read.remaining g.W.Write.contents g.F.Tell.tells c.args.limit c.args.tables.now l
+    subst (λ (l : List (NamedTable g.row.R.Denot)). AreClassified g.R.Read.remaining g.W.Write.contents g.F.Tell.tells c.args.asked c.args.tables.now l
     c.args.output.now c.args.faults.now c.loop-table.first c.loop-table.output c.loop-table.faults)
     (take_all i now (omega (arith, c.loop-table-test.false, c.loop-table.auto.tables)))
-    (all_classified g.R.Read.remaining g.W.Write.contents g.F.Tell.tells c.args.limit c.args.tables.now c.args.output.now c.args.faults.now
+    (all_classified g.R.Read.remaining g.W.Write.contents g.F.Tell.tells c.args.asked c.args.tables.now c.args.output.now c.args.faults.now
     c.loop-table.first (take i now) (drop i now) c.loop-table.output c.loop-table.faults c.loop-table.invariant.leads (drop_all i now (omega (arith, c.loop-table-test.false, c.loop-table.auto.tables))))

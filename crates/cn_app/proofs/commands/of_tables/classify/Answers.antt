@@ -11,5 +11,5 @@ returns-in_err-table-clause-classified g c =
 
 pub returns-clause-classified : goal.returns-clause-classified
 returns-clause-classified g c =
-    reported g.W.Write.contents (HasClassReport c.read_table.new.text c.args.limit) c.args.output.now c.report.new.self c.class_report.result c.report.result
-    (inr (c.in_ok-check_limit.field-0, c.in_ok-check_limit.ensures, inr (c.in_ok-table.table, c.in_ok-table.ensures.table, c.class_report.ensures))) c.report.ensures
+    reported g.W.Write.contents (HasClassReport c.read_table.new.text c.args.asked) c.args.output.now c.report.new.self c.numbers_report.result c.report.result
+    (inr (c.in_ok-check_limit.field-0, c.in_ok-check_limit.ensures, inr (c.in_ok-table.table, c.in_ok-table.ensures.table, c.numbers_report.ensures))) c.report.ensures

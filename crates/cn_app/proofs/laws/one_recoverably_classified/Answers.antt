@@ -1,0 +1,5 @@
+use Rattle.cn_app.proofs.LawLemmas.OneOutput as output
+use Rattle.cn_app.proofs.laws.one_recoverably_classified.Goals as goal
+
+pub returns : goal.returns
+returns c = output.one_recoverably_classified c.unique_number.ensures c.unique_number-2.ensures
