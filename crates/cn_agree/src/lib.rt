@@ -6,7 +6,15 @@
 //! its operation to the object of the node, reads the object, and reads the register of the team
 //! that it judges by response and state to have come first. With the value that it finds it goes on
 //! to its next place, and at the root it decides it. [`run_schedule`] runs a round in which all
-//! processes have begun, by a list of the processes that take the steps.
+//! processes have begun, by a list of the processes that take the steps, and [`run_steps`] tells each
+//! step too.
+//!
+//! ```text
+//! let ends = run_schedule(alloc, &plan, &[10, 20], &[1, 1, 0, 0, 0, 0])?;
+//! for decision in &ends.decisions {
+//!     // Some(v): the process has decided v; None: it has not.
+//! }
+//! ```
 #![tactic(auto)]
 
 mod action;

@@ -2,6 +2,15 @@
 //!
 //! [`Certificate::of_finding`] makes a certificate, [`write_certificate`] gives its one text, and
 //! [`read_certificate`] reads it back, or says by a [`CertFault`] what is wrong with a text.
+//!
+//! ```text
+//! let finding = find(rt, alloc, &table, 3)?;
+//! if let Ok(certificate) = Certificate::of_finding(alloc, &table, finding) {
+//!     println!(rt; "{}", write_certificate(alloc, &certificate)?)?;
+//! }
+//! ```
+//!
+//! A certificate that was read can say anything: `cn_check` says whether it is right.
 #![tactic(auto)]
 
 mod array;

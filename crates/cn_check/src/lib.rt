@@ -4,6 +4,15 @@
 //! and their laws, and the steps of the table. It is never refused for want of memory. Where it
 //! answers `Ok`, the number is that of the type, whoever made the certificate; otherwise a
 //! [`CheckFault`] says what is wrong.
+//!
+//! ```text
+//! let table = read_table(alloc, table_bytes)?;
+//! let certificate = read_certificate(alloc, certificate_bytes)?;
+//! match check(&table, &certificate) {
+//!     Ok(()) => println!(rt; "ok")?,
+//!     Err(fault) => println!(rt; "{fault}")?,
+//! }
+//! ```
 #![tactic(auto)]
 
 mod choice;

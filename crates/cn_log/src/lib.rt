@@ -12,6 +12,19 @@
 //! its own list of events makes of it; [`LogCore::take`] does one event, whatever it is, or says why
 //! it cannot come, and [`replay`] does a whole list on a new core. For every list the answers are
 //! those of one sequential run of the calls, in the order of the log ([`laws`]).
+//!
+//! ```text
+//! let mut core = LogCore::new(alloc, &plan, &counter, start, 8)?;
+//! core.take(Event::Invoke(0, 0))?;
+//! for _step in 0..6 {
+//!     if let Some(CallEnd::Answered { response, .. }) = core.take(Event::Step(0))? {
+//!         println!(rt; "{}", counter.response_name(response))?;
+//!     }
+//! }
+//! for entry in core.entries() {
+//!     // Process entry.process called entry.operation.
+//! }
+//! ```
 #![tactic(auto)]
 
 mod batch;
