@@ -38,6 +38,8 @@ Example:
     };
 }
 
+const VERSION: &str = "0.2.0, proved by rattle-kit-13f logic dac8208d650f15bf";
+
 const ABOUT: &str = "Finds and checks the consensus number of a shared object type";
 
 const AFTER: &str = help!(
@@ -487,7 +489,7 @@ fn program<'a>(alloc: Global) -> Command<'a>
     ensures { HasCommands [] result }
 {
     Command::new(alloc, "cnum")
-        .version("0.2.0")
+        .version(VERSION)
         .about(ABOUT)
         .after_help(AFTER)
         .subcommand_required(true)
