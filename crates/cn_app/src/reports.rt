@@ -16,9 +16,7 @@ mod show;
 
 pub use agree::agree_report;
 pub use check::check_report;
-pub use classify::{
-    AskedNumbers, check_limit, class_report, numbers_report, recoverable_report,
-};
+pub use classify::{AskedNumbers, check_limit, class_report, numbers_report, recoverable_report};
 pub use draw::draw_report;
 pub use explain::explain_report;
 pub use find::find_report;
