@@ -1,5 +1,5 @@
 -- The answers of blocks, one after the other.
-use Rattle.std.proofs.Common.{ℕ, ◌≡◌, ◌<◌, ◌≤◌, arith, length, List, [], ◌∷◌, ◌++◌, map, slice_index_or, true, false, Option, Some, None, is_some, Result, Ok, Err, IfOk, MatchResult, All, Contains, refl, sym, ap, ◌∙◌, subst, append_assoc, append-nil, true≢false}
+use Rattle.std.proofs.Common.{ℕ, ◌≡◌, ◌<◌, ◌≤◌, arith, length, List, [], ◌∷◌, ◌++◌, slice_index_or, true, false, Option, Some, None, is_some, All, Contains, refl, sym, ap, ◌∙◌, subst, append_assoc, append-nil, true≢false}
 use Rattle.std.specs.List.{AllByRecursion, AllZip, flat_map}
 use Rattle.std.proofs.lemmas.Grind.{flat_map-append}
 use Rattle.std.proofs.lemmas.List.Elements.{All-append, All-from_recursion, recursion_from_All}
