@@ -9,7 +9,7 @@ use Rattle.cn_cert.specs.Certificate.{Certificate, certificate_of}
 use Rattle.cn_cert.specs.CertificateText.{certificate_text}
 use Rattle.cn_proto.specs.Plan.{Plan, IsPlan}
 use Rattle.cn_app.specs.Commands.Classify.{IsClassified, class_line}
-use Rattle.cn_app.specs.Commands.Find.{IsFound}
+use Rattle.cn_app.specs.Commands.Find.{IsFound, IsFoundCertificate}
 use Rattle.cn_app.specs.Texts.Plans.{IsPlanOf}
 
 pub one_found : ((t : TypeTable) (limit : ℕ) (f g : Finding) → IsFindingFor t limit f → IsFindingFor t limit g → f ≡ g)
@@ -31,3 +31,10 @@ one_classified one t limit x y f g = f.written ∙ ap (class_line t.name limit) 
 pub classified_as_found : ((t : TypeTable) (limit : ℕ) (number : Option ℕ) (f : Finding) → IsFindingFor t limit f → IsNumberUpTo t limit number → number ≡ f.number)
     → (t : TypeTable) (limit : ℕ) (line : List ℕ) (f : Finding) → IsClassified t limit line → IsFindingFor t limit f → line ≡ class_line t.name limit f.number
 classified_as_found one t limit line f is found = is.written ∙ ap (class_line t.name limit) (one t limit is.number f found is.up_to)
+
+pub text_of_found : ((t : TypeTable) (limit : ℕ) (f g : Finding) → IsFindingFor t limit f → IsFindingFor t limit g → f ≡ g)
+    → (t : TypeTable) (limit : ℕ) (text : List ℕ) (c : Certificate) → IsFound t limit text → IsFoundCertificate t limit c
+    → text ≡ certificate_text c ++ codes "\n"
+text_of_found one t limit text c f g =
+    f.written ∙ ap (λ (finding : Finding). certificate_text (certificate_of t.name finding) ++ codes "\n") (one t limit f.finding g.finding f.found g.found)
+    ∙ ap (λ (d : Certificate). certificate_text d ++ codes "\n") (sym g.is)

@@ -5,13 +5,16 @@ ghost use Rattle.cn_app.specs.Commands.Classify.{HasClassReport};
 ghost use Rattle.cn_app.specs.Commands.Draw.{HasDrawReport};
 ghost use Rattle.cn_app.specs.Commands.Find.{HasFindReport};
 ghost use Rattle.cn_app.specs.Commands.Lint.{HasLintReport};
+ghost use Rattle.cn_app.specs.Commands.Why.{HasWhyReport};
 ghost use Rattle.cn_app.specs.Streams.Reading.{HasRead, IsUnread};
 ghost use Rattle.cn_app.specs.Streams.Writing.{IsWritable, Reports};
 
 use crate::fault::{AppFault, Source};
 use crate::readers::table::read_table;
 use crate::report::Outcome;
-use crate::reports::{check_limit, class_report, draw_report, find_report, lint_report};
+use crate::reports::{
+    check_limit, class_report, draw_report, find_report, limit_for, lint_report, why_report,
+};
 use crate::streams::output::Output;
 use crate::streams::text::Text;
 use std::alloc::Global;
@@ -19,7 +22,7 @@ use std::io::{Read, Write};
 use std::thread::Threads;
 
 /// Reads a type table and writes the certificate of its consensus number up to the limit
-/// ([`find_report`]).
+/// ([`find_report`]), which is [`limit_for`] the table where none is given.
 ///
 /// # Errors
 ///
@@ -29,7 +32,7 @@ pub fn find<T: Threads + Sync, R: Read, W: Write>(
     alloc: Global,
     table: &mut Text<R>,
     output: &mut Output<W>,
-    limit: u8,
+    limit: Option<u8>,
 ) -> Result<Outcome, AppFault>
     requires table { IsUnread table.old }
     requires output { IsWritable output.old }
@@ -39,7 +42,34 @@ pub fn find<T: Threads + Sync, R: Read, W: Write>(
         output.old output.new result }
 {
     let table = read_table(alloc, table)?;
+    let limit = limit_for(&table, limit);
     output.report(find_report(rt, alloc, &table, limit))
+}
+
+/// Reads a type table and writes for people why its consensus number up to the limit is what it is
+/// ([`why_report`]). The limit is [`limit_for`] the table where none is given.
+///
+/// # Errors
+///
+/// Those of [`find`].
+pub fn why<T: Threads + Sync, R: Read, W: Write>(
+    rt: &T,
+    alloc: Global,
+    table: &mut Text<R>,
+    output: &mut Output<W>,
+    limit: Option<u8>,
+    all: bool,
+) -> Result<Outcome, AppFault>
+    requires table { IsUnread table.old }
+    requires output { IsWritable output.old }
+
+    ensures read { HasRead Source.Table R.remaining table.old table.new }
+    ensures told { Reports W.contents (HasWhyReport table.new limit all)
+        output.old output.new result }
+{
+    let table = read_table(alloc, table)?;
+    let limit = limit_for(&table, limit);
+    output.report(why_report(rt, alloc, table, limit, all))
 }
 
 /// Reads a type table and writes a line with its consensus number up to the limit

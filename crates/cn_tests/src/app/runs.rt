@@ -8,7 +8,7 @@ use crate::types::*;
 use cn_app::readers::OpeningArguments;
 use cn_app::{AppFault, Form, ListText, Outcome, Output, Source, Text, commands};
 use cn_hall::AlwaysOn;
-use cn_words::{Command, ListSource, OpeningWords};
+use cn_words::{Command, ListSource, OpeningWords, TextSource};
 use std::alloc::Global;
 use std::process::Abort;
 use std::sync::Wait;
@@ -74,7 +74,7 @@ pub(crate) struct Example {
 /// The words of the commands that serve the counter.
 fn opening() -> OpeningWords<'static> {
     OpeningWords {
-        certificate: "CERT",
+        certificate: TextSource::File("CERT"),
         object: "OBJECT",
         start: "0",
         capacity: "4",
@@ -83,12 +83,12 @@ fn opening() -> OpeningWords<'static> {
 
 /// The examples. Their texts are given, whatever the names of files; `classify` names none.
 pub(crate) fn all_examples(alloc: Global) -> [Example; 10] {
-    let (certificate, form) = ("CERT", Form::Text);
+    let (certificate, form) = (TextSource::File("CERT"), Form::Text);
     let (inputs, schedule) = (ListSource::Word("10,20"), ListSource::Word("1,1,0,0,0,0"));
     let (events, calls) = (ListSource::Word(HELPED), ListSource::Word("0,0/none"));
     let (tables, opening) = (Vec::new(alloc), opening());
     [
-        Example::new(Command::Find { limit: 3 }, found_test_and_set_at_3()),
+        Example::new(Command::Find { limit: Some(3) }, found_test_and_set_at_3()),
         Example::new(Command::Classify { limit: 8, tables }, "test_and_set: 2"),
         Example::new(Command::Lint, test_and_set_grid()),
         Example::new(Command::Draw, test_and_set_picture()),
@@ -175,6 +175,7 @@ fn run_command<T: Threads + Wait + Sync>(
         Command::Classify { limit, .. } => commands::classify(rt, alloc, table, output, limit),
         Command::Lint => commands::lint(alloc, table, output),
         Command::Draw => commands::draw(alloc, table, output),
+        Command::Why { limit, all } => commands::why(rt, alloc, table, output, limit, all),
         Command::Check { .. } => commands::check(alloc, table, certificate, output),
         Command::Explain { all, .. } => commands::explain(alloc, table, certificate, output, all),
         Command::Show { form, .. } => commands::show(alloc, table, certificate, output, form),
@@ -219,9 +220,11 @@ impl Example {
     /// Whether the command reads this.
     fn reads(&self, source: Source) -> bool {
         match self.command {
-            Command::Find { .. } | Command::Classify { .. } | Command::Lint | Command::Draw => {
-                source == Source::Table
-            }
+            Command::Find { .. }
+            | Command::Classify { .. }
+            | Command::Lint
+            | Command::Draw
+            | Command::Why { .. } => source == Source::Table,
             Command::Check { .. }
             | Command::Explain { .. }
             | Command::Show { .. }
