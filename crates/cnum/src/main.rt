@@ -41,10 +41,7 @@ fn fault_exit<R: Eprint>(faults: &mut Faults<'_, R>, fault: AppFault) -> ExitCod
 
 // How the program ends where a command has ended so. What lint says of a refused table is written,
 // and its fault is told as by every command.
-fn command_exit<R: Eprint>(
-    faults: &mut Faults<'_, R>,
-    end: Result<Outcome, AppFault>,
-) -> ExitCode
+fn command_exit<R: Eprint>(faults: &mut Faults<'_, R>, end: Result<Outcome, AppFault>) -> ExitCode
     ensures { exit_status result ≡ command_status end }
 {
     match end {

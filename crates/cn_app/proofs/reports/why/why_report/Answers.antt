@@ -1,4 +1,4 @@
-use Rattle.std.proofs.Common.{inl, inr}
+use Rattle.std.proofs.Common.{inr}
 use Rattle.cn_app.proofs.ReportLemmas.FoundCertificates.{found_is_accepted}
 use Rattle.cn_app.proofs.reports.why.why_report.Goals as goal
 
