@@ -5,7 +5,7 @@ _cnum() {
     COMPREPLY=()
     case ${COMP_WORDS[1]} in
     find)
-        options='--limit -h --help' arguments=''
+        options='--limit --table -h --help' arguments=''
         [[ $previous == --limit ]] && values='2 3 4 5 6 7 8'
         ;;
     classify)
@@ -13,29 +13,33 @@ _cnum() {
         [[ $previous == --limit ]] && values='2 3 4 5 6 7 8'
         ;;
     lint)
-        options='-h --help' arguments=''
+        options='--table -h --help' arguments=''
         ;;
     check)
-        options='-h --help' arguments='CERT'
+        options='--table -h --help' arguments='CERT'
         ;;
     explain)
-        options='--all -h --help' arguments='CERT'
+        options='--all --table -h --help' arguments='CERT'
+        ;;
+    why)
+        options='--limit --all -h --help' arguments='FILE'
+        [[ $previous == --limit ]] && values='2 3 4 5 6 7 8'
         ;;
     show)
-        options='--as -h --help' arguments='CERT'
+        options='--as --table -h --help' arguments='CERT'
         [[ $previous == --as ]] && values='text json dot promela'
         ;;
     draw)
-        options='-h --help' arguments=''
+        options='--table -h --help' arguments=''
         ;;
     agree)
-        options='--steps -h --help' arguments='CERT INPUTS SCHEDULE'
+        options='--steps --table -h --help' arguments='CERT INPUTS SCHEDULE'
         ;;
     replay)
-        options='-h --help' arguments='CERT OBJECT START CAPACITY EVENTS'
+        options='--table -h --help' arguments='CERT OBJECT START CAPACITY EVENTS'
         ;;
     serve)
-        options='-h --help' arguments='CERT OBJECT START CAPACITY CALLS'
+        options='--table -h --help' arguments='CERT OBJECT START CAPACITY CALLS'
         ;;
     help)
         options='' arguments='COMMAND...'
@@ -51,14 +55,14 @@ _cnum() {
         mapfile -t COMPREPLY < <(compgen -W "$options" -- "$current")
         return
     fi
-    if [[ $previous == [\<\>]* ]]; then
+    if [[ $previous == [\<\>]* || $previous == --table ]]; then
         mapfile -t COMPREPLY < <(compgen -f -- "$current")
         compopt -o filenames 2>/dev/null
         return
     fi
     for ((at = 2; at < COMP_CWORD; at++)); do
         case ${COMP_WORDS[at]} in
-        --as | --limit) ((at++)) ;;
+        --as | --limit | --table) ((at++)) ;;
         [\<\>]*) ((at++)) ;;
         -* | @) ;;
         *) words+=("${COMP_WORDS[at]}") ;;
@@ -71,7 +75,7 @@ _cnum() {
     fi
     case ${arguments[at]} in
     COMMAND*)
-        mapfile -t COMPREPLY < <(compgen -W 'find classify lint check explain show draw agree replay serve help' -- "$current")
+        mapfile -t COMPREPLY < <(compgen -W 'find classify lint check explain why show draw agree replay serve help' -- "$current")
         ;;
     CERT* | OBJECT* | FILE*)
         mapfile -t COMPREPLY < <(compgen -f -- "$current")

@@ -1,7 +1,7 @@
 """The completions of the program for bash, zsh and fish, from its help."""
 import re
 
-# Arguments that name files, and those that may name one behind an @.
+# Arguments and values of options that name files, and arguments that may name one behind an @.
 FILES, LISTS = ("CERT", "OBJECT", "FILE"), ("INPUTS", "SCHEDULE", "EVENTS", "CALLS")
 
 BASH_HEAD = """\
@@ -26,7 +26,7 @@ BASH_TAIL = """\
         mapfile -t COMPREPLY < <(compgen -W "$options" -- "$current")
         return
     fi
-    if [[ $previous == [\\<\\>]* ]]; then
+    if [[ $previous == [\\<\\>]*FILED ]]; then
         mapfile -t COMPREPLY < <(compgen -f -- "$current")
         compopt -o filenames 2>/dev/null
         return
@@ -67,10 +67,11 @@ complete -F _cnum cnum
 
 def bash(top, helps):
     """The completions for bash."""
-    text, valued = BASH_HEAD, set()
+    text, valued, filed = BASH_HEAD, set(), set()
     for name, one in helps.items():
         options = list(one.options())
         valued |= {names[-1] for names, value, _ in options if value}
+        filed |= {names[-1] for names, value, _ in options if value in FILES}
         text += f"    {name})\n        options='{' '.join(word for names, _, _ in options for word in names)}'"
         text += f" arguments='{' '.join(one.arguments())}'\n"
         for names, _, values in options:
@@ -78,6 +79,7 @@ def bash(top, helps):
                 text += f"        [[ $previous == {names[-1]} ]] && values='{' '.join(values)}'\n"
         text += "        ;;\n"
     names = {"NAMES": " ".join(top.commands()), "TOP_OPTIONS": " ".join(word for words, _, _ in top.options() for word in words)}
+    names |= {"FILED": "".join(f" || $previous == {it}" for it in sorted(filed))}
     names |= {"VALUED": " | ".join(sorted(valued)), "FILES": " | ".join(f"{it}*" for it in FILES), "LISTS": " | ".join(LISTS)}
     return text + re.sub("|".join(names), lambda found: names[found[0]], BASH_TAIL)
 
@@ -131,7 +133,8 @@ def note(about):
 def zsh_options(one):
     """The options as `_arguments` takes them; behind -h and -V stands no other word."""
     for (names, value, values), (_, about) in zip(one.options(), one.parts["Options"], strict=True):
-        tail = f"[{note(about)}]" + (f":{value}:({' '.join(values)})" if value else "")
+        offered = "_files" if value in FILES else f"({' '.join(values)})"
+        tail = f"[{note(about)}]" + (f":{value}:{offered}" if value else "")
         yield f"{quoted('(- *)')}{{{','.join(names)}}}{quoted(tail)}" if len(names) > 1 else quoted(names[0] + tail)
 
 
@@ -212,7 +215,7 @@ def fish_options(name, one):
     """A line for each option of a command."""
     for (names, value, values), (_, about) in zip(one.options(), one.parts["Options"], strict=True):
         words = " ".join(f"-l {it[2:]}" if it.startswith("--") else f"-s {it[1:]}" for it in names)
-        taken = f" -x -a {fish_quoted(' '.join(values))}" if value else ""
+        taken = " -r -F" if value in FILES else f" -x -a {fish_quoted(' '.join(values))}" if value else ""
         yield f"complete -c cnum -n {fish_quoted(f'__cnum_is {name}'.rstrip())} {words}{taken} -d {fish_quoted(note(about))}"
 
 

@@ -10,3 +10,4 @@ pub mod Lint
 pub mod Replay
 pub mod Serve
 pub mod Show
+pub mod Why

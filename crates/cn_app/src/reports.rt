@@ -13,14 +13,16 @@ mod lint;
 mod replay;
 mod serve;
 mod show;
+mod why;
 
 pub use agree::agree_report;
 pub use check::check_report;
 pub use classify::{AskedNumbers, check_limit, class_report, numbers_report, recoverable_report};
 pub use draw::draw_report;
 pub use explain::explain_report;
-pub use find::find_report;
+pub use find::{find_report, limit_for};
 pub use lint::lint_report;
 pub use replay::replay_report;
 pub use serve::serve_report;
 pub use show::show_report;
+pub use why::why_report;

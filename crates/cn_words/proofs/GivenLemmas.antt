@@ -1,20 +1,21 @@
 -- What clap's getters say, in the words of the command line.
 use Rattle.std.proofs.Common.{ℕ, ◌≡◌, ◌∙◌, Bool, true, false, List, [], ◌∷◌, Option, Some, None, Result, Ok, Err, ap, ap₂, refl, subst, sym, codes, Vec, Global}
-use Rattle.std.specs.Prelude.{MatchBool, option_map, unwrap_or, map}
+use Rattle.std.specs.Prelude.{MatchBool, is_some, not, option_and_then, option_map, slice_get, unwrap_or, map}
+use Rattle.std.specs.List.{find}
 use Rattle.std.specs.Str.{bytes_eq}
 use Rattle.std.specs.Str.Parse.{ParsesUnsigned}
 use Rattle.std.specs.Borrow.{Bor}
 use Rattle.clap.specs.Matches.{ReadsOne, matched_of, one_text, raw_values}
-use Rattle.clap.specs.Walk.{Row, Text, rows_of}
+use Rattle.clap.specs.Walk.{Row, Text, first_of, one_of, row_text, rows_of}
 use Rattle.clap.specs.declared.parser.matches.Found.{Found}
 use Rattle.clap.proofs.WalkLemmas.{one_text-rows, raw_values-rows}
 use Rattle.cn_forms.specs.declared.plan_forms.Form.{Form}
 use Rattle.cn_words.specs.declared.commands.Command.{Command}
-use Rattle.cn_words.specs.declared.commands.Command.TheVariants.{Find, Classify, Lint, Draw, Check, Explain, Show, Agree, Replay, Serve}
+use Rattle.cn_words.specs.declared.commands.Command.TheVariants.{Find, Classify, Lint, Draw, Check, Explain, Why, Show, Agree, Replay, Serve}
 use Rattle.cn_words.specs.declared.commands.ListSource.{ListSource}
 use Rattle.cn_words.specs.declared.commands.OpeningWords.{OpeningWords}
-use Rattle.cn_words.specs.declared.commands.TableSource.{TableSource}
-use Rattle.cn_words.specs.GivenCommands.{Finds, HasFlag, HasForm, HasList, HasNumber, HasOpening, HasTables, HasWord, IsByte, IsNamed, path_in, path_of}
+use Rattle.cn_words.specs.declared.commands.TextSource.{TextSource}
+use Rattle.cn_words.specs.GivenCommands.{Finds, HasCertificate, HasFlag, HasForm, HasLimit, HasList, HasNumber, HasOpening, HasTables, IsByte, IsNamed, path_in, path_of}
 
 -- two views of a value that may be there make the pair of them
 pub pair_of : {A B C : Type 0} (f : A → B) (g : A → C) (o : Option A) (q : Option (B × C)) → option_map f o ≡ option_map (λ p. p.0) q
@@ -40,6 +41,25 @@ number_read {E} gives o (Some n) only none some = go o refl
     go (Some t) e = (t, e, only t (Ok n) (some t e))
 number_read gives o None only none some = λ n given. let read = some given.0 given.1 in only given.0 (Err read.0) read.1 given.2.0
 
+-- no first value is read where there is none
+no_first : (id : Text) (rows : List Row) → one_of id rows ≡ None → first_of id rows ≡ None
+no_first id rows none = go (find (λ r. bytes_eq r.id id) rows) none
+  where
+    of_row : (f : Text → Text) (value : Option Text) → option_map f value ≡ None → value ≡ None
+    of_row f None e = refl
+    of_row f (Some t) e = cc
+
+    go : (row : Option Row) → option_and_then row_text row ≡ None → option_and_then (λ (r : Row). slice_get r.values 0) row ≡ None
+    go None e = refl
+    go (Some r) e = of_row _ (slice_get r.values 0) e
+
+-- a word for the limit that is no number gives none
+pub no_limit : (rows : List Row) (word : Option (Bor Text)) (given : Option ℕ) (none : Bool) → option_map (λ w. w.now) word ≡ first_of (codes "limit") rows
+    → is_some word ≡ not none → none ≡ false → ((n : ℕ) → HasNumber (codes "limit") rows n → ⊥) → HasLimit rows given → ⊥
+no_limit rows word (Some n) none found some isnt numbers is = numbers n is
+no_limit rows None None none found some isnt numbers is = let bad : false ≡ true = some ∙ ap not isnt in cc
+no_limit rows (Some w) None none found some isnt numbers is = let bad = found ∙ no_first (codes "limit") rows is in cc
+
 -- a flag as `get_flag` reads it
 pub flag_read : (f : Found) (id : Text) (is_set : Bool) → (one_text f id ≡ None → is_set ≡ false)
     → (one_text f id ≡ Some (codes "true") → is_set ≡ true) → (one_text f id ≡ Some (codes "false") → is_set ≡ false)
@@ -49,7 +69,7 @@ flag_read f id is_set none set unset =
     (λ e. set (same ∙ e), λ e. unset (same ∙ e), λ e. none (same ∙ e))
 
 -- the tables that the words name
-pub tables_read : (f : Found) (words : List (Bor Text)) (tables : List TableSource)
+pub tables_read : (f : Found) (words : List (Bor Text)) (tables : List TextSource)
     → Some (map (λ w. w.now) words) ≡ option_map raw_values (matched_of f (codes "FILE"))
     → map path_of tables ≡ map (λ (w : Bor Text). path_in w.now) words → HasTables (rows_of f) tables
 tables_read f words tables found are =
@@ -60,23 +80,24 @@ tables_read f words tables found are =
     same (w ∷ ws) = ap (λ rest. path_in w.now ∷ rest) (same ws)
 
 -- no tables, where there are no such words
-pub no_tables : (f : Found) (tables : List TableSource) → None ≡ option_map raw_values (matched_of f (codes "FILE")) → HasTables (rows_of f) tables → ⊥
+pub no_tables : (f : Found) (tables : List TextSource) → None ≡ option_map raw_values (matched_of f (codes "FILE")) → HasTables (rows_of f) tables → ⊥
 no_tables f tables found given = let bad = found ∙ raw_values-rows f (codes "FILE") ∙ given.1 in cc
 
 -- what a command of this name wants of its words
 abbrev pub Wants : Text → List Row → Type 0
 Wants name rows =
-    MatchBool (bytes_eq name (codes "find")) ((n : ℕ) × HasNumber (codes "limit") rows n)
-    (MatchBool (bytes_eq name (codes "classify")) (((n : ℕ) × HasNumber (codes "limit") rows n) × ((ts : Vec TableSource Global) × HasTables rows ts.items))
+    MatchBool (bytes_eq name (codes "find")) ((n : Option ℕ) × HasLimit rows n)
+    (MatchBool (bytes_eq name (codes "classify")) (((n : ℕ) × HasNumber (codes "limit") rows n) × ((ts : Vec TextSource Global) × HasTables rows ts.items))
     (MatchBool (bytes_eq name (codes "lint")) (Unit {0})
     (MatchBool (bytes_eq name (codes "draw")) (Unit {0})
-    (MatchBool (bytes_eq name (codes "check")) ((w : Text) × HasWord (codes "CERT") rows w)
-    (MatchBool (bytes_eq name (codes "explain")) ((w : Text) × HasWord (codes "CERT") rows w)
-    (MatchBool (bytes_eq name (codes "show")) (((w : Text) × HasWord (codes "CERT") rows w) × ((plan : Form) × HasForm rows plan))
-    (MatchBool (bytes_eq name (codes "agree")) (((w : Text) × HasWord (codes "CERT") rows w) × ((l : ListSource) × HasList (codes "INPUTS") rows l) × ((l : ListSource) × HasList (codes "SCHEDULE") rows l))
+    (MatchBool (bytes_eq name (codes "check")) ((w : TextSource) × HasCertificate rows w)
+    (MatchBool (bytes_eq name (codes "explain")) ((w : TextSource) × HasCertificate rows w)
+    (MatchBool (bytes_eq name (codes "why")) ((n : Option ℕ) × HasLimit rows n)
+    (MatchBool (bytes_eq name (codes "show")) (((w : TextSource) × HasCertificate rows w) × ((plan : Form) × HasForm rows plan))
+    (MatchBool (bytes_eq name (codes "agree")) (((w : TextSource) × HasCertificate rows w) × ((l : ListSource) × HasList (codes "INPUTS") rows l) × ((l : ListSource) × HasList (codes "SCHEDULE") rows l))
     (MatchBool (bytes_eq name (codes "replay")) (((o : OpeningWords) × HasOpening rows o) × ((l : ListSource) × HasList (codes "EVENTS") rows l))
     (MatchBool (bytes_eq name (codes "serve")) (((o : OpeningWords) × HasOpening rows o) × ((l : ListSource) × HasList (codes "CALLS") rows l))
-    ⊥)))))))))
+    ⊥))))))))))
 
 -- a command of this name has it
 pub wants : (name : Text) (rows : List Row) (c : Command) → IsNamed name rows c → Wants name rows
@@ -84,10 +105,11 @@ wants name rows (Find limit) h = subst (λ n. Wants n rows) (sym h.0) (limit, h.
 wants name rows (Classify limit recoverable tables) h = subst (λ n. Wants n rows) (sym h.0) ((limit, h.1.0), (tables, h.1.2))
 wants name rows Lint h = subst (λ n. Wants n rows) (sym h.0) tt
 wants name rows Draw h = subst (λ n. Wants n rows) (sym h.0) tt
-wants name rows (Check certificate) h = subst (λ n. Wants n rows) (sym h.0) (certificate.now, h.1)
-wants name rows (Explain certificate all) h = subst (λ n. Wants n rows) (sym h.0) (certificate.now, h.1.0)
-wants name rows (Show certificate plan) h = subst (λ n. Wants n rows) (sym h.0) ((certificate.now, h.1.0), (plan, h.1.1))
+wants name rows (Check certificate) h = subst (λ n. Wants n rows) (sym h.0) (certificate, h.1)
+wants name rows (Explain certificate all) h = subst (λ n. Wants n rows) (sym h.0) (certificate, h.1.0)
+wants name rows (Why limit all) h = subst (λ n. Wants n rows) (sym h.0) (limit, h.1.0)
+wants name rows (Show certificate plan) h = subst (λ n. Wants n rows) (sym h.0) ((certificate, h.1.0), (plan, h.1.1))
 wants name rows (Agree certificate inputs schedule steps) h =
-    subst (λ n. Wants n rows) (sym h.0) ((certificate.now, h.1.0), (inputs, h.1.1), (schedule, h.1.2))
+    subst (λ n. Wants n rows) (sym h.0) ((certificate, h.1.0), (inputs, h.1.1), (schedule, h.1.2))
 wants name rows (Replay opening events) h = subst (λ n. Wants n rows) (sym h.0) ((opening, h.1.0), (events, h.1.1))
 wants name rows (Serve opening calls) h = subst (λ n. Wants n rows) (sym h.0) ((opening, h.1.0), (calls, h.1.1))

@@ -12,11 +12,11 @@ use Rattle.clap.specs.declared.error.Error.{Error}
 use Rattle.clap.specs.declared.error.kind.ErrorKind.TheVariants.{OutOfMemory}
 use Rattle.clap.specs.declared.parser.matches.ArgMatches.{ArgMatches}
 use Rattle.cn_words.specs.CommandLine.{HasCommands, HasCommandsFor, commands}
-use Rattle.cn_words.specs.GivenCommands.{IsCommandOf, IsNamed, RefusesCommand}
+use Rattle.cn_words.specs.GivenCommands.{IsInvocation, IsInvocationOf, RefusesCommand}
 use Rattle.cn_words.specs.Replies.{GivesCommand, GivesReply, IsReplyOf, program}
-use Rattle.cn_words.specs.declared.commands.Command.{Command}
 use Rattle.cn_words.specs.declared.commands.CommandFault.{CommandFault}
 use Rattle.cn_words.specs.declared.commands.CommandFault.TheVariants as fault
+use Rattle.cn_words.specs.declared.commands.Invocation.{Invocation}
 use Rattle.cn_words.specs.declared.replies.Reply.{Reply}
 use Rattle.cn_words.specs.declared.replies.Reply.TheVariants as reply
 
@@ -37,23 +37,23 @@ fails_by : {T : Type 0} (c : ClapCommand) (r : Result T Error) (words : List Tex
 fails_by c r words forms is fails =
     subst (λ (a : App). is_simple_and_free a ≡ true → FailsBy (fault_of a words) r) is fails (program_is_free forms)
 
-pub command_given : (c : ClapCommand) (m : ArgMatches) (words : List Text) (command : Command) → HasCommandsFor commands c
+pub command_given : (c : ClapCommand) (m : ArgMatches) (words : List Text) (command : Invocation) → HasCommandsFor commands c
     → HasMatchesOf (app_of c) words m → (is_simple_and_free (app_of c) ≡ true → FailsBy {T = ArgMatches} (fault_of (app_of c) words) (Ok m))
-    → IsCommandOf m command → GivesCommand words command
+    → IsInvocationOf m command → GivesCommand words command
 command_given c m words command has matches fails is = (
   has.0,
   has.1,
   fails_by c (Ok m) words has.0 has.2 fails,
-  subst (λ o. MatchOption o ⊥ (λ met. IsNamed met.0 met.1 command)) (met_is c m words has.0 has.2 matches) is,
+  subst (λ o. MatchOption o ⊥ (λ met. IsInvocation met.0 met.1 command)) (met_is c m words has.0 has.2 matches) is,
 )
 
 pub fault_given : (c : ClapCommand) (m : ArgMatches) (words : List Text) (why : CommandFault) → HasCommandsFor commands c
-    → HasMatchesOf (app_of c) words m → RefusesCommand (IsCommandOf m) why → GivesReply words (reply.Fault why)
+    → HasMatchesOf (app_of c) words m → RefusesCommand (IsInvocationOf m) why → GivesReply words (reply.Fault why)
 fault_given c m words fault.OutOfMemory has matches refused = tt
 fault_given c m words fault.Words has matches refused = (
   has.0,
   has.1,
-  λ command is. refused command (subst (λ o. MatchOption o ⊥ (λ met. IsNamed met.0 met.1 command)) (sym (met_is c m words has.0 has.2 matches)) is),
+  λ command is. refused command (subst (λ o. MatchOption o ⊥ (λ met. IsInvocation met.0 met.1 command)) (sym (met_is c m words has.0 has.2 matches)) is),
 )
 
 -- an error that memory did not make is among the faults of the words

@@ -32,6 +32,14 @@ abbrev pub limit_option : Rule
 limit_option =
     record (value_option (codes "limit")) { parser = Some (Signed (pos 0) (pos 255)) }
 
+-- --table FILE
+abbrev pub table_option : Rule
+table_option = value_option (codes "table")
+
+-- the same file as a word that has to stand there
+abbrev pub table_word : Rule
+table_word = record (required_word (codes "table")) { value_names = 1 }
+
 -- --as FORM, the form text where it is left out
 abbrev pub form_option : ValueParser → Rule
 form_option forms =
@@ -64,44 +72,52 @@ opening_words = certificate_word ∷ required_word (codes "OBJECT") ∷ required
     ∷ required_word (codes "CAPACITY") ∷ []
 
 abbrev pub find_words : Shape
-find_words = command_with (codes "find") (record limit_option { required = true } ∷ [])
+find_words = command_with (codes "find") (limit_option ∷ table_option ∷ [])
 
 abbrev pub classify_words : Shape
 classify_words = command_with (codes "classify")
     (record limit_option { defaults = codes "8" ∷ [] } ∷ flag (codes "recoverable") ∷ required_words (codes "FILE") ∷ [])
 
 abbrev pub lint_words : Shape
-lint_words = command_with (codes "lint") []
+lint_words = command_with (codes "lint") (table_option ∷ [])
 
 abbrev pub check_words : Shape
-check_words = command_with (codes "check") (certificate_word ∷ [])
+check_words = command_with (codes "check") (certificate_word ∷ table_option ∷ [])
 
 abbrev pub explain_words : Shape
-explain_words = command_with (codes "explain") (certificate_word ∷ flag (codes "all") ∷ [])
+explain_words = command_with (codes "explain")
+    (certificate_word ∷ flag (codes "all") ∷ table_option ∷ [])
+
+abbrev pub why_words : Shape
+why_words = command_with (codes "why") (table_word ∷ limit_option ∷ flag (codes "all") ∷ [])
 
 abbrev pub show_words : ValueParser → Shape
-show_words forms = command_with (codes "show") (certificate_word ∷ form_option forms ∷ [])
+show_words forms = command_with (codes "show")
+    (certificate_word ∷ form_option forms ∷ table_option ∷ [])
 
 abbrev pub draw_words : Shape
-draw_words = command_with (codes "draw") []
+draw_words = command_with (codes "draw") (table_option ∷ [])
 
 abbrev pub agree_words : Shape
 agree_words = command_with (codes "agree")
     (certificate_word ∷ required_word (codes "INPUTS") ∷ required_word (codes "SCHEDULE")
-    ∷ flag (codes "steps") ∷ [])
+    ∷ flag (codes "steps") ∷ table_option ∷ [])
 
 abbrev pub replay_words : Shape
-replay_words = command_with (codes "replay") (opening_words ++ required_word (codes "EVENTS") ∷ [])
+replay_words = command_with (codes "replay")
+    (opening_words ++ required_word (codes "EVENTS") ∷ table_option ∷ [])
 
 abbrev pub serve_words : Shape
-serve_words = command_with (codes "serve") (opening_words ++ required_word (codes "CALLS") ∷ [])
+serve_words = command_with (codes "serve")
+    (opening_words ++ required_word (codes "CALLS") ∷ table_option ∷ [])
 
 -- the commands, in the order in which the help names them
 abbrev pub commands : ValueParser → List Shape
 commands forms = find_words ∷ classify_words ∷ lint_words ∷ check_words ∷ explain_words
-    ∷ show_words forms ∷ draw_words ∷ agree_words ∷ replay_words ∷ serve_words ∷ []
+    ∷ why_words ∷ show_words forms ∷ draw_words ∷ agree_words ∷ replay_words ∷ serve_words ∷ []
 
--- those that read the table of the type from standard input, which is each one but classify
+-- those that read the table of the type from standard input where no word says where it is, which is
+-- each one but classify and why
 abbrev pub table_readers : List Text
 table_readers = codes "find" ∷ codes "lint" ∷ codes "check" ∷ codes "explain" ∷ codes "show"
     ∷ codes "draw" ∷ codes "agree" ∷ codes "replay" ∷ codes "serve" ∷ []

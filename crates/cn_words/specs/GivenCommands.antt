@@ -1,5 +1,6 @@
 -- Which command the words of the command line give, by what clap found in them.
-use Rattle.std.specs.Prelude.{◌≡◌, ◌<◌, ◌^◌, ◌++◌, ℕ, Bool, true, false, List, Option, Some, None, MatchOption, if◌then◌else◌, codes, map}
+use Rattle.std.specs.Prelude.{◌≡◌, ◌<◌, ◌^◌, ◌++◌, ◌&&◌, ℕ, Bool, true, false, List, Option, Some, None, MatchOption, if◌then◌else◌, codes, map, option_and_then}
+use Rattle.std.specs.Option.{option_map_or}
 use Rattle.std.specs.Str.{bytes_eq}
 use Rattle.std.specs.Str.Parse.{IsNumeral, digits_value, without_leading_plus}
 use Rattle.clap.specs.Matches.{found_of}
@@ -9,14 +10,15 @@ use Rattle.clap.specs.declared.parser.matches.ArgMatches.{ArgMatches}
 use Rattle.cn_forms.specs.declared.plan_forms.Form.{Form}
 use Rattle.cn_forms.specs.declared.plan_forms.Form.TheVariants as form
 use Rattle.cn_words.specs.declared.commands.Command.{Command}
-use Rattle.cn_words.specs.declared.commands.Command.TheVariants.{Find, Classify, Lint, Draw, Check, Explain, Show, Agree, Replay, Serve}
+use Rattle.cn_words.specs.declared.commands.Command.TheVariants.{Find, Classify, Lint, Draw, Check, Explain, Why, Show, Agree, Replay, Serve}
 use Rattle.cn_words.specs.declared.commands.CommandFault.{CommandFault}
 use Rattle.cn_words.specs.declared.commands.CommandFault.TheVariants as fault
+use Rattle.cn_words.specs.declared.commands.Invocation.{Invocation}
 use Rattle.cn_words.specs.declared.commands.ListSource.{ListSource}
 use Rattle.cn_words.specs.declared.commands.ListSource.TheVariants as list
 use Rattle.cn_words.specs.declared.commands.OpeningWords.{OpeningWords}
-use Rattle.cn_words.specs.declared.commands.TableSource.{TableSource}
-use Rattle.cn_words.specs.declared.commands.TableSource.TheVariants as table
+use Rattle.cn_words.specs.declared.commands.TextSource.{TextSource}
+use Rattle.cn_words.specs.declared.commands.TextSource.TheVariants as source
 
 -- what was found, argument by argument
 abbrev pub rows_in : ArgMatches → List Row
@@ -40,6 +42,11 @@ IsByte text n = (IsNumeral 10 (without_leading_plus text)
 
 abbrev pub HasNumber : Text → List Row → ℕ → Type 0
 HasNumber id rows n = (text : Text) × (one_of id rows ≡ Some text) × IsByte text n
+
+-- the number of the limit, or none where it was not given
+abbrev pub HasLimit : List Row → Option ℕ → Type 0
+HasLimit rows None = one_of (codes "limit") rows ≡ None
+HasLimit rows (Some n) = HasNumber (codes "limit") rows n
 
 -- a flag is set where it was given, and else it is not
 abbrev pub HasFlag : Text → List Row → Bool → Type 0
@@ -72,16 +79,31 @@ HasList id rows given = (word : Text) × HasWord id rows word × IsList word giv
 abbrev pub path_in : Text → Option Text
 path_in word = if bytes_eq word (codes "-") then None else Some word
 
-abbrev pub path_of : TableSource → Option Text
-path_of table.StandardInput = None
-path_of (table.File path) = Some path.now
+-- a word is - for standard input; what is so where there is none
+abbrev pub is_input : Option Text → Bool → Bool
+is_input word otherwise = option_map_or (λ w. bytes_eq w (codes "-")) word otherwise
 
-abbrev pub HasTables : List Row → List TableSource → Type 0
+abbrev pub path_of : TextSource → Option Text
+path_of source.StandardInput = None
+path_of (source.File path) = Some path.now
+
+abbrev pub HasTables : List Row → List TextSource → Type 0
 HasTables rows tables = (words : List Text) × (all_of (codes "FILE") rows ≡ Some words)
     × (map path_of tables ≡ map path_in words)
 
+abbrev pub HasCertificate : List Row → TextSource → Type 0
+HasCertificate rows certificate = (word : Text) × HasWord (codes "CERT") rows word × (path_of certificate ≡ path_in word)
+
+-- the table is standard input too where no word says where it is
+abbrev pub HasTable : List Row → TextSource → Type 0
+HasTable rows table = path_of table ≡ option_and_then path_in (first_of (codes "table") rows)
+
+-- standard input would be both the table and the certificate
+abbrev pub is_input_shared : List Row → Bool
+is_input_shared rows = is_input (first_of (codes "CERT") rows) false && is_input (first_of (codes "table") rows) true
+
 abbrev pub HasOpening : List Row → OpeningWords → Type 0
-HasOpening rows opening = HasWord (codes "CERT") rows opening.certificate.now
+HasOpening rows opening = HasCertificate rows opening.certificate
     × HasWord (codes "OBJECT") rows opening.object.now
     × HasWord (codes "START") rows opening.start.now
     × HasWord (codes "CAPACITY") rows opening.capacity.now
@@ -95,6 +117,7 @@ name_of Lint = codes "lint"
 name_of Draw = codes "draw"
 name_of (Check certificate) = codes "check"
 name_of (Explain certificate all) = codes "explain"
+name_of (Why limit all) = codes "why"
 name_of (Show certificate plan) = codes "show"
 name_of (Agree certificate inputs schedule steps) = codes "agree"
 name_of (Replay opening events) = codes "replay"
@@ -102,18 +125,18 @@ name_of (Serve opening calls) = codes "serve"
 
 -- each argument is what its word says
 abbrev pub HasArguments : List Row → Command → Type 0
-HasArguments rows (Find limit) = HasNumber (codes "limit") rows limit
+HasArguments rows (Find limit) = HasLimit rows limit
 HasArguments rows (Classify limit recoverable tables) =
     HasNumber (codes "limit") rows limit × HasFlag (codes "recoverable") rows recoverable × HasTables rows tables.items
 HasArguments rows Lint = Unit {0}
 HasArguments rows Draw = Unit {0}
-HasArguments rows (Check certificate) = HasWord (codes "CERT") rows certificate.now
+HasArguments rows (Check certificate) = HasCertificate rows certificate
 HasArguments rows (Explain certificate all) =
-    HasWord (codes "CERT") rows certificate.now × HasFlag (codes "all") rows all
-HasArguments rows (Show certificate plan) =
-    HasWord (codes "CERT") rows certificate.now × HasForm rows plan
+    HasCertificate rows certificate × HasFlag (codes "all") rows all
+HasArguments rows (Why limit all) = HasLimit rows limit × HasFlag (codes "all") rows all
+HasArguments rows (Show certificate plan) = HasCertificate rows certificate × HasForm rows plan
 HasArguments rows (Agree certificate inputs schedule steps) =
-    HasWord (codes "CERT") rows certificate.now × HasList (codes "INPUTS") rows inputs
+    HasCertificate rows certificate × HasList (codes "INPUTS") rows inputs
     × HasList (codes "SCHEDULE") rows schedule × HasFlag (codes "steps") rows steps
 HasArguments rows (Replay opening events) =
     HasOpening rows opening × HasList (codes "EVENTS") rows events
@@ -124,12 +147,18 @@ HasArguments rows (Serve opening calls) =
 abbrev pub IsNamed : Text → List Row → Command → Type 0
 IsNamed name rows command = (name ≡ name_of command) × HasArguments rows command
 
--- the command is the one that the parse met, of the words behind its name
-abbrev pub IsCommandOf : ArgMatches → Command → Type 0
-IsCommandOf matches command =
-    MatchOption (subcommand_rows_of matches) ⊥ (λ met. IsNamed met.0 met.1 command)
+-- so, its table is what the words say, and standard input is not the certificate too
+pub record IsInvocation (name : Text) (rows : List Row) (invocation : Invocation) : Type 0 where
+  pub command : IsNamed name rows invocation.command
+  pub table : HasTable rows invocation.table
+  pub input : is_input_shared rows ≡ false
 
--- the words are refused where they give no such command
-abbrev pub RefusesCommand : (Command → Type 0) → CommandFault → Type 0
-RefusesCommand IsGiven fault.Words = (command : Command) → ¬ (IsGiven command)
+-- the invocation is the one that the parse met, of the words behind the name of its command
+abbrev pub IsInvocationOf : ArgMatches → Invocation → Type 0
+IsInvocationOf matches invocation =
+    MatchOption (subcommand_rows_of matches) ⊥ (λ met. IsInvocation met.0 met.1 invocation)
+
+-- the words are refused where they give no such invocation
+abbrev pub RefusesCommand : (Invocation → Type 0) → CommandFault → Type 0
+RefusesCommand IsGiven fault.Words = (invocation : Invocation) → ¬ (IsGiven invocation)
 RefusesCommand IsGiven fault.OutOfMemory = Unit {0}

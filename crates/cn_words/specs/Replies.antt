@@ -10,9 +10,9 @@ use Rattle.clap.specs.declared.error.Error.{Error}
 use Rattle.clap.specs.declared.error.kind.ErrorKind.{ErrorKind}
 use Rattle.clap.specs.declared.error.kind.ErrorKind.TheVariants.{DisplayHelp, DisplayVersion, OutOfMemory}
 use Rattle.cn_words.specs.CommandLine.{TakesForms, commands, program_with}
-use Rattle.cn_words.specs.GivenCommands.{IsNamed}
-use Rattle.cn_words.specs.declared.commands.Command.{Command}
+use Rattle.cn_words.specs.GivenCommands.{IsInvocation}
 use Rattle.cn_words.specs.declared.commands.CommandFault.TheVariants as fault
+use Rattle.cn_words.specs.declared.commands.Invocation.{Invocation}
 use Rattle.cn_words.specs.declared.replies.Reply.{Reply}
 use Rattle.cn_words.specs.declared.replies.Reply.TheVariants as reply
 
@@ -20,15 +20,15 @@ use Rattle.cn_words.specs.declared.replies.Reply.TheVariants as reply
 abbrev pub program : ValueParser → App
 program forms = program_with (commands forms)
 
--- the words have this command: its name and its arguments
-abbrev pub HasCommand : App → List Text → Command → Type 0
-HasCommand app words command =
-    MatchOption (subcommand_of app words) ⊥ (λ met. IsNamed met.0 met.1 command)
+-- the words have this command: its name, its arguments and its table
+abbrev pub HasCommand : App → List Text → Invocation → Type 0
+HasCommand app words invocation =
+    MatchOption (subcommand_of app words) ⊥ (λ met. IsInvocation met.0 met.1 invocation)
 
 -- the words are taken, and have this command
-abbrev pub GivesCommand : List Text → Command → Type 0
-GivesCommand words command = (forms : ValueParser) × TakesForms forms
-    × (fault_of (program forms) words ≡ []) × HasCommand (program forms) words command
+abbrev pub GivesCommand : List Text → Invocation → Type 0
+GivesCommand words invocation = (forms : ValueParser) × TakesForms forms
+    × (fault_of (program forms) words ≡ []) × HasCommand (program forms) words invocation
 
 abbrev pub IsHelp : ErrorKind → Type 0
 IsHelp kind = (kind ≡ DisplayHelp) ⊎ (kind ≡ DisplayVersion)
@@ -48,4 +48,4 @@ GivesReply words (reply.Refusal text) = (forms : ValueParser) × TakesForms form
     × ((kind : ErrorKind) × IsAmong kind (fault_of (program forms) words) × ¬ (IsHelp kind))
 GivesReply words (reply.Fault fault.OutOfMemory) = Unit {0}
 GivesReply words (reply.Fault fault.Words) = (forms : ValueParser) × TakesForms forms
-    × ((command : Command) → ¬ (HasCommand (program forms) words command))
+    × ((invocation : Invocation) → ¬ (HasCommand (program forms) words invocation))

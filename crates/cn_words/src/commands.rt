@@ -2,7 +2,7 @@
 ghost use Rattle.std.specs.Prelude.{◌≡◌, IfOk, MatchResult, codes, map, option_map};
 ghost use Rattle.clap.specs.Simple.{subcommand_rows_of};
 ghost use Rattle.clap.specs.Walk.{first_of};
-ghost use Rattle.cn_words.specs.GivenCommands.{Finds, HasForm, HasList, HasNumber, HasOpening, HasTables, IsCommandOf, IsList, IsNamed, RefusesCommand, path_in, path_of, rows_in};
+ghost use Rattle.cn_words.specs.GivenCommands.{Finds, HasCertificate, HasForm, HasLimit, HasList, HasNumber, HasOpening, HasTable, HasTables, IsInvocation, IsInvocationOf, IsList, IsNamed, RefusesCommand, is_input, is_input_shared, path_in, path_of, rows_in};
 ghost use Rattle.cn_words.specs.declared.commands.CommandFault.TheVariants.{OutOfMemory};
 
 use clap::ArgMatches;
@@ -18,9 +18,9 @@ pub enum ListSource<'a> {
     File(&'a str),
 }
 
-/// Where a table is read from.
+/// Where a table or a certificate is read from.
 #[derive(Clone, Copy)]
-pub enum TableSource<'a> {
+pub enum TextSource<'a> {
     /// Standard input, for which `-` stands.
     StandardInput,
     /// The file of this name.
@@ -30,8 +30,8 @@ pub enum TableSource<'a> {
 /// The words for an object that is served by a certificate's witness.
 #[derive(Clone, Copy)]
 pub struct OpeningWords<'a> {
-    /// The name of the file that holds the certificate.
-    pub certificate: &'a str,
+    /// The certificate.
+    pub certificate: TextSource<'a>,
     /// The name of the file that holds the table of the object.
     pub object: &'a str,
     /// The state in which it starts.
@@ -41,14 +41,13 @@ pub struct OpeningWords<'a> {
 }
 
 /// A command, with the words for its arguments. Of these the limit, the form and the flags are read
-/// by now; a list, a state or a number of slots is still as it was spelled. A certificate is the
-/// name of the file that holds it.
+/// by now; a list, a state or a number of slots is still as it was spelled.
 #[derive(Drop)]
 pub enum Command<'a> {
     /// Writes the certificate of the type, up to the limit.
     Find {
-        /// The greatest number looked for.
-        limit: u8,
+        /// The greatest number looked for, where it was given.
+        limit: Option<u8>,
     },
     /// Writes the number of each of these types, up to the limit.
     Classify {
@@ -57,7 +56,7 @@ pub enum Command<'a> {
         /// Whether the recoverable number is written too.
         recoverable: bool,
         /// The tables of the types, one at least.
-        tables: Vec<TableSource<'a>>,
+        tables: Vec<TextSource<'a>>,
     },
     /// Writes the table, or all that is wrong with it.
     Lint,
@@ -66,26 +65,33 @@ pub enum Command<'a> {
     /// Checks the certificate.
     Check {
         /// The certificate.
-        certificate: &'a str,
+        certificate: TextSource<'a>,
     },
     /// Tells why the number is what it is.
     Explain {
         /// The certificate.
-        certificate: &'a str,
+        certificate: TextSource<'a>,
+        /// Whether all collisions are told.
+        all: bool,
+    },
+    /// Finds the certificate of the type, up to the limit, and tells why the number is what it is.
+    Why {
+        /// The greatest number looked for, where it was given.
+        limit: Option<u8>,
         /// Whether all collisions are told.
         all: bool,
     },
     /// Writes the plan of the witness.
     Show {
         /// The certificate.
-        certificate: &'a str,
+        certificate: TextSource<'a>,
         /// The form of the plan.
         form: Form,
     },
     /// Runs the plan by a schedule.
     Agree {
         /// The certificate.
-        certificate: &'a str,
+        certificate: TextSource<'a>,
         /// The numbers that the processes begin with.
         inputs: ListSource<'a>,
         /// The processes in the order of their steps.
@@ -107,6 +113,15 @@ pub enum Command<'a> {
         /// The calls of each process.
         calls: ListSource<'a>,
     },
+}
+
+/// A command, and where the table is read from that it is for.
+#[derive(Drop)]
+pub struct Invocation<'a> {
+    /// The table; `classify` names its own.
+    pub table: TextSource<'a>,
+    /// What is done.
+    pub command: Command<'a>,
 }
 
 /// Why no command was made.
@@ -138,15 +153,15 @@ impl<'a> ListSource<'a> {
     }
 }
 
-impl<'a> TableSource<'a> {
-    // The table that a word names.
-    fn of(word: &'a str) -> TableSource<'a>
+impl<'a> TextSource<'a> {
+    // The text that a word names.
+    fn of(word: &'a str) -> TextSource<'a>
         ensures { path_of result ≡ path_in word.entry.now }
     {
         if word == "-" {
-            TableSource::StandardInput
+            TextSource::StandardInput
         } else {
-            TableSource::File(word)
+            TextSource::File(word)
         }
     }
 }
@@ -170,6 +185,22 @@ fn limit(words: &ArgMatches<'_>) -> Option<u8>
     words.get_one::<u8>("limit")
 }
 
+// The limit, if one was given.
+fn optional_limit(words: &ArgMatches<'_>) -> Option<Option<u8>>
+    ensures { Finds (HasLimit (rows_in words.now)) result }
+{
+    if word(words, "limit").is_none() {
+        return Some(None);
+    }
+    Some(Some(limit(words)?))
+}
+
+fn certificate<'a>(words: &ArgMatches<'a>) -> Option<TextSource<'a>>
+    ensures { Finds (HasCertificate (rows_in words.now)) result }
+{
+    Some(TextSource::of(word(words, "CERT")?))
+}
+
 fn form(words: &ArgMatches<'_>) -> Option<Form>
     ensures { Finds (HasForm (rows_in words.now)) result }
 {
@@ -186,20 +217,20 @@ fn opening<'a>(words: &ArgMatches<'a>) -> Option<OpeningWords<'a>>
     ensures { Finds (HasOpening (rows_in words.now)) result }
 {
     Some(OpeningWords {
-        certificate: word(words, "CERT")?,
+        certificate: certificate(words)?,
         object: word(words, "OBJECT")?,
         start: word(words, "START")?,
         capacity: word(words, "CAPACITY")?,
     })
 }
 
-fn sources<'a>(alloc: Global, words: &[&'a str]) -> Result<Vec<TableSource<'a>>, AllocError>
+fn sources<'a>(alloc: Global, words: &[&'a str]) -> Result<Vec<TextSource<'a>>, AllocError>
     ensures { IfOk result (λ sources.
         map path_of sources.items ≡ map (λ w. path_in w.now) words.now) }
 {
     let mut sources = Vec::with_capacity(alloc, words.len())?;
     for word in words {
-        sources.push(TableSource::of(*word))?;
+        sources.push(TextSource::of(*word))?;
     }
     Ok(sources)
 }
@@ -207,7 +238,7 @@ fn sources<'a>(alloc: Global, words: &[&'a str]) -> Result<Vec<TableSource<'a>>,
 fn tables<'a>(
     alloc: Global,
     words: &ArgMatches<'a>,
-) -> Result<Option<Vec<TableSource<'a>>>, AllocError>
+) -> Result<Option<Vec<TextSource<'a>>>, AllocError>
     ensures { IfOk result (Finds (λ tables. HasTables (rows_in words.now) tables.items)) }
 {
     match words.get_strs("FILE") {
@@ -220,7 +251,7 @@ fn find<'a>(words: &ArgMatches<'a>) -> Option<Command<'a>>
     ensures { Finds (IsNamed (codes "find") (rows_in words.now)) result }
 {
     Some(Command::Find {
-        limit: limit(words)?,
+        limit: optional_limit(words)?,
     })
 }
 
@@ -244,7 +275,7 @@ fn check<'a>(words: &ArgMatches<'a>) -> Option<Command<'a>>
     ensures { Finds (IsNamed (codes "check") (rows_in words.now)) result }
 {
     Some(Command::Check {
-        certificate: word(words, "CERT")?,
+        certificate: certificate(words)?,
     })
 }
 
@@ -252,16 +283,24 @@ fn explain<'a>(words: &ArgMatches<'a>) -> Option<Command<'a>>
     ensures { Finds (IsNamed (codes "explain") (rows_in words.now)) result }
 {
     Some(Command::Explain {
-        certificate: word(words, "CERT")?,
+        certificate: certificate(words)?,
         all: words.get_flag("all"),
     })
+}
+
+fn why<'a>(words: &ArgMatches<'a>) -> Option<Command<'a>>
+    ensures { Finds (IsNamed (codes "why") (rows_in words.now)) result }
+{
+    let limit = optional_limit(words)?;
+    let all = words.get_flag("all");
+    Some(Command::Why { limit, all })
 }
 
 fn show<'a>(words: &ArgMatches<'a>) -> Option<Command<'a>>
     ensures { Finds (IsNamed (codes "show") (rows_in words.now)) result }
 {
     Some(Command::Show {
-        certificate: word(words, "CERT")?,
+        certificate: certificate(words)?,
         form: form(words)?,
     })
 }
@@ -270,7 +309,7 @@ fn agree<'a>(words: &ArgMatches<'a>) -> Option<Command<'a>>
     ensures { Finds (IsNamed (codes "agree") (rows_in words.now)) result }
 {
     Some(Command::Agree {
-        certificate: word(words, "CERT")?,
+        certificate: certificate(words)?,
         inputs: list(words, "INPUTS")?,
         schedule: list(words, "SCHEDULE")?,
         steps: words.get_flag("steps"),
@@ -310,12 +349,60 @@ fn command_named<'a>(
         "draw" => Ok(Some(Command::Draw)),
         "check" => Ok(check(words)),
         "explain" => Ok(explain(words)),
+        "why" => Ok(why(words)),
         "show" => Ok(show(words)),
         "agree" => Ok(agree(words)),
         "replay" => Ok(replay(words)),
         "serve" => Ok(serve(words)),
         _ => Ok(None),
     }
+}
+
+// Where the table is read from: standard input, where no word says.
+fn table<'a>(words: &ArgMatches<'a>) -> TextSource<'a>
+    ensures { HasTable (rows_in words.now) result }
+{
+    match word(words, "table") {
+        Some(file) => TextSource::of(file),
+        None => TextSource::StandardInput,
+    }
+}
+
+// Whether a word stands for standard input; what is so where there is none.
+fn is_input(word: Option<&str>, otherwise: bool) -> bool
+    ensures { result ≡ is_input (option_map (λ w. w.now) word.entry) otherwise }
+{
+    match word {
+        Some(word) => word == "-",
+        None => otherwise,
+    }
+}
+
+// Whether standard input would be both the table and the certificate.
+fn is_input_shared(words: &ArgMatches<'_>) -> bool
+    ensures { result ≡ is_input_shared (rows_in words.now) }
+{
+    is_input(word(words, "CERT"), false) && is_input(word(words, "table"), true)
+}
+
+// The command of this name with its table, of the words behind it.
+fn invocation_named<'a>(
+    alloc: Global,
+    name: &str,
+    words: &ArgMatches<'a>,
+) -> Result<Option<Invocation<'a>>, AllocError>
+    ensures { IfOk result (Finds (IsInvocation name.now (rows_in words.now))) }
+{
+    if is_input_shared(words) {
+        return Ok(None);
+    }
+    let Some(command) = command_named(alloc, name, words)? else {
+        return Ok(None);
+    };
+    Ok(Some(Invocation {
+        table: table(words),
+        command,
+    }))
 }
 
 // The name of the command that was met, and the words behind it.
@@ -326,18 +413,22 @@ fn command_met<'m, 'a>(matches: &'m ArgMatches<'a>) -> Option<(&'a str, &'m ArgM
     matches.subcommand()
 }
 
-/// The command that a parse met.
+/// The command that a parse met, and where its table is read from.
 ///
 /// # Errors
 ///
 /// `Words` where it met none of the commands, or a word is missing, the limit is no number of one
-/// byte or the form is none; `OutOfMemory` for want of memory.
-pub fn command_of<'a>(alloc: Global, matches: &ArgMatches<'a>) -> Result<Command<'a>, CommandFault>
-    ensures { MatchResult result (IsCommandOf matches.now)
-        (RefusesCommand (IsCommandOf matches.now)) }
+/// byte or the form is none, or standard input would be the table and the certificate;
+/// `OutOfMemory` for want of memory.
+pub fn invocation_of<'a>(
+    alloc: Global,
+    matches: &ArgMatches<'a>,
+) -> Result<Invocation<'a>, CommandFault>
+    ensures { MatchResult result (IsInvocationOf matches.now)
+        (RefusesCommand (IsInvocationOf matches.now)) }
 {
     let Some((name, words)) = command_met(matches) else {
         return Err(CommandFault::Words);
     };
-    command_named(alloc, name, words)?.ok_or(CommandFault::Words)
+    invocation_named(alloc, name, words)?.ok_or(CommandFault::Words)
 }

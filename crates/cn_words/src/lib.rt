@@ -1,7 +1,7 @@
 //! The words of the command line of `cnum`, the help on them, and the command that they give.
 //!
-//! [`parse`] makes a [`Command`] of a command line, or a [`Reply`] where there is none to run. The
-//! crate `clap` parses the words by what [`command`] says, and [`command_of`] reads what it found.
+//! [`parse`] makes an [`Invocation`] of a command line, or a [`Reply`] where there is none to run. The
+//! crate `clap` parses the words by what [`command`] says, and [`invocation_of`] reads what it found.
 //! The crate knows nothing of what a command does.
 #![tactic(auto)]
 
@@ -9,6 +9,8 @@ mod commands;
 mod replies;
 mod words;
 
-pub use commands::{Command, CommandFault, ListSource, OpeningWords, TableSource, command_of};
+pub use commands::{
+    Command, CommandFault, Invocation, ListSource, OpeningWords, TextSource, invocation_of,
+};
 pub use replies::{Reply, parse};
 pub use words::{command, reads_input, word_too_many};

@@ -4,7 +4,7 @@ ghost use Rattle.cn_words.specs.Replies.{GivesCommand, GivesReply, IsReplyOf};
 ghost use Rattle.cn_words.specs.declared.commands.CommandFault.TheVariants as fault;
 ghost use Rattle.cn_words.specs.declared.replies.Reply.TheVariants as reply;
 
-use crate::commands::{Command, CommandFault, command_of};
+use crate::commands::{CommandFault, Invocation, invocation_of};
 use crate::words::{command, reads_input, word_too_many};
 use clap::Error;
 use clap::error::ErrorKind;
@@ -64,13 +64,13 @@ fn reply_to(alloc: Global, error: &Error, words: &[String]) -> Reply
 ///
 /// The text of the help or the version, where the words ask for it, or the text of what is wrong
 /// with them; `OutOfMemory` for want of memory.
-pub fn parse<'a>(alloc: Global, words: &'a [String]) -> Result<Command<'a>, Reply>
+pub fn parse<'a>(alloc: Global, words: &'a [String]) -> Result<Invocation<'a>, Reply>
     ensures { MatchResult result (GivesCommand (map string_bytes words.entry.now))
         (GivesReply (map string_bytes words.entry.now)) }
 {
     match command(alloc)?.try_get_matches_from(words) {
-        Ok(matches) => match command_of(alloc, &matches) {
-            Ok(command) => Ok(command),
+        Ok(matches) => match invocation_of(alloc, &matches) {
+            Ok(invocation) => Ok(invocation),
             Err(fault) => Err(Reply::Fault(fault)),
         },
         Err(error) => Err(reply_to(alloc, &error, words)),

@@ -3,7 +3,7 @@ ghost use Rattle.std.specs.Prelude.{◌≡◌, [], ◌∷◌, IfOk, MatchOption,
 ghost use Rattle.std.specs.List.{list_any};
 ghost use Rattle.std.specs.Str.{bytes_eq};
 ghost use Rattle.clap.specs.Simple.{new_shape};
-ghost use Rattle.cn_words.specs.CommandLine.{AddsArgument, AddsCommand, HasCommands, HasCommandsFor, IsArgument, IsCommand, IsShow, TakesForms, agree_words, certificate_word, classify_words, command_with, commands, draw_words, explain_words, find_words, flag, form_option, limit_option, lint_words, opening_words, replay_words, required_word, required_words, serve_words, table_readers, value_option};
+ghost use Rattle.cn_words.specs.CommandLine.{AddsArgument, AddsCommand, HasCommands, HasCommandsFor, IsArgument, IsCommand, IsShow, TakesForms, agree_words, certificate_word, check_words, classify_words, command_with, commands, draw_words, explain_words, find_words, flag, form_option, limit_option, lint_words, opening_words, replay_words, required_word, required_words, serve_words, table_option, table_readers, table_word, value_option, why_words};
 ghost use Rattle.cn_words.specs.WordTooMany.{IsOption, RefusesWord};
 
 use clap::builder::ValueParser;
@@ -44,10 +44,11 @@ const ABOUT: &str = "Finds and checks the consensus number of a shared object ty
 
 const AFTER: &str = help!(
     "\
-Input: a type table in TOML on standard input, at most 65536 bytes; CERT is a file that holds a
-certificate, at most 16777216 bytes, OBJECT one that holds the table of an object, at most 65536.
-classify reads a table from each FILE. INPUTS, SCHEDULE, EVENTS and CALLS are lists, or @ and the
-name of a file that holds the list, at most 1048576 bytes.
+Input: a type table in TOML on standard input, at most 65536 bytes, or in the FILE of --table. CERT
+is a file that holds a certificate, at most 16777216 bytes, or - for standard input where the table
+is in a file. OBJECT is a file that holds the table of an object, at most 65536 bytes. classify and
+why read tables from each FILE. INPUTS, SCHEDULE, EVENTS and CALLS are lists, or @ and the name of a
+file that holds the list, at most 1048576 bytes.
 Output: on standard output, written at once. After a fault there is none, but for two: lint writes
 the flaws of a refused table, and after a failed write it is open how much went out. A fault is one
 line on standard error. In classify each table has a line of output or of a fault.
@@ -63,8 +64,9 @@ Reads a type table in TOML from standard input: the keys name, states, responses
 operation, name, response and next. Looks for the greatest n from 2 to N for which the type is
 n-discerning, that is, the number of processes that the type with registers can bring to
 agreement, as far as N shows. N is from 2 to 8. A search of more than 100000 choices for N
-processes is refused. Processes can read the whole state of an object, in a step that changes
-nothing; the table need not have such an operation.
+processes is refused. Without --limit, N is the greatest that is not refused, which the certificate
+tells as its limit. Processes can read the whole state of an object, in a step that changes nothing;
+the table need not have such an operation.
 
 Writes a certificate, one line of JSON: the number, or null; a witness for it; and, for one process
 more, a counterexample (collision) to every choice of a start state, operations and teams; choices
@@ -145,6 +147,19 @@ these choices the first 12 are told, with --all all of them.
 
 ",
     "  cnum explain tests/certificates/test_and_set_at_3.json < types/test_and_set.toml
+writes first test_and_set: consensus number 2 (for processes that can read the whole state)."
+);
+
+const WHY_ABOUT: &str = "Finds the consensus number of the type, and tells why it is what it is";
+
+const WHY_AFTER: &str = help!(
+    "\
+Reads a type table in TOML from FILE; - is standard input. Finds the certificate of the type up to N
+as find does, and writes of it what explain writes. N is from 2 to 8. A search of more than 100000
+choices for N processes is refused. Without --limit, N is the greatest that is not refused.
+
+",
+    "  cnum why --limit 3 types/test_and_set.toml
 writes first test_and_set: consensus number 2 (for processes that can read the whole state)."
 );
 
@@ -262,7 +277,8 @@ answers are those of one sequential run, in the order of the entry lines.
 writes answer 0 0 0, entry 0 0 inc 0 1 and events i0:0,s0,s0,s0,s0,s0,s0."
 );
 
-/// The commands that read the table of the type from standard input.
+/// The commands that read the table of the type from standard input, where no word says where it
+/// is.
 const READ_INPUT: [&str; 9] = [
     "find", "lint", "check", "explain", "show", "draw", "agree", "replay", "serve",
 ];
@@ -273,7 +289,8 @@ fn has_name(names: &[&str], name: &str) -> bool
     names.iter().any(|n| *n == name)
 }
 
-/// Whether the command of this name reads the table of the type from standard input.
+/// Whether the command of this name reads the table of the type from standard input, where no word
+/// says where it is.
 pub fn reads_input(command: &str) -> bool
     ensures { result ≡ list_any (λ name. bytes_eq name command.now) table_readers }
 {
@@ -327,6 +344,21 @@ fn files<'a>(alloc: Global) -> Arg<'a>
     required_word(alloc, "FILE", "The files that hold the type tables")
         .num_args(1..)
         .action(ArgAction::Set)
+}
+
+/// The file of the table, where it is not read from standard input.
+fn table_option<'a>(alloc: Global) -> Arg<'a>
+    ensures { IsArgument table_option result }
+{
+    let help = "The file that holds the type table, in place of standard input";
+    value_option(alloc, "table", "FILE", help)
+}
+
+/// The same file as a word.
+fn table_word<'a>(alloc: Global) -> Arg<'a>
+    ensures { IsArgument table_word result }
+{
+    required_word(alloc, "table", "The file that holds the type table").value_name("FILE")
 }
 
 /// A flag.
@@ -383,7 +415,8 @@ fn find<'a>(alloc: Global) -> Result<Command<'a>, AllocError>
     ensures { IfOk result (IsCommand find_words) }
 {
     let command = bare_command(alloc, "find", FIND_ABOUT, FIND_AFTER);
-    with_argument(Ok(command), limit(alloc).required(true))
+    let command = with_argument(Ok(command), limit(alloc));
+    with_argument(command, table_option(alloc))
 }
 
 fn classify<'a>(alloc: Global) -> Result<Command<'a>, AllocError>
@@ -396,10 +429,11 @@ fn classify<'a>(alloc: Global) -> Result<Command<'a>, AllocError>
     with_argument(command, files(alloc))
 }
 
-fn lint<'a>(alloc: Global) -> Command<'a>
-    ensures { IsCommand lint_words result }
+fn lint<'a>(alloc: Global) -> Result<Command<'a>, AllocError>
+    ensures { IfOk result (IsCommand lint_words) }
 {
-    bare_command(alloc, "lint", LINT_ABOUT, LINT_AFTER)
+    let command = bare_command(alloc, "lint", LINT_ABOUT, LINT_AFTER);
+    with_argument(Ok(command), table_option(alloc))
 }
 
 /// A command that reads a certificate.
@@ -412,30 +446,56 @@ fn with_certificate<'a>(
     ensures { IfOk result (IsCommand (command_with name.entry.now (certificate_word ∷ []))) }
 {
     let command = bare_command(alloc, name, about, after);
-    let certificate = required_word(alloc, "CERT", "The file that holds the certificate");
+    let certificate = "The file that holds the certificate, or - for standard input";
+    let certificate = required_word(alloc, "CERT", certificate);
     with_argument(Ok(command), certificate)
 }
 
-/// A command that tells the first of what it has to tell, or all.
+fn check<'a>(alloc: Global) -> Result<Command<'a>, AllocError>
+    ensures { IfOk result (IsCommand check_words) }
+{
+    let command = with_certificate(alloc, "check", CHECK_ABOUT, CHECK_AFTER);
+    with_argument(command, table_option(alloc))
+}
+
+/// Whether a command tells the first of what it has to tell, or all.
+fn all<'a>(alloc: Global) -> Arg<'a>
+    ensures { IsArgument (flag (codes "all")) result }
+{
+    let all = "Tells all choices that are refuted, not the first 12 alone";
+    flag(alloc, "all", all)
+}
+
 fn explain<'a>(alloc: Global) -> Result<Command<'a>, AllocError>
     ensures { IfOk result (IsCommand explain_words) }
 {
-    let all = "Tells all choices that are refuted, not the first 12 alone";
     let command = with_certificate(alloc, "explain", EXPLAIN_ABOUT, EXPLAIN_AFTER);
-    with_argument(command, flag(alloc, "all", all))
+    let command = with_argument(command, all(alloc));
+    with_argument(command, table_option(alloc))
+}
+
+fn why<'a>(alloc: Global) -> Result<Command<'a>, AllocError>
+    ensures { IfOk result (IsCommand why_words) }
+{
+    let command = bare_command(alloc, "why", WHY_ABOUT, WHY_AFTER);
+    let command = with_argument(Ok(command), table_word(alloc));
+    let command = with_argument(command, limit(alloc));
+    with_argument(command, all(alloc))
 }
 
 fn show<'a>(alloc: Global) -> Result<Command<'a>, AllocError>
     ensures { IfOk result IsShow }
 {
     let command = with_certificate(alloc, "show", SHOW_ABOUT, SHOW_AFTER);
-    with_argument(command, form(alloc))
+    let command = with_argument(command, form(alloc));
+    with_argument(command, table_option(alloc))
 }
 
-fn draw<'a>(alloc: Global) -> Command<'a>
-    ensures { IsCommand draw_words result }
+fn draw<'a>(alloc: Global) -> Result<Command<'a>, AllocError>
+    ensures { IfOk result (IsCommand draw_words) }
 {
-    bare_command(alloc, "draw", DRAW_ABOUT, DRAW_AFTER)
+    let command = bare_command(alloc, "draw", DRAW_ABOUT, DRAW_AFTER);
+    with_argument(Ok(command), table_option(alloc))
 }
 
 fn agree<'a>(alloc: Global) -> Result<Command<'a>, AllocError>
@@ -447,7 +507,8 @@ fn agree<'a>(alloc: Global) -> Result<Command<'a>, AllocError>
     let command = with_certificate(alloc, "agree", AGREE_ABOUT, AGREE_AFTER);
     let command = with_argument(command, required_word(alloc, "INPUTS", inputs));
     let command = with_argument(command, required_word(alloc, "SCHEDULE", schedule));
-    with_argument(command, flag(alloc, "steps", steps))
+    let command = with_argument(command, flag(alloc, "steps", steps));
+    with_argument(command, table_option(alloc))
 }
 
 /// A command that serves an object.
@@ -473,7 +534,8 @@ fn replay<'a>(alloc: Global) -> Result<Command<'a>, AllocError>
 {
     let events = "The events, in order, or @FILE";
     let command = with_object(alloc, "replay", REPLAY_ABOUT, REPLAY_AFTER);
-    with_argument(command, required_word(alloc, "EVENTS", events))
+    let command = with_argument(command, required_word(alloc, "EVENTS", events));
+    with_argument(command, table_option(alloc))
 }
 
 fn serve<'a>(alloc: Global) -> Result<Command<'a>, AllocError>
@@ -481,7 +543,8 @@ fn serve<'a>(alloc: Global) -> Result<Command<'a>, AllocError>
 {
     let calls = "The calls of each process, in order, or @FILE";
     let command = with_object(alloc, "serve", SERVE_ABOUT, SERVE_AFTER);
-    with_argument(command, required_word(alloc, "CALLS", calls))
+    let command = with_argument(command, required_word(alloc, "CALLS", calls));
+    with_argument(command, table_option(alloc))
 }
 
 /// The program with no command yet.
@@ -499,14 +562,14 @@ fn program<'a>(alloc: Global) -> Command<'a>
 pub fn command<'a>(alloc: Global) -> Result<Command<'a>, AllocError>
     ensures { IfOk result (HasCommandsFor commands) }
 {
-    let check = with_certificate(alloc, "check", CHECK_ABOUT, CHECK_AFTER);
     let to_find = with_command(Ok(program(alloc)), find(alloc));
     let to_classify = with_command(to_find, classify(alloc));
-    let to_lint = with_command(to_classify, Ok(lint(alloc)));
-    let to_check = with_command(to_lint, check);
+    let to_lint = with_command(to_classify, lint(alloc));
+    let to_check = with_command(to_lint, check(alloc));
     let to_explain = with_command(to_check, explain(alloc));
-    let to_show = with_command(to_explain, show(alloc));
-    let to_draw = with_command(to_show, Ok(draw(alloc)));
+    let to_why = with_command(to_explain, why(alloc));
+    let to_show = with_command(to_why, show(alloc));
+    let to_draw = with_command(to_show, draw(alloc));
     let to_agree = with_command(to_draw, agree(alloc));
     let to_replay = with_command(to_agree, replay(alloc));
     with_command(to_replay, serve(alloc))

@@ -3,7 +3,8 @@ use Rattle.std.specs.Prelude.{◌≡◌, ◌≢◌, ◌⊎◌, Bool, ℕ, List, 
 use Rattle.std.specs.Global.{Global}
 use Rattle.cn_words.specs.declared.commands.Command.{Command}
 use Rattle.cn_words.specs.declared.commands.Command.TheVariants.{Classify}
-use Rattle.cn_words.specs.declared.commands.TableSource.{TableSource}
+use Rattle.cn_words.specs.declared.commands.Invocation.{Invocation}
+use Rattle.cn_words.specs.declared.commands.TextSource.{TextSource}
 use Rattle.cn_app.specs.Streams.Writing.{IsUnwritten}
 use Rattle.cn_app.specs.declared.fault.AppFault.{AppFault}
 use Rattle.cn_app.specs.declared.report.Outcome.{Outcome}
@@ -15,27 +16,31 @@ use Rattle.cnum.specs.Runs.{Runs}
 use Rattle.cnum.specs.Texts.{left_of}
 use Rattle.cnum.specs.declared.faults.Faults.{Faults}
 use Rattle.cnum.specs.declared.lazy_file.LazyFile.{LazyFile}
+use Rattle.cnum.specs.declared.pipe_writer.PipeWriter.{PipeWriter}
 
 -- by the bytes that standard input and files have left, those that the writer holds, and those of the file of each name, where they are known
 module _ {S F D W : Type 0} (remaining : S → Option (List ℕ)) (left : LazyFile D F → Option (List ℕ)) (contents : W → Option (List ℕ))
     (files : List ℕ → Option (List ℕ)) where
   -- a command of one table was run, and the exit status is that of its end
-  abbrev pub RunsOne : S → Command → Output W → Output W → ℕ → Type 0
-  RunsOne stdin command u v status = (end : Result Outcome AppFault) × Runs remaining left contents files stdin command u v end
+  abbrev pub RunsOne : S → TextSource → Command → Output W → Output W → ℕ → Type 0
+  RunsOne stdin table command u v status = (end : Result Outcome AppFault) × Runs remaining left contents files stdin table command u v end
       × (status ≡ command_status end)
 
   -- the tables of these sources were classified for the numbers asked for, and the exit status is that of the first fault
-  abbrev pub ClassifiesAll : S → AskedNumbers → List TableSource → Output W → Output W → ℕ → Type 0
+  abbrev pub ClassifiesAll : S → AskedNumbers → List TextSource → Output W → Output W → ℕ → Type 0
   ClassifiesAll stdin asked sources u v status = (first : Result (Option AppFault) AppFault) × (before : Faults D) × (after : Faults D)
       × ClassifiesSources (left_of remaining left) contents (λ _ _ _ _. Unit {0}) (bytes_of (remaining stdin) files) sources asked u before v after first
       × (status ≡ classify_status first)
 
   -- `classify` classifies the tables that its words name, and every other command is one of one table
-  abbrev pub Does : S → Command → Output W → Output W → ℕ → Type 0
-  Does stdin command u v status = ((limit : ℕ) × (recoverable : Bool) × (tables : Vec TableSource Global) × (command ≡ Classify limit recoverable tables)
+  abbrev pub Does : S → TextSource → Command → Output W → Output W → ℕ → Type 0
+  Does stdin table command u v status = ((limit : ℕ) × (recoverable : Bool) × (tables : Vec TextSource Global) × (command ≡ Classify limit recoverable tables)
       × ClassifiesAll stdin (record { limit = limit; recoverable = recoverable }) tables.items u v status)
-      ⊎ (((limit : ℕ) (recoverable : Bool) (tables : Vec TableSource Global) → command ≢ Classify limit recoverable tables) × RunsOne stdin command u v status)
+      ⊎ (((limit : ℕ) (recoverable : Bool) (tables : Vec TextSource Global) → command ≢ Classify limit recoverable tables) × RunsOne stdin table command u v status)
 
-  -- the command was done with these streams, of which nothing was used
-  abbrev pub Obeys : S → W → Command → ℕ → Type 0
-  Obeys stdin stdout command status = (u : Output W) × (v : Output W) × (u.writer ≡ stdout) × IsUnwritten u × Does stdin command u v status
+-- by the same: the command was done with these streams, of which nothing was used
+abbrev pub Obeys : {S F D W : Type 0} → (S → Option (List ℕ)) → (LazyFile D F → Option (List ℕ)) → (W → Option (List ℕ)) → (List ℕ → Option (List ℕ))
+    → S → W → Invocation → ℕ → Type 0
+Obeys {S} {F} {D} {W} remaining left contents files stdin stdout given status =
+    (u : Output (PipeWriter W)) × (v : Output (PipeWriter W)) × (u.writer.writer ≡ stdout) × IsUnwritten u
+    × Does remaining left (λ pipe. contents pipe.writer) files stdin given.table given.command u v status

@@ -1,9 +1,10 @@
 -- What a command of one table reads and writes, by the words for its arguments.
 use Rattle.std.specs.Prelude.{◌≡◌, ◌⊎◌, Bool, ℕ, List, Option, Result, Ok, Err}
 use Rattle.cn_words.specs.declared.commands.Command.{Command}
-use Rattle.cn_words.specs.declared.commands.Command.TheVariants.{Find, Classify, Lint, Draw, Check, Explain, Show, Agree, Replay, Serve}
+use Rattle.cn_words.specs.declared.commands.Command.TheVariants.{Find, Classify, Lint, Draw, Check, Explain, Why, Show, Agree, Replay, Serve}
 use Rattle.cn_words.specs.declared.commands.ListSource.{ListSource}
 use Rattle.cn_words.specs.declared.commands.OpeningWords.{OpeningWords}
+use Rattle.cn_words.specs.declared.commands.TextSource.{TextSource}
 use Rattle.cn_hall.specs.declared.call.AlwaysOn.{AlwaysOn}
 use Rattle.cn_hall.specs.declared.call.Go.TheVariants.{On}
 use Rattle.cn_app.specs.Commands.Agree.{HasAgreeReport, SpellLists}
@@ -15,7 +16,8 @@ use Rattle.cn_app.specs.Commands.Lint.{HasLintReport}
 use Rattle.cn_app.specs.Commands.Replay.{HasReplayReport, SpellEvents}
 use Rattle.cn_app.specs.Commands.Serve.{HasServeReport, SpellCalls}
 use Rattle.cn_app.specs.Commands.Show.{HasShowReport}
-use Rattle.cn_app.specs.Streams.Reading.{HasRead, IsUnread}
+use Rattle.cn_app.specs.Commands.Why.{HasWhyReport}
+use Rattle.cn_app.specs.Streams.Reading.{HasRead}
 use Rattle.cn_app.specs.Streams.Writing.{IsSilent, Reports}
 use Rattle.cn_app.specs.Texts.Checked.{AreUntouched, HaveReadBoth}
 use Rattle.cn_app.specs.Texts.Openings.{HaveReadAll}
@@ -32,20 +34,24 @@ use Rattle.cn_app.specs.declared.report.Report.{Report}
 use Rattle.cn_app.specs.declared.streams.output.Output.{Output}
 use Rattle.cn_app.specs.declared.streams.text.Text.{Text}
 use Rattle.cnum.specs.GivenLists.{GivesList, HasText}
-use Rattle.cnum.specs.Texts.{IsTextOf}
+use Rattle.cnum.specs.Texts.{IsTextFrom, IsTextOf, left_of}
 use Rattle.cnum.specs.declared.given_list.GivenList.{GivenList}
+use Rattle.cnum.specs.declared.lazy_file.LazyFile.{LazyFile}
+use Rattle.cnum.specs.declared.text_reader.TextReader.{TextReader}
 
--- the arguments of a command that opens a log: this table, a text of each file that its word names, and the words for the start and the number of slots
-pub record HasArguments {R L : Type 0} (left : L → Option (List ℕ)) (files : List ℕ → Option (List ℕ)) (type : Text R) (words : OpeningWords)
-    (given : OpeningArguments R L L) : Type 0 where
+-- the arguments of a command that opens a log: this table and this certificate, a text of the file that the word for the object names, and the words for
+-- the start and the number of slots
+pub record HasArguments {R C L : Type 0} (left : L → Option (List ℕ)) (files : List ℕ → Option (List ℕ)) (type : Text R) (evidence : Text C)
+    (words : OpeningWords) (given : OpeningArguments R C L) : Type 0 where
   pub table : given.table ≡ type
-  pub certificate : IsTextOf left (files words.certificate.now) given.certificate
+  pub certificate : given.certificate ≡ evidence
   pub object : IsTextOf left (files words.object.now) given.object
   pub start : given.start ≡ words.start
   pub capacity : given.capacity ≡ words.capacity
 
--- by the bytes that the readers of tables and of files have left, those that the writer holds, and those of the file of each name, where they are known
-module _ {R L W : Type 0} (remaining : R → Option (List ℕ)) (left : L → Option (List ℕ)) (contents : W → Option (List ℕ))
+-- by the bytes that the readers of tables, of certificates and of files have left, those that the writer holds, and those of the file of each name, where they
+-- are known
+module _ {R C L W : Type 0} (remaining : R → Option (List ℕ)) (rest : C → Option (List ℕ)) (left : L → Option (List ℕ)) (contents : W → Option (List ℕ))
     (files : List ℕ → Option (List ℕ)) where
   -- a table was read, and what there is to say of it was written
   pub record ReadsTable (table : Text R) (work : Text R → Result Report AppFault → Type 0) (u v : Output W) (r : Result Outcome AppFault) : Type 0 where
@@ -53,24 +59,22 @@ module _ {R L W : Type 0} (remaining : R → Option (List ℕ)) (left : L → Op
     pub read : HasRead Table remaining table after
     pub reported : Reports contents (work after) u v r
 
-  -- a table and the certificate in the file of this name were read, unless nothing may be read, and what there is to say of both was written
-  pub record ReadsBoth (table : Text R) (path : List ℕ) (may_read : Type 0) (work : Text R → Text L → Result Report AppFault → Type 0) (u v : Output W)
-      (r : Result Outcome AppFault) : Type 0 where
-    pub certificate : Text L
+  -- a table and a certificate were read, unless nothing may be read, and what there is to say of both was written
+  pub record ReadsBoth (table : Text R) (certificate : Text C) (may_read : Type 0) (work : Text R → Text C → Result Report AppFault → Type 0)
+      (u v : Output W) (r : Result Outcome AppFault) : Type 0 where
     pub table_after : Text R
-    pub certificate_after : Text L
-    pub opened : IsTextOf left (files path) certificate
-    pub read : HaveReadBoth remaining left table table_after certificate certificate_after
+    pub certificate_after : Text C
+    pub read : HaveReadBoth remaining rest table table_after certificate certificate_after
     pub order : AreUntouched table table_after certificate certificate_after ⊎ may_read
     pub reported : Reports contents (work table_after certificate_after) u v r
 
   -- the texts of an opening were read, unless nothing may be read, and what there is to say of them was written
-  pub record ReadsOpening (table : Text R) (words : OpeningWords) (may_read : Type 0) (work : OpeningArguments R L L → Result Report AppFault → Type 0)
-      (u v : Output W) (r : Result Outcome AppFault) : Type 0 where
-    pub given : OpeningArguments R L L
-    pub after : OpeningArguments R L L
-    pub arguments : HasArguments left files table words given
-    pub read : HaveReadAll remaining left left given after
+  pub record ReadsOpening (table : Text R) (certificate : Text C) (words : OpeningWords) (may_read : Type 0)
+      (work : OpeningArguments R C L → Result Report AppFault → Type 0) (u v : Output W) (r : Result Outcome AppFault) : Type 0 where
+    pub given : OpeningArguments R C L
+    pub after : OpeningArguments R C L
+    pub arguments : HasArguments left files table certificate words given
+    pub read : HaveReadAll remaining rest left given after
     pub order : (after ≡ given) ⊎ may_read
     pub reported : Reports contents (work after) u v r
 
@@ -80,35 +84,49 @@ module _ {R L W : Type 0} (remaining : R → Option (List ℕ)) (left : L → Op
   ReadsList source argument next u v r = ((e : AppFault) × GivesList left files source argument (Err e) × (r ≡ Err e) × IsSilent u v)
       ⊎ ((list : GivenList) × (text : ListText) × GivesList left files source argument (Ok list) × HasText list text × next text u v r)
 
-  -- `agree` of a table and these words: the lists are read first, from left to right
-  abbrev pub RunsAgree : Text R → List ℕ → ListSource → ListSource → Bool → Output W → Output W → Result Outcome AppFault → Type 0
-  RunsAgree table path inputs schedule steps u v r = ReadsList inputs argument.Inputs (λ xs. ReadsList schedule argument.Schedule
-      (λ ps. ReadsBoth table path (SpellLists xs ps) (λ t c. HasAgreeReport t c xs ps steps))) u v r
+  -- `agree` of a table, a certificate and these words: the lists are read first, from left to right
+  abbrev pub RunsAgree : Text R → Text C → ListSource → ListSource → Bool → Output W → Output W → Result Outcome AppFault → Type 0
+  RunsAgree table certificate inputs schedule steps u v r = ReadsList inputs argument.Inputs (λ xs. ReadsList schedule argument.Schedule
+      (λ ps. ReadsBoth table certificate (SpellLists xs ps) (λ t c. HasAgreeReport t c xs ps steps))) u v r
 
-  -- `replay` and `serve` of a table and these words: the list is read first
-  abbrev pub RunsReplay : Text R → OpeningWords → ListSource → Output W → Output W → Result Outcome AppFault → Type 0
-  RunsReplay table words events u v r = ReadsList events argument.Events
-      (λ list. ReadsOpening table words (SpellEvents words.capacity.now list) (λ given. HasReplayReport given list)) u v r
+  -- `replay` and `serve` of a table, a certificate and these words: the list is read first
+  abbrev pub RunsReplay : Text R → Text C → OpeningWords → ListSource → Output W → Output W → Result Outcome AppFault → Type 0
+  RunsReplay table certificate words events u v r = ReadsList events argument.Events
+      (λ list. ReadsOpening table certificate words (SpellEvents words.capacity.now list) (λ given. HasReplayReport given list)) u v r
 
   -- the gate of each process is one that lets every call go on
-  abbrev pub RunsServe : Text R → OpeningWords → ListSource → Output W → Output W → Result Outcome AppFault → Type 0
-  RunsServe table words calls u v r = ReadsList calls argument.Calls
-      (λ list. ReadsOpening table words (SpellCalls words.capacity.now list) (λ given. HasServeReport
+  abbrev pub RunsServe : Text R → Text C → OpeningWords → ListSource → Output W → Output W → Result Outcome AppFault → Type 0
+  RunsServe table certificate words calls u v r = ReadsList calls argument.Calls
+      (λ list. ReadsOpening table certificate words (SpellCalls words.capacity.now list) (λ given. HasServeReport
       (EachHasOneGate {G = AlwaysOn} (λ _ _ _ _. Unit {0}) (λ _. On) (λ _ _. Unit {0})) given list)) u v r
 
-  -- a command of a table ends so, with the arguments that stand in it; one of several tables is none, and is refused
-  abbrev pub RunsOn : Text R → Command → Output W → Output W → Result Outcome AppFault → Type 0
-  RunsOn table (Find limit) u v r = ReadsTable table (λ t. HasFindReport t limit) u v r
-  RunsOn table Lint u v r = ReadsTable table (λ t. HasLintReport t) u v r
-  RunsOn table Draw u v r = ReadsTable table (λ t. HasDrawReport t) u v r
-  RunsOn table (Check certificate) u v r = ReadsBoth table certificate.now (Unit {0}) (λ t c. HasCheckReport t c) u v r
-  RunsOn table (Explain certificate all) u v r = ReadsBoth table certificate.now (Unit {0}) (λ t c. HasExplainReport t c all) u v r
-  RunsOn table (Show certificate form) u v r = ReadsBoth table certificate.now (Unit {0}) (λ t c. HasShowReport t c form) u v r
-  RunsOn table (Agree certificate inputs schedule steps) u v r = RunsAgree table certificate.now inputs schedule steps u v r
-  RunsOn table (Replay opening events) u v r = RunsReplay table opening events u v r
-  RunsOn table (Serve opening calls) u v r = RunsServe table opening calls u v r
-  RunsOn table (Classify limit recoverable tables) u v r = (r ≡ Err Words) × IsSilent u v
+-- by the bytes that standard input and files have left, those that the writer holds, and those of the file of each name, where they are known
+module _ {S D F W : Type 0} (remaining : S → Option (List ℕ)) (left : LazyFile D F → Option (List ℕ)) (contents : W → Option (List ℕ))
+    (files : List ℕ → Option (List ℕ)) where
+  -- with the certificate of this source, of which nothing was read
+  abbrev pub With : S → TextSource → (Text (TextReader S D F) → Type 0) → Type 0
+  With stdin source runs = (certificate : Text (TextReader S D F)) × IsTextFrom left files stdin source certificate × runs certificate
 
-  -- the same of a table that the input gives, of which nothing was read
-  abbrev pub Runs : R → Command → Output W → Output W → Result Outcome AppFault → Type 0
-  Runs input command u v r = (table : Text R) × (table.reader ≡ input) × IsUnread table × RunsOn table command u v r
+  -- a command of a table ends so, with the arguments that stand in it; one of several tables is none, and is refused
+  abbrev pub RunsOn : S → Text (TextReader S D F) → Command → Output W → Output W → Result Outcome AppFault → Type 0
+  RunsOn stdin table (Find limit) u v r = ReadsTable (left_of remaining left) (left_of remaining left) left contents files table (λ t. HasFindReport t limit) u v r
+  RunsOn stdin table Lint u v r = ReadsTable (left_of remaining left) (left_of remaining left) left contents files table (λ t. HasLintReport t) u v r
+  RunsOn stdin table Draw u v r = ReadsTable (left_of remaining left) (left_of remaining left) left contents files table (λ t. HasDrawReport t) u v r
+  RunsOn stdin table (Why limit all) u v r = ReadsTable (left_of remaining left) (left_of remaining left) left contents files table (λ t. HasWhyReport t limit all) u v r
+  RunsOn stdin table (Check certificate) u v r = With stdin certificate
+      (λ c. ReadsBoth (left_of remaining left) (left_of remaining left) left contents files table c (Unit {0}) (λ t d. HasCheckReport t d) u v r)
+  RunsOn stdin table (Explain certificate all) u v r = With stdin certificate
+      (λ c. ReadsBoth (left_of remaining left) (left_of remaining left) left contents files table c (Unit {0}) (λ t d. HasExplainReport t d all) u v r)
+  RunsOn stdin table (Show certificate form) u v r = With stdin certificate
+      (λ c. ReadsBoth (left_of remaining left) (left_of remaining left) left contents files table c (Unit {0}) (λ t d. HasShowReport t d form) u v r)
+  RunsOn stdin table (Agree certificate inputs schedule steps) u v r = With stdin certificate
+      (λ c. RunsAgree (left_of remaining left) (left_of remaining left) left contents files table c inputs schedule steps u v r)
+  RunsOn stdin table (Replay opening events) u v r = With stdin opening.certificate
+      (λ c. RunsReplay (left_of remaining left) (left_of remaining left) left contents files table c opening events u v r)
+  RunsOn stdin table (Serve opening calls) u v r = With stdin opening.certificate
+      (λ c. RunsServe (left_of remaining left) (left_of remaining left) left contents files table c opening calls u v r)
+  RunsOn stdin table (Classify limit recoverable tables) u v r = (r ≡ Err Words) × IsSilent u v
+
+  -- the same of the table of this source, of which nothing was read
+  abbrev pub Runs : S → TextSource → Command → Output W → Output W → Result Outcome AppFault → Type 0
+  Runs stdin source command u v r = (table : Text (TextReader S D F)) × IsTextFrom left files stdin source table × RunsOn stdin table command u v r

@@ -6,22 +6,25 @@ ghost use Rattle.std.specs.Prelude.{◌≡◌};
 ghost use Rattle.std.specs.Process.{exit_status};
 ghost use Rattle.cn_app.specs.FaultText.{status_of};
 ghost use Rattle.cnum.specs.Exits.{classify_status, command_status};
-ghost use Rattle.cnum.specs.Obeying.{Obeys};
+ghost use Rattle.cn_app.specs.Streams.Writing.{IsWritable};
+ghost use Rattle.cnum.specs.Obeying.{Does, Obeys};
 ghost use Rattle.cnum.specs.Texts.{left_in};
 
 mod disk;
 mod faults;
 mod given_list;
 mod lazy_file;
+mod pipe_writer;
 mod runs;
-mod table_reader;
+mod text_reader;
 
 use cn_app::commands::Tell;
 use cn_app::reports::AskedNumbers;
 use cn_app::{AppFault, Outcome, Output};
-use cn_words::{Command, CommandFault, Reply};
+use cn_words::{Command, CommandFault, Invocation, Reply};
 use disk::Disk;
 use faults::Faults;
+use pipe_writer::{PipeWriter, is_broken_pipe};
 use runs::{classify, run};
 use std::alloc::Global;
 use std::io::{ErrorKind, Read, Write};
@@ -30,79 +33,108 @@ use std::sync::Wait;
 use std::thread::Threads;
 
 // How the program ends after a fault, which it tells.
-fn fault_exit(rt: &impl Eprint, fault: AppFault) -> ExitCode
+fn fault_exit<R: Eprint>(faults: &mut Faults<'_, R>, fault: AppFault) -> ExitCode
     ensures { exit_status result ≡ status_of fault }
 {
-    Faults { rt }.tell(None, fault);
+    faults.tell(None, fault);
     ExitCode::from(fault.status())
 }
 
 // How the program ends where a command has ended so. What lint says of a refused table is written,
 // and its fault is told as by every command.
-fn command_exit(rt: &impl Eprint, end: Result<Outcome, AppFault>) -> ExitCode
+fn command_exit<R: Eprint>(faults: &mut Faults<'_, R>, end: Result<Outcome, AppFault>) -> ExitCode
     ensures { exit_status result ≡ command_status end }
 {
     match end {
         Ok(Outcome::Whole) => ExitCode::SUCCESS,
         Ok(Outcome::Cut) => ExitCode::FAILURE,
-        Ok(Outcome::Refused(fault)) => fault_exit(rt, AppFault::from(fault)),
-        Err(fault) => fault_exit(rt, fault),
+        Ok(Outcome::Refused(fault)) => fault_exit(faults, AppFault::from(fault)),
+        Err(fault) => fault_exit(faults, fault),
     }
 }
 
 // The same of several tables, of which the first fault is known and each is told.
-fn classify_exit(rt: &impl Eprint, first: Result<Option<AppFault>, AppFault>) -> ExitCode
+fn classify_exit<R: Eprint>(
+    faults: &mut Faults<'_, R>,
+    first: Result<Option<AppFault>, AppFault>,
+) -> ExitCode
     ensures { exit_status result ≡ classify_status first }
 {
     match first {
         Ok(None) => ExitCode::SUCCESS,
         Ok(Some(fault)) => ExitCode::from(fault.status()),
-        Err(fault) => fault_exit(rt, fault),
+        Err(fault) => fault_exit(faults, fault),
     }
 }
 
-// Does a command; how the program ends.
+// Does a command, and tells its faults; how the program ends.
+fn do_command<T: Threads + Wait + Sync + Disk + Eprint, I: Read + Copy + Drop, O: Write>(
+    rt: &T,
+    alloc: Global,
+    stdin: I,
+    output: &mut Output<O>,
+    faults: &mut Faults<'_, T>,
+    given: &Invocation<'_>,
+) -> ExitCode
+    requires { IsWritable output.old }
+    ensures { Does I.remaining (left_in T.contents T.Reader.remaining) O.contents
+        (T.contents rt.now) stdin given.now.table given.now.command output.old output.new
+        (exit_status result) }
+{
+    if let Command::Classify {
+        limit,
+        recoverable,
+        tables,
+    } = &given.command
+    {
+        let asked = AskedNumbers {
+            limit: *limit,
+            recoverable: *recoverable,
+        };
+        let first = classify(rt, alloc, stdin, output, faults, asked, tables);
+        return classify_exit(faults, first);
+    }
+    let end = run(rt, alloc, stdin, output, given.table, &given.command);
+    command_exit(faults, end)
+}
+
+// Does a command; how the program ends. It is silent where whoever read its output went away.
 fn obey<T: Threads + Wait + Sync + Disk + Eprint, I: Read + Copy + Drop, O: Write + Drop>(
     rt: &T,
     alloc: Global,
     stdin: I,
     stdout: O,
-    command: &Command<'_>,
+    given: &Invocation<'_>,
 ) -> ExitCode
     ensures { Obeys I.remaining (left_in T.contents T.Reader.remaining) O.contents
-        (T.contents rt.now) stdin stdout command.now (exit_status result) }
+        (T.contents rt.now) stdin stdout given.now (exit_status result) }
 {
-    let mut output = Output::new(alloc, stdout);
-    if let Command::Classify {
-        limit,
-        recoverable,
-        tables,
-    } = command
-    {
-        let mut faults = Faults { rt };
-        let asked = AskedNumbers {
-            limit: *limit,
-            recoverable: *recoverable,
-        };
-        let first = classify(rt, alloc, stdin, &mut output, &mut faults, asked, tables);
-        return classify_exit(rt, first);
-    }
-    command_exit(rt, run(rt, alloc, stdin, &mut output, command))
+    let mut output = Output::new(alloc, PipeWriter::new(stdout));
+    let mut faults = Faults::new(rt);
+    let exit = do_command(rt, alloc, stdin, &mut output, &mut faults, given);
+    faults.end(!output.into_writer().is_broken);
+    exit
 }
 
 // Tells what there is to tell in place of a command; how the program ends.
 fn answer(rt: &HostRuntime, reply: Reply) -> ExitCode {
+    let mut faults = Faults::new(rt);
     match reply {
-        Reply::Help(text) => match print!(rt; "{text}") {
-            Ok(()) => ExitCode::SUCCESS,
-            Err(_) => fault_exit(rt, AppFault::Write),
-        },
+        Reply::Help(text) => {
+            let written = print!(rt; "{text}");
+            let exit = match written {
+                Ok(()) => ExitCode::SUCCESS,
+                Err(_) => fault_exit(&mut faults, AppFault::Write),
+            };
+            faults.end(!is_broken_pipe(&written));
+            exit
+        }
         Reply::Refusal(text) => {
             let _ = eprint!(rt; "{text}");
             ExitCode::from(AppFault::Words.status())
         }
-        Reply::Fault(CommandFault::Words) => fault_exit(rt, AppFault::Words),
-        Reply::Fault(CommandFault::OutOfMemory) => fault_exit(rt, AppFault::OutOfMemory),
+        Reply::Fault(CommandFault::Words) => fault_exit(&mut faults, AppFault::Words),
+        Reply::Fault(CommandFault::OutOfMemory) => fault_exit(&mut faults, AppFault::OutOfMemory),
     }
 }
 
@@ -117,10 +149,10 @@ fn given_words(rt: &HostRuntime) -> Result<Vec<String>, AppFault> {
 fn main(rt: HostRuntime) -> ExitCode {
     let given = match given_words(&rt) {
         Ok(given) => given,
-        Err(fault) => return fault_exit(&rt, fault),
+        Err(fault) => return fault_exit(&mut Faults::new(&rt), fault),
     };
     match cn_words::parse(rt.alloc(), given.as_slice()) {
-        Ok(command) => obey(&rt, rt.alloc(), &rt.stdin(), rt.stdout(), &command),
+        Ok(given) => obey(&rt, rt.alloc(), &rt.stdin(), rt.stdout(), &given),
         Err(reply) => answer(&rt, reply),
     }
 }

@@ -2,45 +2,59 @@
 ghost use Rattle.std.specs.Prelude.{◌≡◌, IfOk};
 ghost use Rattle.cnum.specs.NamedTables.{AreNamed, ClassifiesSources, bytes_of, name_of};
 ghost use Rattle.cnum.specs.Runs.{HasArguments, Runs, RunsAgree, RunsReplay, RunsServe};
-ghost use Rattle.cnum.specs.Texts.{IsTextOf, left_in, left_of};
+ghost use Rattle.cnum.specs.Texts.{IsTextFrom, IsTextOf, left_in, left_of};
 ghost use Rattle.cn_app.specs.Streams.Reading.{IsUnread};
 ghost use Rattle.cn_app.specs.Streams.Writing.{IsWritable};
 
 use crate::disk::Disk;
 use crate::given_list::GivenList;
 use crate::lazy_file::{LazyFile, file_text};
-use crate::table_reader::TableReader;
+use crate::text_reader::TextReader;
 use cn_app::commands::{self, NamedTable, Tell};
 use cn_app::readers::OpeningArguments;
 use cn_app::reports::AskedNumbers;
 use cn_app::{AppFault, Argument, Outcome, Output, Text};
 use cn_hall::AlwaysOn;
-use cn_words::{Command, ListSource, OpeningWords, TableSource};
+use cn_words::{Command, ListSource, OpeningWords, TextSource};
 use std::alloc::{AllocError, Global};
 use std::io::{Read, Write};
 use std::sync::Wait;
 use std::thread::Threads;
+
+// The text of this source, of which nothing was read.
+fn text_of<'a, D: Disk, S: Read + Copy>(
+    disk: &'a D,
+    alloc: Global,
+    stdin: S,
+    source: TextSource<'a>,
+) -> Text<TextReader<'a, S, D>>
+    ensures { IsTextFrom (left_in D.contents D.Reader.remaining) (D.contents disk.now)
+        stdin source.entry result }
+{
+    match source {
+        TextSource::StandardInput => Text::new(alloc, TextReader::Standard(stdin)),
+        TextSource::File(path) => Text::new(alloc, TextReader::File(LazyFile::new(disk, path))),
+    }
+}
 
 // The table of this source, of which nothing was read; a minus sign is the name of standard input.
 fn named_table<'a, D: Disk, S: Read + Copy>(
     disk: &'a D,
     alloc: Global,
     stdin: S,
-    source: TableSource<'a>,
-) -> NamedTable<'a, TableReader<'a, S, D>>
+    source: TextSource<'a>,
+) -> NamedTable<'a, TextReader<'a, S, D>>
     ensures name { result.name.now ≡ name_of source.entry }
     ensures text { IsTextOf (left_of S.remaining (left_in D.contents D.Reader.remaining))
         (bytes_of (S.remaining stdin) (D.contents disk.now) source.entry) result.text }
 {
-    match source {
-        TableSource::StandardInput => NamedTable {
-            name: "-",
-            text: Text::new(alloc, TableReader::Standard(stdin)),
-        },
-        TableSource::File(path) => NamedTable {
-            name: path,
-            text: Text::new(alloc, TableReader::File(LazyFile::new(disk, path))),
-        },
+    let name = match source {
+        TextSource::StandardInput => "-",
+        TextSource::File(path) => path,
+    };
+    NamedTable {
+        name,
+        text: text_of(disk, alloc, stdin, source),
     }
 }
 
@@ -49,8 +63,8 @@ fn named_tables<'a, D: Disk, S: Read + Copy>(
     disk: &'a D,
     alloc: Global,
     stdin: S,
-    sources: &[TableSource<'a>],
-) -> Result<Vec<NamedTable<'a, TableReader<'a, S, D>>>, AllocError>
+    sources: &[TextSource<'a>],
+) -> Result<Vec<NamedTable<'a, TextReader<'a, S, D>>>, AllocError>
     ensures { IfOk result (λ tables. AreNamed
         (left_of S.remaining (left_in D.contents D.Reader.remaining))
         (bytes_of (S.remaining stdin) (D.contents disk.now)) sources.now tables.items) }
@@ -70,7 +84,7 @@ pub fn classify<T: Threads + Sync + Disk, S: Read + Copy, O: Write, F: Tell>(
     output: &mut Output<O>,
     faults: &mut F,
     asked: AskedNumbers,
-    sources: &[TableSource<'_>],
+    sources: &[TextSource<'_>],
 ) -> Result<Option<AppFault>, AppFault>
     requires { IsWritable output.old }
     ensures { ClassifiesSources (left_of S.remaining (left_in T.contents T.Reader.remaining))
@@ -83,18 +97,19 @@ pub fn classify<T: Threads + Sync + Disk, S: Read + Copy, O: Write, F: Tell>(
 }
 
 // The arguments of a command that opens a log, of which nothing was read.
-fn opening<'a, D: Disk, I: Read>(
+fn opening<'a, D: Disk, I: Read, C: Read>(
     disk: &'a D,
     alloc: Global,
     table: Text<I>,
+    certificate: Text<C>,
     words: OpeningWords<'a>,
-) -> OpeningArguments<'a, I, LazyFile<'a, D>, LazyFile<'a, D>>
+) -> OpeningArguments<'a, I, C, LazyFile<'a, D>>
     ensures { HasArguments (left_in D.contents D.Reader.remaining) (D.contents disk.now)
-        table words.entry result }
+        table certificate words.entry result }
 {
     OpeningArguments {
         table,
-        certificate: file_text(disk, alloc, words.certificate),
+        certificate,
         object: file_text(disk, alloc, words.object),
         start: words.start,
         capacity: words.capacity,
@@ -102,19 +117,19 @@ fn opening<'a, D: Disk, I: Read>(
 }
 
 // Reads the lists, and runs the plan of a certificate's witness by them.
-fn agree<D: Disk, I: Read, O: Write>(
+fn agree<D: Disk, I: Read, C: Read, O: Write>(
     disk: &D,
     alloc: Global,
     table: &mut Text<I>,
+    certificate: &mut Text<C>,
     output: &mut Output<O>,
-    certificate: &str,
     lists: (ListSource<'_>, ListSource<'_>),
     steps: bool,
 ) -> Result<Outcome, AppFault>
-    requires table { IsUnread table.old }
+    requires texts { IsUnread table.old × IsUnread certificate.old }
     requires output { IsWritable output.old }
-    ensures { RunsAgree I.remaining (left_in D.contents D.Reader.remaining) O.contents
-        (D.contents disk.now) table.old certificate.now lists.entry.0 lists.entry.1 steps
+    ensures { RunsAgree I.remaining C.remaining (left_in D.contents D.Reader.remaining) O.contents
+        (D.contents disk.now) table.old certificate.old lists.entry.0 lists.entry.1 steps
         output.old output.new result }
 {
     let (inputs, schedule) = lists;
@@ -122,88 +137,84 @@ fn agree<D: Disk, I: Read, O: Write>(
     let inputs = input_list.text();
     let schedule_list = GivenList::read(disk, alloc, schedule, Argument::Schedule)?;
     let schedule = schedule_list.text();
-    let certificate = &mut file_text(disk, alloc, certificate);
     commands::agree(alloc, table, certificate, output, inputs, schedule, steps)
 }
 
 // Reads the events, and serves an object by them.
-fn replay<D: Disk, I: Read + Drop, O: Write>(
+fn replay<D: Disk, I: Read + Drop, C: Read + Drop, O: Write>(
     disk: &D,
     alloc: Global,
     table: Text<I>,
+    certificate: Text<C>,
     output: &mut Output<O>,
     words: OpeningWords<'_>,
     events: ListSource<'_>,
 ) -> Result<Outcome, AppFault>
-    requires table { IsUnread table }
+    requires texts { IsUnread table × IsUnread certificate }
     requires output { IsWritable output.old }
-    ensures { RunsReplay I.remaining (left_in D.contents D.Reader.remaining) O.contents
-        (D.contents disk.now) table words.entry events.entry output.old output.new result }
+    ensures { RunsReplay I.remaining C.remaining (left_in D.contents D.Reader.remaining) O.contents
+        (D.contents disk.now) table certificate words.entry events.entry output.old output.new
+        result }
 {
     let events = GivenList::read(disk, alloc, events, Argument::Events)?;
-    let mut given = opening(disk, alloc, table, words);
+    let mut given = opening(disk, alloc, table, certificate, words);
     commands::replay(alloc, &mut given, output, events.text())
 }
 
 // Reads the calls, and serves an object by threads that make them.
-fn serve<T: Threads + Wait + Sync + Disk, I: Read + Drop, O: Write>(
+fn serve<T: Threads + Wait + Sync + Disk, I: Read + Drop, C: Read + Drop, O: Write>(
     rt: &T,
     alloc: Global,
     table: Text<I>,
+    certificate: Text<C>,
     output: &mut Output<O>,
     words: OpeningWords<'_>,
     calls: ListSource<'_>,
 ) -> Result<Outcome, AppFault>
-    requires table { IsUnread table }
+    requires texts { IsUnread table × IsUnread certificate }
     requires output { IsWritable output.old }
-    ensures { RunsServe I.remaining (left_in T.contents T.Reader.remaining) O.contents
-        (T.contents rt.now) table words.entry calls.entry output.old output.new result }
+    ensures { RunsServe I.remaining C.remaining (left_in T.contents T.Reader.remaining) O.contents
+        (T.contents rt.now) table certificate words.entry calls.entry output.old output.new
+        result }
 {
     let calls = GivenList::read(rt, alloc, calls, Argument::Calls)?;
-    let mut given = opening(rt, alloc, table, words);
+    let mut given = opening(rt, alloc, table, certificate, words);
     commands::serve(rt, alloc, &mut given, output, calls.text(), |_| AlwaysOn)
 }
 
-/// Runs a command of one table, which is read from the input.
+/// Runs a command of one table, which is read from its source.
 ///
 /// Of several tables ([`classify`]) it refuses the words.
-pub fn run<T: Threads + Wait + Sync + Disk, I: Read + Drop, O: Write>(
+pub fn run<T: Threads + Wait + Sync + Disk, S: Read + Copy + Drop, O: Write>(
     rt: &T,
     alloc: Global,
-    input: I,
+    stdin: S,
     output: &mut Output<O>,
+    table: TextSource<'_>,
     command: &Command<'_>,
 ) -> Result<Outcome, AppFault>
     requires { IsWritable output.old }
-    ensures { Runs I.remaining (left_in T.contents T.Reader.remaining) O.contents
-        (T.contents rt.now) input command.now output.old output.new result }
+    ensures { Runs S.remaining (left_in T.contents T.Reader.remaining) O.contents
+        (T.contents rt.now) stdin table.entry command.now output.old output.new result }
 {
-    let mut table = Text::new(alloc, input);
+    let mut table = text_of(rt, alloc, stdin, table);
     let text = &mut table;
     match *command {
         Command::Find { limit } => commands::find(rt, alloc, text, output, limit),
         Command::Lint => commands::lint(alloc, text, output),
         Command::Draw => commands::draw(alloc, text, output),
+        Command::Why { limit, all } => commands::why(rt, alloc, text, output, limit, all),
         Command::Check { certificate } => {
-            commands::check(alloc, text, &mut file_text(rt, alloc, certificate), output)
+            let certificate = &mut text_of(rt, alloc, stdin, certificate);
+            commands::check(alloc, text, certificate, output)
         }
         Command::Explain { certificate, all } => {
-            commands::explain(
-                alloc,
-                text,
-                &mut file_text(rt, alloc, certificate),
-                output,
-                all,
-            )
+            let certificate = &mut text_of(rt, alloc, stdin, certificate);
+            commands::explain(alloc, text, certificate, output, all)
         }
         Command::Show { certificate, form } => {
-            commands::show(
-                alloc,
-                text,
-                &mut file_text(rt, alloc, certificate),
-                output,
-                form,
-            )
+            let certificate = &mut text_of(rt, alloc, stdin, certificate);
+            commands::show(alloc, text, certificate, output, form)
         }
         Command::Agree {
             certificate,
@@ -211,11 +222,18 @@ pub fn run<T: Threads + Wait + Sync + Disk, I: Read + Drop, O: Write>(
             schedule,
             steps,
         } => {
+            let certificate = &mut text_of(rt, alloc, stdin, certificate);
             let lists = (inputs, schedule);
-            agree(rt, alloc, text, output, certificate, lists, steps)
+            agree(rt, alloc, text, certificate, output, lists, steps)
         }
-        Command::Replay { opening, events } => replay(rt, alloc, table, output, opening, events),
-        Command::Serve { opening, calls } => serve(rt, alloc, table, output, opening, calls),
+        Command::Replay { opening, events } => {
+            let certificate = text_of(rt, alloc, stdin, opening.certificate);
+            replay(rt, alloc, table, certificate, output, opening, events)
+        }
+        Command::Serve { opening, calls } => {
+            let certificate = text_of(rt, alloc, stdin, opening.certificate);
+            serve(rt, alloc, table, certificate, output, opening, calls)
+        }
         Command::Classify { .. } => Err(AppFault::Words),
     }
 }

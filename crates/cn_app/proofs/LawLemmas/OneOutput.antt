@@ -10,7 +10,7 @@ use Rattle.cn_cert.specs.CertificateText.{certificate_text}
 use Rattle.cn_proto.specs.Plan.{Plan, IsPlan}
 use Rattle.cn_recover.specs.Recording.{IsRecoverableNumberUpTo}
 use Rattle.cn_app.specs.Commands.Classify.{IsClassified, IsRecoverablyClassified, class_line, recoverable_line}
-use Rattle.cn_app.specs.Commands.Find.{IsFound}
+use Rattle.cn_app.specs.Commands.Find.{IsFound, IsFoundCertificate}
 use Rattle.cn_app.specs.Texts.Plans.{IsPlanOf}
 
 pub one_found : ((t : TypeTable) (limit : ℕ) (f g : Finding) → IsFindingFor t limit f → IsFindingFor t limit g → f ≡ g)
@@ -40,3 +40,10 @@ one_recoverably_classified one two t limit x y f g =
     f.written
     ∙ (ap (λ (n : Option ℕ). recoverable_line t.name limit n f.recoverable) (one t limit f.number g.number f.up_to g.up_to)
     ∙ (ap (recoverable_line t.name limit g.number) (two t limit f.recoverable g.recoverable f.recoverable_up_to g.recoverable_up_to) ∙ sym g.written))
+
+pub text_of_found : ((t : TypeTable) (limit : ℕ) (f g : Finding) → IsFindingFor t limit f → IsFindingFor t limit g → f ≡ g)
+    → (t : TypeTable) (limit : ℕ) (text : List ℕ) (c : Certificate) → IsFound t limit text → IsFoundCertificate t limit c
+    → text ≡ certificate_text c ++ codes "\n"
+text_of_found one t limit text c f g =
+    f.written ∙ ap (λ (finding : Finding). certificate_text (certificate_of t.name finding) ++ codes "\n") (one t limit f.finding g.finding f.found g.found)
+    ∙ ap (λ (d : Certificate). certificate_text d ++ codes "\n") (sym g.is)

@@ -1,11 +1,12 @@
 -- What `find` writes, by the table that it reads and the limit.
-use Rattle.std.specs.Prelude.{ℕ, length, Option, ◌≡◌, ◌⊎◌, List, ◌++◌, codes, None, IsSomeAnd, Result, Ok, Err, string_bytes}
+use Rattle.std.specs.Prelude.{ℕ, length, Option, ◌≡◌, ◌⊎◌, List, ◌++◌, codes, None, Some, IsSomeAnd, Result, Ok, Err, string_bytes}
 use Rattle.cn_table.specs.TypeTable.{TypeTable}
 use Rattle.cn_search.specs.Faults.{find_fault}
 use Rattle.cn_search.specs.Evidence.{IsFindingFor}
 use Rattle.cn_search.specs.Finding.{Finding}
+use Rattle.cn_search.specs.GreatestLimit.{IsGreatestLimit}
 use Rattle.cn_search.specs.declared.fault.FindFault.{FindFault}
-use Rattle.cn_cert.specs.Certificate.{certificate_of}
+use Rattle.cn_cert.specs.Certificate.{Certificate, certificate_of}
 use Rattle.cn_cert.specs.CertificateText.{certificate_text}
 use Rattle.cn_app.specs.FaultText.{plain_of}
 use Rattle.cn_app.specs.Steps.{Then}
@@ -20,6 +21,23 @@ use Rattle.cn_app.specs.declared.fault.AppFault.TheVariants.{Find, OutOfMemory}
 abbrev pub limit_fault : TypeTable → ℕ → Option FindFault
 limit_fault t limit = find_fault (length t.states) (length t.operations) limit
 
+-- the limit that is given, or else the greatest that has no fault for the table
+abbrev pub IsLimitFor : TypeTable → Option ℕ → ℕ → Type 0
+IsLimitFor t (Some given) limit = limit ≡ given
+IsLimitFor t None limit = IsGreatestLimit (length t.states) (length t.operations) limit
+
+-- the limit has no fault, and this is the certificate of the finding for the table and the limit
+pub record IsFoundCertificate (t : TypeTable) (limit : ℕ) (certificate : Certificate) : Type 0 where
+  pub searched : limit_fault t limit ≡ None
+  pub finding : Finding
+  pub found : IsFindingFor t limit finding
+  pub is : certificate ≡ certificate_of t.name finding
+
+-- searching for a certificate ends so: with that of the finding; or memory ran out, or this is the first fault of the limit
+abbrev pub GivesFound : TypeTable → ℕ → Result Certificate AppFault → Type 0
+GivesFound t limit (Ok certificate) = IsFoundCertificate t limit certificate
+GivesFound t limit (Err e) = (e ≡ OutOfMemory) ⊎ IsSomeAnd (limit_fault t limit) (λ fault. e ≡ plain_of (Find fault))
+
 -- the limit has no fault, and this is the text of the certificate of the finding for the table and the limit, and a line feed
 pub record IsFound (t : TypeTable) (limit : ℕ) (text : List ℕ) : Type 0 where
   pub searched : limit_fault t limit ≡ None
@@ -32,6 +50,6 @@ abbrev pub IsFindReport : TypeTable → ℕ → Result Report AppFault → Type 
 IsFindReport t limit (Ok report) = IsFound t limit (string_bytes report.text) × (report.outcome ≡ Whole)
 IsFindReport t limit (Err e) = (e ≡ OutOfMemory) ⊎ IsSomeAnd (limit_fault t limit) (λ fault. e ≡ plain_of (Find fault))
 
--- what `find` has to say of a text
-abbrev pub HasFindReport : {R : Type 0} → Text R → ℕ → Result Report AppFault → Type 0
-HasFindReport text limit r = Then (GivesTable text) (λ t. IsFindReport t limit) r
+-- what `find` has to say of a text, with the limit that is given or none
+abbrev pub HasFindReport : {R : Type 0} → Text R → Option ℕ → Result Report AppFault → Type 0
+HasFindReport text given r = Then (GivesTable text) (λ t s. (limit : ℕ) × IsLimitFor t given limit × IsFindReport t limit s) r

@@ -5,6 +5,7 @@ ghost use Rattle.cn_app.specs.Commands.Classify.{HasClassReport};
 ghost use Rattle.cn_app.specs.Commands.Draw.{HasDrawReport};
 ghost use Rattle.cn_app.specs.Commands.Find.{HasFindReport};
 ghost use Rattle.cn_app.specs.Commands.Lint.{HasLintReport};
+ghost use Rattle.cn_app.specs.Commands.Why.{HasWhyReport};
 ghost use Rattle.cn_app.specs.Streams.Reading.{HasRead, IsUnread};
 ghost use Rattle.cn_app.specs.Streams.Writing.{IsWritable, Reports};
 
@@ -12,7 +13,8 @@ use crate::fault::{AppFault, Source};
 use crate::readers::table::read_table;
 use crate::report::Outcome;
 use crate::reports::{
-    AskedNumbers, check_limit, draw_report, find_report, lint_report, numbers_report,
+    AskedNumbers, check_limit, draw_report, find_report, limit_for, lint_report, numbers_report,
+    why_report,
 };
 use crate::streams::output::Output;
 use crate::streams::text::Text;
@@ -21,7 +23,7 @@ use std::io::{Read, Write};
 use std::thread::Threads;
 
 /// Reads a type table and writes the certificate of its consensus number up to the limit
-/// ([`find_report`]).
+/// ([`find_report`]), which is [`limit_for`] the table where none is given.
 ///
 /// # Errors
 ///
@@ -31,7 +33,7 @@ pub fn find<T: Threads + Sync, R: Read, W: Write>(
     alloc: Global,
     table: &mut Text<R>,
     output: &mut Output<W>,
-    limit: u8,
+    limit: Option<u8>,
 ) -> Result<Outcome, AppFault>
     requires table { IsUnread table.old }
     requires output { IsWritable output.old }
@@ -41,7 +43,34 @@ pub fn find<T: Threads + Sync, R: Read, W: Write>(
         output.old output.new result }
 {
     let table = read_table(alloc, table)?;
+    let limit = limit_for(&table, limit);
     output.report(find_report(rt, alloc, &table, limit))
+}
+
+/// Reads a type table and writes for people why its consensus number up to the limit is what it is
+/// ([`why_report`]). The limit is [`limit_for`] the table where none is given.
+///
+/// # Errors
+///
+/// Those of [`find`].
+pub fn why<T: Threads + Sync, R: Read, W: Write>(
+    rt: &T,
+    alloc: Global,
+    table: &mut Text<R>,
+    output: &mut Output<W>,
+    limit: Option<u8>,
+    all: bool,
+) -> Result<Outcome, AppFault>
+    requires table { IsUnread table.old }
+    requires output { IsWritable output.old }
+
+    ensures read { HasRead Source.Table R.remaining table.old table.new }
+    ensures told { Reports W.contents (HasWhyReport table.new limit all)
+        output.old output.new result }
+{
+    let table = read_table(alloc, table)?;
+    let limit = limit_for(&table, limit);
+    output.report(why_report(rt, alloc, table, limit, all))
 }
 
 /// Reads a type table and writes a line with the numbers that are asked for

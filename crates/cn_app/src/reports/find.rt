@@ -1,12 +1,39 @@
 //! What `find` has to say.
-ghost use Rattle.cn_app.specs.Commands.Find.{IsFindReport};
+ghost use Rattle.cn_app.specs.Commands.Find.{GivesFound, IsFindReport, IsLimitFor};
 
 use crate::fault::AppFault;
 use crate::report::Report;
 use cn_cert::{Certificate, write_certificate};
+use cn_search::greatest_limit;
 use cn_table::Table;
 use std::alloc::Global;
 use std::thread::Threads;
+
+/// The limit that is given, or else the greatest up to which [`find_report`] searches for this table.
+pub fn limit_for(table: &Table, given: Option<u8>) -> u8
+    ensures { IsLimitFor table.now given result }
+{
+    match given {
+        Some(limit) => limit,
+        None => greatest_limit(table),
+    }
+}
+
+/// The certificate of the table's consensus number up to the limit.
+pub(crate) fn found_certificate<T: Threads + Sync>(
+    rt: &T,
+    alloc: Global,
+    table: &Table,
+    limit: u8,
+) -> Result<Certificate, AppFault>
+    ensures { GivesFound table.now limit result }
+{
+    let finding = cn_search::find(rt, alloc, table, limit)?;
+    match Certificate::of_finding(alloc, table, finding) {
+        Ok(certificate) => Ok(certificate),
+        Err(_) => Err(AppFault::OutOfMemory),
+    }
+}
 
 /// The certificate of the table's consensus number up to the limit, and a line feed.
 ///
@@ -24,10 +51,7 @@ pub fn find_report<T: Threads + Sync>(
 ) -> Result<Report, AppFault>
     ensures { IsFindReport table.now limit result }
 {
-    let finding = cn_search::find(rt, alloc, table, limit)?;
-    let Ok(certificate) = Certificate::of_finding(alloc, table, finding) else {
-        return Err(AppFault::OutOfMemory);
-    };
+    let certificate = found_certificate(rt, alloc, table, limit)?;
     let mut text = write_certificate(alloc, &certificate)?;
     text.push_str("\n")?;
     Ok(Report::whole(text))

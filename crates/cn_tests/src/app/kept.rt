@@ -18,7 +18,7 @@ fn kept<T: Threads + Sync>(
     let bytes = test_and_set().as_bytes();
     let mut table = Text::new(alloc, Drip { bytes, left });
     let mut output = Output::new(alloc, Page::new(room));
-    let _ = commands::find(rt, alloc, &mut table, &mut output, 3);
+    let _ = commands::find(rt, alloc, &mut table, &mut output, Some(3));
     let (read, handed) = (table.bytes.as_slice(), output.bytes.as_slice());
     let is_found = match handed.split_last() {
         Some((last, text)) => *last == b'\n' && text == found_test_and_set_at_3().as_bytes(),

@@ -9,7 +9,7 @@ use cn_app::readers::OpeningArguments;
 use cn_app::reports::AskedNumbers;
 use cn_app::{AppFault, Form, ListText, Outcome, Output, Source, Text, commands};
 use cn_hall::AlwaysOn;
-use cn_words::{Command, ListSource, OpeningWords};
+use cn_words::{Command, ListSource, OpeningWords, TextSource};
 use std::alloc::Global;
 use std::process::Abort;
 use std::sync::Wait;
@@ -75,7 +75,7 @@ pub(crate) struct Example {
 /// The words of the commands that serve the counter.
 fn opening() -> OpeningWords<'static> {
     OpeningWords {
-        certificate: "CERT",
+        certificate: TextSource::File("CERT"),
         object: "OBJECT",
         start: "0",
         capacity: "4",
@@ -84,12 +84,12 @@ fn opening() -> OpeningWords<'static> {
 
 /// The examples. Their texts are given, whatever the names of files; `classify` names none.
 pub(crate) fn all_examples(alloc: Global) -> [Example; 11] {
-    let (certificate, form) = ("CERT", Form::Text);
+    let (certificate, form) = (TextSource::File("CERT"), Form::Text);
     let (inputs, schedule) = (ListSource::Word("10,20"), ListSource::Word("1,1,0,0,0,0"));
     let (events, calls) = (ListSource::Word(HELPED), ListSource::Word("0,0/none"));
     let (tables, more_tables, opening) = (Vec::new(alloc), Vec::new(alloc), opening());
     [
-        Example::new(Command::Find { limit: 3 }, found_test_and_set_at_3()),
+        Example::new(Command::Find { limit: Some(3) }, found_test_and_set_at_3()),
         Example::new(
             Command::Classify {
                 limit: 8,
@@ -198,6 +198,7 @@ fn run_command<T: Threads + Wait + Sync>(
         }
         Command::Lint => commands::lint(alloc, table, output),
         Command::Draw => commands::draw(alloc, table, output),
+        Command::Why { limit, all } => commands::why(rt, alloc, table, output, limit, all),
         Command::Check { .. } => commands::check(alloc, table, certificate, output),
         Command::Explain { all, .. } => commands::explain(alloc, table, certificate, output, all),
         Command::Show { form, .. } => commands::show(alloc, table, certificate, output, form),
@@ -242,9 +243,11 @@ impl Example {
     /// Whether the command reads this.
     fn reads(&self, source: Source) -> bool {
         match self.command {
-            Command::Find { .. } | Command::Classify { .. } | Command::Lint | Command::Draw => {
-                source == Source::Table
-            }
+            Command::Find { .. }
+            | Command::Classify { .. }
+            | Command::Lint
+            | Command::Draw
+            | Command::Why { .. } => source == Source::Table,
             Command::Check { .. }
             | Command::Explain { .. }
             | Command::Show { .. }

@@ -1,8 +1,12 @@
-use Rattle.std.proofs.Common.{codes, refl, sym}
+use Rattle.std.proofs.Common.{codes, refl}
 use Rattle.clap.specs.Matches.{found_of}
 use Rattle.cn_words.specs.GivenCommands.{rows_in}
 use Rattle.cn_words.proofs.GivenLemmas.{flag_read, wants}
 use Rattle.cn_words.proofs.commands.agree.Goals as goal
+
+pub returns-in_err-certificate : goal.returns-in_err-certificate
+returns-in_err-certificate c = rw c.from_residual.ensures (λ command is.
+    let w = wants (codes "agree") (rows_in c.args.words.now) command is in c.in_err-certificate.ensures w.0.0 w.0.1)
 
 pub returns-in_err-list : goal.returns-in_err-list
 returns-in_err-list c = rw c.from_residual-in_err-list.ensures (λ command is.
@@ -16,7 +20,7 @@ pub returns : goal.returns
 returns c = (
   refl,
   (
-    sym c.in_ok-word.ensures,
+    c.in_ok-certificate.ensures,
     c.in_ok-list.ensures,
     c.in_ok-list-2.ensures,
     flag_read (found_of c.args.words.now) (codes "steps") c.get_flag.result c.get_flag.ensures.none c.get_flag.ensures.value c.get_flag.ensures.other,

@@ -1,13 +1,18 @@
-use Rattle.std.proofs.Common.{codes, refl, sym}
+use Rattle.std.proofs.Common.{codes, refl}
 use Rattle.clap.specs.Matches.{found_of}
-use Rattle.cn_words.proofs.GivenLemmas.{flag_read}
+use Rattle.cn_words.specs.GivenCommands.{rows_in}
+use Rattle.cn_words.proofs.GivenLemmas.{flag_read, wants}
 use Rattle.cn_words.proofs.commands.explain.Goals as goal
+
+pub returns-in_err-certificate : goal.returns-in_err-certificate
+returns-in_err-certificate c = rw c.from_residual.ensures (λ command is.
+    let w = wants (codes "explain") (rows_in c.args.words.now) command is in c.in_err-certificate.ensures w.0 w.1)
 
 pub returns : goal.returns
 returns c = (
   refl,
   (
-    sym c.in_ok-word.ensures,
+    c.in_ok-certificate.ensures,
     flag_read (found_of c.args.words.now) (codes "all") c.get_flag.result c.get_flag.ensures.none c.get_flag.ensures.value c.get_flag.ensures.other,
   ),
 )

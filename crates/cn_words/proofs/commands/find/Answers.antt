@@ -3,6 +3,6 @@ use Rattle.cn_words.specs.GivenCommands.{rows_in}
 use Rattle.cn_words.proofs.GivenLemmas.{wants}
 use Rattle.cn_words.proofs.commands.find.Goals as goal
 
-pub returns-in_err-limit : goal.returns-in_err-limit
-returns-in_err-limit c = rw c.from_residual.ensures (λ command is.
-    let w = wants (codes "find") (rows_in c.args.words.now) command is in c.in_err-limit.ensures w.0 w.1)
+pub returns-in_err-optional_limit : goal.returns-in_err-optional_limit
+returns-in_err-optional_limit c = rw c.from_residual.ensures (λ command is.
+    let w = wants (codes "find") (rows_in c.args.words.now) command is in c.in_err-optional_limit.ensures w.0 w.1)

@@ -5,4 +5,5 @@ pub returns : goal.returns
 returns c =
     let with_inputs = argument_more _ c.with_argument-command.result _ _ _ c.with_certificate-command.ensures c.required_word.ensures c.with_argument-command.ensures in
     let with_schedule = argument_more _ c.with_argument-command-2.result _ _ _ with_inputs c.required_word-2.ensures c.with_argument-command-2.ensures in
-    argument_more _ c.with_argument.result _ _ _ with_schedule c.flag.ensures c.with_argument.ensures
+    let with_steps = argument_more _ c.with_argument-command-3.result _ _ _ with_schedule c.flag.ensures c.with_argument-command-3.ensures in
+    argument_more _ c.with_argument.result _ _ _ with_steps c.table_option.ensures c.with_argument.ensures

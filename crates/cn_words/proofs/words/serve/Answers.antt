@@ -3,4 +3,5 @@ use Rattle.cn_words.proofs.words.serve.Goals as goal
 
 pub returns : goal.returns
 returns c =
-    argument_more _ c.with_argument.result _ _ _ c.with_object-command.ensures c.required_word.ensures c.with_argument.ensures
+    let with_last = argument_more _ c.with_argument-command.result _ _ _ c.with_object-command.ensures c.required_word.ensures c.with_argument-command.ensures in
+    argument_more _ c.with_argument.result _ _ _ with_last c.table_option.ensures c.with_argument.ensures

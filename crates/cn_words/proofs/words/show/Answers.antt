@@ -5,4 +5,6 @@ use Rattle.cn_words.proofs.words.show.Goals as goal
 pub returns : goal.returns
 returns c =
     IfOk-weaker c.with_argument.result _ _ (λ new is. (c.form.ensures.0, c.form.ensures.1, is))
-    (argument_more _ c.with_argument.result _ _ _ c.with_certificate-command.ensures c.form.ensures.2 c.with_argument.ensures)
+    (argument_more _ c.with_argument.result _ _ _
+    (argument_more _ c.with_argument-command.result _ _ _ c.with_certificate-command.ensures c.form.ensures.2 c.with_argument-command.ensures)
+    c.table_option.ensures c.with_argument.ensures)

@@ -14,10 +14,8 @@ returns g c =
         c.in_ok-schedule_list.ensures,
         c.text-schedule.ensures,
         record {
-          certificate = c.file_text.result;
           table_after = c.agree.new.table;
           certificate_after = c.agree.new.certificate;
-          opened = c.file_text.ensures;
           read = c.agree.ensures.read;
           order = c.agree.ensures.order;
           reported = c.agree.ensures.agreed;

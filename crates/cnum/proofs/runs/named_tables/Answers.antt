@@ -1,4 +1,4 @@
-use Rattle.cn_words.specs.declared.commands.TableSource.TheVariants.{StandardInput}
+use Rattle.cn_words.specs.declared.commands.TextSource.TheVariants.{StandardInput}
 use Rattle.cnum.specs.NamedTables.{bytes_of}
 use Rattle.cnum.specs.Texts.{left_in, left_of}
 use Rattle.cnum.proofs.NamedTableLemmas.{one_more}

@@ -3,9 +3,8 @@ use Rattle.cnum.proofs.runs.run.Goals as goal
 
 pub returns-in-Find : goal.returns-in-Find
 returns-in-Find g c = (
-  c.new-table.result,
-  c.new-table.ensures.reader,
-  c.new-table.ensures.unread,
+  c.text_of-table.result,
+  c.text_of-table.ensures,
   rw c.in-Find.is (record {
     after = c.find.new.table;
     read = c.find.ensures.read;
@@ -15,9 +14,8 @@ returns-in-Find g c = (
 
 pub returns-in-Lint : goal.returns-in-Lint
 returns-in-Lint g c = (
-  c.new-table.result,
-  c.new-table.ensures.reader,
-  c.new-table.ensures.unread,
+  c.text_of-table.result,
+  c.text_of-table.ensures,
   rw c.in-Lint.is (record {
     after = c.lint.new.table;
     read = c.lint.ensures.read;
@@ -27,9 +25,8 @@ returns-in-Lint g c = (
 
 pub returns-in-Draw : goal.returns-in-Draw
 returns-in-Draw g c = (
-  c.new-table.result,
-  c.new-table.ensures.reader,
-  c.new-table.ensures.unread,
+  c.text_of-table.result,
+  c.text_of-table.ensures,
   rw c.in-Draw.is (record {
     after = c.draw.new.table;
     read = c.draw.ensures.read;
@@ -37,62 +34,88 @@ returns-in-Draw g c = (
   }),
 )
 
+pub returns-in-Why : goal.returns-in-Why
+returns-in-Why g c = (
+  c.text_of-table.result,
+  c.text_of-table.ensures,
+  rw c.in-Why.is (record {
+    after = c.why.new.table;
+    read = c.why.ensures.read;
+    reported = c.why.ensures.told;
+  }),
+)
+
 pub returns-in-Check : goal.returns-in-Check
 returns-in-Check g c = (
-  c.new-table.result,
-  c.new-table.ensures.reader,
-  c.new-table.ensures.unread,
-  rw c.in-Check.is (record {
-    certificate = c.file_text.result;
-    table_after = c.check.new.table;
-    certificate_after = c.check.new.certificate;
-    opened = c.file_text.ensures;
-    read = c.check.ensures.read;
-    order = inr tt;
-    reported = c.check.ensures.checked;
-  }),
+  c.text_of-table.result,
+  c.text_of-table.ensures,
+  rw c.in-Check.is (
+    c.text_of.result,
+    c.text_of.ensures,
+    record {
+      table_after = c.check.new.table;
+      certificate_after = c.check.new.certificate;
+      read = c.check.ensures.read;
+      order = inr tt;
+      reported = c.check.ensures.checked;
+    },
+  ),
 )
 
 pub returns-in-Explain : goal.returns-in-Explain
 returns-in-Explain g c = (
-  c.new-table.result,
-  c.new-table.ensures.reader,
-  c.new-table.ensures.unread,
-  rw c.in-Explain.is (record {
-    certificate = c.file_text-in-Explain.result;
-    table_after = c.explain.new.table;
-    certificate_after = c.explain.new.certificate;
-    opened = c.file_text-in-Explain.ensures;
-    read = c.explain.ensures.read;
-    order = inr tt;
-    reported = c.explain.ensures.explained;
-  }),
+  c.text_of-table.result,
+  c.text_of-table.ensures,
+  rw c.in-Explain.is (
+    c.text_of-in-Explain.result,
+    c.text_of-in-Explain.ensures,
+    record {
+      table_after = c.explain.new.table;
+      certificate_after = c.explain.new.certificate;
+      read = c.explain.ensures.read;
+      order = inr tt;
+      reported = c.explain.ensures.explained;
+    },
+  ),
 )
 
 pub returns-in-Show : goal.returns-in-Show
 returns-in-Show g c = (
-  c.new-table.result,
-  c.new-table.ensures.reader,
-  c.new-table.ensures.unread,
-  rw c.in-Show.is (record {
-    certificate = c.file_text-in-Show.result;
-    table_after = c.show.new.table;
-    certificate_after = c.show.new.certificate;
-    opened = c.file_text-in-Show.ensures;
-    read = c.show.ensures.read;
-    order = inr tt;
-    reported = c.show.ensures.shown;
-  }),
+  c.text_of-table.result,
+  c.text_of-table.ensures,
+  rw c.in-Show.is (
+    c.text_of-in-Show.result,
+    c.text_of-in-Show.ensures,
+    record {
+      table_after = c.show.new.table;
+      certificate_after = c.show.new.certificate;
+      read = c.show.ensures.read;
+      order = inr tt;
+      reported = c.show.ensures.shown;
+    },
+  ),
 )
 
 pub returns-in-Agree : goal.returns-in-Agree
-returns-in-Agree g c = (c.new-table.result, c.new-table.ensures.reader, c.new-table.ensures.unread, rw c.in-Agree.is c.agree.ensures)
+returns-in-Agree g c = (
+  c.text_of-table.result,
+  c.text_of-table.ensures,
+  rw c.in-Agree.is (c.text_of-in-Agree.result, c.text_of-in-Agree.ensures, c.agree.ensures),
+)
 
 pub returns-in-Replay : goal.returns-in-Replay
-returns-in-Replay g c = (c.new-table.result, c.new-table.ensures.reader, c.new-table.ensures.unread, rw c.in-Replay.is c.replay.ensures)
+returns-in-Replay g c = (
+  c.text_of-table.result,
+  c.text_of-table.ensures,
+  rw c.in-Replay.is (c.text_of-certificate.result, c.text_of-certificate.ensures, c.replay.ensures),
+)
 
 pub returns-in-Serve : goal.returns-in-Serve
-returns-in-Serve g c = (c.new-table.result, c.new-table.ensures.reader, c.new-table.ensures.unread, rw c.in-Serve.is c.serve.ensures)
+returns-in-Serve g c = (
+  c.text_of-table.result,
+  c.text_of-table.ensures,
+  rw c.in-Serve.is (c.text_of-certificate-in-Serve.result, c.text_of-certificate-in-Serve.ensures, c.serve.ensures),
+)
 
 pub returns-in-Classify : goal.returns-in-Classify
-returns-in-Classify g c = (c.new-table.result, c.new-table.ensures.reader, c.new-table.ensures.unread, rw c.in-Classify.is (refl, record { writer = refl; bytes = refl; progress = refl }))
+returns-in-Classify g c = (c.text_of-table.result, c.text_of-table.ensures, rw c.in-Classify.is (refl, record { writer = refl; bytes = refl; progress = refl }))

@@ -1,0 +1,18 @@
+use Rattle.std.proofs.Common.{codes, refl}
+use Rattle.clap.specs.Matches.{found_of}
+use Rattle.cn_words.specs.GivenCommands.{rows_in}
+use Rattle.cn_words.proofs.GivenLemmas.{flag_read, wants}
+use Rattle.cn_words.proofs.commands.why.Goals as goal
+
+pub returns-in_err-limit : goal.returns-in_err-limit
+returns-in_err-limit c = rw c.from_residual.ensures (λ command is.
+    let w = wants (codes "why") (rows_in c.args.words.now) command is in c.in_err-limit.ensures w.0 w.1)
+
+pub returns : goal.returns
+returns c = (
+  refl,
+  (
+    c.in_ok-limit.ensures,
+    flag_read (found_of c.args.words.now) (codes "all") c.get_flag-all.result c.get_flag-all.ensures.none c.get_flag-all.ensures.value c.get_flag-all.ensures.other,
+  ),
+)
