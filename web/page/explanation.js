@@ -10,14 +10,14 @@ var Cnum = globalThis.Cnum || {};
     const AT_ONCE = 100; // how many collisions are shown more at each demand
     const COLLISION = /^ +(\d+)\. (start .*?) +(p\d+) cannot tell:$/;
     const RUN = /^ +([AB]) first: +(.*?) +(p\d+ got .*)$/;
-    const FOLD = /\n {10}(?=\S)/g; // where a line of more than 100 columns goes on in the next one
+    const FOLD = /(\S)\n {10}(?=\S)/g; // where a line of more than 100 columns goes on in the next one
     const STEP = / --(p\d+) (\w+)\/(\w+)--> (\w+)/g;
     const MORE = /^ +and (\d+) more \(--all tells them\)$/;
 
     // The parts of the text: its head line, the lines on the witness, the collisions, how many more there
     // are, and the sentences around them.
     function read(text) {
-        const [head, , why, rest = ''] = text.trimEnd().replace(FOLD, ' ').split('\n\n');
+        const [head, , why, rest = ''] = text.trimEnd().replace(FOLD, '$1 ').split('\n\n');
         const found = { head, why: why.split('\n'), title: '', collisions: [], more: 0, sentences: [] };
         const lines = rest.split('\n');
         found.title = lines[0];
