@@ -93,7 +93,7 @@ def state_tells_from_many(s, f, g):
     """True where the state alone tells for good whether one that does f was first from state s, or one of any number that do g."""
     one_first, before = led_to([f[s][1]], g), led_to([g[s][1]], g)
     many_first = led_to(before + [f[x][1] for x in before], g)
-    return s not in one_first and set(one_first).isdisjoint(many_first)
+    return set(one_first).isdisjoint(many_first)
 
 
 def recoverable_number(a_type):
@@ -107,3 +107,12 @@ def go_together(number, recoverable):
     """True where a type can have these two numbers: the second is at most the first, and from 4 on at least the first less 2."""
     number, recoverable = (math.inf if it == "infinite" else it for it in (number, recoverable))
     return recoverable <= number and (number < 4 or recoverable >= number - 2)
+
+
+def faults(a_type, pair):
+    """What the rules say against a number and a recoverable number of a type: one of them gives each that is infinite, and each recoverable number that is 1."""
+    for told, by_rule, always in zip(pair, (number(a_type), recoverable_number(a_type)), (["infinite"], [1, "infinite"])):
+        if by_rule != told and (by_rule or told in always):
+            yield f"the rules give {by_rule}, and not {told}"
+    if not go_together(*pair):
+        yield f"no type has number {pair[0]} and recoverable number {pair[1]}"
