@@ -1,8 +1,9 @@
-"""Rules that give the number of a type from its table alone, without a search.
+"""Rules that give the number of a type, and its recoverable number, from its table alone, without a search.
 
 They share nothing with the program: they are here so that the numbers in `expected` stand on more than
 one leg. Each is said and proved in README.md, under "Rules that give a number".
 """
+import math
 import tomllib
 
 
@@ -80,3 +81,38 @@ def number(a_type):
     if interferes(a_type):
         return 2 if two_can_tell(a_type) else 1
     return None
+
+
+def state_tells(s, f, g):
+    """True where the state alone tells which of two processes was first from state s, the one that does f or the one that does g."""
+    after_f, after_g = f[s][1], g[s][1]
+    return {after_f, g[after_f][1]}.isdisjoint({after_g, f[after_g][1]})
+
+
+def state_tells_from_many(s, f, g):
+    """True where the state alone tells for good whether one that does f was first from state s, or one of any number that do g."""
+    one_first, before = led_to([f[s][1]], g), led_to([g[s][1]], g)
+    many_first = led_to(before + [f[x][1] for x in before], g)
+    return set(one_first).isdisjoint(many_first)
+
+
+def recoverable_number(a_type):
+    """The recoverable number by the rules: 1, "infinite", or None where they do not say."""
+    if any(state_tells_from_many(*start) for start in a_type.starts()):
+        return "infinite"
+    return None if any(state_tells(*start) for start in a_type.starts()) else 1
+
+
+def go_together(number, recoverable):
+    """True where a type can have these two numbers: the second is at most the first, and from 4 on at least the first less 2."""
+    number, recoverable = (math.inf if it == "infinite" else it for it in (number, recoverable))
+    return recoverable <= number and (number < 4 or recoverable >= number - 2)
+
+
+def faults(a_type, pair):
+    """What the rules say against a number and a recoverable number of a type: one of them gives each that is infinite, and each recoverable number that is 1."""
+    for told, by_rule, always in zip(pair, (number(a_type), recoverable_number(a_type)), (["infinite"], [1, "infinite"])):
+        if by_rule != told and (by_rule or told in always):
+            yield f"the rules give {by_rule}, and not {told}"
+    if not go_together(*pair):
+        yield f"no type has number {pair[0]} and recoverable number {pair[1]}"
