@@ -3,7 +3,7 @@
 //! The type is a roll with two tickets: `take` gives the first ticket, then the second, then none.
 #![tactic(auto)]
 
-ghost use Rattle.std.specs.Prelude.{IfOk};
+ghost use Rattle.std.specs.Prelude.{◌≡◌, IfOk};
 ghost use Rattle.cn_check.specs.Verdict.{IsAccepted};
 ghost use Rattle.cn_choice.specs.Discerning.{IsNumberUpTo};
 
@@ -35,6 +35,7 @@ fn certified<T: Threads + Sync>(
     limit: u8,
 ) -> Result<Certificate>
     ensures accepted { IfOk result (IsAccepted table.now) }
+    ensures limit { IfOk result (λ c. c.limit ≡ limit) }
     ensures number { IfOk result (λ c. IsNumberUpTo table.now c.limit c.number) }
 {
     let finding = find(rt, alloc, table, limit)?;
