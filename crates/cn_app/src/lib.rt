@@ -3,6 +3,14 @@
 //! A command has three parts: it reads what it needs ([`readers`], [`arguments`](read_events)), does
 //! its work on values ([`reports`]), and hands one report to its output. Each part is public, so
 //! that a program can put its own between them.
+//!
+//! ```text
+//! let mut table = Text::new(alloc, rt.stdin());
+//! let mut output = Output::new(alloc, rt.stdout());
+//! if let Err(fault) = commands::find(rt, alloc, &mut table, &mut output, None) {
+//!     eprintln!(rt; "{fault}")?;
+//! }
+//! ```
 #![tactic(auto)]
 
 mod answers;

@@ -1,4 +1,15 @@
 //! Whether a type is n-discerning, for n of at least 3, with no choice of teams.
+//!
+//! [`is_discerning`] looks for a start state and a list of n operations, the stock, that falls into
+//! two parts: nothing that a process can see comes both from orders that begin in the one and from
+//! orders that begin in the other. By [`laws::splits_decide`] the type is n-discerning exactly where
+//! there is such a stock.
+//!
+//! ```text
+//! if is_discerning(rt, alloc, &table, 3)? {
+//!     println!(rt; "three processes can agree")?;
+//! }
+//! ```
 #![tactic(auto)]
 
 mod decision;

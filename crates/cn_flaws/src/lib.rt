@@ -3,6 +3,12 @@
 //! [`read_table`](cn_table::read_table) says for which fault bytes are refused. A caller who shows
 //! people what to mend hands the same bytes to [`flaws`], and writes the text of each [`Flaw`] as a
 //! line: it says what is wrong, and where. UTF-8 has none exactly where it spells a table.
+//!
+//! ```text
+//! for flaw in &flaws(alloc, bytes)? {
+//!     println!(rt; "{}", flaw.text.as_str())?;
+//! }
+//! ```
 #![tactic(auto)]
 
 mod all_flaws;

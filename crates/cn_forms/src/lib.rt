@@ -5,6 +5,13 @@
 //! certificate that the check accepts, [`explanation_of`] tells people why its number is what it is.
 //! Each text is a function of what it is made of, and by [`laws::told_pairs`] the pairs that an
 //! explanation tells are those of the outcome sets.
+//!
+//! ```text
+//! print!(rt; "{}", grid_of(alloc, &table)?)?;
+//! print!(rt; "{}", plan_as(alloc, &plan, Form::Promela)?)?;
+//! check(&table, &certificate)?;
+//! print!(rt; "{}", explanation_of(alloc, &table, &certificate, false)?)?;
+//! ```
 #![tactic(auto)]
 
 mod diagram;

@@ -4,6 +4,12 @@
 //! a schedule. [`answer_lines`] has one for each call that ended, [`entry_lines`] one for each entry
 //! of a log, and [`events_line`] tells its events as a list of them is read. [`put_answer_line`] and
 //! [`put_number`] put a line or a number behind a text that is being made.
+//!
+//! ```text
+//! let core = replay(core, &events)?;
+//! let opening = core.opening();
+//! print!(rt; "{}", entry_lines(alloc, opening.object(), opening.start(), &core)?)?;
+//! ```
 #![tactic(auto)]
 
 mod decisions;

@@ -1,6 +1,15 @@
-//! What each process of a choice can see, computed fast: outcome sets as sets of bits, whether a
-//! choice is a witness, and the recorded collision where it is none; and the states that the orders
-//! of a team leave.
+//! What each process of a choice can see, computed fast.
+//!
+//! [`outcomes`] answers the outcome set of a process as a set of bits, [`is_witness`] whether a
+//! choice is a witness, and [`examine`] also the recorded collision where it is none.
+//! [`left_states`] answers the states that the orders of a team leave.
+//!
+//! ```text
+//! match examine(&table, &choice) {
+//!     Examined::Splits => println!(rt; "a witness")?,
+//!     Examined::Meets(collision) => println!(rt; "process {} cannot tell", collision.process)?,
+//! }
+//! ```
 #![tactic(auto)]
 
 mod asked_responses;

@@ -4,6 +4,14 @@
 //! object alone. [`is_recording_witness`] says of a choice whether the state always tells which team
 //! moved first. [`recoverable_number`] answers the greatest number of processes up to a limit for
 //! which a type has such a choice.
+//!
+//! ```text
+//! match recoverable_number(rt, alloc, &table, 8)? {
+//!     Some(8) => println!(rt; "at least 8")?,
+//!     Some(n) => println!(rt; "{n}")?,
+//!     None => println!(rt; "1")?,
+//! }
+//! ```
 #![tactic(auto)]
 
 pub mod laws;

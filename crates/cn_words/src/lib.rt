@@ -3,6 +3,17 @@
 //! [`parse`] makes an [`Invocation`] of a command line, or a [`Reply`] where there is none to run. The
 //! crate `clap` parses the words by what [`command`] says, and [`invocation_of`] reads what it found.
 //! The crate knows nothing of what a command does.
+//!
+//! ```text
+//! match parse(alloc, &words) {
+//!     Ok(given) => match given.command {
+//!         Command::Find { limit } => println!(rt; "find, up to {}", limit.unwrap_or(8))?,
+//!         _ => println!(rt; "another command")?,
+//!     },
+//!     Err(Reply::Help(text) | Reply::Refusal(text)) => println!(rt; "{text}")?,
+//!     Err(Reply::Fault(_)) => println!(rt; "no command")?,
+//! }
+//! ```
 #![tactic(auto)]
 
 mod commands;
