@@ -19,15 +19,23 @@ pub struct AskedNumbers {
     pub recoverable: bool,
 }
 
+/// A number up to the limit, as it stands in a line.
+fn words_of(alloc: Global, limit: u8, number: Option<u8>) -> Result<String, AllocError>
+    ensures { IfOk result (λ words. string_bytes words ≡ number_words limit number) }
+{
+    match number {
+        None => format!(in alloc; "1"),
+        Some(n) if n < limit => format!(in alloc; "{n}"),
+        Some(n) => format!(in alloc; "at least {n}"),
+    }
+}
+
 /// The line of a type with its number up to the limit.
 fn line_of(alloc: Global, name: &str, limit: u8, number: Option<u8>) -> Result<String, AllocError>
     ensures { IfOk result (λ line. string_bytes line ≡ class_line name.now limit number) }
 {
-    match number {
-        None => format!(in alloc; "{name}: 1\n"),
-        Some(n) if n < limit => format!(in alloc; "{name}: {n}\n"),
-        Some(n) => format!(in alloc; "{name}: at least {n}\n"),
-    }
+    let words = words_of(alloc, limit, number)?;
+    format!(in alloc; "{name}: {words}\n")
 }
 
 /// Whether a limit is one up to which a number can be told: from 2 to 8.
@@ -66,17 +74,6 @@ pub fn class_report<T: Threads + Sync>(
 {
     let number = cn_search::number(rt, alloc, table, limit)?;
     Ok(Report::whole(line_of(alloc, table.name(), limit, number)?))
-}
-
-/// A number up to the limit, as it stands in a line.
-fn words_of(alloc: Global, limit: u8, number: Option<u8>) -> Result<String, AllocError>
-    ensures { IfOk result (λ words. string_bytes words ≡ number_words limit number) }
-{
-    match number {
-        None => format!(in alloc; "1"),
-        Some(n) if n < limit => format!(in alloc; "{n}"),
-        Some(n) => format!(in alloc; "at least {n}"),
-    }
 }
 
 /// The line of a type with its number and its recoverable number up to the limit.
