@@ -1,6 +1,6 @@
-//! What each process of a choice can see, computed fast: outcome sets as sets of bits, whether a
-//! choice is a witness, and the recorded collision where it is none; and the states that the orders
-//! of a team leave.
+//! The view of each process of a choice, computed fast: outcome sets as sets of bits, whether a
+//! choice is a witness, the recorded collision of a choice that is none, and the states that the
+//! orders of a team leave.
 #![tactic(auto)]
 
 mod asked_responses;
