@@ -45,7 +45,7 @@ impl<V: Copy> Local<V> {
         }
     }
 
-    /// The same place with another next action, if it is at a place.
+    /// Sets its next action, if it is at a place.
     pub(crate) fn go_on(&mut self, next: Stage)
         ensures { self.new ≡ with_next next self.old }
     {

@@ -95,7 +95,7 @@ pub(crate) fn put_batch(
     }
 }
 
-/// The state of the object after the calls of the first processes in the batch, this many.
+/// The state of the object after the calls in the batch by processes below `processes`.
 pub(crate) fn state_after(object: &Table, processes: u8, batch: &Batch, start: State) -> State
     requires processes { processes ≤ MOST_PROCESSES }
     requires start { start.0 < length object.now.states }

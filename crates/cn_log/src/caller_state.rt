@@ -73,7 +73,7 @@ impl CallerState {
         }
     }
 
-    /// The process applies the calls of the first processes in the batch, this many, in order.
+    /// The process applies the calls in the batch by processes below `processes`, in order.
     pub fn apply(&mut self, object: &Table, processes: u8, batch: &Batch)
         requires processes { processes ≤ MOST_PROCESSES }
         requires applied_entries { self.old.applied_entries ≤ MOST_ENTRIES }

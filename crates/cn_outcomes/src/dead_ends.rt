@@ -1,4 +1,4 @@
-//! Beginnings of orders that no way leads from into a set.
+//! Dead ends: beginnings of orders that do not lead into a set.
 ghost use Rattle.std.specs.Prelude.{◌≡◌, ◌<◌, ◌⊎◌, ℕ, Option, IfSome, IsTrue};
 ghost use Rattle.cn_table.specs.declared.limits.TheConstants.{MOST_RESPONSES, MOST_STATES};
 ghost use Rattle.cn_outcomes.specs.Tails.{IsKept, rank_of};

@@ -141,7 +141,7 @@ pub(crate) fn rows(setting: &RowSetting<'_>) -> [u16; SUBSETS]
     rows
 }
 
-/// The pairs after the operation on their states, which are among these.
+/// The pairs with the operation applied to their states, which are among these.
 pub(crate) fn images(
     table: &Table,
     operation: Operation,

@@ -109,8 +109,8 @@ fn is_unwanted(set: &OutcomeSet, prefix: Prefix) -> bool
     }
 }
 
-/// Whether the process can move next. It has not moved, and it is j, or there is time for j and no
-/// process with its operation was tried.
+/// Whether the search tries the process next. The process has not moved. It is j, or there is time
+/// for j and no process with its operation was tried.
 fn is_open(choice: &RawChoice, j: u8, prefix: Prefix, tried: u16, process: u8) -> bool
     requires process { process < length choice.now.operations }
     requires few { length choice.now.operations ≤ MOST_PROCESSES }
