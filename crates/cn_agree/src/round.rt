@@ -21,10 +21,10 @@ use std::marker::Model;
 
 /// One instance of consensus among the processes of a plan, over values of type `V`.
 ///
-/// It has an object and two registers for each node of the plan, and a local state for each process.
-/// It also keeps the value that each process began with and the team of the first application at
-/// the root, which no action reads. `new` makes all vectors at full length, and no other call takes
-/// memory.
+/// It has an object and two registers for each node of the plan, and a local state for each
+/// process. It also keeps the value that each process began with and the team of the first
+/// application at the root, which no action reads. `new` makes all vectors at full length, and no
+/// other call takes memory.
 ///
 /// Under every schedule, all processes that decide choose the fixed value. That is a value that a
 /// process began with, and this process has taken a step. A process with k places on its path
