@@ -69,14 +69,14 @@ extends_one order v role = record { this = at v refl; other = off }
 extends_none : (order : ℕ → List ℕ) (v : ℕ) → Extends order order v []
 extends_none order v = record { this = sym (append-nil (order v)); other = λ u ne. refl }
 
--- what is in a register is what it was, or what was written
+-- the value in a register is the old one, or the one written
 register_cases : {V : Type 0} (node : Node V) (mine side : Team) (x y : V) → register (with_register node mine x) side ≡ Some y → (register node side ≡ Some y) ⊎ ((side ≡ mine) × (x ≡ y))
 register_cases node A A x y h = inr (refl, cc)
 register_cases node A B x y h = inl h
 register_cases node B A x y h = inl h
 register_cases node B B x y h = inr (refl, cc)
 
--- what a register holds after a write
+-- the value in a register after a write
 pub register_mine : {V : Type 0} (node : Node V) (mine : Team) (x : V) → register (with_register node mine x) mine ≡ Some x
 register_mine node A x = refl
 register_mine node B x = refl
@@ -85,7 +85,7 @@ state_kept : {V : Type 0} (node : Node V) (mine : Team) (x : V) → (with_regist
 state_kept node A x = refl
 state_kept node B x = refl
 
--- with equal values coming in, a register that is written again keeps its value
+-- if equal values come in, a second write of a register keeps its value
 register_kept : {V : Type 0} (node : Node V) (mine side : Team) (x y : V) → ((z : V) → register node mine ≡ Some z → z ≡ x) → register node side ≡ Some y → register (with_register node mine x) side ≡ Some y
 register_kept node A A x y same h = ap Some (sym (same y h))
 register_kept node A B x y same h = h
@@ -104,7 +104,7 @@ noted_later : (first : Option Team) (v : ℕ) (side : Team) → first_recorded f
 noted_later None v side = refl
 noted_later (Some f) v side = refl
 
--- places that are fed alike are brought one value
+-- places that are fed alike get one value
 brings_same : {V : Type 0} (P : Protocol) (team : ℕ → Team) (w : World V) (order : ℕ → List ℕ) (p i q j : ℕ) (x y : V)
     → IsFedAlike P p i q j → Brings P team w order p i x → Brings P team w order q j y → x ≡ y
 brings_same P team w order p zero q zero x y fed bx by = let e : input_at w p ≡ input_at w q = ap (input_at w) fed in cc
@@ -160,7 +160,7 @@ module _ {V : Type 0} (P : Protocol) (n nodes : ℕ) (team : ℕ → Team) (soun
       same_value at brings z b =
           brings_same P team w order b.by b.at p i z x (sound.fed b.by b.at p i b.place at b.node b.team_is) b.brings brings
 
-  -- a register that is written keeps its value
+  -- a second write of a register keeps its value
   pub registers_write : local_at w p ≡ Active i x Write → (v : ℕ) (side : Team) (y : V) → register (node_at P w v) side ≡ Some y → register (node_at P (after_action P p w i x Write (place_of P p i)) v) side ≡ Some y
   registers_write e v side y h =
       let mine = rw e at (holds.local_holds p lt) in
@@ -313,7 +313,7 @@ module _ {V : Type 0} (P : Protocol) (n nodes : ℕ) (team : ℕ → Team) (soun
       (mine.0, mine.1, rw (holds.moved v) (of_first v here.role response.0 (order v) refl mine.2.1))
       (rw e (omega arith)) v)
 
-  -- what is found in step 4 is what the node has fixed
+  -- the value found in step 4 is the one that the node has fixed
   pub found_is : (v role response state : ℕ) (roles : List ℕ) → order v ≡ roles → IsOfFirst P n team roles role response state
       → (y : V) × (register (node_at P w v) (P.judge role response state) ≡ Some y) × (fixed_at P team w order v ≡ Some y)
   found_is v role response state [] is h = elim h [ ]

@@ -17,7 +17,7 @@ use Rattle.cn_agree.proofs.Reaching.{locals_are, begun_stays}
 use Rattle.cn_agree.proofs.Fixing.{keeps_consensus}
 use Rattle.cn_agree.proofs.Beginning.{reached_all, begun_all}
 
--- an entry of the decisions is what the local state tells
+-- an entry of the decisions is the decision in the local state
 pub decides_at : {V : Type 0} (locals : List (Local V)) (p : ℕ) (x : V) → slice_get (map decision_of locals) p ≡ Some (Some x) → decision_of (slice_index_or locals p NotBegun) ≡ Some x
 decides_at [] p x h = absurd cc
 decides_at (l ∷ locals) zero x h = cc
@@ -28,7 +28,7 @@ entry_at [] p lt = absurd (omega arith)
 entry_at (l ∷ locals) zero lt = refl
 entry_at (l ∷ locals) (suc p) lt = entry_at locals p (omega arith)
 
--- an input on record was given
+-- an input on record is one of the inputs
 given : {V : Type 0} (inputs : List V) (p : ℕ) (y : V) → slice_index_or (map (λ x. Some x) inputs) p None ≡ Some y → slice_get inputs p ≡ Some y
 given [] p y h = absurd cc
 given (x ∷ inputs) zero y h = h
@@ -39,7 +39,7 @@ inputs_schedule P [] w = refl
 inputs_schedule P (p ∷ schedule) w = inputs_schedule P schedule (after_step P p w) ∙ inputs_step P p w
 
 module _ {V : Type 0} (P : Protocol) (n nodes : ℕ) (team : ℕ → Team) (sound : IsSound P n nodes team) where
-  -- a round in which all have begun comes to the world after any schedule
+  -- a round in which all have begun reaches the world after any schedule
   pub reached_after : (before schedule : List ℕ) (w : World V) → IsReached P n nodes before w → ((p : ℕ) → p < n → HasBegun w p) → IsSchedule n schedule → IsReached P n nodes (before ++ schedule) (after_schedule P schedule w)
   reached_after before [] w r begun all = let T : List ℕ → Type 0 = λ s. IsReached P n nodes s w in subst T (sym (append-nil before)) r
   reached_after before (p ∷ schedule) w r begun all =

@@ -15,7 +15,7 @@ use Rattle.cn_agree.specs.Steps.{node_after, local_after, first_after, first_rec
 use Rattle.cn_agree.specs.AtomicStep.{SharedPart, Object, Register, State, Value, content, part_touched, ActsOnce, HasPlace, LooksAlike, IsAtomic}
 use Rattle.cn_agree.proofs.Actions.{register_mine}
 
--- a write changes its register alone
+-- a write changes only its register
 write_leaves : {V : Type 0} (node : Node V) (mine : Team) (x : V) (part : SharedPart) → part ≢ Register mine → content (with_register node mine x) part ≡ content node part
 write_leaves node A x Object ne = refl
 write_leaves node B x Object ne = refl
@@ -24,7 +24,7 @@ write_leaves node A x (Register B) ne = refl
 write_leaves node B x (Register A) ne = refl
 write_leaves node B x (Register B) ne = absurd (ne refl)
 
--- an application changes the object alone
+-- an application changes only the object
 apply_leaves : {V : Type 0} (node : Node V) (state : StateOf) (part : SharedPart) → part ≢ Object → content (record node { state = state }) part ≡ content node part
 apply_leaves node state Object ne = absurd (ne refl)
 apply_leaves node state (Register A) ne = refl
@@ -36,7 +36,7 @@ leaves P here x Apply node part ne = apply_leaves node (record { 0 = (P.act here
 leaves P here x (Read response) node part ne = refl
 leaves P here x (Take response state) node part ne = refl
 
--- two nodes at which the part that is touched is the same lead to the same local state
+-- two nodes with the same content of the part touched lead to the same local state
 reads_alike : {V : Type 0} (P : Protocol) (places i : ℕ) (here : Place) (x : V) (stage : Stage) (node other : Node V) → content node (part_touched P here stage) ≡ content other (part_touched P here stage)
     → local_after P places i here x stage node ≡ local_after P places i here x stage other
 reads_alike P places i here x Write node other e = refl
@@ -50,7 +50,7 @@ reads_alike P places i here x (Take response state) node other e =
     let same : register node (P.judge here.role response.0 state.0) ≡ register other (P.judge here.role response.0 state.0) = cc in
     ap (onward_if_found places i (Active i x (Take response state))) same
 
--- two nodes at which the part that is touched is the same leave the same there
+-- two nodes with the same content of the part touched have the same content there afterwards
 leaves_alike : {V : Type 0} (P : Protocol) (here : Place) (x : V) (stage : Stage) (node other : Node V) → content node (part_touched P here stage) ≡ content other (part_touched P here stage)
     → content (node_after P here x stage node) (part_touched P here stage) ≡ content (node_after P here x stage other) (part_touched P here stage)
 leaves_alike P here x Write node other e = ap (λ r. Value r) (register_mine node here.team x ∙ sym (register_mine other here.team x))
@@ -60,7 +60,7 @@ leaves_alike P here x Apply node other e =
 leaves_alike P here x (Read response) node other e = e
 leaves_alike P here x (Take response state) node other e = e
 
--- a part of the node that is written, or of one that isn't there
+-- a part of the node that is written, or of a node that does not exist
 written_part : {V : Type 0} (nodes : List (Node V)) (v : ℕ) (d node : Node V) (part : SharedPart) → content node part ≡ content (slice_index_or nodes v d) part
     → content (slice_index_or (slice_set nodes v node) v d) part ≡ content (slice_index_or nodes v d) part
 written_part [] v d node part e = refl
@@ -68,7 +68,7 @@ written_part (n ∷ nodes) zero d node part e = e
 written_part (n ∷ nodes) (suc v) d node part e = written_part nodes v d node part e
 
 module _ {V : Type 0} (P : Protocol) (p : ℕ) where
-  -- who is active is one of the processes
+  -- an active process is one of the processes
   active_within : (locals : List (Local V)) (q i : ℕ) (x : V) (stage : Stage) → slice_index_or locals q NotBegun ≡ Active i x stage → q < length locals
   active_within [] q i x stage e = absurd cc
   active_within (l ∷ locals) zero i x stage e = omega arith
@@ -104,7 +104,7 @@ module _ {V : Type 0} (P : Protocol) (p : ℕ) where
   next_is w i x stage e =
       ap (λ (u : World V). local_at u p) (step_is w i x stage e) ∙ get_or-set_same w.locals p (local_after P (length (P.path p)) i (place_of P p i) x stage (node_at P w (place_of P p i).node)) NotBegun (active_within w.locals p i x stage e)
 
-  -- the node of its place after its step
+  -- the node of the process's place after its step
   node_is : (w : World V) (i : ℕ) (x : V) (stage : Stage) → local_at w p ≡ Active i x stage → (place_of P p i).node < length w.nodes
       → node_at P (after_step P p w) (place_of P p i).node ≡ node_after P (place_of P p i) x stage (node_at P w (place_of P p i).node)
   node_is w i x stage e there =

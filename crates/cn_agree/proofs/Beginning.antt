@@ -59,7 +59,7 @@ module _ {V : Type 0} (P : Protocol) (n nodes : ℕ) (inputs : List V) (many : l
       let T' : ℕ → Type 0 = λ k. T (some_begun P n nodes inputs k) in
       subst T' suc_is (subst T (next_begins i x.0 (omega arith) read) (Begins i x.0 (omega arith) (next_waits i (omega arith)) (reached_some i (omega arith))))
 
-  -- the world in which all have begun is one that a round comes to
+  -- a round can reach the world in which all have begun
   pub reached_all : IsReached P n nodes [] (all_begun P nodes inputs)
   reached_all = let T : World V → Type 0 = IsReached P n nodes [] in subst T all_is (reached_some n (omega arith))
 

@@ -1,4 +1,4 @@
--- A step changes one node and one process, and what holds of the rest goes on to hold.
+-- A step changes one node and one process. Properties of the rest stay.
 use Rattle.std.proofs.Common.{ℕ, ◌≡◌, ◌≢◌, ◌⊎◌, inl, inr, slice_index_or, ◌+◌, ◌*◌, ◌≤◌, List, [], ◌∷◌, ◌++◌, length, slice_get, Option, Some, None, sym, ap, ◌∙◌, arith, append-nil}
 use Rattle.std.specs.List.{AllPairs}
 use Rattle.std.proofs.lemmas.Bool.{cases_eq}
@@ -12,7 +12,7 @@ use Rattle.cn_agree.proofs.Invariant.{first_team, LocalHolds, Grows, Holds, IsBr
 use Rattle.cn_agree.specs.Rounds.{steps_taken}
 use Rattle.cn_agree.proofs.Growing.{brings_grows, local_grows}
 
--- from w to w' process p is as it says now, and node v as it says; all else stays
+-- from w to w' process p gets this local state, and node v becomes this node; all else stays
 pub record Changes {V : Type 0} (P : Protocol) (w w' : World V) (p : ℕ) (mine : Local V) (v : ℕ) (node : Node V) : Type 0 where
   pub nodes_are : length w'.nodes ≡ length w.nodes
   pub locals_are : length w'.locals ≡ length w.locals
@@ -22,7 +22,7 @@ pub record Changes {V : Type 0} (P : Protocol) (w w' : World V) (p : ℕ) (mine 
   pub node_other : (u : ℕ) → u ≢ v → node_at P w' u ≡ node_at P w u
   pub inputs_same : w'.inputs ≡ w.inputs
 
--- the orders change by these roles at node v alone
+-- the orders change only at node v, by these roles
 pub record Extends (order order' : ℕ → List ℕ) (v : ℕ) (more : List ℕ) : Type 0 where
   pub this : order' v ≡ order v ++ more
   pub other : (u : ℕ) → u ≢ v → order' u ≡ order u

@@ -23,7 +23,7 @@ use Rattle.cn_agree.proofs.StepCounts.{Kept, IsOneMore, one_more, other_local, i
 use Rattle.cn_agree.proofs.Values.{AreOf, step_of, are_more}
 use Rattle.cn_agree.proofs.Reaching.{same_anywhere, empty_register, reached_kept, reached_steps, no_input, input_now, local_now}
 
--- in which state an object starts doesn't matter to the registers
+-- the registers do not depend on the state in which an object starts
 root_same : {V : Type 0} (P : Protocol) (w : World V) (team : Team) → register (slice_index_or w.nodes 0 (fresh_node 0)) team ≡ register (node_at P w 0) team
 root_same {V = V} P w team = go w.nodes team
   where
@@ -50,7 +50,7 @@ module _ {V : Type 0} (P : Protocol) (n nodes : ℕ) (team : ℕ → Team) (soun
       go (Active i x stage) e = staged i x stage e
       go (Decided y') e = h
 
-  -- fixed never changes
+  -- the fixed value stays
   pub fixed_stays : {schedule : List ℕ} {w : World V} → IsReached P n nodes schedule w → (p : ℕ) → p < n → (y : V) → fixed_value w ≡ Some y → fixed_value (after_step P p w) ≡ Some y
   fixed_stays {w = w} r p lt y h = go w.first refl
     where
@@ -79,14 +79,14 @@ module _ {V : Type 0} (P : Protocol) (n nodes : ℕ) (team : ℕ → Team) (soun
       go [] e f l = let l' : None ≡ Some y = rw e at l in absurd cc
       go (head ∷ rest) e f l = let f' = rw e at f in let l' = rw e at l in rw f' (root_same P w (team head) ∙ l')
 
-  -- y is what a participant began with
+  -- a participant began with y
   abbrev IsInput : List ℕ → World V → V → Type 0
   IsInput schedule w y = (q : ℕ) × (q < n) × IsParticipant schedule q × (input_at w q ≡ Some y)
 
   abbrev IsOwn : World V → ℕ → V → Type 0
   IsOwn w q y = input_at w q ≡ Some y
 
-  -- every value in a round is an input of a participant, but that a process that has taken no step has its own
+  -- every value in a round is an input of a participant; only a process that has taken no step may have its own
   values_are : {schedule : List ℕ} {w : World V} → IsReached P n nodes schedule w → AreOf P (IsInput schedule w) (IsOwn w) w
   values_are Opens = record {
     registers = λ v side y h. absurd (empty_register P.start side y (rw same_anywhere at h));
@@ -115,7 +115,7 @@ module _ {V : Type 0} (P : Protocol) (n nodes : ℕ) (team : ℕ → Team) (soun
       let T : List (Option V) → Type 0 = λ inputs. AreOf P (λ y. (q : ℕ) × (q < n) × IsParticipant schedule' q × (slice_index_or inputs q None ≡ Some y)) (λ q y. slice_index_or inputs q None ≡ Some y) (after_step P p old) in
       subst T (sym (inputs_step P p old)) (step_of P (IsInput schedule' old) (IsOwn old) old are p (λ y o. (p, lt, Contains-append_right schedule (p ∷ []) p (0, omega arith, refl), o)))
 
-  -- what is fixed is the input of a participant
+  -- the fixed value is the input of a participant
   pub fixed_valid : {schedule : List ℕ} {w : World V} → IsReached P n nodes schedule w → (y : V) → fixed_value w ≡ Some y → IsInput schedule w y
   fixed_valid {schedule = schedule} {w = w} r y h = go w.first refl
     where
@@ -123,7 +123,7 @@ module _ {V : Type 0} (P : Protocol) (n nodes : ℕ) (team : ℕ → Team) (soun
       go None e = let h' : None ≡ Some y = rw e at h in absurd cc
       go (Some side) e = let at : register (slice_index_or w.nodes 0 (fresh_node 0)) side ≡ Some y = rw e at h in (values_are r).registers 0 side y (sym (root_same P w side) ∙ at)
 
-  -- where p has applied at its place i, and that is the root, a team is recorded
+  -- if p has applied at its place i, and this is the root, a team is recorded
   abbrev AppliesFirst : World V → ℕ → ℕ → Type 0
   AppliesFirst w p i = IsPlace P n p i → (place_of P p i).node ≡ 0 → 4 * i + 2 ≤ steps_taken P p (local_at w p) → (side : Team) × (w.first ≡ Some side)
 
@@ -226,7 +226,7 @@ module _ {V : Type 0} (P : Protocol) (n nodes : ℕ) (team : ℕ → Team) (soun
     steps = reached_steps P n nodes team sound r;
   }
     where
-      -- who has decided is one of the n
+      -- a process that has decided is one of the n
       process : (p : ℕ) (x : V) → decision_at w p ≡ Some x → p < n
       process p x e = rw (← (reached_kept P n nodes team sound r).1.locals_are) (within w.locals p e)
         where

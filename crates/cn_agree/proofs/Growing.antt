@@ -1,4 +1,4 @@
--- What holds of a process that did not act goes on to hold.
+-- Properties of a process that did not act stay.
 use Rattle.std.proofs.Common.{ℕ, zero, suc, ◌≡◌, List, [], ◌∷◌, ◌++◌, Some, refl, ◌∙◌}
 use Rattle.cn_agree.specs.declared.node.Node.{Node}
 use Rattle.cn_choice.specs.declared.team.Team.{Team}

@@ -1,4 +1,4 @@
--- What every step of a round keeps.
+-- The invariant of every step of a round.
 use Rattle.std.proofs.Common.{ℕ, zero, suc, ◌≡◌, ◌≢◌, ◌+◌, ◌*◌, ◌<◌, ◌≤◌, List, [], ◌∷◌, ◌++◌, length, slice_get, Option, Some, None}
 use Rattle.std.specs.List.{AllPairs}
 use Rattle.cn_agree.specs.declared.node.Node.{Node}
@@ -19,7 +19,7 @@ abbrev pub first_value : {V : Type 0} → (ℕ → Team) → Node V → List ℕ
 first_value team node [] = None
 first_value team node (role ∷ roles) = register node (team role)
 
--- what a node has fixed, where these roles were applied there in this order
+-- the value that a node has fixed, after these roles were applied there in this order
 abbrev pub fixed_at : {V : Type 0} → Protocol → (ℕ → Team) → World V → (ℕ → List ℕ) → ℕ → Option V
 fixed_at P team w order v = first_value team (node_at P w v) (order v)
 
@@ -67,7 +67,7 @@ pub record IsDone {V : Type 0} (P : Protocol) (n : ℕ) (w : World V) (v : ℕ) 
   pub role_is : (place_of P by at).role ≡ role
   pub applied : 4 * at + 2 ≤ steps_taken P by (local_at w by)
 
--- y came into the register of this team at this node with a process of the team
+-- a process of this team brought y to the register of the team at this node
 pub record IsBrought {V : Type 0} (P : Protocol) (n : ℕ) (team : ℕ → Team) (w : World V) (order : ℕ → List ℕ) (v : ℕ) (side : Team) (y : V) : Type 0 where
   pub by : ℕ
   pub at : ℕ
@@ -81,16 +81,16 @@ pub record Holds {V : Type 0} (P : Protocol) (n : ℕ) (nodes : ℕ) (team : ℕ
   pub locals_are : length w.locals ≡ n
   pub inputs_are : length w.inputs ≡ n
   pub first_is : w.first ≡ first_team team (order 0)
-  -- the object has been moved by the roles applied so far
+  -- the state of the object is that after the roles applied so far
   pub moved : (v : ℕ) → (node_at P w v).state.0 ≡ after P.act P.start (order v)
   pub distinct : (v : ℕ) → AllPairs (λ (x : ℕ) y. x ≢ y) (order v)
   pub done : (v k role : ℕ) → slice_get (order v) k ≡ Some role → IsDone P n w v role
-  -- where a role was applied, the register of the first one's team is written
+  -- if a role was applied, the register of the first role's team is written
   pub written : (v head : ℕ) (rest : List ℕ) → order v ≡ head ∷ rest → (y : V) × (register (node_at P w v) (team head) ≡ Some y)
   pub brought : (v : ℕ) (side : Team) (y : V) → register (node_at P w v) side ≡ Some y → IsBrought P n team w order v side y
   pub local_holds : (p : ℕ) → p < n → LocalHolds P n team w order p (local_at w p)
 
--- what only grows: written registers, inputs, and who came first
+-- all that only grows: written registers, inputs, and the orders
 pub record Grows {V : Type 0} (P : Protocol) (w : World V) (order : ℕ → List ℕ) (w' : World V) (order' : ℕ → List ℕ) : Type 0 where
   pub registers : (v : ℕ) (side : Team) (y : V) → register (node_at P w v) side ≡ Some y → register (node_at P w' v) side ≡ Some y
   pub inputs : (p : ℕ) (y : V) → input_at w p ≡ Some y → input_at w' p ≡ Some y

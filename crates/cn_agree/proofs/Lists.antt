@@ -15,7 +15,7 @@ slice_get_push_cases [] x (suc k) y h = absurd cc
 slice_get_push_cases (z ∷ xs) x zero y h = inl h
 slice_get_push_cases (z ∷ xs) x (suc k) y h = slice_get_push_cases xs x k y h
 
--- how often p occurs, once more with q at the end
+-- the number of times that p occurs, with q at the end
 pub count_here : (p q : ℕ) (xs : List ℕ) → q ≡ p → count_by (λ r. r == p) (xs ++ q ∷ []) ≡ count_by (λ r. r == p) xs + 1
 count_here p q xs e =
     let last : (q == p) ≡ true = grind (arith, nat_tests) in

@@ -18,7 +18,7 @@ pub length-answers : (act : ℕ → ℕ → ℕ × ℕ) (start : ℕ) (order : L
 length-answers act start [] = refl
 length-answers act start (x ∷ order) = ap suc (length-answers act (act x start).1 order)
 
--- the last role is answered what its act gives
+-- the response of the last role is that of its act
 pub answered_last : (act : ℕ → ℕ → ℕ × ℕ) (start : ℕ) (order : List ℕ) (role : ℕ) → IsAnswered act start (order ++ role ∷ []) role (act role (after act start order)).0
 answered_last act start order role = (
   length order,
@@ -30,7 +30,7 @@ pub distinct_push : (order : List ℕ) (role : ℕ) → AllPairs (λ (x : ℕ) y
 distinct_push order role h new =
     all_pairs_push (λ (x : ℕ) y. x ≢ y) order role h (λ k d lt e. new k (slice_get-get_or order k d lt ∙ ap Some e))
 
--- what was answered stays, whoever comes after
+-- a response stays, whichever roles come after
 pub answers_append : (act : ℕ → ℕ → ℕ × ℕ) (start : ℕ) (order more : List ℕ) (j r : ℕ) → IsAnswered act start order j r → IsAnswered act start (order ++ more) j r
 answers_append act start order more j r h =
     (h.0, get_front order more h.0 j h.1, rw (answers_of_append act start order more) (get_front (answers act start order) (answers act (after act start order) more) h.0 r h.2))

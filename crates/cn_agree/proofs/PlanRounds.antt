@@ -39,7 +39,7 @@ module _ {V : Type 0} (plan : Plan) (schedule : List ℕ) (w : World V) (r : IsR
   pub keeps : KeepsConsensus (protocol_of plan) (processes_of plan) schedule w
   keeps = keeps_consensus (protocol_of plan) (processes_of plan) (nodes_of plan) team r.sound r.reached
 
-  -- where a process under way stands
+  -- the place of an active process
   pub active_at : (p : ℕ) → p < processes_of plan → (i : ℕ) (x : V) (stage : Stage) → local_at w p ≡ Active i x stage
       → (i < length ((protocol_of plan).path p)) × ((place_of (protocol_of plan) p i).node < length w.nodes) × ((place_of (protocol_of plan) p i).role < processes_of plan)
   active_at p lt i x stage e =
@@ -53,7 +53,7 @@ module _ {V : Type 0} (plan : Plan) (schedule : List ℕ) (w : World V) (r : IsR
   pub round_steps : (p : ℕ) → p < processes_of plan → HasBegun w p → IsRoundOf plan (schedule ++ p ∷ []) (after_step (protocol_of plan) p w)
   round_steps p lt b = record { is_plan = r.is_plan; sound = r.sound; reached = Steps p lt b r.reached }
 
--- the same of any round
+-- the same for any round
 pub inputs_many : {V : Type 0} (w : World V) → IsRound w → length w.inputs ≡ length w.locals
 inputs_many w r = inputs_same r.0 r.1.0 w r.1.1
 
@@ -76,7 +76,7 @@ begins_of {V = V} w self p i j x is e f lt waits plan schedule r =
     let T : World V → Type 0 = IsRoundOf plan schedule in
     subst T (sym (begins_is w p i j x e f ∙ ap (after_begin p x) is)) (round_begins plan schedule self r p x lt waits)
 
--- where a process under way stands
+-- the place of an active process
 pub record Stands (plan : Plan) (p i : ℕ) (nodes : ℕ) (path : List Place) : Type 0 where
   pub place : i < length path
   pub node : (slice_index_or path i nowhere).node < nodes
@@ -108,7 +108,7 @@ steps_is {V = V} plan self w p q q' v i x stage path node node' found next first
     rw (e', o, n', l, node_is, h, g) refl in
     acted ∙ sym (ap (after_step_from (protocol_of plan) p w) here) ∙ ap (after_step (protocol_of plan) p) is
 
--- what is read off a local state is the decision
+-- the decision in the local state read is the decision
 pub decision_is : {V : Type 0} (w self : World V) (p q : ℕ) (found : Local V) → w ≡ self → q ≡ p → p < length self.locals → found ≡ slice_index_or w.locals q found → decision_of found ≡ decision_at self p
 decision_is {V = V} w self p q found is e within read =
     let inside : p < length w.locals = rw is within in
@@ -144,11 +144,11 @@ fixed_valid_of self (Some x) e plan schedule r = let v = (keeps plan schedule se
 pub fixed_since : {V : Type 0} (self : World V) (found : Option V) → found ≡ fixed_value self → (plan : Plan) (schedule : List ℕ) → IsRoundOf plan schedule self → IsSome found ↔ IsAppliedAtRoot (protocol_of plan) (processes_of plan) self
 fixed_since self found e plan schedule r = rw e (keeps plan schedule self r).since
 
--- a process is one of those that the world knows
+-- a process is one of those of the world
 pub local_within : {V : Type 0} (plan : Plan) (self : World V) → RunsBy plan self → (w : World V) → w ≡ self → (p : ℕ) → p < processes_of plan → p < length w.locals
 local_within plan self runs w is p lt = rw is (let n = processes_are plan runs.0 self runs.1 in omega arith)
 
--- an object stays within the states that roles lead to
+-- the state of an object is one of the states that roles lead to
 pub state_below_of : {V : Type 0} (plan : Plan) (self : World V) → RunsBy plan self → (w : World V) → w ≡ self → {bound : ℕ} → ((order : List ℕ) → after (protocol_of plan).act (protocol_of plan).start order < bound)
     → (v : ℕ) (node : Node V) → v < length w.nodes → node ≡ slice_index_or w.nodes v node → node.state.0 < bound
 state_below_of {V = V} plan self runs w is {bound = bound} reachable v node there read =
@@ -156,7 +156,7 @@ state_below_of {V = V} plan self runs w is {bound = bound} reachable v node ther
     let node_is : node ≡ node_at (protocol_of plan) self v = read ∙ sym (get_or_default w.nodes v (fresh_node (protocol_of plan).start) node there) ∙ ap (λ (u : World V). node_at (protocol_of plan) u v) is in
     rw node_is (state_below (protocol_of plan) (processes_of plan) (nodes_of plan) (team_of (length plan.choice.a)) r.sound r.reached bound reachable v)
 
--- what the local state that is written decides
+-- the decision in the local state written
 pub next_decides : {V : Type 0} (locals : List (Local V)) (p q : ℕ) (next : Local V) → q ≡ p → p < length locals → decision_of next ≡ decision_of (slice_index_or (slice_set locals q next) p NotBegun)
 next_decides locals p q next e within = rw (e, get_or-set_same locals p next NotBegun within) refl
 
@@ -165,7 +165,7 @@ fixed_goes_on plan self runs p lt x e =
     let r = runs.1 in
     fixed_stays (protocol_of plan) (processes_of plan) (nodes_of plan) (team_of (length plan.choice.a)) r.sound r.reached p lt x e
 
--- who has begun and not decided is under way
+-- a process that has begun and not decided is active
 pub under_way : {V : Type 0} (plan : Plan) (self : World V) → RunsBy plan self → (w : World V) → w ≡ self → (p : ℕ) → p < processes_of plan → (q : ℕ) → q ≡ p → (found : Local V) → found ≡ slice_index_or w.locals q found
     → HasBegun self p → decision_at self p ≡ None → (found ≡ NotBegun) ⊎ ((x : V) × (found ≡ Decided x)) → ⊥
 under_way {V = V} plan self runs w is p lt q e found read after_begin undecided cases =

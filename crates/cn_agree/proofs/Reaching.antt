@@ -1,4 +1,4 @@
--- The invariant holds in every world that a round can come to.
+-- The invariant holds in every world that a round can reach.
 use Rattle.std.proofs.Common.{ℕ, zero, suc, ◌≡◌, ◌≢◌, inl, inr, ◌+◌, ◌*◌, ◌<◌, ◌≤◌, List, [], length, replicate, slice_index_or, min, Option, Some, None, refl, sym, ap, ◌∙◌, arith, append-nil, length-set, get_or-set_same, get_or-set_other}
 use Rattle.std.proofs.lemmas.List.{length-replicate}
 use Rattle.std.proofs.lemmas.Bool.{cases_eq}
@@ -106,7 +106,7 @@ module _ {V : Type 0} (P : Protocol) (n nodes : ℕ) (team : ℕ → Team) (soun
   pub inputs_are : {schedule : List ℕ} {w : World V} → IsReached P n nodes schedule w → length w.inputs ≡ n
   inputs_are r = (reached_kept r).1.inputs_are
 
-  -- the state of a node comes from the roles that acted there, and whatever bounds the states that roles lead to bounds it
+  -- the state of a node comes from the roles applied there; any bound on the states that roles lead to bounds it
   pub state_below : {schedule : List ℕ} {w : World V} → IsReached P n nodes schedule w → (bound : ℕ) → ((order : List ℕ) → after P.act P.start order < bound) → (v : ℕ) → (node_at P w v).state.0 < bound
   state_below r bound all v = let k = reached_kept r in rw (k.1.moved v) (all (k.0 v))
 
@@ -119,7 +119,7 @@ module _ {V : Type 0} (P : Protocol) (n nodes : ℕ) (team : ℕ → Team) (soun
       mine : (q : ℕ) → q ≡ p → HasBegun w q → HasBegun (after_step P p w) q
       mine q same b = rw same (step_count P n nodes team sound w (reached_kept r) p lt (rw same at b)).0
 
-  -- who has not begun has no input
+  -- a process that has not begun has no input
   pub no_input : {schedule : List ℕ} {w : World V} → IsReached P n nodes schedule w → (p : ℕ) → p < n → local_at w p ≡ NotBegun → input_at w p ≡ None
   no_input r p lt e = rw e at ((reached_kept r).1.local_holds p lt)
 
@@ -129,7 +129,7 @@ module _ {V : Type 0} (P : Protocol) (n nodes : ℕ) (team : ℕ → Team) (soun
   pub local_now : {schedule : List ℕ} {w : World V} → IsReached P n nodes schedule w → (p : ℕ) → p < n → (x : V) → local_at (after_begin p x w) p ≡ Active 0 x Write
   local_now {w = w} r p lt x = get_or-set_same w.locals p (Active 0 x Write) NotBegun (rw (locals_are r) lt)
 
-  -- and the other way round
+  -- and the converse
   pub not_begun : {schedule : List ℕ} {w : World V} → IsReached P n nodes schedule w → (q : ℕ) → q < n → input_at w q ≡ None → local_at w q ≡ NotBegun
   not_begun Opens q lq h = same_anywhere {A = Local V} n NotBegun q
   not_begun (Begins {w = old} p x lt e r) q lq h = elim (cases_eq q p) [
@@ -143,7 +143,7 @@ module _ {V : Type 0} (P : Protocol) (n nodes : ℕ) (team : ℕ → Team) (soun
         | inr ne ↦ other_local P old p q ne ∙ was
       ]
 
-  -- a process has taken a step for each time that the schedule names it, up to the last
+  -- a process has taken a step for each time that the schedule names it, up to its last step
   pub reached_steps : {schedule : List ℕ} {w : World V} → IsReached P n nodes schedule w → (q : ℕ) → q < n → steps_taken P q (local_at w q) ≡ min (occurrences schedule q) (4 * length (P.path q))
   reached_steps Opens q lq = rw (same_anywhere {A = Local V} n NotBegun q) (omega arith)
   reached_steps (Begins {schedule = schedule} {w = old} p x lt e r) q lq =

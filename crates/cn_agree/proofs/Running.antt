@@ -36,7 +36,7 @@ all_have_begun plan inputs w many h p lt e =
     begun_all (protocol_of plan) (processes_of plan) (nodes_of plan) inputs many p lt
     (ap (λ u. local_at u p) (sym (h.is ∙ all_is (protocol_of plan) (processes_of plan) (nodes_of plan) inputs many)) ∙ e)
 
--- what holds when k of the schedule have been done
+-- the state of a run after k steps of the schedule
 pub record HasRun {V : Type 0} (plan : Plan) (from : World V) (schedule : List ℕ) (k : ℕ) (w : World V) : Type 0 where
   pub rest : after_schedule (protocol_of plan) (drop k schedule) w ≡ after_schedule (protocol_of plan) schedule from
   pub runs : RunsBy plan w
@@ -57,7 +57,7 @@ stays_decided {V = V} plan p w found e f = go (local_at w p) (ap is_some (sym f)
     go (Active i x stage) h = absurd cc
     go (Decided z) h = refl
 
--- a turn that is taken by a process of the plan
+-- the turn of a process of the plan
 pub turn_runs : {V : Type 0} (plan : Plan) (p : ℕ) (w w' : World V) → RunsBy plan w → AllHaveBegun (processes_of plan) w → p < processes_of plan → w' ≡ after_step (protocol_of plan) p w → RunsBy plan w'
 turn_runs {V = V} plan p w w' runs begun lt e =
     let T : World V → Type 0 = IsRoundOf plan (runs.0 ++ p ∷ []) in
@@ -81,7 +81,7 @@ one_more_run plan from schedule k p w w' less all read h e =
       begun = turn_begun plan p w w' h.runs h.begun lt e;
     }
 
--- the world that is made of full vectors is the first
+-- the world of the full vectors is the first world
 pub first_is : {V : Type 0} (plan : Plan) (nodes : List (Node V)) (locals : List (Local V)) (inputs : List (Option V)) (start : State) (k n : ℕ) → start.0 ≡ (protocol_of plan).start → k ≡ nodes_of plan → n ≡ processes_of plan
     → nodes ≡ replicate k (record { state = start; register_a = None; register_b = None }) → locals ≡ replicate n NotBegun → inputs ≡ replicate n None
     → record { nodes = nodes; locals = locals; inputs = inputs; first = None } ≡ first_world (protocol_of plan) (processes_of plan) (nodes_of plan)
@@ -96,7 +96,7 @@ pub opens : {V : Type 0} (plan : Plan) → IsPlan plan → IsSound (protocol_of 
     → IsRoundOf {V = V} plan [] (first_world (protocol_of plan) (processes_of plan) (nodes_of plan))
 opens plan is_plan sound = record { is_plan = is_plan; sound = sound; reached = Opens }
 
--- a schedule without a stranger names processes only
+-- a schedule without a stranger names only processes
 no_stranger_from : (n i : ℕ) (schedule : List ℕ) → position_from (λ p. nat_le n p) i schedule ≡ None → IsSchedule n schedule
 no_stranger_from n i [] h = tt
 no_stranger_from n i (p ∷ schedule) h = by_test (nat_le n p) refl h (no_stranger_from n (i + 1) schedule)
@@ -119,7 +119,7 @@ no_stranger n inputs schedule h = by_count (nat_eq (length inputs) n) refl h
     by_count true is e = none_stranger n schedule (none (position (λ p. nat_le n p) schedule) e)
     by_count false is e = absurd cc
 
--- a schedule leaves as many local states as there were
+-- a schedule keeps the number of local states
 pub locals_schedule : {V : Type 0} (plan : Plan) (schedule : List ℕ) (w : World V) → length (after_schedule (protocol_of plan) schedule w).locals ≡ length w.locals
 locals_schedule plan [] w = refl
 locals_schedule {V = V} plan (p ∷ schedule) w = locals_schedule plan schedule (after_step (protocol_of plan) p w) ∙ go (local_at w p)

@@ -1,4 +1,4 @@
--- A step of one process, and how many it has taken.
+-- A step of one process, and its number of steps.
 use Rattle.std.proofs.Common.{ℕ, suc, ◌≡◌, ◌≢◌, Bool, true, false, ◌+◌, ◌*◌, ◌<◌, ◌≤◌, min, List, length, Some, refl, sym, ap, ◌∙◌, arith, nat_lt, get_or-set_other, get_or-set_same}
 use Rattle.cn_choice.specs.declared.team.Team.{Team}
 use Rattle.cn_proto.specs.declared.place.Place.{Place}
@@ -18,7 +18,7 @@ use Rattle.cn_agree.proofs.Actions.{extended, keeps_write, keeps_apply, keeps_re
 abbrev pub Kept : {V : Type 0} → Protocol → ℕ → ℕ → (ℕ → Team) → World V → Type 0
 Kept P n nodes team w = (order : ℕ → List ℕ) × Holds P n nodes team w order
 
--- a step of another process leaves a local state
+-- a step of another process keeps a local state
 pub other_local : {V : Type 0} (P : Protocol) (w : World V) (p q : ℕ) → q ≢ p → local_at (after_step P p w) q ≡ local_at w q
 other_local P w p q ne = go (local_at w p)
   where
@@ -33,7 +33,7 @@ other_local P w p q ne = go (local_at w p)
     go (Active i x stage) = staged i x stage
     go (Decided y) = refl
 
--- a step leaves the inputs
+-- a step keeps the inputs
 pub inputs_step : {V : Type 0} (P : Protocol) (p : ℕ) (w : World V) → (after_step P p w).inputs ≡ w.inputs
 inputs_step P p w = go (local_at w p)
   where
@@ -42,7 +42,7 @@ inputs_step P p w = go (local_at w p)
     go (Active i x stage) = refl
     go (Decided y) = refl
 
--- a step leaves the record of the first application, once it is made
+-- a step keeps the record of the first application
 pub first_step : {V : Type 0} (P : Protocol) (p : ℕ) (w : World V) (team : Team) → w.first ≡ Some team → (after_step P p w).first ≡ Some team
 first_step P p w team h = go (local_at w p)
   where
@@ -72,7 +72,7 @@ module _ {V : Type 0} (P : Protocol) (n nodes : ℕ) (team : ℕ → Team) (soun
       go (Active i x stage) e = staged i x stage e
       go (Decided y) e = kept
 
-  -- a process that has begun and not decided takes one step of its count; one that has decided takes none
+  -- a step of a process that has begun and not decided adds one to its count; a process that has decided takes none
   abbrev pub IsOneMore : ℕ → Local V → Local V → Type 0
   IsOneMore p NotBegun after = after ≡ NotBegun
   IsOneMore p (Active i x stage) after = (steps_taken P p after ≡ suc (4 * i + actions_done stage)) × (after ≢ NotBegun)
@@ -109,7 +109,7 @@ module _ {V : Type 0} (P : Protocol) (n nodes : ℕ) (team : ℕ → Team) (soun
       go (Active i x stage) e = staged i x stage e
       go (Decided y) e = e
 
-  -- no more steps than there are to take
+  -- no process takes more steps than its path has
   pub within : (w : World V) → Kept P n nodes team w → (p : ℕ) → p < n → steps_taken P p (local_at w p) ≤ 4 * length (P.path p)
   within w kept p lt = go (local_at w p) (kept.1.local_holds p lt)
     where

@@ -1,4 +1,4 @@
--- What is told of a step before it is taken.
+-- The action of a step before the step.
 use Rattle.std.proofs.Common.{ℕ, zero, suc, ◌≡◌, ◌⊎◌, inl, inr, ◌+◌, ◌<◌, ◌↔◌, List, [], ◌∷◌, ◌++◌, length, drop, get_or, slice_index_or, IsNone, IsSome, Option, None, option_map, refl, sym, ap, ◌∙◌, subst, arith, append_assoc}
 use Rattle.cn_choice.specs.declared.team.Team.{Team}
 use Rattle.cn_proto.specs.Plan.{Plan, processes_of, nodes_of, protocol_of}
@@ -21,7 +21,7 @@ use Rattle.cn_agree.proofs.Actions.{found_is}
 use Rattle.cn_agree.proofs.Reaching.{reached_kept}
 use Rattle.std.proofs.lemmas.List.{get_or_default}
 
--- the action that is told of a process under way is that of its next step
+-- the action of an active process is that of its next step
 pub action_is : {V : Type 0} (plan : Plan) (self w : World V) (p q v i : ℕ) (x : V) (stage : Stage) (path : List Place) (node : Node V) (found : Local V) (told : Option (Action V)) → w ≡ self → p < length w.locals → v < length w.nodes
     → q ≡ p → found ≡ slice_index_or w.locals q found → found ≡ Active i x stage → path ≡ (protocol_of plan).path p → v ≡ (slice_index_or path i nowhere).node → node ≡ slice_index_or w.nodes v node
     → told ≡ action_at plan (length path) i (slice_index_or path i nowhere) x stage node → told ≡ action_of plan self p
@@ -31,7 +31,7 @@ action_is {V = V} plan self w p q v i x stage path node found told is within the
     let acts : told ≡ action_from plan w p (Active i x stage) = rw (a, node_is, h, g) refl in
     acts ∙ sym (ap (action_from plan w p) here) ∙ ap (λ (u : World V). action_of plan u p) is
 
--- who has not begun, or has decided, takes no step
+-- a process that has not begun, or has decided, takes no step
 pub no_action : {V : Type 0} (plan : Plan) (self w : World V) (p q : ℕ) (found : Local V) → w ≡ self → p < length w.locals → q ≡ p → found ≡ slice_index_or w.locals q found
     → (found ≡ NotBegun) ⊎ ((y : V) × (found ≡ Decided y)) → None ≡ action_of plan self p
 no_action {V = V} plan self w p q found is within e read cases =
@@ -45,7 +45,7 @@ no_action {V = V} plan self w p q found is within e read cases =
     go (Active i x stage) (inr h) = let f = h.1 in absurd cc
     go (Decided y) cases = refl
 
--- who has begun has no action exactly where it has decided
+-- a process that has begun has no action exactly if it has decided
 pub none_if_decided : {V : Type 0} (plan : Plan) (schedule : List ℕ) (w : World V) → IsRoundOf plan schedule w → (p : ℕ) → p < processes_of plan → HasBegun w p
     → IsNone (action_of plan w p) ↔ IsSome (decision_at w p)
 none_if_decided {V = V} plan schedule w r p lt begun = go (local_at w p) refl
@@ -69,7 +69,7 @@ none_if_decided {V = V} plan schedule w r p lt begun = go (local_at w p) refl
     go (Active i x stage) e = staged i x stage e
     go (Decided y) e = (λ h. refl, λ h. refl)
 
--- the record of one item of a schedule, and then those behind it
+-- the record of one item of a schedule, then those after it
 pub drop_records : {V : Type 0} (plan : Plan) (schedule : List ℕ) (k d : ℕ) → k < length schedule → (w : World V)
     → records_from plan (drop k schedule) w
     ≡ record { process = get_or schedule k d; action = action_of plan w (get_or schedule k d) } ∷ records_from plan (drop (suc k) schedule) (after_step (protocol_of plan) (get_or schedule k d) w)

@@ -1,4 +1,4 @@
--- Where values come from.
+-- The origin of values.
 use Rattle.std.proofs.Common.{ℕ, zero, suc, ◌≡◌, ◌⊎◌, inl, inr, Bool, true, false, ◌+◌, List, [], ◌∷◌, length, slice_set, slice_index_or, Option, Some, None, refl, ap, nat_lt, get_or, set}
 use Rattle.cn_agree.specs.declared.node.Node.{Node}
 use Rattle.cn_table.specs.declared.elements.State.{State}
@@ -21,7 +21,7 @@ set_cases (x ∷ l) zero a (suc j) d = inr refl
 set_cases (x ∷ l) (suc i) a zero d = inr refl
 set_cases (x ∷ l) (suc i) a (suc j) d = elim (set_cases l i a j d) [ inl h ↦ inl (h.0, ap suc h.1) | inr h ↦ inr h ]
 
--- every value in a register, and every decision, is one of Q; a process under way has one of Q or one of its own
+-- every value in a register, and every decision, is one of Q; an active process has one of Q or one of its own
 abbrev pub IsOfLocal : {V : Type 0} → (V → Type 0) → (ℕ → V → Type 0) → ℕ → Local V → Type 0
 IsOfLocal Q own p NotBegun = Unit {0}
 IsOfLocal Q own p (Active i x stage) = own p x ⊎ Q x
@@ -90,7 +90,7 @@ module _ {V : Type 0} (P : Protocol) (Q : V → Type 0) (own : ℕ → V → Typ
       go (Active i x stage) e = action_of i x stage (place_of P p i) e
       go (Decided y) e = are
 
--- what holds of more values, and of more values of a process's own
+-- the same for larger Q and larger sets of own values
 pub are_more : {V : Type 0} (P : Protocol) (Q Q' : V → Type 0) (own own' : ℕ → V → Type 0) (w : World V) → ((y : V) → Q y → Q' y) → ((q : ℕ) (y : V) → own q y → own' q y) → AreOf P Q own w → AreOf P Q' own' w
 are_more {V = V} P Q Q' own own' w more more_own are = record {
   registers = λ v team y h. more y (are.registers v team y h);

@@ -8,7 +8,7 @@ use Rattle.cn_agree.specs.World.{World, fresh_node}
 use Rattle.cn_agree.specs.Reached.{HasBegun}
 use Rattle.cn_agree.specs.Rounds.{IsRoundOf}
 
--- a list of n: first what f makes of the first i of xs, and then only d
+-- a list of n elements: f of each of the first i of xs, then only d
 abbrev pub front : {A B : Type 0} → (A → B) → B → ℕ → List A → ℕ → List B
 front f d n xs i = map f (take i xs) ++ drop i (replicate n d)
 

@@ -1,4 +1,4 @@
--- What consensus asks of the decisions that a schedule leads to: agreement, validity and wait-freedom.
+-- Consensus of the decisions after a schedule: agreement, validity and wait-freedom.
 use Rattle.std.specs.Prelude.{ℕ, ◌≡◌, ◌-◌, ◌*◌, ◌<◌, ◌≤◌, ◌==◌, ◌↔◌, List, length, Option, Some, count_by, Contains, slice_get}
 use Rattle.std.specs.List.{AllByRecursion}
 use Rattle.cn_proto.specs.Protocol.{Protocol}
@@ -19,7 +19,7 @@ IsSchedule n schedule = AllByRecursion (λ p. p < n) schedule
 abbrev pub IsParticipant : List ℕ → ℕ → Type 0
 IsParticipant schedule p = Contains schedule p
 
--- how often a process occurs in a schedule
+-- the number of times that a process occurs in a schedule
 abbrev pub occurrences : List ℕ → ℕ → ℕ
 occurrences schedule p = count_by (λ q. q == p) schedule
 
@@ -36,7 +36,7 @@ pub record IsWaitFree {V : Type 0} (P : Protocol) (n : ℕ) (schedule : List ℕ
   pub in_time : (p : ℕ) → p < n → HasDecided decisions p ↔ (4 * length (P.path p) ≤ occurrences schedule p)
   pub bound : (p : ℕ) → p < n → 4 * length (P.path p) ≤ 4 * (n - 1)
 
--- all of it, with one entry for each process
+-- all three, with one entry for each process
 pub record IsConsensus {V : Type 0} (P : Protocol) (n : ℕ) (inputs : List V) (schedule : List ℕ) (decisions : List (Option V)) : Type 0 where
   pub entries : length decisions ≡ n
   pub agreement : Agrees decisions

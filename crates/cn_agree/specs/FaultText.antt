@@ -1,4 +1,4 @@
--- The text of a fault: its number and its name, and the place in the schedule.
+-- The text of a fault: its number, its name, and the place in the schedule.
 use Rattle.std.specs.Prelude.{ℕ, List, codes, Option, Some, None}
 use Rattle.cn_table.specs.FaultText.{numbered_text}
 use Rattle.cn_agree.specs.declared.fault.ScheduleFault.{ScheduleFault}

@@ -1,4 +1,4 @@
--- The worlds that a round can come to.
+-- The worlds that a round can reach.
 use Rattle.std.specs.Prelude.{ℕ, ◌≡◌, ◌≢◌, ◌<◌, List, [], ◌∷◌, ◌++◌, replicate, None}
 use Rattle.cn_proto.specs.Protocol.{Protocol}
 use Rattle.cn_agree.specs.declared.local.Local.TheVariants.{NotBegun}
@@ -12,7 +12,7 @@ first_world P n nodes = record { nodes = replicate nodes (fresh_node P.start); l
 abbrev pub HasBegun : {V : Type 0} → World V → ℕ → Type 0
 HasBegun w p = local_at w p ≢ NotBegun
 
--- from the first world, beginnings and the steps of this schedule lead here; a process begins once, and has begun where the schedule names it
+-- beginnings and the steps of this schedule lead from the first world here; a process begins once, before the schedule names it
 pub data IsReached {V : Type 0} (P : Protocol) (n : ℕ) (nodes : ℕ) : List ℕ → World V → Type 0 where
   Opens : IsReached P n nodes [] (first_world P n nodes)
   Begins : {schedule : List ℕ} {w : World V} (p : ℕ) (x : V) → p < n → local_at w p ≡ NotBegun

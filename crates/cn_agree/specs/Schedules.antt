@@ -1,4 +1,4 @@
--- What a schedule leads to where each process has begun with its input, and when there is no such run.
+-- The decisions after a schedule, with all processes begun, and the faults of inputs and schedules.
 use Rattle.std.specs.Prelude.{ℕ, List, length, map, replicate, nat_le, nat_eq, if◌then◌else◌, Option, Some, None, option_map, position}
 use Rattle.cn_proto.specs.Protocol.{Protocol}
 use Rattle.cn_proto.specs.Plan.{Plan, protocol_of, nodes_of}
@@ -10,7 +10,7 @@ use Rattle.cn_agree.specs.World.{World, fresh_node}
 use Rattle.cn_agree.specs.Steps.{after_schedule}
 use Rattle.cn_agree.specs.Rounds.{decision_of}
 
--- what a schedule decides: for each process its decision, if it has one
+-- for each process its decision, if it has one
 pub record Decisions : Type 0 where
   pub decisions : List (Option ℕ)
 
@@ -23,11 +23,11 @@ all_begun P nodes inputs = record {
   first = None;
 }
 
--- what each process of a world has decided
+-- the decision of each process of a world
 abbrev pub decisions_of : {V : Type 0} → World V → List (Option V)
 decisions_of w = map decision_of w.locals
 
--- what each process has decided after this schedule of the plan
+-- the decision of each process after this schedule of the plan
 abbrev pub decisions_after : {V : Type 0} → Plan → List V → List ℕ → List (Option V)
 decisions_after plan inputs schedule = decisions_of (after_schedule (protocol_of plan) schedule (all_begun (protocol_of plan) (nodes_of plan) inputs))
 

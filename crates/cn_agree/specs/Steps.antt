@@ -10,29 +10,29 @@ use Rattle.cn_agree.specs.declared.local.Local.{Local}
 use Rattle.cn_agree.specs.declared.local.Local.TheVariants.{NotBegun, Active, Decided}
 use Rattle.cn_agree.specs.World.{World, node_at, local_at, register, with_register}
 
--- process p begins with this value; that is no step
+-- process p begins with this value; this is no step
 abbrev pub after_begin : {V : Type 0} → ℕ → V → World V → World V
 after_begin p x w = record w { locals = slice_set w.locals p (Active 0 x Write); inputs = slice_set w.inputs p (Some x) }
 
--- the node after an action of a process that stands here with this value: the first action writes the register of its team, the second applies its operation to
--- the object, the third and the fourth only read
+-- the node after an action of a process at this place with this value: the first action writes the register of its team, the second
+-- applies its operation to the object, the third and the fourth only read
 abbrev pub node_after : {V : Type 0} → Protocol → Place → V → Stage → Node V → Node V
 node_after P here x Write node = with_register node here.team x
 node_after P here x Apply node = record node { state = record { 0 = (P.act here.role node.state.0).1 } }
 node_after P here x (Read response) node = node
 node_after P here x (Take response state) node = node
 
--- where a process goes from place i of so many with the value that it took there: to its next place, and from the last one, at the root, to its decision
+-- a process goes on from place i, of this many, with the value that it took there: to its next place, or from the root to its decision
 abbrev pub onward : {V : Type 0} → ℕ → ℕ → V → Local V
 onward places i y = if nat_lt (i + 1) places then Active (i + 1) y Write else Decided y
 
--- it goes on with what it found in the register that it read; an empty one would leave it where it is
+-- it goes on with the value in the register that it read; if the register were empty, it would stay where it is
 abbrev pub onward_if_found : {V : Type 0} → ℕ → ℕ → Local V → Option V → Local V
 onward_if_found places i stays None = stays
 onward_if_found places i stays (Some y) = onward places i y
 
--- its local state after the action: it keeps the response to its operation, then the state that it reads, and the fourth action reads the register of the team
--- that it judges by these two to have come first
+-- its local state after the action: it keeps the response to its operation, then the state that it reads, and the fourth action reads
+-- the register of the team that it judges by these two to have come first
 abbrev pub local_after : {V : Type 0} → Protocol → ℕ → ℕ → Place → V → Stage → Node V → Local V
 local_after P places i here x Write node = Active i x Apply
 local_after P places i here x Apply node = Active i x (Read (record { 0 = (P.act here.role node.state.0).0 }))
@@ -40,7 +40,7 @@ local_after P places i here x (Read response) node = Active i x (Take response n
 local_after P places i here x (Take response state) node =
     onward_if_found places i (Active i x (Take response state)) (register node (P.judge here.role response.0 state.0))
 
--- an application at the root is recorded where none is yet
+-- an application at the root is recorded if none is recorded yet
 abbrev pub first_recorded : Option Team → ℕ → Team → Option Team
 first_recorded None zero team = Some team
 first_recorded None (suc node) team = None
@@ -61,7 +61,7 @@ after_action P p w i x stage here =
       first = first_after w.first here stage;
     }
 
--- what process p does where this is its local state: nothing before it has begun and after it has decided
+-- the step of process p with this local state: nothing before it has begun and after it has decided
 abbrev pub after_step_from : {V : Type 0} → Protocol → ℕ → World V → Local V → World V
 after_step_from P p w NotBegun = w
 after_step_from P p w (Active i x stage) = after_action P p w i x stage (place_of P p i)

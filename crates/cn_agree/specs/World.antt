@@ -1,4 +1,4 @@
--- The world of a round: what stands at its nodes, what each process knows, and what is on record.
+-- The world of a round: its nodes, its processes, and its record.
 use Rattle.std.specs.Prelude.{ℕ, List, slice_index_or, Option, Some, None}
 use Rattle.cn_choice.specs.declared.team.Team.{Team}
 use Rattle.cn_choice.specs.declared.team.Team.TheVariants.{A, B}
@@ -15,7 +15,7 @@ pub record World (V : Type 0) : Type 0 where
   pub inputs : List (Option V)
   pub first : Option Team
 
--- a node where nothing has happened: its object in the start state, its registers empty
+-- a node before any action: its object in the start state, its registers empty
 abbrev pub fresh_node : {V : Type 0} → ℕ → Node V
 fresh_node start = record { state = record { 0 = start }; register_a = None; register_b = None }
 
@@ -29,7 +29,7 @@ local_at w p = slice_index_or w.locals p NotBegun
 abbrev pub input_at : {V : Type 0} → World V → ℕ → Option V
 input_at w p = slice_index_or w.inputs p None
 
--- what stands in the register of a team
+-- the value in the register of a team
 abbrev pub register : {V : Type 0} → Node V → Team → Option V
 register node A = node.register_a
 register node B = node.register_b

@@ -9,8 +9,8 @@ use crate::node::Node;
 use cn_choice::Team;
 use cn_proto::{Place, Plan};
 
-/// A process about to act: where it stands, which place of its path that is and how many there
-/// are, and its next action.
+/// The turn of a process: its place, the number of this place on its path, the number of places
+/// there, and its next action.
 #[derive(Clone, Copy, Drop)]
 pub(crate) struct Turn {
     pub here: Place,
@@ -19,8 +19,8 @@ pub(crate) struct Turn {
     pub stage: Stage,
 }
 
-/// One action at a node, and what the process knows after it. Of the value that it has only what is
-/// written or taken is copied.
+/// One action at a node, and the local state of the process after it. Of its values, the process
+/// copies only the one that it writes or takes.
 pub(crate) fn act<V: Copy>(plan: &Plan, turn: Turn, node: &mut Node<V>, local: &mut Local<V>)
     requires role { turn.here.role < processes_of plan.now }
     requires place { turn.place < turn.places }
@@ -53,7 +53,7 @@ pub(crate) fn act<V: Copy>(plan: &Plan, turn: Turn, node: &mut Node<V>, local: &
         }
         Stage::Read(response) => local.go_on(Stage::Take(response, node.state)),
         Stage::Take(response, state) => {
-            // Who has applied finds the register of the first team written.
+            // A process that has applied finds the register of the first team written.
             if let Some(value) = *node.register(plan.judge(here.role, response, state)) {
                 go_onward(local, places, place, value);
             }
@@ -62,7 +62,7 @@ pub(crate) fn act<V: Copy>(plan: &Plan, turn: Turn, node: &mut Node<V>, local: &
 }
 
 /// A process goes on from a place with the value that it took there: to the next place of its path,
-/// and from the last one to its decision.
+/// or from the last place to its decision.
 fn go_onward<V: Copy>(local: &mut Local<V>, places: usize, place: usize, value: V)
     requires { place < places }
     ensures { local.new ≡ onward places place value }

@@ -1,4 +1,4 @@
-//! Why nothing was run.
+//! Why a schedule did not run.
 ghost use Rattle.std.specs.Prelude.{◌≡◌};
 ghost use Rattle.cn_agree.specs.FaultText.{schedule_fault_name, schedule_fault_number, schedule_fault_place};
 ghost use Rattle.cn_agree.specs.declared.fault.ScheduleFault.TheVariants.{OutOfMemory};
@@ -7,13 +7,13 @@ use std::alloc::AllocError;
 use std::error::Error;
 use std::fmt;
 
-/// Why no schedule was run. Of two faults that hold, the one that stands first here is answered,
-/// and want of memory only where no other holds.
+/// Why a schedule did not run. If two faults hold, the answer is the first in this order.
+/// `OutOfMemory` comes only if no other fault holds.
 #[derive(Clone, Copy, Debug, PartialEq, Eq)]
 pub enum ScheduleFault {
-    /// There are not as many inputs as processes.
+    /// The number of inputs is not the number of processes.
     InputCount,
-    /// The schedule names a process that there is not: the first place, from 0, where it does.
+    /// The schedule names a process that does not exist, first at this place, from 0.
     NoSuchProcess(u64),
     /// Memory ran out.
     OutOfMemory,
@@ -28,7 +28,7 @@ impl From<AllocError> for ScheduleFault {
 }
 
 impl ScheduleFault {
-    /// Its number in their order, from 1.
+    /// The number of the fault, from 1.
     pub fn number(&self) -> u8
         ensures { result ≡ schedule_fault_number self.now }
     {
@@ -39,7 +39,7 @@ impl ScheduleFault {
         }
     }
 
-    /// Its name.
+    /// The name of the fault.
     pub fn name(&self) -> &'static str
         ensures { result.now ≡ schedule_fault_name self.now }
     {
@@ -50,7 +50,7 @@ impl ScheduleFault {
         }
     }
 
-    /// The place in the schedule that it carries.
+    /// The place in the schedule, if the fault has one.
     pub fn place(&self) -> Option<u64>
         ensures { result ≡ schedule_fault_place self.now }
     {
@@ -61,7 +61,7 @@ impl ScheduleFault {
     }
 }
 
-/// Number and name, and the place where it carries one.
+/// The number, the name, and the place if the fault has one.
 impl fmt::Display for ScheduleFault {
     ghost use Rattle.std.specs.Prelude.{Some};
     ghost use Rattle.cn_agree.specs.FaultText.{schedule_fault_text};

@@ -17,10 +17,10 @@ use crate::round::Round;
 use cn_proto::Plan;
 use cn_proto::laws::{every_plan, plans_are_sound};
 
-/// A step is atomic: one action touches one object or one register, and all else stays, but the
-/// local state of the process and the record of the first application at the root; and what the
-/// process does next, and what then stands where it acted, depend on its local state and on what
-/// the action touched, and on nothing else.
+/// A step is atomic: one action touches one object or one register. All else stays, except the
+/// local state of the process and the record of the first application at the root. The next local
+/// state, and the new content of what the action touched, depend only on the old local state and on
+/// the old content.
 pub fn atomic_steps<V>()
     ensures { (P : Protocol) (p : ℕ) → IsAtomic V P p }
 {}
@@ -36,7 +36,7 @@ pub fn every_schedule<V>(plan: &Plan)
     plans_are_sound(plan);
 }
 
-/// The same, said of each plan as data.
+/// The same law, for each plan as data.
 pub fn plans_reach_consensus<V>()
     ensures { (plan : PlanOf) → IsPlan plan
         → (inputs : List V) (schedule : List ℕ) → length inputs ≡ processes_of plan
@@ -47,12 +47,14 @@ pub fn plans_reach_consensus<V>()
     every_plan();
 }
 
-/// Every round keeps consensus, whatever its processes did so far.
+/// Every round keeps consensus, for all steps of its processes so far:
 ///
-/// `consensus`: each decision is the value that the round has fixed; that is a value that a
-/// participant began with, and is there exactly from the first application at the root on; and a
-/// process has decided exactly after four steps for each place of its path. `fixed`: the value
-/// stays. `begun`: who has begun stays begun, and has a value on record. `sizes`: there is one of
+/// - `consensus`: each decision is the fixed value, which a participant began with. It is there
+///   exactly from the first application at the root on. A process has decided exactly after four
+///   steps for each place of its path.
+/// - `fixed`: the fixed value stays.
+/// - `begun`, `stays_begun`: a process that has begun stays so, and has a value on record.
+/// - `sizes`: a round has an entry for each node and each process.
 /// each for each node and process.
 pub fn every_round<V>()
     ensures consensus { (P : Protocol) (n nodes : ℕ) (team : ℕ → TeamOf) (schedule : List ℕ)
@@ -73,8 +75,8 @@ pub fn every_round<V>()
         → (length w.nodes ≡ nodes) × (length w.locals ≡ n) × (length w.inputs ≡ n) }
 {}
 
-/// Every round in memory, however it came to be, is one of a plan, after beginnings and the steps of
-/// a schedule: what [`every_round`] says holds of it.
+/// Every round in memory is a round of a plan, after beginnings and the steps of a schedule. So
+/// [`every_round`] holds for it.
 pub fn rounds_are_of_plans<V: Copy>(round: &Round<V>)
     ensures { IsRound round.now }
 {

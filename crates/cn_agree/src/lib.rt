@@ -1,13 +1,17 @@
-//! Consensus among the processes of a plan: rounds, step by step in any order, and what whole
-//! schedules decide.
+//! Consensus among the processes of a plan: rounds, step by step in any order, and the decisions of
+//! whole schedules.
 //!
-//! A [`Round`] is one instance of consensus. Each process begins with a value of its own, and then
-//! takes steps: at each place of its path it writes its value to the register of its team, applies
-//! its operation to the object of the node, reads the object, and reads the register of the team
-//! that it judges by response and state to have come first. With the value that it finds it goes on
-//! to its next place, and at the root it decides it. [`run_schedule`] runs a round in which all
-//! processes have begun, by a list of the processes that take the steps, and [`run_steps`] tells each
-//! step too.
+//! A [`Round`] is one instance of consensus. Each process begins with its value and then takes
+//! steps. At each place of its path it
+//!
+//! 1. writes its value to the register of its team,
+//! 2. applies its operation to the object of the node,
+//! 3. reads the object, and judges by response and state which team came first,
+//! 4. reads the register of that team.
+//!
+//! It takes the value that it finds to its next place, and decides it at the root. [`run_schedule`]
+//! runs a round in which all processes have begun, by a list of the processes that take the steps.
+//! [`run_steps`] also gives each step.
 //!
 //! ```text
 //! let ends = run_schedule(alloc, &plan, &[10, 20], &[1, 1, 0, 0, 0, 0])?;

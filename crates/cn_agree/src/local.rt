@@ -1,21 +1,21 @@
-//! What one process of a round knows.
+//! The local state of a process of a round.
 ghost use Rattle.std.specs.Prelude.{◌≡◌};
 ghost use Rattle.cn_agree.specs.Rounds.{decision_of};
 ghost use Rattle.cn_agree.specs.Turns.{with_next, turn_of};
 
 use cn_table::{Response, State};
 
-/// The next action of a process at its place, with what it has kept for it.
+/// The next action of a process at its place, with what it keeps for this action.
 #[derive(Clone, Copy, Debug, PartialEq, Eq)]
 pub enum Stage {
     /// It writes its value to the register of its team.
     Write,
     /// It applies its operation to the object.
     Apply,
-    /// It reads the object; its operation got this response.
+    /// It reads the object. Its operation got this response.
     Read(Response),
-    /// It reads the register of the team that it judges to have come first, by the response that
-    /// its operation got and the state that it read.
+    /// It reads the register of the team that came first, by its judgement of this response of its
+    /// operation and this state that it read.
     Take(Response, State),
 }
 
@@ -35,7 +35,7 @@ pub enum Local<V> {
 }
 
 impl<V: Copy> Local<V> {
-    /// Its place and its next action, where it is at a place.
+    /// Its place and its next action, if it is at a place.
     pub(crate) fn turn(&self) -> Option<(usize, Stage)>
         ensures { result ≡ turn_of self.now }
     {
@@ -45,7 +45,7 @@ impl<V: Copy> Local<V> {
         }
     }
 
-    /// With another next action, where it is at a place.
+    /// Sets its next action, if it is at a place.
     pub(crate) fn go_on(&mut self, next: Stage)
         ensures { self.new ≡ with_next next self.old }
     {
@@ -54,7 +54,7 @@ impl<V: Copy> Local<V> {
         }
     }
 
-    /// What it tells of a decision.
+    /// The decision, if it has one.
     pub(crate) fn decision(&self) -> Option<V>
         ensures { result ≡ decision_of self.now }
     {

@@ -1,4 +1,4 @@
-//! What the next step of a process does, told before it is taken.
+//! The action of the next step of a process.
 ghost use Rattle.std.specs.Prelude.{◌≡◌, ◌<◌, length, IfSome};
 ghost use Rattle.cn_proto.specs.Plan.{processes_of};
 ghost use Rattle.cn_agree.specs.Actions.{IsOfTable, action_at};
@@ -10,7 +10,7 @@ use cn_choice::Team;
 use cn_proto::Plan;
 use cn_table::{Operation, Response, State};
 
-/// What a step of a process does.
+/// The action of a step.
 #[derive(Clone, Copy, Debug, Drop)]
 pub enum Action<V> {
     /// It writes its value to the register of its team at a node.
@@ -25,13 +25,13 @@ pub enum Action<V> {
         operation: Operation,
         response: Response,
     },
-    /// It reads this state of the object of a node, and judges this team to have come first there.
+    /// It reads this state of the object of a node, and judges that this team came first there.
     Read {
         node: u8,
         state: State,
         team: Team,
     },
-    /// It reads this value in the register of a team at a node, and goes on with it.
+    /// It reads this value in the register of a team at a node, and takes it to its next place.
     Take {
         node: u8,
         team: Team,
@@ -43,17 +43,17 @@ pub enum Action<V> {
     },
 }
 
-/// A step of a schedule: the process that it names, and what that does.
+/// A step of a schedule: the process that it names, and its action.
 #[derive(Clone, Copy, Debug, Drop)]
 pub struct StepRecord<V> {
     /// The process.
     pub process: u8,
-    /// Its action; none where it has decided before.
+    /// Its action, or none if it has decided before.
     pub action: Option<Action<V>>,
 }
 
-/// What a process does at its turn with this value, at a node that is so; nothing where it finds
-/// the register empty that it takes its next value from.
+/// The action of a process at its turn, with this value and this node. None if the register from
+/// which the process takes its next value is empty.
 pub(crate) fn action_at<V: Copy>(
     plan: &Plan,
     turn: Turn,

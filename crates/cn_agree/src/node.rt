@@ -1,4 +1,4 @@
-//! What processes share at a node.
+//! The objects and registers that processes share at a node.
 ghost use Rattle.std.specs.Prelude.{◌≡◌};
 ghost use Rattle.cn_agree.specs.World.{register, with_register};
 
@@ -10,9 +10,9 @@ use cn_table::State;
 pub struct Node<V> {
     /// The state of its object.
     pub state: State,
-    /// What stands in the register of team A.
+    /// The value in the register of team A.
     pub register_a: Option<V>,
-    /// What stands in the register of team B.
+    /// The value in the register of team B.
     pub register_b: Option<V>,
 }
 

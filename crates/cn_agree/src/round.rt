@@ -23,12 +23,12 @@ use std::marker::Model;
 ///
 /// It has an object and two registers for each node of the plan, and a local state for each
 /// process. It also keeps the value that each process began with and the team of the first
-/// application at the root, which no action reads. All of it stands in vectors that `new` makes at
-/// full length: no other call takes memory.
+/// application at the root, which no action reads. `new` makes all vectors at full length, and no
+/// other call takes memory.
 ///
-/// However its processes begin and step, and wherever they stop: all that decide decide the one
-/// value that the round has fixed, which is a value that a process began with that has taken a
-/// step, and each process decides at its step 4k, where k places are on its path.
+/// Under every schedule, all processes that decide choose the fixed value. That is a value that a
+/// process began with, and this process has taken a step. A process with k places on its path
+/// decides at its step 4k.
 #[derive(Debug, Drop)]
 pub struct Round<V: Copy> {
     nodes: Vec<Node<V>>,
@@ -63,7 +63,7 @@ impl<V: Copy> Round<V> {
     ///
     /// # Errors
     ///
-    /// Fails only for want of memory.
+    /// `AllocError` if memory runs out.
     pub fn new(alloc: Global, plan: &Plan) -> Result<Round<V>, AllocError>
         ensures world { IfOk result (λ round. round
             ≡ first_world (protocol_of plan.now) (processes_of plan.now) (nodes_of plan.now)) }
@@ -84,7 +84,7 @@ impl<V: Copy> Round<V> {
         })
     }
 
-    /// Process `p`, which has not begun, begins with its value. That is no step.
+    /// Process `p`, which has not begun, begins with its value. This is no step.
     pub fn begin(&mut self, p: u8, value: V)
         requires process { p < length self.old.locals }
         requires not_begun { local_at self.old p ≡ NotBegun }
@@ -102,7 +102,7 @@ impl<V: Copy> Round<V> {
     }
 
     /// One atomic step of process `p`, which has begun and not decided, in a round of this plan.
-    /// The value, where `p` decides by this step.
+    /// Answers the value if `p` decides by this step.
     pub fn step(&mut self, plan: &Plan, p: u8) -> Option<V>
         requires of_plan { RunsBy plan.now self.old }
         requires process { p < processes_of plan.now }
@@ -131,13 +131,13 @@ impl<V: Copy> Round<V> {
                 self.first = first_after(self.first, here, stage);
                 local.decision()
             }
-            // It has begun and not decided.
+            // The process has begun and not decided.
             None => unreachable!(),
         }
     }
 
-    /// What the next step of process `p`, which has begun, does in a round of this plan: none where
-    /// it has decided.
+    /// The action of the next step of process `p`, which has begun, in a round of this plan. None
+    /// if `p` has decided.
     pub fn next_action(&self, plan: &Plan, p: u8) -> Option<Action<V>>
         requires of_plan { RunsBy plan.now self.now }
         requires process { p < processes_of plan.now }
@@ -168,7 +168,7 @@ impl<V: Copy> Round<V> {
         }
     }
 
-    /// What process `p` has decided.
+    /// The decision of process `p`, if it has one.
     pub fn decision(&self, p: u8) -> Option<V>
         requires { p < length self.now.locals }
         ensures value { result ≡ decision_at self.now p }
@@ -179,8 +179,8 @@ impl<V: Copy> Round<V> {
         self.locals[usize::from(p)].decision()
     }
 
-    /// The value that the round has fixed: that of the team which came first at the root, from the
-    /// first application there on.
+    /// The value that the round has fixed: that of the team that came first at the root. It is
+    /// there from the first application at the root on.
     pub fn fixed_value(&self) -> Option<V>
         ensures value { result ≡ fixed_value self.now }
         ensures valid { (plan : PlanOf) (schedule : List ℕ) → IsRoundOf plan schedule self.now

@@ -16,10 +16,10 @@ use cn_proto::laws::plans_are_sound;
 use std::alloc::{AllocError, Global};
 use std::marker::Model;
 
-/// What a schedule decides: for each process its decision, if it has one.
+/// The decisions after a schedule.
 #[derive(Drop)]
 pub struct Decisions {
-    /// By process the value that it has decided, or none.
+    /// For each process its decision, or none.
     pub decisions: Vec<Option<u64>>,
 }
 
@@ -31,12 +31,12 @@ impl Model for Decisions {
     ghost view = { λ d. record { decisions = d.decisions.items } };
 }
 
-/// What the steps of a schedule do, and what it decides.
+/// The steps of a schedule, and the decisions after it.
 #[derive(Drop)]
 pub struct Course {
     /// Each step, in order.
     pub records: Vec<StepRecord<u64>>,
-    /// By process the value that it has decided, or none.
+    /// For each process its decision, or none.
     pub decisions: Vec<Option<u64>>,
 }
 
@@ -48,7 +48,7 @@ impl Model for Course {
     ghost view = { λ c. record { records = c.records.items; decisions = c.decisions.items } };
 }
 
-/// The first place of a schedule that names none of so many processes.
+/// The first place of a schedule that names no process, for this number of processes.
 fn stranger_at(processes: u8, schedule: &[u8]) -> Option<usize>
     ensures { result ≡ position (λ p. nat_le processes p) schedule.now }
 {
@@ -79,7 +79,7 @@ fn begin_all<V: Copy>(plan: &Plan, round: &mut Round<V>, inputs: &[V])
     }
 }
 
-/// The step of a process that a schedule names; none where it has decided.
+/// The step of a process that a schedule names. It does nothing if the process has decided.
 fn take_turn<V: Copy>(plan: &Plan, round: &mut Round<V>, p: u8)
     requires of_plan { RunsBy plan.now round.old }
     requires begun { AllHaveBegun (processes_of plan.now) round.old }
@@ -93,7 +93,7 @@ fn take_turn<V: Copy>(plan: &Plan, round: &mut Round<V>, p: u8)
     }
 }
 
-/// The steps of a schedule. A process that it names after it has decided takes none.
+/// The steps of a schedule. A process that has decided takes no step.
 fn step_all<V: Copy>(plan: &Plan, round: &mut Round<V>, schedule: &[u8])
     requires of_plan { RunsBy plan.now round.old }
     requires begun { AllHaveBegun (processes_of plan.now) round.old }
@@ -107,7 +107,7 @@ fn step_all<V: Copy>(plan: &Plan, round: &mut Round<V>, schedule: &[u8])
     }
 }
 
-/// The same steps, with what each of them does.
+/// The same steps, with the action of each.
 fn record_all(
     alloc: Global,
     plan: &Plan,
@@ -135,7 +135,7 @@ fn record_all(
     Ok(records)
 }
 
-/// What each of so many processes has decided.
+/// The decision of each of this number of processes.
 fn decisions_of<V: Copy>(
     alloc: Global,
     round: &Round<V>,
@@ -151,7 +151,7 @@ fn decisions_of<V: Copy>(
     Ok(decisions)
 }
 
-/// The round in which each process has begun with its input, where these and the schedule have no
+/// The round in which each process has begun with its input, if the inputs and the schedule have no
 /// fault.
 fn begun_round(
     alloc: Global,
@@ -175,21 +175,23 @@ fn begun_round(
     Ok(round)
 }
 
-/// What each process has decided after a schedule, where all have begun, process p with
-/// `inputs[p]`.
+/// The decisions after a schedule. All processes have begun, process p with `inputs[p]`.
 ///
-/// A schedule is a list of processes in the order in which they take their steps, in any number
-/// and any order. A process that it names after it has decided takes no step.
+/// A schedule is a list of processes in the order in which they take their steps, in any number and
+/// any order. A process that has decided takes no step.
 ///
-/// Whatever the schedule, the decisions are consensus: all are equal, they are the input of a
-/// process that occurs in the schedule, and a process has decided exactly when it occurs at least
-/// four times for each place of its path, which is at most 4(n-1) times for n processes.
+/// Under every schedule the decisions are consensus:
+///
+/// - all decisions are equal;
+/// - each is the input of a process that occurs in the schedule;
+/// - a process has decided exactly when it occurs at least four times for each place of its path,
+///   which is at most 4(n-1) times for n processes.
 ///
 /// # Errors
 ///
-/// `InputCount` where there are not as many inputs as processes; else `NoSuchProcess` with the
-/// first place of the schedule that names no process. These are told before any memory is taken;
-/// `OutOfMemory` can stand in place of the decisions alone.
+/// `InputCount` if the number of inputs is not the number of processes; else `NoSuchProcess` with
+/// the first place of the schedule that names no process. The call answers these before it takes
+/// memory. `OutOfMemory` comes only in place of the decisions.
 pub fn run_schedule(
     alloc: Global,
     plan: &Plan,
@@ -215,11 +217,11 @@ pub fn run_schedule(
     })
 }
 
-/// What each step of a schedule does, and what each process has decided after it, where all have
-/// begun, process p with `inputs[p]`.
+/// The action of each step of a schedule, and the decisions after it. All processes have begun,
+/// process p with `inputs[p]`.
 ///
-/// The decisions are those of [`run_schedule`]. A step has no action exactly where the schedule
-/// names a process that has decided before.
+/// The decisions are those of [`run_schedule`]. A step has no action exactly if the process that
+/// the schedule names there has decided before.
 ///
 /// # Errors
 ///

@@ -1,4 +1,4 @@
--- What a filter keeps of a list.
+-- The elements that a filter keeps of a list.
 use Rattle.std.proofs.Common.{◌≡◌, ◌∙◌, inl, inr, List, [], ◌∷◌, refl, sym, ap, Bool, true, false, cond, true≢false}
 use Rattle.std.specs.List.{AllByRecursion, filter}
 use Rattle.cn_choice.proofs.Members.{IsIn, Pairs, each_at, each_from}

@@ -1,4 +1,4 @@
--- Orders with one process more at the end, and what a process gets where it moves last.
+-- Orders with one more process at the end, and the pair of a process that moves last.
 use Rattle.std.proofs.Common.{◌≡◌, ◌≢◌, ℕ, ◌<◌, inl, inr, List, [], ◌∷◌, ◌++◌, length, map, refl, ap, ◌∙◌, subst, arith, Bool, true, false, cond, nat_eq, Option, Some, None}
 use Rattle.std.specs.Prelude.{slice_index}
 use Rattle.std.proofs.lemmas.List.Elements.{All-from_recursion}
@@ -21,7 +21,7 @@ use Rattle.cn_choice.proofs.Walks.{pair_of-response_of}
 differ_last : (xs : List ℕ) (p : ℕ) → Differ xs → ((x : ℕ) → IsIn x xs → x ≢ p) → Differ (xs ++ p ∷ [])
 differ_last xs p d h = Pairs-append (λ x y. x ≢ y) xs (p ∷ []) d (tt, tt) (λ x y i j. elim j [ inl e ↦ subst (λ (z : ℕ). x ≢ z) e (h x i) | inr n ↦ absurd n ])
 
--- the response of process j where p moves last
+-- the response of process j if p moves last
 response_last : (t : TypeTable) (f : ℕ → ℕ) (j q : ℕ) (ps : List ℕ) (p : ℕ)
     → response_of j (ps ++ p ∷ []) (responses_along t q (map f (ps ++ p ∷ []))) ≡ first_some (response_of j ps (responses_along t q (map f ps))) (cond (nat_eq p j) (Some (transition t (f p) (state_after t q (map f ps))).0) None)
 response_last t f j q [] p = refl
@@ -43,7 +43,7 @@ response_along_last t c j ps p = response_last t (λ p. slice_index c.operations
 
 -- ---- orders
 
--- what an order is, by cases on the list
+-- an order, by cases on the list
 pub record Known (n : ℕ) (order : List ℕ) : Type 0 where
   pub below : (p : ℕ) → IsIn p order → p < n
   pub differ : Differ order

@@ -1,4 +1,4 @@
--- Live choices, one after the other, and the law that only they can be witnesses.
+-- Live choices, one after the other, and the law that only live choices can be witnesses.
 use Rattle.std.proofs.Common.{◌≡◌, ◌≢◌, ℕ, ◌<◌, ◌≤◌, ◌↔◌, List, [], ◌∷◌, ◌++◌, length, map, get_or, refl, sym, ap, ◌∙◌, subst, arith, Bool, true, false, cond, nat_eq, All, AllPairs, Contains, Some, true≢false}
 use Rattle.std.specs.Prelude.{not, slice_get}
 use Rattle.std.specs.List.{AllByRecursion, filter, flat_map}
@@ -63,7 +63,7 @@ live_to t c h =
 
 -- ---- an operation that keeps the start state tells a process of the other team nothing
 
--- where process i keeps the start state, a process k gets the same alone and after i
+-- if process i keeps the start state, a process k of the other team gets the same pair alone and after i
 shared : (t : TypeTable) (c : RawChoice) (i k : ℕ) (own other : Team) → i < length c.operations → k < length c.operations → i ≢ k → slice_get c.marks i ≡ Some other → slice_get c.marks k ≡ Some own
     → next_of t c i c.state ≡ c.state → (pair : ℕ × ℕ) × InOutcomeSet t c own k pair × InOutcomeSet t c other k pair
 shared t c i k own other l u apart m n same = (
@@ -90,7 +90,7 @@ witness_is_live t n c is w = All-from_get_or (λ o. (transition t o c.state).1 �
 
 -- ---- the live choices of a table
 
--- they are the canonical choices that are live
+-- they are exactly the live canonical choices
 pub live_listed : (t : TypeTable) (n : ℕ) (d : Choice) → Contains (live_choices t n) d ↔ (IsCanonical d × IsRawChoice t n (raw_choice_of d) × IsLive t (raw_choice_of d))
 unfolding live_choices
 live_listed t n d = (
@@ -108,7 +108,7 @@ pub live_ascend : (t : TypeTable) (n : ℕ) → AllPairs ChoiceComesBefore (live
 unfolding live_choices
 live_ascend t n = AllPairs-from_Pairs ChoiceComesBefore _ (pairs_kept (is_live t) ChoiceComesBefore _ (canonical_ascend (length t.states) (length t.operations) n))
 
--- where no live choice is a witness, no choice is
+-- if no live choice is a witness, no choice is one
 pub live_not_discerning : (t : TypeTable) (n : ℕ) → All (λ d. ¬ IsWitness t (raw_choice_of d)) (live_choices t n) → ¬ IsDiscerning t n
 live_not_discerning t n none w =
     let cs : List Choice = live_choices t n in
@@ -130,7 +130,7 @@ filter_none : {X Y : Type 0} (p : Y → Bool) (h : X → Y) (xs : List X) → ((
 filter_none p h [] none = refl
 filter_none p h (x ∷ xs) none = rw (none x) (filter_none p h xs none)
 
--- what is passed over gives nothing
+-- the filter drops only elements that give nothing
 passed : {X Y : Type 0} (q : X → Bool) (g : X → List Y) (xs : List X) → ((x : X) → q x ≡ false → g x ≡ []) → flat_map g (filter q xs) ≡ flat_map g xs
 passed q g [] none = refl
 passed q g (x ∷ xs) none = by_test (q x) refl (passed q g xs none)
@@ -142,7 +142,7 @@ passed q g (x ∷ xs) none = by_test (q x) refl (passed q g xs none)
 none_live : (t : TypeTable) (k : Block) → all_move t k.state k.a ≡ false → live_in t k ≡ []
 none_live t k e = filter_none (is_live t) (λ b. let c : Choice = record { state = k.state; a = k.a; b = b } in c) (second_lists (length t.operations) k.n k.a) (λ b. rw e refl)
 
--- the live choices of the blocks are all live choices
+-- the live choices of all blocks are all live choices
 pub live_cover : (t : TypeTable) (n : ℕ) → flat_map (live_in t) (live_blocks t n) ≡ live_choices t n
 unfolding live_blocks live_choices
 live_cover t n =
@@ -162,7 +162,7 @@ live_blocks_fit t n k d h i =
     let r = was_in (is_live t) d (choices_of_block (length t.operations) k) (IsIn-from_Contains d _ i) in
     ((canonical_listed t n d).0 (Contains-from_IsIn d _ (blocks_listed (length t.states) (length t.operations) n k d (was_block t n k h) r.0))).1
 
--- the blocks are all that are live
+-- these blocks are exactly the live ones
 pub live_blocks_listed : (t : TypeTable) (n : ℕ) (k : Block) → n ≤ 8 → Contains (live_blocks t n) k ↔ IsLiveBlock t n k
 unfolding live_blocks
 live_blocks_listed t n k few = (

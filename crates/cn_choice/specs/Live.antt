@@ -1,4 +1,4 @@
--- Live choices: those in which each operation leads away from the start state.
+-- Live choices: each of their operations leads away from the start state.
 use Rattle.std.specs.Prelude.{ℕ, ◌≡◌, ◌≢◌, ◌==◌, Bool, not, ◌&&◌, List, length, All}
 use Rattle.std.specs.List.{filter, list_all}
 use Rattle.std.specs.List.Sorted.{IsNonDecreasing}
@@ -7,22 +7,22 @@ use Rattle.cn_choice.specs.Blocks.{Block, IsBlockOf, canonical_blocks, choices_o
 use Rattle.cn_choice.specs.RawChoices.{RawChoice}
 use Rattle.cn_choice.specs.Canonical.{Choice, canonical_choices}
 
--- each of the operations, applied in the state, leads to another
+-- each of the operations, applied in the state, leads to another state
 abbrev pub AllMove : TypeTable → ℕ → List ℕ → Type 0
 AllMove t state operations = All (λ operation. (transition t operation state).1 ≢ state) operations
 
--- no operation of the list, applied in the start state, leaves the object there
+-- each operation of the choice leads away from the start state
 abbrev pub IsLive : TypeTable → RawChoice → Type 0
 IsLive t c = AllMove t c.state c.operations
 
--- a block of the table for n processes: the list of team A does not fall, and each of its operations leads away from the start state
+-- a block of the table for n processes: the list of team A is non-decreasing, and each of its operations leads away from the start state
 pub record IsLiveBlock (t : TypeTable) (n : ℕ) (k : Block) : Type 0 where
   pub block : IsBlockOf t k
   pub for_n : k.n ≡ n
   pub in_order : IsNonDecreasing k.a
   pub moves : AllMove t k.state k.a
 
--- whether each of the operations, applied in the state, leads to another
+-- whether each of the operations, applied in the state, leads to another state
 abbrev pub all_move : TypeTable → ℕ → List ℕ → Bool
 all_move t state operations = list_all (λ operation. not ((transition t operation state).1 == state)) operations
 

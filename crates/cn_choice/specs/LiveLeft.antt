@@ -11,7 +11,7 @@ use Rattle.cn_choice.specs.Live.{all_move, is_live}
 abbrev pub all_left : TypeTable → Bool → ℕ → Option Choice → List Choice
 all_left t in_block n next = left_within in_block (length t.states) (length t.operations) n next
 
--- the live ones of these
+-- the live choices of these
 abbrev pub live_left : TypeTable → Bool → ℕ → Option Choice → List Choice
 live_left t in_block n next = filter (is_live t) (all_left t in_block n next)
 
@@ -19,6 +19,6 @@ live_left t in_block n next = filter (is_live t) (all_left t in_block n next)
 abbrev pub all_blocks_left : TypeTable → Option Block → List Block
 all_blocks_left t next = blocks_left (length t.states) (length t.operations) next
 
--- those in which each operation of team A leads away from the start state
+-- the blocks of these in which each operation of team A leads away from the start state
 abbrev pub live_blocks_left : TypeTable → Option Block → List Block
 live_blocks_left t next = filter (λ k. all_move t k.state k.a) (all_blocks_left t next)

@@ -1,9 +1,9 @@
--- What a process gets where it moves, and the state that it leaves.
+-- The response and the next state of a move of a process.
 use Rattle.std.specs.Prelude.{ℕ, slice_index}
 use Rattle.cn_table.specs.TypeTable.{TypeTable, transition}
 use Rattle.cn_choice.specs.RawChoices.{RawChoice}
 
--- what process p gets, and the state that it leaves, where it moves in this state
+-- the response to process p and the next state, if p moves in this state
 abbrev pub move_of : TypeTable → RawChoice → ℕ → ℕ → ℕ × ℕ
 move_of t c p state = transition t (slice_index c.operations p) state
 

@@ -1,11 +1,11 @@
-//! Which operations lead away from a state.
+//! Operations that lead away from a state.
 ghost use Rattle.std.specs.Prelude.{◌≡◌, ◌<◌, length, All};
 ghost use Rattle.cn_choice.specs.Live.{all_move, is_live};
 
 use crate::Choice;
 use cn_table::{Operation, State, Table};
 
-/// Whether each of the operations, applied in the state, leads to another one.
+/// Whether each of the operations, applied in the state, leads to another state.
 pub(crate) fn all_move(table: &Table, state: State, operations: &[u8]) -> bool
     requires state { state.0 < length table.now.states }
     requires operations { All (λ operation. operation < length table.now.operations)

@@ -1,8 +1,8 @@
-//! The definitions, run as they stand: all orders, what a process sees of a run, and whether a raw
-//! choice is a witness by every pair of orders.
+//! The definitions, run as they stand: all orders, what a process sees of a run, and by every pair
+//! of orders whether a raw choice is a witness.
 //!
-//! They are slow and plain. What is computed another way, here or outside, can be measured against
-//! them; and what a process sees of one order is shown to people by [`raw_pair`].
+//! They are slow and plain. A caller can compare them with another method, here or outside, and
+//! show people by [`raw_pair`] what a process sees of one order.
 mod orders;
 mod witness;
 

@@ -1,4 +1,4 @@
--- The questions of a gate, and the steps between them.
+-- The questions to a gate, and the steps between them.
 use Rattle.std.proofs.Common.{◌≡◌, ℕ, zero, suc, Bool, true, false, ◌+◌, ◌*◌, ◌-◌, ◌<◌, ◌≤◌, ◌==◌, List, [], ◌∷◌, ◌++◌, drop, length, Some, refl, sym, ap, ◌∙◌, subst, arith, cond, append_assoc, append-nil, length-append}
 use Rattle.std.proofs.lemmas.Bool.Decides.{nat_tests}
 use Rattle.std.proofs.Math.Nat.{mul-le-mul_left}
@@ -50,7 +50,7 @@ steps_none p (Step q ∷ events) h =
 step_one : (p : ℕ) → steps_of p (Step p ∷ []) ≡ 1
 step_one p = let t : (p == p) ≡ true = grind (arith, nat_tests) in steps_cons p (Step p) [] ∙ (rw t refl)
 
--- the steps in what has come since
+-- the steps in the events since
 since_is : (p : ℕ) (core now : Log) (rest : List Event) → now.schedule ≡ core.schedule ++ rest → steps_since p core now ≡ steps_of p rest
 since_is p core now rest e = ap (λ l. steps_of p (drop (length core.schedule) l)) e ∙ ap (steps_of p) (drop_front core.schedule rest)
 
@@ -60,7 +60,7 @@ since_same p core = since_is p core core [] (sym (append-nil core.schedule))
 pub later_same : (core : Log) → BeginsWith core.schedule core.schedule
 later_same core = ([], sym (append-nil core.schedule))
 
--- a step is one more
+-- a step adds one
 pub since_step : (p : ℕ) (core now next : Log) (x : StepAnswer) → BeginsWith now.schedule core.schedule → IsStep p now x next → (steps_since p core next ≡ suc (steps_since p core now)) × BeginsWith next.schedule core.schedule
 since_step p core now next x h k =
     let r = k.1.1 in
@@ -77,7 +77,7 @@ since_step p core now next x h k =
 pub core_later : (p : ℕ) (now next : Log) (x : StepAnswer) → IsStep p now x next → BeginsWith next.schedule now.schedule
 core_later p now next x k = (since_step p now now next x (later_same now) k).1
 
--- a call is none
+-- a call adds none
 since_invoke : (p operation : ℕ) (core mid now : Log) → IsInvoke p operation core mid → BeginsWith now.schedule mid.schedule → (steps_since p core now ≡ steps_since p mid now) × BeginsWith now.schedule core.schedule
 since_invoke p operation core mid now k h =
     let r = k.1.1 in
@@ -91,7 +91,7 @@ since_invoke p operation core mid now k h =
     let o : steps_of p (Invoke p operation ∷ []) ≡ 0 = refl in
     (omega (arith, a, b, c, d, n, o), ((r ++ Invoke p operation ∷ []) ++ h.0, e))
 
--- there are few enough for a u32
+-- few enough events for a u32
 abbrev pub Room : Type 0
 Room = (o : Opening) (events : List Event) → IsOpening o → IsEventList (setting_of o) events → length events < event_room (processes_of o.plan) o.capacity
 
@@ -112,7 +112,7 @@ since_few room p core now log h =
     let e = room_few (processes_of now.opening.plan) now.opening.capacity log.opening.plan.fits.few log.opening.few in
     omega (arith, a, b, c, d, e)
 
--- and the end may be later
+-- the end may be later
 taken_later : (mine : Entry) (k : ℕ) (start seat : SeatState) (end now : Log) → BeginsWith now.schedule end.schedule → HasTaken mine k start end seat → HasTaken mine k start now seat
 taken_later mine k start seat end now more h =
     record { same = h.same; later = h.later; history = begins_again seat.core.schedule end.schedule now.schedule h.history more; pending = h.pending; steps = h.steps }
@@ -122,7 +122,7 @@ module _ {G : Type 0} (asks : G → SeatState → ℕ → G → Type 0) (says : 
   asked_later mine start end now more zero old new h = h
   asked_later mine start end now more (suc k) old new h = (h.0, h.1, asked_later mine start end now more k old h.0 h.2, h.3, taken_later mine k start h.1 end now more h.4, h.5)
 
-  -- one question more, about the step with which the seat's core has come so far
+  -- one more question, about the next step of the seat
   pub asked_next : (mine : Entry) (start seat : SeatState) (now : Log) (k : ℕ) (old mid new : G) → IsSameSeat start seat → BeginsWith seat.core.schedule start.core.schedule → BeginsWith now.schedule seat.core.schedule → pending seat ≡ Some mine
       → steps_since start.process start.core seat.core ≡ k → IsAsked asks says mine start seat.core k old mid → says mid ≡ On → asks mid seat (k + 1) new → (m : ℕ) → m ≡ suc k → IsAsked asks says mine start now m old new
   asked_next mine start seat now k old mid new same later more is steps asked on asks_it m e =
@@ -135,7 +135,7 @@ module _ {G : Type 0} (asks : G → SeatState → ℕ → G → Type 0) (says : 
       let s = since_invoke a.process operation a.core b.core seat.core invoke h.later in
       record { same = same_again a b seat same h.same; later = s.1; history = h.history; pending = h.pending; steps = s.0 ∙ ap (λ p. steps_since p b.core seat.core) (sym same.1) ∙ h.steps }
 
-  -- a call is asked about from its beginning on
+  -- the questions of a call, from its beginning on
   pub asked_from : (a b : SeatState) (end : Log) (operation : ℕ) (mine : Entry) → IsSameSeat a b → IsInvoke a.process operation a.core b.core → (k : ℕ) (old new : G) → IsAsked asks says mine b end k old new → IsAsked asks says mine a end k old new
   asked_from a b end operation mine same invoke zero old new h = h
   asked_from a b end operation mine same invoke (suc k) old new h =

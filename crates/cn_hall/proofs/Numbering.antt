@@ -1,4 +1,4 @@
--- The next call of a process is none that it has seen.
+-- No process has seen its next call.
 use Rattle.std.proofs.Common.{◌≡◌, ℕ, ◌+◌, ◌<◌, List, [], ◌∷◌, ◌++◌, length, take, slice_get, Some, refl, ap, ◌∙◌, arith}
 use Rattle.cn_log.specs.Callers.{call_of, calls_by}
 use Rattle.cn_log.specs.declared.entry.Entry.{Entry}

@@ -1,4 +1,4 @@
--- Which of the pushes of the rule it was.
+-- The cases of a push of the rule.
 use Rattle.std.proofs.Common.{◌≡◌, [], ◌∷◌, length, Some, None, sym, ap, ◌∙◌, length-append, arith}
 use Rattle.cn_log.specs.Opening.{Log}
 use Rattle.cn_hall.specs.declared.rule.Item.{Item}
@@ -9,7 +9,7 @@ use Rattle.cn_hall.specs.Rule.{item_of, first_view, bare_view, later_view, opene
 not_first : (v : View) → v.status ≡ Live → v ≡ first_view → ⊥
 not_first v live is = let e : First ≡ Live = sym (ap (λ (u : View). u.status) is) ∙ live in cc
 
--- a core isn't itself one event later
+-- a core is not one event later than itself
 not_later : (v : View) (x : Item) → v.held ≡ Some x → IsOneEventLater v x → ⊥
 not_later v x held one =
     let e : Some x ≡ Some (item_of one.before x.seated) = sym held ∙ one.held in
@@ -24,7 +24,7 @@ not_more v x held one =
     let number = ap (λ (y : Item). y.seated) (sym same ∙ one.is) in
     omega (arith, number)
 
--- nor is the count one more where an event was added
+-- nor is the count one higher if an event was added
 not_both : (v : View) (x : Item) → IsOneEventLater v x → IsOneSeatMore v x → ⊥
 not_both v x one more =
     let e : Some more.before ≡ Some (item_of one.before x.seated) = sym more.held ∙ one.held in

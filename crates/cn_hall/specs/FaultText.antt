@@ -1,4 +1,4 @@
--- The text of a fault: its number and its name.
+-- The text of a fault: its number and name.
 use Rattle.std.specs.Prelude.{ℕ, List, None, codes}
 use Rattle.cn_table.specs.FaultText.{numbered_text}
 use Rattle.cn_hall.specs.declared.call.CallFault.{CallFault}

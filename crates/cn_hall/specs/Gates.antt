@@ -1,4 +1,4 @@
--- What a gate is asked in a call.
+-- The questions to a gate in a call.
 use Rattle.std.specs.Prelude.{◌≡◌, ℕ, zero, suc, Some, drop, length, Result, Ok, Err}
 use Rattle.cn_log.specs.Callers.{BeginsWith}
 use Rattle.cn_log.specs.Opening.{Log}
@@ -12,11 +12,11 @@ use Rattle.cn_hall.specs.declared.call.Go.{Go}
 use Rattle.cn_hall.specs.declared.call.Go.TheVariants.{On}
 use Rattle.cn_hall.specs.declared.call.Reply.{Reply}
 
--- how many steps process p has taken in a core since it was that one
+-- the number of steps of process p in a core since an earlier core
 abbrev pub steps_since : ℕ → Log → Log → ℕ
 steps_since p before now = steps_of p (drop (length before.schedule) now.schedule)
 
--- the seat has come from there, is in this call, and has taken so many steps since; and the call has ended in a core that goes on from the seat's
+-- the seat comes from the start, is in this call, and has taken k steps since; the call has ended in a core that goes on from the seat's
 pub record HasTaken (mine : Entry) (k : ℕ) (start : SeatState) (end : Log) (seat : SeatState) : Type 0 where
   pub same : IsSameSeat start seat
   pub later : BeginsWith seat.core.schedule start.core.schedule
@@ -24,14 +24,14 @@ pub record HasTaken (mine : Entry) (k : ℕ) (start : SeatState) (end : Log) (se
   pub pending : pending seat ≡ Some mine
   pub steps : steps_since start.process start.core seat.core ≡ k
 
--- k times, in the call that the seat is in and that ends in this core, a gate was asked: about step 1, before the seat had taken a step, and so on to step k,
--- before the seat had taken that; and it said On each time but perhaps the last
+-- the gate got k questions in the call that the seat is in and that ends in this core: about step 1 before the seat had taken a step, and so on, to
+-- step k before the seat had taken it; it said On each time, except perhaps the last
 abbrev pub IsAsked : {G : Type 0} → (G → SeatState → ℕ → G → Type 0) → (G → Go) → Entry → SeatState → Log → ℕ → G → G → Type 0
 IsAsked asks says mine start end zero old new = new ≡ old
 IsAsked {G} asks says mine start end (suc k) old new = (mid : G) × (seat : SeatState) × IsAsked asks says mine start end k old mid × (says mid ≡ On)
     × HasTaken mine k start end seat × asks mid seat (suc k) new
 
--- how often a call with this answer asked that took so many steps: before each, and once more where it was stopped
+-- the number of questions of a call with this answer and this number of steps: one before each step, and one more if the gate stopped it
 abbrev pub asked_times : Result Reply CallFault → ℕ → ℕ
 asked_times (Ok r) steps = steps
 asked_times (Err LogFull) steps = steps

@@ -1,4 +1,4 @@
--- What a contract sees of a hall and of a seat.
+-- Halls and seats, as contracts see them.
 use Rattle.std.specs.Prelude.{◌≡◌, ◌≤◌, ℕ, Bool, true, false, List, [], ◌∷◌, length, Option, Some, None}
 use Rattle.atomic_table.specs.Seated.{TableId}
 use Rattle.cn_table.specs.TypeTable.{TypeTable}
@@ -19,7 +19,7 @@ use Rattle.cn_hall.specs.declared.rule.PassStatus.TheVariants.{Live}
 use Rattle.cn_hall.specs.declared.rule.View.{View}
 use Rattle.cn_hall.specs.Rule.{Carries, later_core, pair, view_of}
 
--- which hall it is
+-- the identity of a hall
 abbrev pub HallId : Type 0
 HallId = TableId
 
@@ -38,7 +38,7 @@ seat_state hall p core = record { hall = hall; process = p; core = core; held = 
 abbrev pub IsSeatOf : HallId → SeatState → Type 0
 IsSeatOf hall s = (s.hall ≡ hall) × (s.held ≡ false)
 
--- what a process knows of the core
+-- the knowledge of a process about the core
 abbrev pub caller_at : Log → ℕ → Caller
 caller_at core p = caller_of (setting core) core.schedule p
 
@@ -50,7 +50,7 @@ is_in_call (Runs mine) = true
 abbrev pub caller : SeatState → Caller
 caller s = caller_at s.core s.process
 
--- the batches of the slots that the seat has seen: its process has applied them
+-- the batches of the slots that the seat has seen, which its process has applied
 abbrev pub slots_seen : SeatState → List Batch
 slots_seen s = (caller s).seen
 
@@ -62,20 +62,20 @@ entries_seen s = seen_of (setting s.core) s.core.schedule s.process
 abbrev pub calls_made : SeatState → List Entry
 calls_made s = calls_by s.process s.core.schedule
 
--- those of the entries that the seat has seen that are of its process, in order
+-- the entries of its process among those that the seat has seen, in order
 abbrev pub own_entries_seen : SeatState → List Entry
 own_entries_seen s = entries_by s.process (entries_seen s)
 
--- the call that the seat's process has pending, with its operation and its number
+-- the pending call of the seat's process, with its operation and its number
 abbrev pub pending : SeatState → Option Entry
 pending s = pending_in (caller s).phase
 
--- what has happened in the core could happen
+-- the events of the core could come
 pub record IsLog (core : Log) : Type 0 where
   pub opening : IsOpening core.opening
   pub events : IsEventList (setting core) core.schedule
 
--- no log: what a pass knows of the core that knows of none
+-- no log: a pass that knows of no core
 abbrev pub no_table : TypeTable
 no_table = record { name = []; states = []; responses = []; operations = [] }
 
@@ -100,20 +100,20 @@ is_held (Some x) = true
 abbrev pub IsOfSeat : View → ℕ → Log → Type 0
 IsOfSeat v p core = v ≡ view_of Live (pair p core ∷ []) v.notes v.held
 
--- and it holds no core
+-- the same, and it holds no core
 abbrev pub SitsAs : View → ℕ → Log → Type 0
 SitsAs v p core = v ≡ view_of Live (pair p core ∷ []) v.notes None
 
--- how far a process has come in the core
+-- the progress of a process in the core
 abbrev pub IsStanding : Log → ℕ → Standing → Type 0
 IsStanding core p x = (x.entries ≡ length (seen_of (setting core) core.schedule p)) × (x.slots ≡ length (caller_at core p).seen)
     × (x.slots ≤ core.opening.capacity) × (x.in_call ≡ is_in_call (caller_at core p).phase)
 
--- the process took a step in a later core, before which it had done nothing since
+-- the process took a step in a later core, without an event of its own between
 abbrev pub IsStep : ℕ → Log → StepAnswer → Log → Type 0
 IsStep p core given now = (s : Log) × Carries p core s × (now ≡ later_core s (Step p ∷ [])) × (given ≡ answer (setting s) s.schedule p) × IsLog now
 
--- the process made a call in a later core, before which it had done nothing since
+-- the process made a call in a later core, without an event of its own between
 abbrev pub IsInvoke : ℕ → ℕ → Log → Log → Type 0
 IsInvoke p operation core now = (s : Log) × Carries p core s × (now ≡ later_core s (Invoke p operation ∷ [])) × IsLog now
 
@@ -125,6 +125,6 @@ abbrev pub note_of : List Log → Log
 note_of [] = no_log
 note_of (core ∷ notes) = core
 
--- what the pass knows beside its pairs
+-- the first log that the pass knows besides its pairs
 abbrev pub note_in : View → Log
 note_in v = note_of v.notes

@@ -1,4 +1,4 @@
-//! What is asked before each step of a call, and what a call answers.
+//! The gate of a call, and the answer of a call.
 ghost use Rattle.std.specs.Prelude.{◌≡◌};
 ghost use Rattle.cn_hall.specs.FaultText.{call_fault_name, call_fault_number};
 
@@ -12,11 +12,11 @@ use std::fmt;
 pub enum Go {
     /// The call takes its next step.
     On,
-    /// The call ends here, without a reply; it stays pending.
+    /// The call ends here without a reply, and stays pending.
     Stop,
 }
 
-/// What is asked before each step of a call, while the seat does not hold the core.
+/// The gate of a call. A call asks it before each step, while the seat does not hold the core.
 pub trait Gate {
     ghost use Rattle.cn_hall.specs.declared.call.Go.{Go};
     ghost use Rattle.cn_hall.specs.Seats.{SeatState};
@@ -24,17 +24,18 @@ pub trait Gate {
 
     ghost says: { Self → Go };
 
-    /// What a question makes of a gate: the gate before, the seat, the number of the step, and the
-    /// gate after. Each gate has a relation of its own.
+    /// The effect of a question on a gate: the gate before, the seat, the number of the step, and
+    /// the gate after. Each gate has a relation of its own.
     ghost asks: { Self → SeatState → ℕ → Self → Type 0 };
 
-    /// Whether the call takes its step of this number, from 1 on, of those that it takes now.
+    /// Whether the call takes its step of this number. The steps of one `call` or `resume` count
+    /// from 1.
     fn before(&mut self, seat: &Seat, step: u32) -> Go
         requires free { seat.now.held ≡ false }
         ensures said { result ≡ says self.new }
         ensures asked { asks self.old seat.now step self.new };
 
-    /// What was answered last, or `On`: by it a caller tells whether a call may begin with the gate.
+    /// The last answer, or `On`. A caller tells by it whether a call may begin with the gate.
     fn last_answer(&self) -> Go
         ensures { result ≡ says self.now };
 }
@@ -64,21 +65,21 @@ impl Gate for AlwaysOn {
 pub struct Reply {
     /// The slot in which the call stands, from 0.
     pub slot: u16,
-    /// What the object answers it.
+    /// The response of the object.
     pub response: Response,
 }
 
 /// Why a call has no reply.
 #[derive(Clone, Copy, Debug, PartialEq, Eq)]
 pub enum CallFault {
-    /// The call is in no slot, and the seat has seen every slot. It is in no call.
+    /// No slot holds the call, and the seat has seen every slot. The seat is in no call.
     LogFull,
-    /// The gate stopped it. The seat is in its call, and `resume` goes on with it.
+    /// The gate stopped the call. The seat is in its call, and `resume` goes on with it.
     Stopped,
 }
 
 impl CallFault {
-    /// Its number in their order, from 1.
+    /// The number of the fault, from 1.
     pub fn number(&self) -> u8
         ensures { result ≡ call_fault_number self.now }
     {
@@ -88,7 +89,7 @@ impl CallFault {
         }
     }
 
-    /// Its name.
+    /// The name of the fault.
     pub fn name(&self) -> &'static str
         ensures { result.now ≡ call_fault_name self.now }
     {
@@ -99,7 +100,7 @@ impl CallFault {
     }
 }
 
-/// Number and name.
+/// The number and the name.
 impl fmt::Display for CallFault {
     ghost use Rattle.std.specs.Prelude.{Some};
     ghost use Rattle.cn_hall.specs.FaultText.{call_fault_text};

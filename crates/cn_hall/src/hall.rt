@@ -1,4 +1,4 @@
-//! The hall: threads hand one core on.
+//! The hall, in which threads hand one core on.
 ghost use Rattle.std.specs.Prelude.{◌≡◌, ◌≢◌, ◌<◌, ◌⊎◌, [], false, Some, None, All, Err, IfErr, IfOk, length};
 ghost use Rattle.cn_log.specs.declared.entry.Entry.{Entry};
 ghost use Rattle.cn_hall.specs.Answers.{AddsReply, own, replies_from};
@@ -74,12 +74,12 @@ impl Hall {
         seat.standing = events::invoke(rt, &self.queue, &mut seat.pass, process, operation);
     }
 
-    /// Goes on with the call that the seat is in.
+    /// Goes on with the call of the seat. It asks the gate before each step.
     ///
     /// # Errors
     ///
-    /// `LogFull` where every slot is fixed and none to the call, which is then over; `Stopped`
-    /// where the gate said so: the seat stays in its call. The gate is asked before each step.
+    /// `LogFull` if every slot is fixed and none holds the call, which is then over. `Stopped` if
+    /// the gate says so; the seat stays in its call.
     pub fn resume<R: Wait, G: Gate>(
         &self,
         rt: &R,
@@ -131,8 +131,8 @@ impl Hall {
     ///
     /// # Errors
     ///
-    /// `LogFull` at once where the seat has seen every slot, with no event and the gate not asked, and
-    /// else as `resume`.
+    /// `LogFull` at once, without an event or a question to the gate, if the seat has seen every
+    /// slot. Otherwise those of `resume`.
     pub fn call<R: Wait, G: Gate>(
         &self,
         rt: &R,
@@ -171,7 +171,8 @@ impl Hall {
         self.resume(rt, seat, gate)
     }
 
-    /// Compares how much two seats have seen. One has seen what the other has, and perhaps more.
+    /// Compares how much two seats have seen. One has seen all that the other has seen, and perhaps
+    /// more.
     pub fn meet<R: Wait>(&self, rt: &R, first: &mut Seat, second: &mut Seat) -> Ordering
         requires of { IsSeatOf self.now first.old × IsSeatOf self.now second.old }
         ensures same { (first.new ≡ first.old) × (second.new ≡ second.old) }
@@ -191,10 +192,10 @@ impl Hall {
         first.standing.entries.cmp(&second.standing.entries)
     }
 
-    /// Takes the core out for good. It carries each seat's core further, with no event since of the
-    /// seat's process; so the process has applied there what the seat has seen, and that stands
-    /// first among its entries. What all threads did is linearized, no call was passed by for long,
-    /// and each was over within so many steps of its process.
+    /// Takes the core out for good. The core carries each seat's core further, without an event of
+    /// the seat's process since. So the process has applied there exactly what the seat has seen,
+    /// and the log begins with this. The log of all threads is linearized, and keeps the bypass
+    /// bound and the bound on own steps.
     pub fn close<R: Wait>(self, rt: &R, seats: Vec<Seat>) -> LogCore
         requires of { All (IsSeatOf self) seats.items }
         requires some { 0 < length seats.items }

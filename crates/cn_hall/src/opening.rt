@@ -21,15 +21,15 @@ use std::error::Error;
 use std::sync::Wait;
 use std::{fmt, thread};
 
-/// Why no hall was opened.
+/// Why a hall did not open.
 #[derive(Drop)]
 pub enum OpenFault {
-    /// Memory ran out. The core is handed back as it was.
+    /// Memory ran out. The fault hands the core back unchanged.
     OutOfMemory(LogCore),
 }
 
 impl OpenFault {
-    /// Its number.
+    /// The number of the fault.
     pub fn number(&self) -> u8
         ensures { result ≡ open_fault_number self.now }
     {
@@ -38,7 +38,7 @@ impl OpenFault {
         }
     }
 
-    /// Its name.
+    /// The name of the fault.
     pub fn name(&self) -> &'static str
         ensures { result.now ≡ open_fault_name self.now }
     {
@@ -48,7 +48,7 @@ impl OpenFault {
     }
 }
 
-/// Number and name.
+/// The number and the name.
 impl fmt::Display for OpenFault {
     ghost use Rattle.std.specs.Prelude.{Some};
     ghost use Rattle.cn_hall.specs.FaultText.{open_fault_text};
@@ -73,7 +73,7 @@ impl Error for OpenFault {}
 ///
 /// # Errors
 ///
-/// Fails only for want of memory, and hands the core back.
+/// `OutOfMemory` if memory runs out, with the core.
 pub fn open<R: Wait>(rt: &R, alloc: Global, core: LogCore) -> Result<(Hall, Vec<Seat>), OpenFault>
     ensures count { IfOk result (λ r. length r.1.items ≡ processes_of core.opening.plan) }
     ensures seats { IfOk result (λ r. (p : ℕ) → p < processes_of core.opening.plan
@@ -131,8 +131,8 @@ fn seat_each<R: Wait>(
     seats
 }
 
-/// Seats a process, once its number is next and the core is as the pass knows it: it has so many
-/// events.
+/// Seats a process. It waits until the process is the next to be seated and the core has this many
+/// events, as the pass knows it.
 fn sit<R: Wait>(rt: &R, queue: &Queue, pass: Pass, process: u8, events: usize) -> Seat
     requires queue { IsPassOf queue.now pass × (ruled_capacity queue.now ≡ 1) }
     requires knows { KnowsOnly (view pass) (note_in (view pass)) }

@@ -6,8 +6,8 @@ use crate::rule::Pass;
 use crate::standing::Standing;
 use std::marker::Model;
 
-/// What a thread has of a hall: a process, how far it has come, and the core as it was when the seat
-/// last put an event in. A seat can be given to any thread.
+/// A thread's share of a hall: a process, its progress, and the core as it was when the seat last
+/// put an event in. Any thread can take a seat.
 #[derive(Drop)]
 pub struct Seat {
     pub(crate) process: u8,
@@ -45,8 +45,8 @@ impl Seat {
         self.process
     }
 
-    /// Whether the process is in a call: `Hall::resume` goes on with it, and else `Hall::call` makes
-    /// one.
+    /// Whether the process is in a call. If so, `Hall::resume` goes on with it; else `Hall::call`
+    /// makes one.
     pub fn in_call(&self) -> bool
         ensures call { IsTrue result ↔ (pending self.now ≢ None) }
         ensures idle { IsFalse result ↔ (pending self.now ≡ None) }
@@ -54,16 +54,16 @@ impl Seat {
         self.standing.in_call
     }
 
-    /// How many entries the seat has seen, in the slots that its process has applied: what
-    /// `Hall::meet` compares.
+    /// The number of entries that the seat has seen, in the slots that its process has applied.
+    /// `Hall::meet` compares this number.
     pub fn seen_entries(&self) -> u16
         ensures number { result ≡ length (entries_seen self.now) }
     {
         self.standing.entries
     }
 
-    /// How many slots the seat has seen: its process has applied them. At the capacity of the log
-    /// `Hall::call` answers `LogFull` at once.
+    /// The number of slots that the seat has seen, which its process has applied. At the capacity
+    /// of the log, `Hall::call` answers `LogFull` at once.
     pub fn seen_slots(&self) -> u16
         ensures number { result ≡ length (slots_seen self.now) }
         ensures range { result ≤ self.now.core.opening.capacity }

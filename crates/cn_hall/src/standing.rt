@@ -1,4 +1,4 @@
-//! How far a process has come in the core.
+//! The progress of a process in the core.
 ghost use Rattle.std.specs.Prelude.{◌<◌};
 ghost use Rattle.cn_proto.specs.Plan.{processes_of};
 ghost use Rattle.cn_hall.specs.Seats.{IsLog, IsStanding};
@@ -6,7 +6,7 @@ ghost use Rattle.cn_hall.specs.Seats.{IsLog, IsStanding};
 use crate::laws::cores_are_logs;
 use cn_log::LogCore;
 
-/// How far a process has come in the core: how many entries and how many slots it has seen, and
+/// The progress of a process in the core: the numbers of entries and slots that it has seen, and
 /// whether it is in a call.
 #[derive(Clone, Copy)]
 pub(crate) struct Standing {
@@ -16,7 +16,7 @@ pub(crate) struct Standing {
 }
 
 impl Standing {
-    /// That of a process of the core.
+    /// The progress of a process of the core.
     pub(crate) fn of(core: &LogCore, process: u8) -> Standing
         requires { process < processes_of core.now.opening.plan }
         ensures standing { IsStanding core.now process result }

@@ -11,18 +11,18 @@ use std::sync::atomic::{AtomicU64, Ordering};
 use std::thread::Parker;
 use std::time::Duration;
 
-/// How often a thread looks for the core before it sleeps.
+/// The number of looks for the core before a thread sleeps.
 const LOOKS: u8 = 4;
 
-/// How far a thread counts between two looks: for some half of a microsecond.
+/// The count of a thread between two looks. It takes about half a microsecond.
 const SPINS: u32 = 100;
 
-/// For so many microseconds a thread sleeps before it looks again.
+/// The sleep of a thread before it looks again, in microseconds.
 const SLEEP: u64 = 50;
 
 /// Takes the core out of the queue, and waits until it is there. Each look disturbs the thread that
-/// has the core: who waits looks a few times and then sleeps, so that the other does many events in a
-/// row, and its processor is free for others.
+/// has the core. So a thread that waits looks a few times and then sleeps. Then the other thread
+/// does many events in a row, and the processor is free for others.
 pub(crate) fn take<R: Wait>(rt: &R, queue: &Queue, pass: &mut Pass) -> Item
     requires queue { IsPassOf queue.now pass.old }
     requires live { (view pass.old).status ≡ Live }
@@ -50,7 +50,7 @@ fn wait_awhile<R: Wait>(rt: &R, looks: u8) {
     }
 }
 
-/// The count is atomic so that it is made at all.
+/// The count is atomic so that the compiler keeps it.
 fn spin() {
     let count = AtomicU64::new(0);
     for _spin in 0..SPINS {
@@ -58,8 +58,8 @@ fn spin() {
     }
 }
 
-/// Puts an item in, whose place is free: the first attempt fails only where another thread is in
-/// the way.
+/// Puts an item in; its place is free. The first attempt fails only if another thread is in the
+/// way.
 fn put<R: Wait>(rt: &R, queue: &Queue, pass: &mut Pass, item: Item)
     requires queue { IsPassOf queue.now pass.old × (ruled_capacity queue.now ≡ 1) }
     requires may { Pushes Holds (ruled_capacity queue.now) pass.old.id (view pass.old) item
@@ -98,7 +98,7 @@ pub(crate) fn put_first<R: Wait>(rt: &R, queue: &Queue, pass: &mut Pass, item: I
     put(rt, queue, pass, item);
 }
 
-/// Puts the core back one event of the pass's process later.
+/// Puts the core back, one event of the pass's process later.
 pub(crate) fn put_step<R: Wait>(rt: &R, queue: &Queue, pass: &mut Pass, item: Item)
     requires queue { IsPassOf queue.now pass.old × (ruled_capacity queue.now ≡ 1) }
     requires live { (view pass.old).status ≡ Live }
@@ -109,7 +109,7 @@ pub(crate) fn put_step<R: Wait>(rt: &R, queue: &Queue, pass: &mut Pass, item: It
     put(rt, queue, pass, item);
 }
 
-/// Puts the core back with one process more seated, in this pass.
+/// Puts the core back, with one more process seated, in this pass.
 pub(crate) fn put_seat<R: Wait>(rt: &R, queue: &Queue, pass: &mut Pass, item: Item)
     requires queue { IsPassOf queue.now pass.old × (ruled_capacity queue.now ≡ 1) }
     requires live { (view pass.old).status ≡ Live }

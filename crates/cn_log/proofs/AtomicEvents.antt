@@ -31,14 +31,14 @@ use Rattle.cn_log.proofs.Linearizing.{holds_after}
 use Rattle.cn_log.proofs.ListLemmas.{put_same, put_other}
 use Rattle.cn_log.proofs.RoundLemmas.{RoundLaw, agrees_of, sizes_of, has_begun}
 
--- what is read off a function that was changed at one place, where the change doesn't show there
+-- a read of a function after a change at one place that this read does not see
 at_put : {A B : Type 0} (f : ℕ → A) (k j : ℕ) (r : A) (g : A → B) → g r ≡ g (f k) → g (put f k r j) ≡ g (f j)
 at_put f k j r g same = elim (cases_eq j k) [
   | inl e ↦ ap g (ap (put f k r) e ∙ put_same f k r) ∙ same ∙ ap (λ i. g (f i)) (sym e)
   | inr ne ↦ ap g (put_other f k r j ne)
 ]
 
--- and of two that were changed at the same place alike
+-- reads of two functions after the same change at one place
 put_alike : {A B : Type 0} (f h : ℕ → A) (k j : ℕ) (r s : A) (g : A → B) → g r ≡ g s → g (f j) ≡ g (h j) → g (put f k r j) ≡ g (put h k s j)
 put_alike f h k j r s g same there = elim (cases_eq j k) [
   | inl e ↦ ap g (ap (put f k r) e ∙ put_same f k r) ∙ same ∙ sym (ap g (ap (put h k s) e ∙ put_same h k s))
@@ -64,7 +64,7 @@ module _ (law : RoundLaw) (atomic : (P : Protocol) (p : ℕ) → IsAtomic Batch 
   agrees : RoundsAgree L Good
   agrees = agrees_of law o opening.plan
 
-  -- who has begun in a round and not decided stands at a place of its path
+  -- a process that has begun in a round and not decided is at a place of its path
   pub record IsActive (r : RoundWorld Batch) (p : ℕ) : Type 0 where
     pub place : ℕ
     pub value : Batch
@@ -90,7 +90,7 @@ module _ (law : RoundLaw) (atomic : (P : Protocol) (p : ℕ) → IsAtomic Batch 
   many : (r : RoundWorld Batch) → Good r → (length r.nodes ≡ nodes_of o.plan) × (length r.locals ≡ n) × (length r.inputs ≡ n)
   many r good = sizes_of law o opening.plan r good
 
-  -- both rounds have the node of a place where a process stands
+  -- both rounds have the node of a process's place
   has_place : (r s : RoundWorld Batch) → Good r → Good s → (p i : ℕ) → p < n → i < length (P.path p) → HasPlace P p i r s
   has_place r s good good' p i lt within =
       let below : (place_of P p i).node < nodes_of o.plan = (law.sound_plans o.plan opening.plan).nodes_below p i (lt, within) in
@@ -115,12 +115,12 @@ module _ (law : RoundLaw) (atomic : (P : Protocol) (p : ℕ) → IsAtomic Batch 
   undecided_kept v p here mine None e = refl
   undecided_kept v p here mine (Some x) e = absurd (cc)
 
-  -- and leads to the same in two worlds
+  -- a decision leads to the same in two worlds
   caller_alike : (v u : LogWorld) (p : ℕ) (here : Caller) (mine : Entry) (d : Option Batch) → v.caller p ≡ u.caller p → (after_decision L v p here mine d).caller p ≡ (after_decision L u p here mine d).caller p
   caller_alike v u p here mine None e = e
   caller_alike v u p here mine (Some x) e = put_same v.caller p _ ∙ sym (put_same u.caller p _)
 
-  -- the world after an action in the round of the slot, before what is decided there is replayed
+  -- the world after an action in the round of the slot, before the process replays its decision
   abbrev ran : LogWorld → ℕ → Caller → LogWorld
   ran w p here = record w { round = put w.round (length here.seen) (round_step P p (w.round (length here.seen))) }
 
@@ -130,9 +130,9 @@ module _ (law : RoundLaw) (atomic : (P : Protocol) (p : ℕ) → IsAtomic Batch 
   ran_round : (w : LogWorld) (p : ℕ) (here : Caller) (mine : Entry) → (after_run L w p here mine).round (length here.seen) ≡ round_step P p (w.round (length here.seen))
   ran_round w p here mine = rounds_kept (ran w p here) p here mine (decision w p here) (length here.seen) ∙ put_same w.round (length here.seen) (round_step P p (w.round (length here.seen)))
 
-  -- what an event does, in the world before it
+  -- the effect of an event, in the world before it
   module _ (w : LogWorld) (safe : IsSafe w) where
-    -- who runs in the round of its slot is active there
+    -- a process that runs in the round of its slot is active there
     runs_at : (p : ℕ) → p < n → (here : Caller) (mine : Entry) → w.caller p ≡ here → here.phase ≡ Runs mine → IsActive (w.round (length here.seen)) p
     runs_at p lt here mine is phase =
         let Began : Caller → Type 0 = λ c. IsRuns c.phase → (v : Batch) × (input_at (w.round (length c.seen)) p ≡ Some v) × (decision_at (w.round (length c.seen)) p ≡ None) in
@@ -205,7 +205,7 @@ module _ (law : RoundLaw) (atomic : (P : Protocol) (p : ℕ) → IsAtomic Batch 
       rounds = λ k. at_put w.round (length here.seen) k _ (λ (v : RoundWorld Batch). local_at v r) (get_or-set_other (w.round (length here.seen)).locals p r _ NotBegun ne);
     }
 
-    -- the parts of the law that speak of one world, for a step
+    -- the parts of the law on one world, for a step
     pub record IsOneStep (p : ℕ) (here : Caller) (ph : Phase) : Type 0 where
       pub part : LogPart
       pub touches : touched_by_step o w p here ph ≡ Some part
@@ -258,14 +258,14 @@ module _ (law : RoundLaw) (atomic : (P : Protocol) (p : ℕ) → IsAtomic Batch 
         let s = one_step p may.process (w.caller p) (w.caller p).phase refl refl may.in_call in
         record { part = s.part; touches = s.touches; other_parts = s.other_parts; other_processes = s.other_processes; happens = s.steps }
 
-  -- what an event does in two worlds that look alike to its process
+  -- the effect of an event in two worlds that look alike to its process
   module _ (w u : LogWorld) (safe : IsSafe w) (safe' : IsSafe u) where
     pub record GoesAlike (p : ℕ) (touches : Option LogPart) (w' u' : LogWorld) (given given' : StepAnswer) : Type 0 where
       pub local : IsSameLocally p w' u'
       pub shared : (part : LogPart) → touches ≡ Some part → log_content o w' part ≡ log_content o u' part
       pub answer : given ≡ given'
 
-    -- a look with what it has gathered leads to the same in both
+    -- a look with the same batch leads to the same in both
     gathers_alike : (p : ℕ) → p < n → (here : Caller) (mine : Entry) (q : ℕ) (batch : Batch) (last : Bool) → IsSameLocally p w u
         → IsSameLocally p (after_gathering L w p here mine q batch last) (after_gathering L u p here mine q batch last)
     gathers_alike p lt here mine q batch false local = record { caller = put_same w.caller p _ ∙ sym (put_same u.caller p _); rounds = local.rounds }
@@ -347,7 +347,7 @@ module _ (law : RoundLaw) (atomic : (P : Protocol) (p : ℕ) → IsAtomic Batch 
         }
     step_alike p lt here (Runs mine) is phase busy local shared = goes_on p lt here mine local.caller (runs_at w safe p lt here mine is phase) local shared
 
-    -- the same for a step by what the process knows in each of the worlds
+    -- the same for a step, by the knowledge of the process in each world
     step_goes : (p : ℕ) → MayStep L w p → IsSameLocally p w u → ((part : LogPart) → touched_by o w (Step p) ≡ Some part → log_content o w part ≡ log_content o u part)
         → GoesAlike p (touched_by o w (Step p)) (after_event L w (Step p)) (after_event L u (Step p)) (answer_from L w p (w.caller p) (w.caller p).phase) (answer_from L u p (u.caller p) (u.caller p).phase)
     step_goes p may local shared =

@@ -1,4 +1,4 @@
--- What follows from what every event keeps: no call is passed by for long, and answers are those of one run.
+-- Consequences of the invariant: the bypass bound, and the answers are those of one sequential run.
 use Rattle.std.proofs.Common.{ℕ, ◌≡◌, ◌⊎◌, inl, inr, ◌+◌, ◌<◌, ◌≤◌, [], length, Option, Some, None, refl, arith, subst}
 use Rattle.cn_log.specs.declared.batch.Batch.{Batch}
 use Rattle.cn_log.specs.declared.entry.Entry.{Entry}
@@ -9,7 +9,7 @@ use Rattle.cn_log.proofs.Invariant.{IsNoted, IsPending, Holds, Facts, Stands, St
 use Rattle.cn_log.proofs.ListLemmas.{there_is}
 
 module _ {R : Type 0} (L : Setting R) (Good : R → Type 0) (agrees : RoundsAgree L Good) (w : World R) (holds : Holds L Good w) (facts : Facts L w) where
-  -- once slot since + 1 is fixed, a call made at since stands at or before it
+  -- once slot since + 1 is fixed, a call made at since stands in it or before it
   pub helped_by : (e : Entry) (since : ℕ) → IsNoted (Called e since) w.history → e.process < L.processes → (y : Batch) → since + 1 < L.capacity → L.consensus.fixed (w.round (since + 1)) ≡ Some y → StandsBy L w e (since + 1)
   helped_by e since noted lt y room h =
       let g = agrees.valid (w.round (since + 1)) y (holds.good (since + 1)) h in
@@ -18,7 +18,7 @@ module _ {R : Type 0} (L : Setting R) (Good : R → Type 0) (agrees : RoundsAgre
         | inr s ↦ s
       ]
 
-  -- a call that stands, stands in slot since or since + 1
+  -- a call in the log stands in slot since or since + 1
   pub bypass : (e : Entry) (since k : ℕ) → IsNoted (Called e since) w.history → e.process < L.processes → k < L.capacity → Stands L w e k → (since ≤ k) × (k ≤ since + 1)
   bypass e since k noted lt room h = (facts.stood e since k noted h, go (cases_le k (since + 1)))
     where
@@ -33,7 +33,7 @@ module _ {R : Type 0} (L : Setting R) (Good : R → Type 0) (agrees : RoundsAgre
           let same : s.slot ≡ k = stands_once L Good agrees w holds s.slot k e s.stands h in
           let le = s.low in omega arith
 
-  -- where it stands nowhere, slot since + 1 is open
+  -- if it is in no slot, slot since + 1 is open
   pub bypass_none : (e : Entry) (since : ℕ) → IsNoted (Called e since) w.history → e.process < L.processes → ((k : ℕ) → k < L.capacity → Stands L w e k → ⊥) → since + 1 < L.capacity → L.consensus.fixed (w.round (since + 1)) ≡ None
   bypass_none e since noted lt none room = go (L.consensus.fixed (w.round (since + 1))) refl
     where
@@ -41,7 +41,7 @@ module _ {R : Type 0} (L : Setting R) (Good : R → Type 0) (agrees : RoundsAgre
       go None h = refl
       go (Some y) h = let s = helped_by e since noted lt y room h in let l = s.low in absurd (none s.slot (omega arith) s.stands)
 
-  -- the calls of a process before one that stands stand before it, none left out
+  -- the earlier calls of the process of an entry stand before it, and none is left out
   pub none_left_out : (e : Entry) (k c : ℕ) → Stands L w e k → c < e.call → (f : Entry) × (j : ℕ) × (f.process ≡ e.process) × (f.call ≡ c) × (j < k) × Stands L w f j
   none_left_out e k c h less =
       let called = (fixed_begun L Good agrees w holds k h.batch h.fixed).called e h.has in
@@ -51,7 +51,7 @@ module _ {R : Type 0} (L : Setting R) (Good : R → Type 0) (agrees : RoundsAgre
       let low = facts.stood e called.since k called.noted h in
       (f.0, j.0, f.2, f.3, (let l = j.1 in omega arith), j.2)
 
-  -- a process whose call was made at since has applied no more than since + 1 slots while it is pending
+  -- a process with a pending call made at since has applied at most since + 1 slots
   pub pending_low : (p : ℕ) (mine : Entry) → p < L.processes → IsPending L w p mine → (since : ℕ) → IsNoted (Called mine since) w.history → length (w.caller p).seen ≤ since + 1
   pending_low p mine lt pend since noted = go (cases_le (length (w.caller p).seen) (since + 1))
     where
@@ -70,7 +70,7 @@ module _ {R : Type 0} (L : Setting R) (Good : R → Type 0) (agrees : RoundsAgre
           let same : s.stands.batch ≡ x.0 = cc (fixed, there) in
           absurd (pend.unseen s.slot x.0 x.1 (subst (λ (z : Batch). HoldsEntry z mine) same s.stands.has))
 
--- what holds before any event
+-- before any event
 module _ {R : Type 0} (L : Setting R) (Good : R → Type 0) (agrees : RoundsAgree L Good) where
   none_noted : (note : Note) → IsNoted note [] → ⊥
   none_noted note h = let g = h.there in cc g

@@ -1,4 +1,4 @@
--- Of each process, a process has applied its first so many calls: so their number tells which.
+-- A process has applied the first calls of each process, so their number tells which.
 use Rattle.std.proofs.Common.{ℕ, zero, suc, ◌≡◌, if◌then◌else◌, Bool, true, false, ◌+◌, ◌<◌, ◌≤◌, ◌==◌, nat_lt, List, [], ◌∷◌, length, take, slice_get, Option, Some, None, refl, ap, ◌∙◌, subst, arith}
 use Rattle.std.proofs.lemmas.Bool.Decides.{nat_tests}
 use Rattle.cn_log.specs.declared.batch.Batch.{Batch}
@@ -42,7 +42,7 @@ call_at p k operation (Invoke q o ∷ events) (suc i) h = go (q == p) refl (call
         let n : calls_of p (Invoke q o ∷ take i events) ≡ calls_of p (take i events) = calls_cons p (Invoke q o) (take i events) ∙ (rw is (omega arith)) in
         rw (n, is) same
 
--- what stands among a process's own stands among all, and the other way round
+-- an element of a process's own list is in the whole list, and the converse
 from_own : (p : ℕ) (xs : List Entry) (i : ℕ) (x : Entry) → slice_get (entries_by p xs) i ≡ Some x → (j : ℕ) × (slice_get xs j ≡ Some x)
 from_own p [] i x h = absurd cc
 from_own p (y ∷ xs) i x h = go (y.process == p) i h (λ j g. from_own p xs j x g)
@@ -53,7 +53,7 @@ from_own p (y ∷ xs) i x h = go (y.process == p) i h (λ j g. from_own p xs j x
     go true (suc j) h rest = let r = rest j h in (suc r.0, r.1)
     go false i h rest = let r = rest i h in (suc r.0, r.1)
 
--- there are no more of its own than there are
+-- its own entries are not more than all entries
 pub own_few : (p : ℕ) (xs : List Entry) → length (entries_by p xs) ≤ length xs
 own_few p [] = omega arith
 own_few p (x ∷ xs) = go (x.process == p) (own_few p xs)
@@ -62,7 +62,7 @@ own_few p (x ∷ xs) = go (x.process == p) (own_few p xs)
     go true few = omega arith
     go false few = omega arith
 
--- a process has at most one entry in a batch: that at its place
+-- a process has at most one entry in a batch, at its place
 pub own_at : (n p : ℕ) (b : Batch) → IsShaped b → p < n → entries_by p (members n 0 b) ≡ and_entry (entry_at b p) []
 own_at n p b shaped low = go (entry_at b p) refl
   where
@@ -77,7 +77,7 @@ module _ {R : Type 0} (L : Setting R) (Good : R → Type 0) (agrees : RoundsAgre
   abbrev own : List Entry
   own = entries_by q known
 
-  -- what process p has applied of process q are the first calls of process q
+  -- the entries of process q that process p has applied are the first calls of process q
   first_calls : (i : ℕ) (x : Entry) → slice_get own i ≡ Some x → slice_get (calls_by q events) i ≡ Some x
   first_calls i x h = let m = seen_made L Good agrees q events may p in ap (λ l. slice_get l i) m.1 ∙ get_front own m.0 i x h
 
@@ -108,7 +108,7 @@ module _ {R : Type 0} (L : Setting R) (Good : R → Type 0) (agrees : RoundsAgre
         let f = from_own q known e.call e (x.1 ∙ ap Some same) in
         has_not known e h f.0 f.1
 
-    -- the call is among what process p has applied where its number is below how many of the calls of its process are
+    -- process p has applied the call exactly if the call's number is below the number of calls of its process that p has applied
     pub by_number : nat_lt e.call (length own) ≡ has_entry known e
     by_number = go (has_entry known e) refl
       where

@@ -49,7 +49,7 @@ entries_few L round (suc slots) base = go (L.consensus.fixed (round base)) (entr
     go None few = omega arith
     go (Some e) few = omega arith
 
--- where fixed slots stay, entries stay
+-- if fixed slots stay, entries stay
 pub entries_stay : {R : Type 0} (L : Setting R) (round after : ℕ → R) → ((k : ℕ) (e : Batch) → L.consensus.fixed (round k) ≡ Some e → L.consensus.fixed (after k) ≡ Some e) → (fuel base : ℕ)
     → (rest : List Batch) × (fixed_from L fuel base after ≡ fixed_from L fuel base round ++ rest)
 entries_stay L round after stay zero base = ([], refl)
@@ -73,7 +73,7 @@ response_there t (y ∷ before) (x ∷ es) state (suc k) e len are h =
     let rest = response_there t before es (transition t x.operation.0 state).1 k e (omega arith) (λ j z s. are (suc j) z s) h in
     rest ∙ ap (λ (z : Entry). Some (transition t e.operation.0 (state_after t (transition t z.operation.0 state).1 (operations_of before))).0) same
 
--- the entries are told by the slots: fixed to them, and then the end or an open slot
+-- the slots determine the entries: fixed to these batches, then the end or an open slot
 pub fixed_from_is : {R : Type 0} (L : Setting R) (round : ℕ → R) (slots base : ℕ) (es : List Batch) → length es ≤ slots
     → ((j : ℕ) (x : Batch) → slice_get es j ≡ Some x → L.consensus.fixed (round (base + j)) ≡ Some x)
     → (length es ≡ slots) ⊎ (L.consensus.fixed (round (base + length es)) ≡ None) → fixed_from L slots base round ≡ es
@@ -91,17 +91,17 @@ fixed_from_is L round (suc slots) base (e ∷ es) few are end =
     let later : (length es ≡ slots) ⊎ (L.consensus.fixed (round (suc base + length es)) ≡ None) = elim end [ inl full ↦ inl (omega arith) | inr none ↦ inr (rw (← s (length es)) none) ] in
     rw h (ap (λ xs. e ∷ xs) (fixed_from_is L round slots (suc base) es (omega arith) (λ j x g. rw (← s j) (are (suc j) x g)) later))
 
--- where each slot is fixed to what it was fixed to, the entries are the same
+-- if each slot is fixed to the same batch, the entries are the same
 pub fixed_from_same : {R : Type 0} (L : Setting R) (round after : ℕ → R) → ((k : ℕ) → L.consensus.fixed (after k) ≡ L.consensus.fixed (round k)) → (slots base : ℕ) → fixed_from L slots base after ≡ fixed_from L slots base round
 fixed_from_same L round after same zero base = refl
 fixed_from_same L round after same (suc slots) base = rw (same base, fixed_from_same L round after same slots (suc base)) refl
 
--- the batches, and behind them that of slot k where it is the next one and fixed
+-- the batches, and then that of slot k if it is fixed and the next one
 abbrev pub entered : List Batch → ℕ → Option Batch → List Batch
 entered batches k None = batches
 entered batches k (Some b) = if length batches == k then batches ++ b ∷ [] else batches
 
--- the entries where one slot has come to another round that keeps what is fixed
+-- the entries after one slot comes to another round that keeps its fixed value
 module _ {R : Type 0} (L : Setting R) (round : ℕ → R) (k : ℕ) (r : R) (es : List Batch) (low : k ≤ length es) (room : k < L.capacity)
     (are : (j : ℕ) (x : Batch) → slice_get es j ≡ Some x → L.consensus.fixed (round j) ≡ Some x)
     (end : (length es ≡ L.capacity) ⊎ (L.consensus.fixed (round (length es)) ≡ None))

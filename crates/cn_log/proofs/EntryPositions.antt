@@ -1,4 +1,4 @@
--- Where the entries of batches stand.
+-- The places of the entries of batches.
 use Rattle.std.proofs.Common.{ℕ, zero, suc, ◌≡◌, ◌⊎◌, inl, inr, ◌+◌, ◌*◌, ◌<◌, ◌≤◌, List, [], ◌∷◌, ◌++◌, length, map, take, slice_get, Option, Some, None, refl, sym, ap, ◌∙◌, arith, length-append, append_assoc}
 use Rattle.std.proofs.lemmas.List.{length-map}
 use Rattle.cn_log.specs.declared.entry.Entry.{Entry}
@@ -15,7 +15,7 @@ get_cases [] ys i x h = inr (i, omega arith, h)
 get_cases (z ∷ xs) ys zero x h = inl h
 get_cases (z ∷ xs) ys (suc i) x h = elim (get_cases xs ys i x h) [ inl a ↦ inl a | inr b ↦ inr (b.0, (let e = b.1 in omega (arith, e)), b.2) ]
 
--- an entry among the members of a batch: whose it is, and behind how many it stands
+-- an entry among the members of a batch: its process, and the number of entries before it
 pub of_members : (many q : ℕ) (b : Batch) (i : ℕ) (e : Entry) → slice_get (members many q b) i ≡ Some e → (j : ℕ) × (j < many) × (entry_at b (q + j) ≡ Some e) × (i ≡ length (members j q b))
 of_members zero q b i e h = absurd cc
 of_members (suc many) q b i e h = go (entry_at b q) refl i h (λ i h. of_members many (suc q) b i e h)
@@ -27,7 +27,7 @@ of_members (suc many) q b i e h = go (entry_at b q) refl i h (λ i h. of_members
     go (Some x) is zero h rest = let z : q + 0 ≡ q = omega arith in (zero, omega arith, rw z (is ∙ h), refl)
     go (Some x) is (suc i) h rest = let r = rest i h in let s : q + suc r.0 ≡ suc q + r.0 = omega arith in (suc r.0, (let l = r.1 in omega arith), rw s r.2, rw is (ap suc r.3))
 
--- the entry of a process stands behind those of the processes before
+-- the entry of a process stands behind those of the earlier processes
 split_members : (many q : ℕ) (b : Batch) (j : ℕ) (e : Entry) → j < many → entry_at b (q + j) ≡ Some e → (rest : List Entry) × (members many q b ≡ members j q b ++ e ∷ rest)
 split_members zero q b j e less h = absurd (omega arith)
 split_members (suc many) q b zero e less h = let z : q + 0 ≡ q = omega arith in let g : entry_at b q ≡ Some e = rw z at h in (members many (suc q) b, rw g refl)
@@ -59,7 +59,7 @@ split_entries n [] k b h = absurd cc
 split_entries n (c ∷ bs) zero b h = let same : c ≡ b = cc in (entries_in n bs, ap (λ (z : Batch). members n 0 z ++ entries_in n bs) same)
 split_entries n (c ∷ bs) (suc k) b h = let r = split_entries n bs k b h in (r.0, ap (λ l. members n 0 c ++ l) r.1 ∙ sym (append_assoc (members n 0 c) (entries_in n (take k bs)) (members n 0 b ++ r.0)))
 
--- the entry stands at this place among those of the batches
+-- the entry has this place among those of the batches
 pub record IsPlaced (n : ℕ) (bs : List Batch) (place : ℕ) (e : Entry) : Type 0 where
   pub slot : ℕ
   pub batch : Batch
@@ -110,7 +110,7 @@ module _ (n : ℕ) (bs : List Batch) (k : ℕ) (b : Batch) (q : ℕ) (e : Entry)
   pub front : (j : ℕ) (x : Entry) → slice_get before j ≡ Some x → slice_get (entries_in n bs) j ≡ Some x
   front j x h = ap (λ l. slice_get l j) split.1 ∙ get_front before (e ∷ split.0) j x h
 
--- one entry's place is before that of an entry in a later slot
+-- the place of an entry is before that of an entry in a later slot
 pub slots_in_order : (n : ℕ) (bs : List Batch) (j k : ℕ) (b c : Batch) (p q : ℕ) (e : Entry) → slice_get bs j ≡ Some b → slice_get bs k ≡ Some c → j < k → p < n → entry_at b p ≡ Some e
     → length (entries_in n (take j bs)) + length (members p 0 b) < length (entries_in n (take k bs)) + length (members q 0 c)
 slots_in_order n [] j k b c p q e hj hk less low at = absurd cc
@@ -129,7 +129,7 @@ slots_in_order n (d ∷ bs) (suc j) (suc k) b c p q e hj hk less low at =
     let m : length (members n 0 d ++ entries_in n (take k bs)) ≡ length (members n 0 d) + length (entries_in n (take k bs)) = length-append (members n 0 d) (entries_in n (take k bs)) in
     omega (arith, r, l, m)
 
--- in a slot one entry's place is before that of a later process
+-- in a slot, the place of an entry is before that of a later process
 pub members_in_order : (b : Batch) (p q : ℕ) (e : Entry) → p < q → entry_at b p ≡ Some e → length (members p 0 b) < length (members q 0 b)
 members_in_order b p q e less at =
     let z : 0 + p ≡ p = omega arith in
@@ -142,7 +142,7 @@ get_map f [] k x h = absurd cc
 get_map f (y ∷ xs) zero x h = let same : y ≡ x = cc in ap (λ z. Some (f z)) same
 get_map f (y ∷ xs) (suc k) x h = get_map f xs k x h
 
--- the slot told for a place is that of the entry there
+-- the slot of a place is that of the entry there
 pub slot_of : (n base : ℕ) (bs : List Batch) (place : ℕ) (e : Entry) → slice_get (entries_in n bs) place ≡ Some e → (k : ℕ) × (b : Batch) × (q : ℕ) × (slice_get bs k ≡ Some b) × (q < n)
     × (entry_at b q ≡ Some e) × (place ≡ length (entries_in n (take k bs)) + length (members q 0 b)) × (slice_get (slots_from n base bs) place ≡ Some (base + k))
 slot_of n base [] place e h = absurd cc

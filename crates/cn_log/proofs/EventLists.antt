@@ -42,7 +42,7 @@ calls_cons p e events = sum_by-cons (λ x. cond (is_call_of p x) 1 0) e events
 pub calls_own : (p operation : ℕ) → is_call_of p (Invoke p operation) ≡ true
 calls_own p operation = grind (arith, nat_tests)
 
--- a process's calls have numbers of their own
+-- the calls of a process have different numbers
 pub number_once : (events : List Event) (p a b i j : ℕ) → slice_get events i ≡ Some (Invoke p a) → slice_get events j ≡ Some (Invoke p b) → calls_of p (take i events) ≡ calls_of p (take j events) → a ≡ b
 number_once [] p a b i j hi hj same = absurd cc
 number_once (e ∷ events) p a b zero zero hi hj same = cc

@@ -14,7 +14,7 @@ use Rattle.cn_log.specs.Log.{Setting, World, Caller, MayInvoke, MayStep, MayCome
 use Rattle.cn_log.proofs.EventLists.{split_at}
 use Rattle.cn_log.proofs.ListLemmas.{get_seam}
 
--- the fault of an event that comes after these is that of the first event that cannot come, in each list that goes on with it
+-- the fault of an event after these is that of the first event that cannot come, in each list that begins with these and the event
 pub first_fault : {R : Type 0} (L : Setting R) (s rest : List Event) (event : Event) (fault : ReplayFault) → IsEventList L s → event_fault L (state_of L s) (length s) event ≡ Some fault
     → IsFirstEventFault L (s ++ event ∷ rest) fault
 first_fault L s rest event fault may why = record {
@@ -25,14 +25,14 @@ first_fault L s rest event fault may why = record {
   why = ap (λ z. event_fault L (state_of L z) (length s) event) (take-append_seam s (event ∷ rest)) ∙ why;
 }
 
--- and so, where those are the events of a list up to a place, it is that of the list
+-- so it is the fault of a list that begins with these and the event
 pub first_in : {R : Type 0} (L : Setting R) (events : List Event) (k : ℕ) (d : Event) (s : List Event) (fault : ReplayFault) → s ≡ take k events → k < length events
     → ((rest : List Event) → IsFirstEventFault L (s ++ get_or events k d ∷ rest) fault) → IsFirstEventFault L events fault
 first_in L events k d s fault is less first =
     let parted = ap (λ front. front ++ get_or events k d ∷ drop (suc k) events) is ∙ sym (split_at events k (get_or events k d) (slice_get-get_or events k d less)) in
     subst (λ (es : List Event). IsFirstEventFault L es fault) parted (first (drop (suc k) events))
 
--- without a fault
+-- no fault
 invoke_none : (capacity i : ℕ) (here : Caller) (ph : Phase) → invoke_fault capacity i here ph ≡ None → (ph ≡ Idle) × (length here.seen < capacity)
 invoke_none capacity i here Idle h = (refl, go (nat_lt (length here.seen) capacity) refl h)
   where
@@ -83,6 +83,6 @@ module _ {R : Type 0} (L : Setting R) (w : World R) (i : ℕ) where
       let t : nat_lt p L.processes ≡ true = grind (arith, nat_tests) in
       rw t (none_step i (w.caller p).phase may.in_call)
 
-  -- an event has a fault exactly where it cannot come
+  -- an event has a fault exactly if it cannot come
   pub fault_or_may : (e : Event) → (event_fault L w i e ≡ None) ↔ MayCome L w e
   fault_or_may e = (none_may e, may_none e)

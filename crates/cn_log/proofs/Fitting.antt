@@ -21,11 +21,11 @@ use Rattle.cn_log.proofs.Bypassing.{first_holds}
 use Rattle.cn_log.proofs.EventLists.{run_append}
 use Rattle.cn_log.proofs.EntryLists.{fixed_from_is}
 
--- what was read at a place, where that is one of another name
+-- the value read at a place, if the place has another name
 pub read_at : {A : Type 0} (xs : List A) {x : A} {k p : ℕ} → x ≡ get_or xs k x → k ≡ p → x ≡ get_or xs p x
 read_at xs {x = x} there same = there ∙ ap (λ k. get_or xs k x) same
 
--- and put back there
+-- the same value put back
 pub put_back : {A : Type 0} (xs : List A) {x : A} (k : ℕ) → x ≡ get_or xs k x → slice_set xs k x ≡ xs
 put_back xs {x = x} k there = ap (λ y. slice_set xs k y) there ∙ set-get_or xs k x
 
@@ -33,13 +33,13 @@ put_back xs {x = x} k there = ap (λ y. slice_set xs k y) there ∙ set-get_or x
 pub keeps_shown : {R : Type 0} {L : Setting R} {s : List Event} {shown kept : Fields R} → Keeps L s kept → shown ≡ kept → Keeps L s shown
 keeps_shown {L = L} {s = s} keeps shows = subst (Keeps L s) (sym shows) keeps
 
--- a process in this phase, and how far it has come, as it was read from what is kept
+-- a process in this phase, and its progress, as read from the fields
 pub record IsReadCaller {R : Type 0} (L : Setting R) (Good : R → Type 0) (s : List Event) (kept : Fields R) (p : ℕ) (phase : Phase) (here : CallerState) : Type 0 where
   pub agrees : RoundsAgree L Good
   pub at : IsAt L s kept p phase
   pub read : here ≡ get_or kept.callers p here
 
--- so a method finds it that reads it from fields that show what is kept
+-- so a method finds it in the fields
 pub read_caller : {R : Type 0} {L : Setting R} {Good : R → Type 0} {s : List Event} {shown kept : Fields R} {p k : ℕ} {phase : Phase} {here : CallerState}
     → RoundsAgree L Good → IsAt L s kept p phase → shown ≡ kept → here ≡ get_or shown.callers k here → k ≡ p → IsReadCaller L Good s shown p phase here
 read_caller {L = L} {s = s} {shown = shown} {p = p} {phase = phase} agrees at shows read same = record {
@@ -53,7 +53,7 @@ busy Idle = 0
 busy (Looks e q batch) = 1
 busy (Runs e) = 1
 
--- a process has applied a slot for each of its calls but the pending one
+-- a process has applied a slot for each of its calls except the pending one
 abbrev IsLow : ℕ → Caller → Type 0
 IsLow capacity here = (here.calls ≤ length here.seen + busy here.phase) × (length here.seen ≤ capacity)
 
@@ -139,7 +139,7 @@ module _ {R : Type 0} (L : Setting R) (Good : R → Type 0) (agrees : RoundsAgre
   low_after : (s : List Event) → IsEventList L s → (q : ℕ) → IsLow L.capacity ((state_of L s).caller q)
   low_after s may q = low_run s (first_world L) (first_holds L Good agrees) (λ q. (omega arith, omega arith)) may q
 
-  -- a process makes no more calls than there are slots
+  -- a process makes at most as many calls as there are slots
   pub calls_few : {s : List Event} {kept : Fields R} → Keeps L s kept → {p operation : ℕ} → MayInvoke L (state_of L s) p operation → {here : CallerState} → here ≡ get_or kept.callers p here → here.calls < L.capacity
   calls_few {s = s} {kept = kept} keeps {p = p} {operation = operation} may {here = here} read =
       let low = (low_invoke L (state_of L s) (low_after s keeps.events) p operation may).0 in

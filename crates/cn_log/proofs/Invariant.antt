@@ -1,4 +1,4 @@
--- What every event of the log keeps.
+-- The invariant of every event of the log.
 use Rattle.std.proofs.Common.{ℕ, ◌≡◌, ◌⊎◌, inl, inr, ◌+◌, ◌<◌, ◌≤◌, List, [], ◌∷◌, length, slice_get, Some, None, subst, arith}
 use Rattle.cn_log.specs.declared.batch.Batch.{Batch}
 use Rattle.cn_log.specs.declared.entry.Entry.{Entry}
@@ -59,7 +59,7 @@ pub record IsOther {R : Type 0} (L : Setting R) (r : R) (v : Entry) : Type 0 whe
   pub fixed : L.consensus.fixed r ≡ Some batch
   pub other : HoldsEntry batch v → ⊥
 
--- what a process begins with in slot k: every slot before is fixed, its entries were called and stand in none of these
+-- the input of a process in slot k: every earlier slot is fixed, and the entries are calls that are in none of these slots
 pub record IsBegun {R : Type 0} (L : Setting R) (w : World R) (k : ℕ) (v : Batch) : Type 0 where
   pub shaped : IsShaped v
   pub called : (e : Entry) → HoldsEntry v e → IsCalled e w.history
@@ -68,29 +68,29 @@ pub record IsBegun {R : Type 0} (L : Setting R) (w : World R) (k : ℕ) (v : Bat
 
 pub record Holds {R : Type 0} (L : Setting R) (Good : R → Type 0) (w : World R) : Type 0 where
   pub good : (k : ℕ) → Good (w.round k)
-  -- what a process has applied is what is fixed
+  -- the batches that a process has applied are fixed
   pub seen : (p k : ℕ) (x : Batch) → slice_get (w.caller p).seen k ≡ Some x → L.consensus.fixed (w.round k) ≡ Some x
-  -- a process has begun in the slots that it has applied, and in the one that it runs
+  -- a process has begun in the slots that it has applied, and in the one in which it runs
   pub entered : (k q : ℕ) (v : Batch) → L.consensus.input (w.round k) q ≡ Some v → (k < length (w.caller q).seen) ⊎ ((k ≡ length (w.caller q).seen) × IsRuns (w.caller q).phase)
-  -- who runs in a slot has begun there and not decided
+  -- a process that runs in a slot has begun there and not decided
   pub running : (q : ℕ) → IsRuns (w.caller q).phase → (v : Batch) × (L.consensus.input (w.round (length (w.caller q).seen)) q ≡ Some v) × (L.consensus.decided (w.round (length (w.caller q).seen)) q ≡ None)
   pub begun : (k q : ℕ) (v : Batch) → L.consensus.input (w.round k) q ≡ Some v → IsBegun L w k v
   pub phases : (p : ℕ) → PhaseHolds L w p (w.caller p).phase
   pub announced : (p : ℕ) (a : Entry) → w.announced p ≡ Some a → IsCalled a w.history × (a.process ≡ p)
   pub numbered : (e : Entry) → IsCalled e w.history → e.call < (w.caller e.process).calls
 
--- the entry stands in the batch of the slot
+-- the batch of the slot holds the entry
 pub record Stands {R : Type 0} (L : Setting R) (w : World R) (e : Entry) (k : ℕ) : Type 0 where
   pub batch : Batch
   pub fixed : L.consensus.fixed (w.round k) ≡ Some batch
   pub has : HoldsEntry batch e
 
 module _ {R : Type 0} (L : Setting R) (Good : R → Type 0) (agrees : RoundsAgree L Good) (w : World R) (holds : Holds L Good w) where
-  -- what is fixed was begun
+  -- a fixed batch is an input
   pub fixed_begun : (k : ℕ) (y : Batch) → L.consensus.fixed (w.round k) ≡ Some y → IsBegun L w k y
   fixed_begun k y h = let b = agrees.valid (w.round k) y (holds.good k) h in holds.begun k b.0 y b.1
 
-  -- no entry stands in two slots
+  -- no entry is in two slots
   pub stands_once : (j k : ℕ) (e : Entry) → Stands L w e j → Stands L w e k → j ≡ k
   stands_once j k e hj hk = go (cases j k)
     where
@@ -119,14 +119,14 @@ IsMine Idle e = ⊥
 IsMine (Looks mine q batch) e = mine ≡ e
 IsMine (Runs mine) e = mine ≡ e
 
--- the entry is in a batch that was replayed
+-- a batch that was replayed holds the entry
 pub record IsSeen (seen : List Batch) (e : Entry) : Type 0 where
   pub slot : ℕ
   pub batch : Batch
   pub there : slice_get seen slot ≡ Some batch
   pub has : HoldsEntry batch e
 
--- what was answered is the reply of the slot: of one sequential run of the entries before
+-- the response is the reply of the slot: that of one sequential run of the entries before
 pub record IsReply {R : Type 0} (L : Setting R) (w : World R) (e : Entry) (k : ℕ) (response : ℕ) : Type 0 where
   pub stands : Stands L w e k
   pub within : k < L.capacity
@@ -135,40 +135,40 @@ pub record IsReply {R : Type 0} (L : Setting R) (w : World R) (e : Entry) (k : �
   pub are : (j : ℕ) (x : Batch) → slice_get before j ≡ Some x → L.consensus.fixed (w.round j) ≡ Some x
   pub reply : response ≡ response_in L before stands.batch e
 
--- a call comes after the slots of all answers before it
+-- a call comes after the slots of all earlier answers
 abbrev pub IsOrdered : List Note → Type 0
 IsOrdered [] = Unit {0}
 IsOrdered (Called e since ∷ notes) = ((f : Entry) (k r : ℕ) → IsNoted (Replied f k r) notes → k < since) × IsOrdered notes
 IsOrdered (Replied e k r ∷ notes) = IsOrdered notes
 IsOrdered (FoundFull e ∷ notes) = IsOrdered notes
 
--- it stands in one of the slots up to k
+-- one of the slots up to k holds it
 pub record StandsBy {R : Type 0} (L : Setting R) (w : World R) (e : Entry) (k : ℕ) : Type 0 where
   pub slot : ℕ
   pub low : slot ≤ k
   pub stands : Stands L w e slot
 
--- who looks has gathered each call of the processes that it has looked at, made before its slot was the next one, unless that stands by now
+-- a process that looks has gathered each call of the processes that it has looked at, made before its slot was the next one, unless the log holds it now
 abbrev pub HasGathered : {R : Type 0} → Setting R → World R → List Batch → Phase → Type 0
 HasGathered L w seen Idle = Unit {0}
 HasGathered L w seen (Looks mine q batch) = (e : Entry) (since : ℕ) → IsNoted (Called e since) w.history → since < length seen → e.process < q → HoldsEntry batch e ⊎ StandsBy L w e (length seen)
 HasGathered L w seen (Runs mine) = Unit {0}
 
 pub record Facts {R : Type 0} (L : Setting R) (w : World R) : Type 0 where
-  -- fewer slots were fixed at a call than are now
+  -- at most as many slots were fixed at a call as are now
   pub since_low : (e : Entry) (since : ℕ) → IsNoted (Called e since) w.history → (k : ℕ) → k < L.capacity → L.consensus.fixed (w.round k) ≡ None → since ≤ k
-  -- an entry stands in a slot that was open at its call
+  -- an entry is in a slot that was open at its call
   pub stood : (e : Entry) (since k : ℕ) → IsNoted (Called e since) w.history → Stands L w e k → since ≤ k
   pub answered : (e : Entry) (k r : ℕ) → IsNoted (Replied e k r) w.history → IsReply L w e k r
-  -- a call that ended with no answer stands nowhere, and every slot is fixed
+  -- a call that ended without an answer is in no slot, and every slot is fixed
   pub ended : (e : Entry) → IsNoted (FoundFull e) w.history → (k : ℕ) → k < L.capacity → IsOther L (w.round k) e
   pub ordered : IsOrdered w.history
-  -- a call is pending, or its process has applied it, or has applied every slot
+  -- a call is pending, or its process has applied it, or its process has applied every slot
   pub done : (e : Entry) → IsCalled e w.history → IsMine (w.caller e.process).phase e ⊎ (IsSeen (w.caller e.process).seen e ⊎ (L.capacity ≤ length (w.caller e.process).seen))
   pub gathers : (p : ℕ) → HasGathered L w (w.caller p).seen (w.caller p).phase
-  -- in a slot behind the next one, all begin with e, once it is called, or e stands by then
+  -- in a slot behind the next one, every process begins with e once it is called, or e is in an earlier slot
   pub helps : (e : Entry) (since : ℕ) → IsNoted (Called e since) w.history → e.process < L.processes → (k q : ℕ) (v : Batch) → since < k → k < L.capacity → L.consensus.input (w.round k) q ≡ Some v → HoldsEntry v e ⊎ StandsBy L w e k
-  -- when a call is made, every call of the process before it stands
+  -- when a process makes a call, the log holds every earlier call of it
   pub earlier : (e : Entry) (since : ℕ) → IsNoted (Called e since) w.history → (f : Entry) → IsCalled f w.history → f.process ≡ e.process → f.call < e.call → (j : ℕ) × (j < since) × Stands L w f j
-  -- calls are numbered with no gap
+  -- the numbers of calls have no gap
   pub dense : (p c : ℕ) → c < (w.caller p).calls → (f : Entry) × IsCalled f w.history × (f.process ≡ p) × (f.call ≡ c)

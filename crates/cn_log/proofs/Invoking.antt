@@ -1,4 +1,4 @@
--- A call keeps what holds; and so every list of events.
+-- A call keeps the invariant, and so does every list of events.
 use Rattle.std.proofs.Common.{ℕ, zero, suc, ◌≡◌, ◌≢◌, ◌⊎◌, inl, inr, ◌+◌, ◌<◌, ◌≤◌, List, [], ◌∷◌, length, slice_get, Option, Some, None, refl, sym, ap, ◌∙◌, subst, arith, eq-or-lt_of_le}
 use Rattle.std.proofs.lemmas.Bool.{cases_eq}
 use Rattle.std.proofs.lemmas.Option.{slice_get_within}
@@ -84,7 +84,7 @@ module _ {R : Type 0} (L : Setting R) (Good : R → Type 0) (agrees : RoundsAgre
       record { pending = pending_other q f ne h.pending; next = h.next; gathered = rw s (record { places = g.places; shaped = g.shaped; called = λ z has. called_kept z (g.called z has); unseen = g.unseen }) }
   phase_other q (Runs f) ne h = pending_other q f ne h
 
-  -- the new entry is none that was called before
+  -- the new entry was not called before
   new_entry : IsCalled e w.history → ⊥
   new_entry c = let l = holds.numbered e c in omega arith
 
@@ -148,7 +148,7 @@ module _ {R : Type 0} (L : Setting R) (Good : R → Type 0) (agrees : RoundsAgre
     top_open : top < L.capacity → L.consensus.fixed (w.round top) ≡ None
     top_open less = elim (open_at L w.round L.capacity 0) [ inl end ↦ absurd (let e = end in omega arith) | inr none ↦ (let z : 0 + top ≡ top = omega arith in rw z at none) ]
 
-    -- a slot whose predecessors are all fixed, and that is at or above the first open one, is at the end
+    -- a slot that is at or above the first open one, with all earlier slots fixed, is at the end
     not_above : (k : ℕ) → k < L.capacity → top < k → ((j : ℕ) → j < k → (y : Batch) × (L.consensus.fixed (w.round j) ≡ Some y)) → ⊥
     not_above k room above all = let none = top_open (omega arith) in let some = (all top above).1 in cc (none, some)
 
@@ -183,7 +183,7 @@ module _ {R : Type 0} (L : Setting R) (Good : R → Type 0) (agrees : RoundsAgre
     by_now : (f : Entry) (k : ℕ) → StandsBy L w f k → StandsBy L w' f k
     by_now f k s = record { slot = s.slot; low = s.low; stands = stands_now f s.slot s.stands }
 
-    -- a process has applied no more slots than are fixed
+    -- a process has applied at most as many slots as are fixed
     seen_low : (i : ℕ) → length (w.caller i).seen ≤ L.capacity → length (w.caller i).seen ≤ top
     seen_low i few = go (cases_le top (length (w.caller i).seen))
       where
@@ -255,7 +255,7 @@ module _ {R : Type 0} (L : Setting R) (Good : R → Type 0) (agrees : RoundsAgre
         dense_mine : (c : ℕ) → c < here.calls + 1 → (f : Entry) × IsCalled f w'.history × (f.process ≡ p) × (f.call ≡ c)
         dense_mine c less = dense_at c (grind arith)
 
-        -- a call of p is done when it makes another
+        -- a call of p is done when p makes another
         stands_done : (g : Entry) (q : ℕ) → q ≡ p → IsMine (w.caller q).phase g ⊎ (IsSeen (w.caller q).seen g ⊎ (L.capacity ≤ length (w.caller q).seen)) → (j : ℕ) × (j < top) × Stands L w g j
         stands_done g q at (inl m) = absurd (let m' : IsMine Idle g = rw (at, is) at m in m')
         stands_done g q at (inr (inl s)) =

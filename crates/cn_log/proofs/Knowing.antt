@@ -1,4 +1,4 @@
--- What events do to what a process knows.
+-- The effect of events on the knowledge of a process.
 use Rattle.std.proofs.Common.{ℕ, zero, suc, ◌≡◌, ◌≢◌, ◌⊎◌, inl, inr, Bool, true, false, ◌+◌, ◌<◌, ◌≤◌, ◌==◌, List, [], ◌∷◌, ◌++◌, length, drop, slice_get, Option, Some, None, refl, sym, ap, ◌∙◌, subst, arith, length-append}
 use Rattle.std.proofs.lemmas.List.{take-append-drop}
 use Rattle.std.proofs.lemmas.Bool.Decides.{nat_tests}
@@ -41,7 +41,7 @@ module _ {R : Type 0} (L : Setting R) where
       let r : R = L.consensus.step q (w.round (length here.seen)) in
       other_decision (record w { round = put w.round (length here.seen) r }) q p here mine (L.consensus.decided r q) ne
 
-  -- an event of another process changes nothing of what the process knows
+  -- an event of another process changes nothing of the knowledge of the process
   pub other_event : (w : World R) (e : Event) (p : ℕ) → process_of e ≢ p → (after_event L w e).caller p ≡ w.caller p
   other_event w (Invoke q operation) p ne = put_other w.caller q _ p (λ i. ne (sym i))
   other_event w (Step q) p ne = other_step w q p (w.caller q) (w.caller q).phase (λ i. ne (sym i))
@@ -60,7 +60,7 @@ module _ {R : Type 0} (L : Setting R) where
   pub number : (events : List Event) (p : ℕ) → (caller_of L events p).calls ≡ calls_of p events
   number events p = let r = calls_run L events (first_world L) p in omega (arith, r)
 
-  -- a step replays nothing, and answers nothing; or it replays one entry
+  -- a step replays nothing and answers nothing, or it replays one batch
   abbrev Replays : Caller → Entry → Caller → StepAnswer → Type 0
   Replays here mine now given =
       ((pending_in now.phase ≡ Some mine) × (now.calls ≡ here.calls) × (now.seen ≡ here.seen) × (given ≡ Working))
@@ -107,7 +107,7 @@ module _ {R : Type 0} (L : Setting R) (Good : R → Type 0) (agrees : RoundsAgre
         let few : length here.seen ≤ L.capacity = seen_few L Good agrees events may p in
         batch_of L Good agrees events may k x (omega (arith, low, few)) ((holds_after L Good agrees events may).seen p k x at)
 
-    -- what a process has applied stands first in the log
+    -- the log begins with the batches that a process has applied
     pub replayed_batches : BeginsWith (batches L events) here.seen
     replayed_batches = (drop (length here.seen) (batches L events), sym (take-append-drop (length here.seen) (batches L events)) ∙ ap (λ l. l ++ drop (length here.seen) (batches L events)) (take_front here.seen (batches L events) slot_of))
 
@@ -185,7 +185,7 @@ module _ {R : Type 0} (L : Setting R) (Good : R → Type 0) (agrees : RoundsAgre
     mine_at : (x : Batch) → HoldsEntry x mine → entry_at x p ≡ Some mine
     mine_at x has = subst (λ q. entry_at x q ≡ Some mine) call.process has
 
-    -- none of its own where the pending one is not there
+    -- the batch has no entry of its own if it does not hold the pending one
     none_there : (x : Batch) → ((e : Entry) → entry_at x p ≡ Some e → e ≡ mine) → (HoldsEntry x mine → ⊥) → entry_at x p ≡ None
     none_there x own other = go (entry_at x p) refl
       where
@@ -214,7 +214,7 @@ module _ {R : Type 0} (L : Setting R) (Good : R → Type 0) (agrees : RoundsAgre
     })
     replayed_one x false false e f own = rw (e, f) (record { pending = refl; calls = refl; seen = inr (sees_other x own (has_isnt x mine e) _ refl) })
 
-    -- what a step of a process with a call pending makes of what it knew
+    -- the change of the knowledge of a process with a call pending, by a step
     pub stepped : IsStepped L p here mine (next.caller p) (answer L events p)
     stepped = elim (replays L events p mine is) [
       | inl none ↦ subst (λ (a : StepAnswer). IsStepped L p here mine (next.caller p) a) (sym none.3) (record { pending = none.0; calls = none.1; seen = inl none.2 })

@@ -40,7 +40,7 @@ module _ {R : Type 0} (L : Setting R) (Good : R → Type 0) (agrees : RoundsAgre
   abbrev next : World R → Event → World R
   next w e = after_event L w e
 
-  -- what is fixed stays
+  -- fixed values stay
   abbrev Stay : World R → World R → Type 0
   Stay w w' = (k : ℕ) (y : Batch) → L.consensus.fixed (w.round k) ≡ Some y → L.consensus.fixed (w'.round k) ≡ Some y
 
@@ -87,7 +87,7 @@ module _ {R : Type 0} (L : Setting R) (Good : R → Type 0) (agrees : RoundsAgre
       let more = entries_stay L (state_of L before).round (after_events L after (state_of L before)).round (stay_run after (state_of L before) holds rest) L.capacity 0 in
       (entries_in L.processes more.0, ap (λ (z : World R). entries_in L.processes (batches_of L z)) all ∙ ap (entries_in L.processes) more.1 ∙ entries_put L.processes (batches L before) more.0)
 
-  -- a step that answers or ends leaves its note
+  -- a step that answers or ends a call leaves its note
   abbrev LeftBy : World R → ℕ → Caller → Phase → (Entry → Note) → Type 0
   LeftBy w p here ph note = (mine : Entry) × (ph ≡ Runs mine) × ((after_step L w p here ph).history ≡ note mine ∷ w.history)
 
@@ -134,7 +134,7 @@ module _ {R : Type 0} (L : Setting R) (Good : R → Type 0) (agrees : RoundsAgre
           go false true g = refl
           go false false g = absurd cc
 
-  -- what is called is an event
+  -- a call is an event
   pub called_event : (events : List Event) (e : Entry) → IsCalled e (state_of L events).history → (i : ℕ) × IsCall events i e
   called_event events e c = elim (noted_invoked L e c.since events (first_world L) c.noted) [
     | inl old ↦ absurd (let g = old.there in cc g)
@@ -190,7 +190,7 @@ module _ {R : Type 0} (L : Setting R) (Good : R → Type 0) (agrees : RoundsAgre
       let w = state_of L (take i events) in
       left_note events may i e a.step (λ mine. FoundFull mine) (full_noted w e.process (w.caller e.process) (w.caller e.process).phase a.answers)
 
-  -- what was answered within a prefix
+  -- an answer within a prefix
   earlier_answer : (events : List Event) (i j : ℕ) (e : Entry) (slot response : ℕ) → i < j → IsAnswered L events i e slot response → IsAnswered L (take j events) i e slot response
   earlier_answer events i j e slot response less a =
       let s = a.step in
@@ -229,7 +229,7 @@ module _ {R : Type 0} (L : Setting R) (Good : R → Type 0) (agrees : RoundsAgre
     room_of : (k : ℕ) (x : Batch) → slice_get (batches L events) k ≡ Some x → k < L.capacity
     room_of k x h = (entry_fixed L w.round L.capacity 0 k x h).0
 
-    -- an entry that stands at a place, stands in the slot told for it
+    -- an entry at a place is in the slot of this place
     pub record IsThere (place : ℕ) (e : Entry) : Type 0 where
       pub slot : ℕ
       pub batch : Batch
@@ -257,7 +257,7 @@ module _ {R : Type 0} (L : Setting R) (Good : R → Type 0) (agrees : RoundsAgre
     pub stands_there : (place : ℕ) (e : Entry) (t : IsThere place e) → Stands L w e t.slot
     stands_there place e t = record { batch = t.batch; fixed = fixed_of t.slot t.batch t.there; has = t.at }
 
-    -- the place of an entry that stands in a slot
+    -- the place of an entry in a slot
     pub record HasPlace (e : Entry) (k : ℕ) : Type 0 where
       pub place : ℕ
       pub stands : StandsIn L events place k e
@@ -265,7 +265,7 @@ module _ {R : Type 0} (L : Setting R) (Good : R → Type 0) (agrees : RoundsAgre
     slots_agree : (place k : ℕ) (e : Entry) → (t : IsThere place e) → slice_get (entry_slots L events) place ≡ Some k → t.slot ≡ k
     slots_agree place k e t h = let a = t.told in cc (a, h)
 
-    -- an entry stands at one place
+    -- an entry has one place
     pub one_place : (j k : ℕ) (e : Entry) → IsThere j e → IsThere k e → j ≡ k
     one_place j k e a b =
         let same : a.slot ≡ b.slot = stands_once L Good agrees w holds_now a.slot b.slot e (stands_there j e a) (stands_there k e b) in
@@ -275,7 +275,7 @@ module _ {R : Type 0} (L : Setting R) (Good : R → Type 0) (agrees : RoundsAgre
         a.place_is ∙ ap (λ s. length (entries_in L.processes (take s (batches L events))) + length (members e.process 0 a.batch)) same
         ∙ ap (λ (z : Batch). length (entries_in L.processes (take b.slot (batches L events))) + length (members e.process 0 z)) one ∙ sym b.place_is
 
-    -- what stands in a slot stands at a place
+    -- an entry in a slot has a place
     pub place_of : (e : Entry) (k : ℕ) → e.process < L.processes → k < L.capacity → Stands L w e k → HasPlace e k
     place_of e k low less s =
         let there = batch_of k s.batch less s.fixed in
@@ -296,7 +296,7 @@ module _ {R : Type 0} (L : Setting R) (Good : R → Type 0) (agrees : RoundsAgre
         let q = t.place_is in
         omega (arith, l, p, q)
 
-    -- two entries in one slot stand in one batch
+    -- two entries in one slot are in one batch
     one_batch : (a b k : ℕ) (e f : Entry) (h : StandsIn L events a k e) (g : StandsIn L events b k f)
         → ((there_of a e h.stands).slot ≡ (there_of b f g.stands).slot) × ((there_of a e h.stands).batch ≡ (there_of b f g.stands).batch)
     one_batch a b k e f h g =

@@ -1,4 +1,4 @@
--- Reads of a function changed at one place, and of entries.
+-- Reads of a function after a change at one place, and of entries.
 use Rattle.std.proofs.Common.{ℕ, zero, suc, ◌≡◌, ◌≢◌, Bool, true, false, ◌<◌, ◌==◌, List, [], ◌∷◌, ◌++◌, length, take, slice_get, Some, refl, sym, ap, arith, true≢false}
 use Rattle.std.proofs.lemmas.Bool.Decides.{nat_tests}
 pub use Rattle.cn_table.proofs.Lists.{get_low, get_push_cases, get_push_new, get_push_old, there_is}
@@ -34,7 +34,7 @@ same_refl e = go e refl
 pub same_not : (e f : Entry) → same_entry e f ≡ false → e ≢ f
 same_not e f h same = let t : same_entry e f ≡ true = rw same (same_refl f) in cc (t, h)
 
--- what isn't found isn't there
+-- an entry that is not found is not in the list
 pub has_not : (es : List Entry) (e : Entry) → has_entry es e ≡ false → (k : ℕ) → slice_get es k ≢ Some e
 has_not [] e h k s = absurd cc
 has_not (f ∷ es) e h k s = go (same_entry f e) refl (has_not es e) k s
@@ -44,12 +44,12 @@ has_not (f ∷ es) e h k s = go (same_entry f e) refl (has_not es e) k s
     go false t rest zero s = same_not f e t cc
     go false t rest (suc k) s = rest (rw t at h) k s
 
--- what stands behind the first list
+-- the element behind the first list
 pub get_seam : {A : Type 0} (xs : List A) (x : A) (ys : List A) → slice_get (xs ++ x ∷ ys) (length xs) ≡ Some x
 get_seam [] x ys = refl
 get_seam (y ∷ xs) x ys = get_seam xs x ys
 
--- what is found is there
+-- an entry that is found is in the list
 pub has_yes : (es : List Entry) (e : Entry) → has_entry es e ≡ true → (k : ℕ) × (k < length es) × (slice_get es k ≡ Some e)
 has_yes [] e h = absurd (true≢false (sym h))
 has_yes (f ∷ es) e h = go (same_entry f e) refl (has_yes es e)
@@ -58,7 +58,7 @@ has_yes (f ∷ es) e h = go (same_entry f e) refl (has_yes es e)
     go true t rest = (zero, omega arith, ap Some (same_is f e t))
     go false t rest = let r = rest (rw t at h) in (suc r.0, (let l = r.1 in omega arith), r.2)
 
--- a list that stands at the front of another is that much of it
+-- a list at the front of another is its prefix of that length
 pub take_front : {A : Type 0} (front xs : List A) → ((j : ℕ) (x : A) → slice_get front j ≡ Some x → slice_get xs j ≡ Some x) → take (length front) xs ≡ front
 take_front [] [] same = refl
 take_front [] (y ∷ xs) same = refl

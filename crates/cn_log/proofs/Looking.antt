@@ -1,4 +1,4 @@
--- A look keeps what holds.
+-- A look keeps the invariant.
 use Rattle.std.proofs.Common.{ℕ, ◌≡◌, ◌≢◌, ◌⊎◌, inl, inr, Bool, true, false, ◌+◌, ◌<◌, ◌≤◌, ◌==◌, List, length, slice_get, Option, Some, None, refl, sym, ap, ◌∙◌, subst, arith, if◌then◌else◌, length-set, get_or-set_same, get_or-set_other}
 use Rattle.std.proofs.lemmas.Bool.{cases_eq}
 use Rattle.std.proofs.lemmas.Bool.Decides.{nat_tests}
@@ -47,7 +47,7 @@ module _ {R : Type 0} (L : Setting R) (Good : R → Type 0) (agrees : RoundsAgre
   low_place : q < length batch.entries
   low_place = let a = looking.next in let b = agrees.few in let c = looking.gathered.places in omega (arith, a, b, c)
 
-  -- what is found is in a batch that was replayed, and what is not found in none
+  -- an entry that is found is in a batch that was replayed; one that is not found is in none
   entry_seen : (e : Entry) → has_entry known e ≡ true → IsSeen here.seen e
   entry_seen e h =
       let y = has_yes known e h in
@@ -58,7 +58,7 @@ module _ {R : Type 0} (L : Setting R) (Good : R → Type 0) (agrees : RoundsAgre
   not_found : (e : Entry) → e.process < L.processes → has_entry known e ≡ false → IsUnseen here.seen e
   not_found e low h k b there has = has_not known e h _ (in_entries L.processes here.seen k b e.process e there low has)
 
-  -- what is gathered
+  -- the batch gathered now
   gathered_now : (a : Option Entry) → w.announced q ≡ a → IsGathered here.seen w.history (batch_with a known q batch)
   gathered_now None e = looking.gathered
   gathered_now (Some other) e = go (has_entry known other) refl
@@ -91,7 +91,7 @@ module _ {R : Type 0} (L : Setting R) (Good : R → Type 0) (agrees : RoundsAgre
       }
 
   module _ (facts : Facts L w) where
-    -- if the slot is fixed, then to a batch with e, or e stands before
+    -- if the slot is fixed, its batch holds e, or e is in an earlier slot
     helped : (e : Entry) (since : ℕ) → IsNoted (Called e since) w.history → e.process < L.processes → (y : Batch) → since < k0 → L.consensus.fixed (w.round k0) ≡ Some y → StandsBy L w e k0
     helped e since noted low y less h =
         let b = agrees.valid (w.round k0) y (holds.good k0) h in
@@ -130,7 +130,7 @@ module _ {R : Type 0} (L : Setting R) (Good : R → Type 0) (agrees : RoundsAgre
         go ph is' (inr (inl s)) = inr (seen_by s (cases_le s.slot k0))
         go ph is' (inr (inr full)) = let room = looking.pending.room in let g = there_is (w.caller e.process).seen k0 (omega (arith, room, full)) in inr (helped e since noted low g.0 less (holds.seen e.process k0 g.0 g.1))
 
-    -- what was gathered before stays
+    -- entries gathered before stay
     gathered_kept : (a : Option Entry) (i : ℕ) → i ≢ q → entry_at (batch_with a known q batch) i ≡ entry_at batch i
     gathered_kept None i ne = refl
     gathered_kept (Some other) i ne = go (has_entry known other)
@@ -161,7 +161,7 @@ module _ {R : Type 0} (L : Setting R) (Good : R → Type 0) (agrees : RoundsAgre
     | inr ne ↦ ap (λ (s : Caller). s.calls) (put_other w.caller p c i ne)
   ]
 
-  -- a process that stays in its phase keeps it, whatever becomes of the rounds, where p goes on with what it has seen and called
+  -- a process that keeps its phase keeps this property for all rounds, if p keeps its batches and calls
   module _ (round : ℕ → R) (onward : Caller) (seen : onward.seen ≡ here.seen) (calls : onward.calls ≡ here.calls) where
     abbrev later : World R
     later = record w { round = round; caller = put w.caller p onward }
@@ -340,7 +340,7 @@ module _ {R : Type 0} (L : Setting R) (Good : R → Type 0) (agrees : RoundsAgre
           turn = λ j less. (let x = there_is here.seen j less in (x.0, fixed2 j ∙ holds.seen p j x.0 x.1));
         }
 
-    -- what stands in a round's inputs is what stood there, or what p began just now
+    -- an input of a round is an old one, or the new one of p
     input_cases : (k i : ℕ) (u : Batch) → L.consensus.input (w2.round k) i ≡ Some u → (L.consensus.input (w.round k) i ≡ Some u) ⊎ ((k ≡ k0) × (i ≡ p) × (v ≡ u))
     input_cases k i u h = elim (cases_eq k k0) [
       | inl e ↦ (let h' : L.consensus.input r2 i ≡ Some u = ap (λ z. L.consensus.input z i) (sym (put_same w.round k0 r2)) ∙ ap (λ z. L.consensus.input (w2.round z) i) (sym e) ∙ h in

@@ -1,4 +1,4 @@
--- The entries of one process more.
+-- The entries of one more process.
 use Rattle.std.proofs.Common.{ℕ, zero, suc, ◌≡◌, ◌≢◌, false, ◌+◌, ◌==◌, List, [], ◌∷◌, ◌++◌, length, Option, Some, None, refl, sym, ap, ◌∙◌, arith, append-nil}
 use Rattle.std.proofs.lemmas.Bool.Decides.{nat_tests}
 use Rattle.cn_log.specs.declared.batch.Batch.{Batch}
@@ -21,7 +21,7 @@ push_from (suc many) q b = go (entry_at b q) (push_from many (suc q) b ∙ ap (�
 pub members_push : (q : ℕ) (b : Batch) → members (q + 1) 0 b ≡ members q 0 b ++ and_entry (entry_at b q) []
 members_push q b = let z : q + 1 ≡ suc q = omega arith in let y : 0 + q ≡ q = omega arith in ap (λ i. members i 0 b) z ∙ push_from q 0 b ∙ ap (λ i. members q 0 b ++ and_entry (entry_at b i) []) y
 
--- with an entry of process q, and with none
+-- with an entry of process q, and without
 pub next_some : (q : ℕ) (b : Batch) (e : Entry) → entry_at b q ≡ Some e → members (q + 1) 0 b ≡ members q 0 b ++ e ∷ []
 next_some q b e h = members_push q b ∙ ap (λ o. members q 0 b ++ and_entry o []) h
 
@@ -40,7 +40,7 @@ pub run_push : (t : TypeTable) (state : ℕ) (es : List Entry) (e : Entry) → s
 run_push t state [] e = refl
 run_push t state (f ∷ es) e = run_push t (transition t f.operation.0 state).1 es e
 
--- nothing comes behind so many batches where the slot is not the next one
+-- no batch follows if the slot is not the next one
 pub not_next : (many k : ℕ) (o : Option Batch) → many ≢ k → next_batch many k o ≡ []
 not_next many k None ne = refl
 not_next many k (Some b) ne = let t : (many == k) ≡ false = grind (arith, nat_tests) in rw t refl

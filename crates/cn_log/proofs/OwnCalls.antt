@@ -1,4 +1,4 @@
--- What has become of the calls of a process.
+-- The calls of a process, answered or not.
 use Rattle.std.proofs.Common.{ℕ, suc, ◌≡◌, ◌≢◌, ◌⊎◌, inl, inr, Bool, true, false, ◌+◌, ◌<◌, ◌≤◌, ◌==◌, List, [], ◌∷◌, ◌++◌, length, take, slice_get, Option, Some, None, refl, sym, ap, ◌∙◌, subst, arith, append-nil, append_assoc, length-append}
 use Rattle.std.proofs.lemmas.Bool.{cases_eq}
 use Rattle.std.proofs.lemmas.Bool.Decides.{nat_tests}
@@ -25,7 +25,7 @@ use Rattle.cn_table.proofs.Lists.{get_front}
 use Rattle.cn_log.proofs.EntryPositions.{entries_put, in_entries, get_right}
 use Rattle.cn_log.proofs.ListLemmas.{get_low}
 
--- the calls in a longer list are those in its front, and then those in the rest
+-- the calls in a longer list are those in its front, then those in the rest
 calls_join : (p k : ℕ) (before rest : List Event) → calls_from p k (before ++ rest) ≡ calls_from p k before ++ calls_from p (k + calls_of p before) rest
 calls_join p k [] rest = let none : calls_of p [] ≡ 0 = refl in let e : k + calls_of p [] ≡ k = omega (arith, none) in ap (λ i. calls_from p i rest) (sym e)
 calls_join p k (Step q ∷ before) rest = let count = calls_cons p (Step q) before in let e : k + calls_of p before ≡ k + calls_of p (Step q ∷ before) = omega (arith, count) in calls_join p k before rest
@@ -63,7 +63,7 @@ one_call p k operation = let t : (p == p) ≡ true = grind (arith, nat_tests) in
 pub by_append : (p : ℕ) (xs ys : List Entry) → entries_by p (xs ++ ys) ≡ entries_by p xs ++ entries_by p ys
 by_append p xs ys = filter-append (λ (e : Entry). e.process == p) xs ys
 
--- the entries of a process in one batch more
+-- the entries of a process with one more batch
 pub push_batch : (n p : ℕ) (seen : List Batch) (x : Batch) → entries_by p (entries_in n (seen ++ x ∷ [])) ≡ entries_by p (entries_in n seen) ++ entries_by p (members n 0 x)
 push_batch n p seen x = ap (entries_by p) (entries_put n seen (x ∷ []) ∙ ap (λ l. entries_in n seen ++ l) (append-nil (members n 0 x))) ∙ by_append p (entries_in n seen) (members n 0 x)
 
@@ -71,7 +71,7 @@ none_by : (p : ℕ) (xs : List Entry) → ((k : ℕ) (x : Entry) → slice_get x
 none_by p [] h = refl
 none_by p (x ∷ xs) h = let ne = h 0 x refl in let t : (x.process == p) ≡ false = grind (arith, nat_tests) in rw t (none_by p xs (λ k y at. h (suc k) y at))
 
--- where the one entry of the process that can be there stands in no two places
+-- the entries of the process, if only one entry of it can be there, at one place
 one_by : (p : ℕ) (mine : Entry) (xs : List Entry) → ((k : ℕ) (x : Entry) → slice_get xs k ≡ Some x → x.process ≡ p → x ≡ mine) → ((j k : ℕ) → slice_get xs j ≡ Some mine → slice_get xs k ≡ Some mine → j ≡ k)
     → (entries_by p xs ≡ []) ⊎ (entries_by p xs ≡ mine ∷ [])
 one_by p mine [] h once = inl refl
@@ -144,7 +144,7 @@ module _ {R : Type 0} (L : Setting R) (Good : R → Type 0) (agrees : RoundsAgre
   sees_other events here now mine calls s = calls ∙ ap (λ l. l ++ mine ∷ []) (sym (ap (λ l. entries_by p (entries_in L.processes l)) s.seen ∙ push_batch L.processes p here.seen s.batch
       ∙ ap (λ l. entries_by p (entries_in L.processes here.seen) ++ l) s.own ∙ append-nil (entries_by p (entries_in L.processes here.seen))))
 
-  -- by the answer of a step
+  -- for each answer of a step
   by_answer : (events : List Event) (here : Caller) (mine : Entry) (given : StepAnswer) → calls_by p events ≡ entries_by p (entries_in L.processes here.seen) ++ mine ∷ []
       → IsStepped L p here mine (caller_of L (events ++ Step p ∷ []) p) given → HasAppliedBy L (events ++ Step p ∷ []) p mine given
   by_answer events here mine Working calls s = elim s.seen [
@@ -192,7 +192,7 @@ module _ {R : Type 0} (L : Setting R) (Good : R → Type 0) (agrees : RoundsAgre
       let all : IsEventList L ((front ++ e ∷ []) ++ rest) = subst (IsEventList L) (sym again) may in
       subst Own again (own_events (front ++ e ∷ []) rest all (own_event front e (prefix_may L Good agrees (front ++ e ∷ []) rest all) own))
 
-  -- the calls of a process are what it has applied of its own, and then what it has no answer to
+  -- the calls of a process are its own entries that it has applied, then those without an answer
   pub own : (events : List Event) → IsEventList L events → Own events
   own events may = own_events [] events may ([], refl, inl refl)
 
@@ -222,7 +222,7 @@ module _ {R : Type 0} (L : Setting R) (Good : R → Type 0) (agrees : RoundsAgre
     once : (j k : ℕ) (x : Entry) → slice_get (entries L events) j ≡ Some x → slice_get (entries L events) k ≡ Some x → j ≡ k
     once j k x a b = one_place L Good agrees events may j k x (there_of L Good agrees events may j x a) (there_of L Good agrees events may k x b)
 
-    -- behind what the process has applied stands no call of its own but the pending one
+    -- behind the entries that the process has applied, only its pending call can be its own
     is_pending : (k : ℕ) (x : Entry) → slice_get behind k ≡ Some x → x.process ≡ p → IsMine here.phase x
     is_pending k x at own = go (there_of L Good agrees events may (length known + k) x (there k x at)).low
         (stands_there L Good agrees events may (length known + k) x (there_of L Good agrees events may (length known + k) x (there k x at))).batch
@@ -270,7 +270,7 @@ module _ {R : Type 0} (L : Setting R) (Good : R → Type 0) (agrees : RoundsAgre
         let same = once (length known + j) (length known + k) mine (there j mine a) (there k mine b) in
         omega (arith, same)
 
-    -- what stands behind what the process has applied of its own begins what it has no answer to
+    -- its own entries behind those that it has applied are the first of its calls without an answer
     begins : (o : Option Entry) (rest : List Entry) → pending_in here.phase ≡ o → IsUnanswered L here here.phase rest → BeginsWith rest (entries_by p behind)
     begins None rest is h = (rest, ap (λ l. l ++ rest) (sym (none_by p behind (λ k x at own. no_mine here.phase x is (is_pending k x at own)))))
     begins (Some mine) rest is h = elim (one_by p mine behind (λ k x at own. the_mine here.phase mine x is (is_pending k x at own)) (twice mine)) [
@@ -285,7 +285,7 @@ module _ {R : Type 0} (L : Setting R) (Good : R → Type 0) (agrees : RoundsAgre
         let log : entries_by p (entries L events) ≡ entries_by p known ++ entries_by p behind = ap (λ l. entries_by p l) parts ∙ by_append p known behind in
         (more.0, mine.1 ∙ ap (λ l. entries_by p known ++ l) more.1 ∙ sym (append_assoc (entries_by p known) (entries_by p behind) more.0) ∙ ap (λ l. l ++ more.0) (sym log))
 
-    -- and so in what any process has applied
+    -- and so for the entries that any process has applied
     pub seen_made : (q : ℕ) → BeginsWith (calls_by p events) (entries_by p (seen_of L events q))
     seen_made q =
         let his = replayed L Good agrees events q may in

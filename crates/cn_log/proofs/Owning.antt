@@ -14,7 +14,7 @@ front_other p e rest ne = let t : (e.process == p) ≡ false = grind (arith, nat
 front_own : (p : ℕ) (e : Entry) (rest : List Entry) → e.process ≡ p → entries_by p (e ∷ rest) ≡ e ∷ entries_by p rest
 front_own p e rest own = let t : (e.process == p) ≡ true = grind (arith, nat_tests) in rw t refl
 
--- where the process has none
+-- the process has no entry
 pub own_none : (many q p : ℕ) (b : Batch) → IsShaped b → entry_at b p ≡ None → entries_by p (members many q b) ≡ []
 own_none zero q p b shaped none = refl
 own_none (suc many) q p b shaped none = go (entry_at b q) refl (own_none many (suc q) p b shaped none)
@@ -23,7 +23,7 @@ own_none (suc many) q p b shaped none = go (entry_at b q) refl (own_none many (s
     go None is rest = rest
     go (Some e) is rest = front_other p e (members many (suc q) b) (λ own. (let w = shaped q e is in let g : entry_at b p ≡ Some e = ap (entry_at b) (sym own ∙ w) ∙ is in absurd (cc (none, g)))) ∙ rest
 
--- behind its place there is none
+-- no entry behind its place
 own_behind : (many q p : ℕ) (b : Batch) → IsShaped b → p < q → entries_by p (members many q b) ≡ []
 own_behind zero q p b shaped low = refl
 own_behind (suc many) q p b shaped low = go (entry_at b q) refl (own_behind many (suc q) p b shaped (omega (arith, low)))

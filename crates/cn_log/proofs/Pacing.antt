@@ -1,4 +1,4 @@
--- Each step takes a process on.
+-- Each step advances a process.
 use Rattle.std.proofs.Common.{ℕ, zero, suc, ◌≡◌, ◌≢◌, ◌⊎◌, inl, inr, Bool, true, false, ◌+◌, ◌-◌, ◌*◌, ◌<◌, ◌≤◌, ◌==◌, List, [], ◌∷◌, ◌++◌, length, take, drop, slice_get, Option, Some, None, refl, sym, ap, ◌∙◌, subst, arith, cond, if◌then◌else◌, length-append}
 use Rattle.std.proofs.lemmas.Bool.{cases_eq}
 use Rattle.std.proofs.lemmas.Bool.Decides.{nat_tests}
@@ -25,36 +25,36 @@ use Rattle.cn_log.proofs.Linearizing.{holds_after, facts_after, prefix_may, call
 use Rattle.cn_log.proofs.ListLemmas.{put_same, put_other, there_is, get_low}
 use Rattle.cn_log.proofs.OwnLemmas.{not_idle}
 
--- what an event counts for process p, where a call counts a, and a step one
+-- the weight of an event for process p: a call weighs a, and a step one
 abbrev pub weight : ℕ → ℕ → Event → ℕ
 weight a p (Invoke q operation) = if q == p then a else 0
 weight a p (Step q) = if q == p then 1 else 0
 
--- what these events count for process p
+-- the weight of these events for process p
 abbrev pub spent : ℕ → ℕ → List Event → ℕ
 spent a p [] = 0
 spent a p (e ∷ events) = weight a p e + spent a p events
 
--- how many steps a slot costs a process at most: a look at each announcement, and its steps of a round
+-- the most steps that a slot costs a process: a look at each announcement, and its steps of a round
 abbrev pub slot_cost : ℕ → ℕ
 slot_cost n = n + 4 * (n - 1)
 
 module _ {R : Type 0} (L : Setting R) where
-  -- how far a process has come in a call, where the call counts a
+  -- the progress of a process in a call, if the call weighs a
   abbrev pub steps_into : ℕ → World R → ℕ → ℕ → Phase → ℕ
   steps_into a w p k Idle = 0
   steps_into a w p k (Looks mine q batch) = a + q
   steps_into a w p k (Runs mine) = a + (L.processes + L.consensus.taken (w.round k) p)
 
-  -- how far a process has come, where each slot that it has applied counts as much as a call and its steps there can
+  -- the progress of a process; each slot that it has applied weighs as much as a call and its most steps there
   abbrev pub distance_of : ℕ → World R → ℕ → ℕ
   distance_of a w p = length (w.caller p).seen * (slot_cost L.processes + a) + steps_into a w p (length (w.caller p).seen) (w.caller p).phase
 
-  -- what a process spends, it has come on
+  -- the weight of its events is at most the progress of a process
   abbrev pub IsPaced : ℕ → List Event → List Event → ℕ → Type 0
   IsPaced a before rest p = distance_of a (state_of L before) p + spent a p rest ≤ distance_of a (state_of L (before ++ rest)) p
 
-  -- there are at most so many events
+  -- the bound on the number of events
   abbrev pub HasRoom : List Event → Type 0
   HasRoom events = length events ≤ L.processes * (L.capacity * (5 * L.processes - 3))
 
@@ -62,7 +62,7 @@ module _ {R : Type 0} (L : Setting R) (Good : R → Type 0) (agrees : RoundsAgre
   abbrev cost : ℕ
   cost = slot_cost L.processes
 
-  -- where a process is left as it is, and so are its steps in the round of its slot
+  -- a process keeps its progress if it stays unchanged, and so do its steps in the round of its slot
   stays_put : (w w' : World R) (p : ℕ) → w'.caller p ≡ w.caller p → ((k : ℕ) → L.consensus.taken (w'.round k) p ≡ L.consensus.taken (w.round k) p) → distance_of L a w' p ≡ distance_of L a w p
   stays_put w w' p same taken =
       ap (λ (c : Caller). length c.seen * (cost + a) + steps_into L a w' p (length c.seen) c.phase) same ∙ ap (λ z. length (w.caller p).seen * (cost + a) + z) (go (w.caller p).phase)
@@ -209,14 +209,14 @@ module _ {R : Type 0} (L : Setting R) (Good : R → Type 0) (agrees : RoundsAgre
       let y = paced_from events (after_event L w e) (keeps_event L Good agrees w holds e may.0) may.1 p in
       omega (arith, x, y)
 
-  -- what a process spends, it has come on
+  -- the weight of its events is at most the progress of a process
   pub paced : (before rest : List Event) → IsEventList L (before ++ rest) → (p : ℕ) → IsPaced L a before rest p
   paced before rest may p =
       let r = run_append L before rest (first_world L) in
       let x = paced_from rest (state_of L before) (holds_after L Good agrees before (prefix_may L Good agrees before rest may)) (may_right L before rest (first_world L) may) p in
       subst (λ (z : World R). distance_of L a (state_of L before) p + spent a p rest ≤ distance_of L a z p) (sym r) x
 
--- what events count where a call counts nothing is the steps
+-- if calls weigh nothing, the weight of events is the number of steps
 spent_steps : (p : ℕ) (events : List Event) → spent 0 p events ≡ steps_of p events
 spent_steps p [] = refl
 spent_steps p (Invoke q operation ∷ events) = let c : steps_of p (Invoke q operation ∷ events) ≡ 0 + steps_of p events = sum_by-cons (λ x. cond (is_step_of p x) 1 0) (Invoke q operation) events in
@@ -231,7 +231,7 @@ spent_steps p (Step q ∷ events) = let c : steps_of p (Step q ∷ events) ≡ c
     go true c r = omega (arith, c, r)
     go false c r = omega (arith, c, r)
 
--- what n processes spend, where a call counts one
+-- the weight for n processes, if a call weighs one
 abbrev total : ℕ → List Event → ℕ
 total zero events = 0
 total (suc n) events = spent 1 n events + total n events
@@ -284,7 +284,7 @@ module _ {R : Type 0} (L : Setting R) (Good : R → Type 0) (agrees : RoundsAgre
   abbrev cost1 : ℕ → ℕ
   cost1 a = slot_cost L.processes + a
 
-  -- how far a process can come: not through a slot in which it has not decided
+  -- the most progress of a process: less than a slot in which it has not decided
   distance_pending : (a : ℕ) (w : World R) → Holds L Good w → (p : ℕ) → p < L.processes → (ph : Phase) → (w.caller p).phase ≡ ph → ph ≢ Idle → (distance_of L a w p < (length (w.caller p).seen + 1) * cost1 a) × (length (w.caller p).seen < L.capacity)
   distance_pending a w holds p lt Idle is ne = absurd (ne refl)
   distance_pending a w holds p lt (Looks mine q batch) is ne =
@@ -302,7 +302,7 @@ module _ {R : Type 0} (L : Setting R) (Good : R → Type 0) (agrees : RoundsAgre
       let m : (length (w.caller p).seen + 1) * cost1 a ≡ length (w.caller p).seen * cost1 a + 1 * cost1 a = add-mul (length (w.caller p).seen) 1 (cost1 a) in
       (omega (arith, y, m, f), h.room)
 
-  -- a process has applied no more slots than there are: only a process with a call pending replays one, and then there was one left
+  -- a process has applied at most as many slots as there are: only a process with a pending call replays one, and then one was left
   seen_event : (w : World R) → Holds L Good w → ((q : ℕ) → length (w.caller q).seen ≤ L.capacity) → (e : Event) → MayCome L w e → (q : ℕ) → length ((after_event L w e).caller q).seen ≤ L.capacity
   seen_event w holds few e may q = go e may
     where
@@ -366,7 +366,7 @@ module _ {R : Type 0} (L : Setting R) (Good : R → Type 0) (agrees : RoundsAgre
       let few = total_few L.processes (L.capacity * cost1 1) events (λ p lt. (let x = paced L Good agrees 1 [] events may p in let y = distance_few 1 events may p lt in omega (arith, x, y))) in
       rooms (all_some L.processes few counted)
     where
-      -- with a process there are 5n - 3 for each slot, and with none no event
+      -- with a process there are 5n - 3 events for each slot, and without processes there is none
       all_some : (n : ℕ) → total L.processes events ≤ L.processes * (L.capacity * cost1 1) → length events ≡ total L.processes events → length events ≤ L.processes * (L.capacity * cost1 1)
       all_some n few counted = omega (arith, few, counted)
 
@@ -408,7 +408,7 @@ module _ {R : Type 0} (L : Setting R) (Good : R → Type 0) (agrees : RoundsAgre
     low = pending_low L Good agrees (state_of L events) (holds_after L Good agrees events may) (facts_after L Good agrees events may) p e lt
         (is_pending (caller_of L events p).phase refl pending ((holds_after L Good agrees events may).phases p)) since (call_noted L Good agrees events may i e c)
 
-    -- the process had applied no more slots than were fixed
+    -- the process had applied at most as many slots as were fixed
     pub k_low : k ≤ since
     k_low = go (cases_le since k)
       where
@@ -449,7 +449,7 @@ module _ {R : Type 0} (L : Setting R) (Good : R → Type 0) (agrees : RoundsAgre
         let v : (since - k + 2) * cost1 0 ≡ (since - k + 2) * (5 * L.processes - 4) = ap (λ z. (since - k + 2) * z) c0 in
         omega (arith, x, y, h, d, m, u, v)
 
--- what is at most so much is less than with one more for each process
+-- a number within the bound is below the bound with one more event for each process
 pub room_left : (n slots many : ℕ) → 2 ≤ n → many ≤ n * (slots * (5 * n - 3)) → many < event_room n slots
 room_left n slots many two few =
     let b : event_room n slots ≡ n * (slots * (5 * n - 3)) + n * 1 = mul-add n (slots * (5 * n - 3)) 1 in

@@ -1,4 +1,4 @@
--- What the notes of a log tell of its events.
+-- The notes of a log, and the events that they stand for.
 use Rattle.std.proofs.Common.{ℕ, zero, suc, ◌≡◌, ◌≢◌, ◌⊎◌, inl, inr, Bool, true, false, ◌+◌, ◌==◌, List, [], ◌∷◌, length, take, slice_get, Option, Some, None, refl, ap, ◌∙◌, arith, cond, if◌then◌else◌}
 use Rattle.std.proofs.lemmas.Bool.{cases_eq}
 use Rattle.std.proofs.lemmas.Bool.Decides.{nat_tests}
@@ -90,7 +90,7 @@ module _ {R : Type 0} (L : Setting R) where
       let count = calls_cons q e events in
       omega arith
 
-  -- a call noted is an event
+  -- a call on record is an event
   pub record IsInvoked (events : List Event) (w : World R) (e : Entry) : Type 0 where
     pub at : ℕ
     pub invoke : slice_get events at ≡ Some (Invoke e.process e.operation.0)

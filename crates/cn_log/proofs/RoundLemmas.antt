@@ -21,7 +21,7 @@ use Rattle.cn_log.specs.Opening.{Opening, setting_of}
 min_low : (a b : ℕ) → a ≤ b → min a b ≡ a
 min_low a b h = grind arith
 
--- what holds of every round and every plan, as their laws say it
+-- the laws of all rounds and plans
 pub record RoundLaw : Type 0 where
   pub consensus : (P : Protocol) (n nodes : ℕ) (team : ℕ → Team) (schedule : List ℕ) (w : World Batch) → IsSound P n nodes team → IsReached P n nodes schedule w → KeepsConsensus P n schedule w
   pub fixed : (P : Protocol) (n nodes : ℕ) (team : ℕ → Team) (schedule : List ℕ) (w : World Batch) → IsSound P n nodes team → IsReached P n nodes schedule w → (p : ℕ) (x : Batch) → p < n
@@ -74,7 +74,7 @@ module _ (law : RoundLaw) (o : Opening) (plan : IsPlan o.plan) where
   pub has_begun : (w : World Batch) → Good w → (p : ℕ) → p < n → (v : Batch) → input_at w p ≡ Some v → HasBegun w p
   has_begun w good p lt v h = λ none. (let e = (begun_of w good p lt).0 none in absurd (cc (e, h)))
 
-  -- who has not decided has taken as many steps as it occurs, fewer than four for each place of its path
+  -- a process that has not decided has taken as many steps as it occurs, fewer than four for each place of its path
   not_some : (o : Option Batch) → o ≡ None → IsSome o → ⊥
   not_some None h s = true≢false (sym s)
   not_some (Some x) h s = absurd (cc h)

@@ -1,4 +1,4 @@
--- A step of a round, and what follows a decision, keep what holds.
+-- A step of a round, and the replay after a decision, keep the invariant.
 use Rattle.std.proofs.Common.{ℕ, zero, suc, ◌≡◌, ◌≢◌, ◌⊎◌, inl, inr, Bool, true, false, ◌+◌, ◌<◌, ◌≤◌, ◌==◌, List, [], ◌∷◌, ◌++◌, length, slice_get, Option, Some, None, refl, sym, ap, ◌∙◌, subst, arith, if◌then◌else◌, length-append, slice_index_or, replicate}
 use Rattle.std.proofs.lemmas.Bool.{cases_eq}
 use Rattle.std.proofs.lemmas.Bool.Decides.{nat_tests}
@@ -16,7 +16,7 @@ use Rattle.cn_log.proofs.Invariant.{IsNoted, IsCalled, IsRuns, IsPending, PhaseH
 pub called_more : (e : Entry) (note : Note) (notes : List Note) → IsCalled e notes → IsCalled e (note ∷ notes)
 called_more e note notes c = record { since = c.since; noted = record { place = suc c.noted.place; there = c.noted.there } }
 
--- nothing is gathered at first
+-- a new batch is empty
 pub none_at : (n i : ℕ) (f : Entry) → slice_index_or (replicate n (let o : Option Entry = None in o)) i None ≡ Some f → ⊥
 none_at zero i f h = cc
 none_at (suc n) zero f h = cc
@@ -70,7 +70,7 @@ module _ {R : Type 0} (L : Setting R) (Good : R → Type 0) (agrees : RoundsAgre
   other_kept : (j : ℕ) (u : Entry) → IsOther L (w.round j) u → IsOther L (round' j) u
   other_kept j u o = record { batch = o.batch; fixed = fixed_kept j o.batch o.fixed; other = o.other }
 
-  -- what was begun stays so in a state with these rounds and no fewer calls
+  -- an input stays an input in a state with these rounds and at least the same calls
   begun_kept : (w'' : World R) → w''.round ≡ round' → ((e : Entry) → IsCalled e w.history → IsCalled e w''.history) → (k : ℕ) (u : Batch) → IsBegun L w k u → IsBegun L w'' k u
   begun_kept w'' same more k u b = record {
     shaped = b.shaped;
@@ -227,7 +227,7 @@ module _ {R : Type 0} (L : Setting R) (Good : R → Type 0) (agrees : RoundsAgre
         go None e = refl
         go (Some y) e = let f = fixed_kept k y e in absurd (cc (f, h))
 
-    -- what stands stood before, or the slot has just been fixed
+    -- an entry in a slot was there before, or the slot has just been fixed
     stands_cases : (w'' : World R) → w''.round ≡ round' → (e : Entry) (k : ℕ) → Stands L w'' e k → (Stands L w e k) ⊎ ((k ≡ k0) × (L.consensus.fixed (w.round k) ≡ None))
     stands_cases w'' is' e k h = elim (cases_eq k k0) [
       | inl same ↦ go (L.consensus.fixed (w.round k)) refl same
@@ -300,7 +300,7 @@ module _ {R : Type 0} (L : Setting R) (Good : R → Type 0) (agrees : RoundsAgre
       fixed_x : L.consensus.fixed (round' k0) ≡ Some x
       fixed_x = rw (put_same w.round k0 r') (agrees.decides r' p x lt (agrees.good_step (w.round k0) p begun_here.0 lt (holds.good k0) begun_here.1) decided)
 
-      -- the notes afterwards are those before, or with an answer, or with an end
+      -- the notes afterwards are the old ones, or these with an answer or an end
       data More : List Note → Type 0 where
         Same : More w.history
         Answer : HoldsEntry x mine → More (Replied mine k0 reply ∷ w.history)

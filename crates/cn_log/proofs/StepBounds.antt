@@ -1,4 +1,4 @@
--- A call is over within so many steps of its process, and a log has room for all its events.
+-- A call is over within a bounded number of steps of its process, and a log has room for all its events.
 use Rattle.std.proofs.Common.{ℕ, zero, suc, ◌≡◌, ◌⊎◌, inl, inr, true, ◌+◌, ◌-◌, ◌*◌, ◌<◌, ◌≤◌, ◌==◌, List, [], ◌∷◌, ◌++◌, length, take, drop, slice_get, Some, refl, sym, ap, ◌∙◌, subst, arith, cond}
 use Rattle.std.proofs.lemmas.Bool.{cases_eq}
 use Rattle.std.proofs.lemmas.Bool.Decides.{nat_tests}
@@ -39,7 +39,7 @@ between_next p (x ∷ events) zero (suc j) e less h = steps_take p events j e h
 between_next p (x ∷ events) (suc i) (suc j) e less h = between_next p events i j e (omega arith) h
 
 module _ {R : Type 0} (L : Setting R) (Good : R → Type 0) (agrees : RoundsAgree L Good) where
-  -- a call that is still pending has not had that many steps
+  -- a call that is still pending has had fewer steps than the bound
   still : (events : List Event) (may : IsEventList L events) (i : ℕ) (e : Entry) → IsCall events i e → pending_in (caller_of L events e.process).phase ≡ Some e
       → steps_of e.process (drop (suc i) events) < (fixed_before L events i + 2 - applied_before L events i e.process) * (5 * L.processes - 4)
   still events may i e c is =
@@ -55,7 +55,7 @@ module _ {R : Type 0} (L : Setting R) (Good : R → Type 0) (agrees : RoundsAgre
           ∙ (let n : steps_of e.process (Invoke e.process e.operation.0 ∷ xs) ≡ 0 + steps_of e.process xs = steps_cons e.process (Invoke e.process e.operation.0) xs in omega (arith, n))
       drops (x ∷ xs) (suc j) h = drops xs j h
 
-  -- where a process takes enough steps, its call is over
+  -- if a process takes enough steps, its call is over
   module _ (events : List Event) (may : IsEventList L events) (i : ℕ) (e : Entry) (c : IsCall events i e) where
     abbrev enough : ℕ
     enough = (fixed_before L events i + 2 - applied_before L events i e.process) * (5 * L.processes - 4)

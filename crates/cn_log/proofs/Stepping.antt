@@ -1,4 +1,4 @@
--- A step keeps the fields in step with the schedule.
+-- A step keeps the fields equal to the state after the schedule.
 use Rattle.std.proofs.Common.{ℕ, ◌≡◌, ◌≢◌, inl, inr, Bool, true, false, ◌+◌, ◌*◌, ◌<◌, ◌≤◌, ◌==◌, List, [], ◌∷◌, ◌++◌, length, Option, Some, None, refl, sym, ap, ◌∙◌, arith, if◌then◌else◌, slice_index_or, slice_set, get_or, subst, length-set, get_or-set_same, get_or-set_other, length-append, append-nil}
 use Rattle.std.proofs.lemmas.Bool.{cases_eq}
 use Rattle.std.proofs.lemmas.List.{get_or_default}
@@ -32,12 +32,12 @@ use Rattle.cn_log.proofs.OwnCalls.{push_batch}
 use Rattle.cn_log.proofs.Fitting.{IsReadCaller, state_push, may_push, caller_put, caller_here}
 use Rattle.cn_log.specs.declared.limits.TheConstants.{MOST_ENTRIES, MOST_SLOTS}
 
--- a run over more entries goes on from where it was
+-- a run over more entries goes on from the state before them
 run_join : (t : TypeTable) (state : ℕ) (xs ys : List Entry) → state_after t state (operations_of (xs ++ ys)) ≡ state_after t (state_after t state (operations_of xs)) (operations_of ys)
 run_join t state [] ys = refl
 run_join t state (x ∷ xs) ys = run_join t (transition t x.operation.0 state).1 xs ys
 
--- the next batch behind so many
+-- the next batch behind this many
 next_is : (bs : List Batch) (k : ℕ) (o : Option Batch) → entered bs k o ≡ bs ++ next_batch (length bs) k o
 next_is bs k None = sym (append-nil bs)
 next_is bs k (Some b) = go (length bs == k)
@@ -46,14 +46,14 @@ next_is bs k (Some b) = go (length bs == k)
     go true = refl
     go false = sym (append-nil bs)
 
--- it is that of slot k, where there is one
+-- its slot is slot k, if there is one
 next_slot : (n many k : ℕ) (o : Option Batch) → slots_from n many (next_batch many k o) ≡ slots_from n k (next_batch many k o)
 next_slot n many k o = elim (cases_eq many k) [
   | inl e ↦ ap (λ i. slots_from n i (next_batch many k o)) e
   | inr ne ↦ rw (not_next many k o ne) refl
 ]
 
--- what a process knows that is in this phase
+-- the knowledge of a process in this phase
 module _ {R : Type 0} {L : Setting R} {Good : R → Type 0} {s : List Event} {kept : Fields R} {p : ℕ} {phase : Phase} {here : CallerState} (now : IsReadCaller L Good s kept p phase here) where
   abbrev w : World R
   w = state_of L s
@@ -64,7 +64,7 @@ module _ {R : Type 0} {L : Setting R} {Good : R → Type 0} {s : List Event} {ke
   abbrev k0 : ℕ
   k0 = length caller.seen
 
-  -- what holds in either phase of a call
+  -- properties of both phases of a call
   module _ {mine : Entry} (pending : IsPending L w p mine) where
     holds : Holds L Good w
     holds = holds_after L Good now.agrees s now.at.keeps.events
@@ -96,7 +96,7 @@ module _ {R : Type 0} {L : Setting R} {Good : R → Type 0} {s : List Event} {ke
       | inr ne ↦ (let g : k ≢ here.applied_slots = (λ same. ne (same ∙ caller_is.applied_slots)) in rw (put_other w.round k0 r' k ne, get_or-set_other kept.rounds here.applied_slots k r' L.untouched g) (now.at.keeps.fits.round k less))
     ]
 
-    -- the fields after a step that changes the round of the slot and where the process stands
+    -- the fields after a step that changes the round of the slot and the progress of the process
     pub fits_put : (r' : R) (x : CallerState) (c : Caller) → IsCallerState L x c → (w' : World R) → w'.round ≡ put w.round k0 r' → w'.announced ≡ w.announced → w'.caller ≡ put w.caller p c
         → (more : Fields R) → more.entries ≡ entries_of L w' → more.slots ≡ slots_from L.processes 0 (batches_of L w') → more.fixed ≡ length (batches_of L w')
         → AreFieldsOf L w' (record more { rounds = slice_set kept.rounds here.applied_slots r'; announced = kept.announced; callers = slice_set kept.callers p x })
@@ -138,7 +138,7 @@ module _ {R : Type 0} {L : Setting R} {Good : R → Type 0} {s : List Event} {ke
   pub runs_begun : (r : R) → r ≡ get_or kept.rounds here.applied_slots r → (v : Batch) × (L.consensus.input r p ≡ Some v) × (L.consensus.decided r p ≡ None)
   runs_begun r e = subst (λ (z : R). (v : Batch) × (L.consensus.input z p ≡ Some v) × (L.consensus.decided z p ≡ None)) (sym (round_is run runs_pending r e)) has_begun
 
-  -- no more entries have been seen than so many slots can take
+  -- a process has applied at most as many entries as this many slots can take
   pub seen_most : L.capacity ≤ MOST_SLOTS → here.applied_entries ≤ MOST_ENTRIES
   seen_most few =
       let e = entries_few_in L.processes (caller run).seen in
@@ -150,7 +150,7 @@ module _ {R : Type 0} {L : Setting R} {Good : R → Type 0} {s : List Event} {ke
   pub calls_places : length here.calls_seen.calls ≡ 8
   calls_places = runs_is.calls_places
 
-  -- and no more calls of one process
+  -- and at most as many calls of one process
   pub calls_most : L.capacity ≤ MOST_SLOTS → (q : ℕ) → q < L.processes → count_at here.calls_seen q ≤ MOST_ENTRIES
   calls_most few q low =
       let m = seen_most few in
@@ -165,7 +165,7 @@ module _ {R : Type 0} {L : Setting R} {Good : R → Type 0} {s : List Event} {ke
   pub mine_operation : mine.operation.0 < length L.object.operations
   mine_operation = known_operation L Good run.agrees s run.at.keeps.events mine runs_pending.called
 
-  -- where slot k is the next one to be fixed, there is room for its entries
+  -- if slot k is the next one to be fixed, there is room for its entries
   room_for : (many : ℕ) → many ≤ L.processes * length (batches_of L (w run)) → kept.fixed ≡ here.applied_slots → many + L.processes ≤ L.processes * L.capacity
   room_for many few next =
       let f = run.at.keeps.fits.fixed_is in
@@ -212,7 +212,7 @@ module _ {R : Type 0} {L : Setting R} {Good : R → Type 0} {s : List Event} {ke
     abbrev more : List Batch
     more = next_batch kept.fixed here.applied_slots (L.consensus.fixed r')
 
-    -- the batches go on with that of the slot that has just been fixed
+    -- the batches with that of the slot that has just been fixed
     batches_then : (w' : World R) → w'.round ≡ put (w run).round (k0 run) r' → batches_of L w' ≡ batches_of L (w run) ++ more
     batches_then w' is =
         let bs = batches_of L (w run) in
@@ -237,7 +237,7 @@ module _ {R : Type 0} {L : Setting R} {Good : R → Type 0} {s : List Event} {ke
     fixed_then : (w' : World R) → w'.round ≡ put (w run).round (k0 run) r' → kept.fixed + length more ≡ length (batches_of L w')
     fixed_then w' is = let e : length (batches_of L w') ≡ length (batches_of L (w run)) + length more = ap length (batches_then w' is) ∙ length-append (batches_of L (w run)) more in let f = run.at.keeps.fits.fixed_is in omega (arith, e, f)
 
-    -- what is kept after the step, with each process as far as this
+    -- the fields after the step, with this progress of each process
     abbrev pub kept_then : List CallerState → Fields R
     kept_then callers = record {
       rounds = slice_set kept.rounds here.applied_slots r';
@@ -270,7 +270,7 @@ module _ {R : Type 0} {L : Setting R} {Good : R → Type 0} {s : List Event} {ke
     none_answer is = sym (answer_is None is)
 
     module _ {x : Batch} (is : L.consensus.decided r' p ≡ Some x) where
-      -- what is decided was begun
+      -- the decided batch is an input
       some_begun : IsBegun L (state_of L (s ++ Step p ∷ [])) (k0 run) x
       some_begun =
           let v = has_begun.0 in
@@ -281,7 +281,7 @@ module _ {R : Type 0} {L : Setting R} {Good : R → Type 0} {s : List Event} {ke
           ∙ ap L.consensus.fixed (put_same (w run).round (k0 run) (L.consensus.step p ((w run).round (k0 run)))) ∙ f in
           fixed_begun L Good run.agrees w' (holds_after L Good run.agrees (s ++ Step p ∷ []) events_then) (k0 run) x fixed'
 
-      -- so these are calls of the list, with operations that are known
+      -- so its entries are calls of the list, with known operations
       pub some_operation : (q : ℕ) (e : Entry) → entry_at x q ≡ Some e → e.operation.0 < length L.object.operations
       some_operation q e there =
           let b = some_begun in
@@ -321,7 +321,7 @@ module _ {R : Type 0} {L : Setting R} {Good : R → Type 0} {s : List Event} {ke
                 (fixed_then (after_with (Some x)) (ap (put (w run).round (k0 run)) (sym stepped_is))));
           }
 
-      -- what is answered is the response at its place in the batch
+      -- the answer is the response at its place in the batch
       reply_at : transition L.object mine.operation.0 (state_after L.object (object_after L (entries_in L.processes (caller run).seen)) (operations_of (members mine.process 0 x)))
           ≡ transition L.object mine.operation.0 (object_after L (entries_in L.processes (caller run).seen ++ members mine.process 0 x))
       reply_at = ap (transition L.object mine.operation.0) (sym (run_join L.object L.start (entries_in L.processes (caller run).seen) (members mine.process 0 x)))

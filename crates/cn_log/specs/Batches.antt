@@ -1,4 +1,4 @@
--- Batches: what a slot of the log takes, at the place of each process an entry of its or none.
+-- Batches: the calls that a slot takes, at the place of each process its entry or none.
 use Rattle.std.specs.Prelude.{ℕ, zero, suc, ◌≡◌, ◌==◌, ◌&&◌, Bool, false, List, [], ◌∷◌, ◌++◌, map, replicate, slice_index_or, slice_set, Option, Some, None}
 use Rattle.cn_log.specs.declared.entry.Entry.{Entry}
 use Rattle.cn_log.specs.declared.batch.Batch.{Batch}
@@ -33,7 +33,7 @@ abbrev pub and_entry : Option Entry → List Entry → List Entry
 and_entry None rest = rest
 and_entry (Some e) rest = e ∷ rest
 
--- the entries of so many processes from process p on, in order
+-- the entries of this many processes from process p on, in order
 abbrev pub members : ℕ → ℕ → Batch → List Entry
 members zero p b = []
 members (suc many) p b = and_entry (entry_at b p) (members many (suc p) b)
@@ -47,7 +47,7 @@ entries_in n (b ∷ bs) = members n 0 b ++ entries_in n bs
 abbrev pub each_slot : ℕ → List Entry → List ℕ
 each_slot k entries = map (λ e. k) entries
 
--- the slot of each of these entries, where the first batch is that of slot k
+-- the slot of each of these entries, if slot k is that of the first batch
 abbrev pub slots_from : ℕ → ℕ → List Batch → List ℕ
 slots_from n k [] = []
 slots_from n k (b ∷ bs) = each_slot k (members n 0 b) ++ slots_from n (suc k) bs

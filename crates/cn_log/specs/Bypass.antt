@@ -1,11 +1,11 @@
--- No call is passed by for long.
+-- The bypass bound: a call waits for at most one slot that begins after it.
 use Rattle.std.specs.Prelude.{ℕ, ◌+◌, ◌≤◌, List, length, take}
 use Rattle.cn_log.specs.declared.entry.Entry.{Entry}
 use Rattle.cn_log.specs.declared.event.Event.{Event}
 use Rattle.cn_log.specs.Log.{Setting, batches}
 use Rattle.cn_log.specs.Linearized.{IsCall, Stands, StandsIn}
 
--- how many slots are fixed before event i
+-- the number of slots fixed before event i
 abbrev pub fixed_before : {R : Type 0} → Setting R → List Event → ℕ → ℕ
 fixed_before L events i = length (batches L (take i events))
 

@@ -9,13 +9,13 @@ use Rattle.cn_log.specs.declared.event.StepAnswer.{StepAnswer}
 use Rattle.cn_log.specs.declared.event.StepAnswer.TheVariants.{Working, Answered, Full}
 use Rattle.cn_log.specs.Log.{Setting, answer}
 
--- how the call of process p ends, if a step of it that answers this ends it
+-- the end of the call of process p by a step of it with this answer, if the step ends it
 abbrev pub end_of : ℕ → StepAnswer → Option CallEnd
 end_of p Working = None
 end_of p (Answered slot response) = Some (ends.Answered p slot response)
 end_of p Full = Some (ends.Full p)
 
--- how the event that comes after these ends a call, if it ends one
+-- the end of a call by the event after these, if it ends one
 abbrev pub call_end : {R : Type 0} → Setting R → List Event → Event → Option CallEnd
 call_end L before (Invoke p operation) = None
 call_end L before (Step p) = end_of p (answer L before p)

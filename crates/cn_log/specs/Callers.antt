@@ -1,4 +1,4 @@
--- What a process knows of a log, what its events make of that, and what has become of its calls.
+-- The knowledge of a process about a log, its change by events, and the calls of a process.
 use Rattle.std.specs.Prelude.{ℕ, ◌≡◌, ◌≢◌, ◌⊎◌, ◌+◌, ◌<◌, ◌==◌, if◌then◌else◌, List, [], ◌∷◌, ◌++◌, length, slice_get, Option, Some, None}
 use Rattle.std.specs.List.{filter}
 use Rattle.cn_table.specs.TypeTable.{TypeTable}
@@ -14,21 +14,21 @@ use Rattle.cn_log.specs.Batches.{HoldsEntry, entry_at, members}
 use Rattle.cn_log.specs.Linearized.{calls_of}
 use Rattle.cn_log.specs.Log.{Setting, Caller, state_of, response_in, entries_of_batches}
 
--- the list begins with that one
+-- the first list begins with the second
 abbrev pub BeginsWith : {A : Type 0} → List A → List A → Type 0
 BeginsWith {A} list front = (rest : List A) × (list ≡ front ++ rest)
 
--- it holds of each
+-- the property holds of each element
 abbrev pub Every : {A : Type 0} → (A → Type 0) → List A → Type 0
 Every P [] = Unit {0}
 Every P (x ∷ xs) = P x × Every P xs
 
--- whose event it is
+-- the process of an event
 abbrev pub process_of : Event → ℕ
 process_of (Invoke p operation) = p
 process_of (Step p) = p
 
--- no event of the list is the process's
+-- no event of the list is one of the process
 abbrev pub HasNoEventOf : ℕ → List Event → Type 0
 HasNoEventOf p events = Every (λ e. process_of e ≢ p) events
 
@@ -67,7 +67,7 @@ abbrev pub IsUnseen : List Batch → Entry → Type 0
 IsUnseen batches e = (k : ℕ) (b : Batch) → slice_get batches k ≡ Some b → HoldsEntry b e → ⊥
 
 module _ {R : Type 0} (L : Setting R) where
-  -- the process sees one batch more, with no entry of its own
+  -- the process has applied one more batch, without an entry of its own
   pub record SeesOther (p : ℕ) (before after : Caller) : Type 0 where
     pub batch : Batch
     pub seen : after.seen ≡ before.seen ++ batch ∷ []
@@ -80,7 +80,7 @@ module _ {R : Type 0} (L : Setting R) where
     pub calls : after.calls ≡ before.calls
     pub seen : (after.seen ≡ before.seen) ⊎ SeesOther p before after
 
-  -- what process p knows after these events
+  -- the knowledge of process p after these events
   abbrev pub caller_of : List Event → ℕ → Caller
   caller_of events p = (state_of L events).caller p
 
@@ -88,7 +88,7 @@ module _ {R : Type 0} (L : Setting R) where
   abbrev pub seen_of : List Event → ℕ → List Entry
   seen_of events p = entries_of_batches L (caller_of events p).seen
 
-  -- the pending call of process p: the last that it has made. The process has applied neither this call nor every slot
+  -- the pending call of process p: the last that it has made; the process has applied neither this call nor every slot
   pub record IsPendingCall (events : List Event) (p : ℕ) (mine : Entry) : Type 0 where
     pub process : mine.process ≡ p
     pub last : mine.call + 1 ≡ calls_of p events
@@ -106,7 +106,7 @@ module _ {R : Type 0} (L : Setting R) where
     pub slot : k ≡ length before.seen
     pub response : given ≡ response_in L before.seen batch mine
 
-  -- a step of process p that ends the pending call with no answer: the process has applied every slot, and the call stands in none
+  -- a step of process p that ends the pending call without an answer: the process has applied every slot, and none holds the call
   pub record EndsFull (p : ℕ) (before : Caller) (mine : Entry) (after : Caller) : Type 0 where
     pub idle : after.phase ≡ Idle
     pub calls : after.calls ≡ before.calls
@@ -114,24 +114,24 @@ module _ {R : Type 0} (L : Setting R) where
     pub all : length after.seen ≡ L.capacity
     pub unseen : IsUnseen after.seen mine
 
-  -- what a step of process p, with this call pending, makes of what it knew, by its answer
+  -- the change of the knowledge of process p by a step with this call pending, for each answer
   abbrev pub IsStepped : ℕ → Caller → Entry → Caller → StepAnswer → Type 0
   IsStepped p before mine after Working = CallGoesOn p before mine after
   IsStepped p before mine after (Answered slot response) = EndsAnswered p before mine after slot response.0
   IsStepped p before mine after Full = EndsFull p before mine after
 
-  -- the calls that a process has no answer to: in a call, that one; else none, but perhaps one where it has applied every slot and that stands in none
+  -- the calls without an answer: the one that the process is in; else none, or one that is in no slot, if the process has applied every slot
   abbrev pub IsUnanswered : Caller → Phase → List Entry → Type 0
   IsUnanswered here Idle calls = (calls ≡ []) ⊎ ((length here.seen ≡ L.capacity) × (e : Entry) × (calls ≡ e ∷ []) × IsUnseen here.seen e)
   IsUnanswered here (Looks mine q batch) calls = calls ≡ mine ∷ []
   IsUnanswered here (Runs mine) calls = calls ≡ mine ∷ []
 
-  -- the calls of process p are the entries of its own that it has applied, and then what it has no answer to
+  -- the calls of process p are its own entries that it has applied, then those without an answer
   abbrev pub HasAppliedItsOwn : List Event → ℕ → Type 0
   HasAppliedItsOwn events p = (rest : List Entry) × (calls_by p events ≡ entries_by p (seen_of events p) ++ rest)
       × IsUnanswered (caller_of events p) (caller_of events p).phase rest
 
-  -- the same after a step of process p with this call pending, by its answer
+  -- the same after a step of process p with this call pending, for each answer
   abbrev pub HasAppliedBy : List Event → ℕ → Entry → StepAnswer → Type 0
   HasAppliedBy events p mine Working = calls_by p events ≡ entries_by p (seen_of events p) ++ mine ∷ []
   HasAppliedBy events p mine (Answered slot response) = calls_by p events ≡ entries_by p (seen_of events p)

@@ -1,4 +1,4 @@
--- What a log sees of the round of consensus in each of its slots.
+-- The round of consensus in each slot, as a log sees it.
 use Rattle.std.specs.Prelude.{ℕ, Option}
 use Rattle.cn_proto.specs.Protocol.{Protocol}
 use Rattle.cn_agree.specs.World.{World as RoundWorld, input_at, local_at}
@@ -6,8 +6,8 @@ use Rattle.cn_agree.specs.Steps.{after_begin, after_step}
 use Rattle.cn_agree.specs.Rounds.{decision_at, fixed_value, steps_taken}
 use Rattle.cn_log.specs.declared.batch.Batch.{Batch}
 
--- consensus on a batch: a process begins with a batch, or takes a step; what it began with, what it has decided, what the round has fixed, and how many
--- steps it has taken
+-- consensus on a batch: a process begins with a batch or takes a step; its input, its decision, the fixed value of the round,
+-- and the number of steps that it has taken
 pub record Consensus (R : Type 0) : Type 0 where
   pub begin : ℕ → Batch → R → R
   pub step : ℕ → R → R
@@ -16,7 +16,7 @@ pub record Consensus (R : Type 0) : Type 0 where
   pub fixed : R → Option Batch
   pub taken : R → ℕ → ℕ
 
--- the rounds of a protocol are such
+-- the rounds of a protocol, as consensus
 abbrev pub consensus_by : Protocol → Consensus (RoundWorld Batch)
 consensus_by P = record {
   begin = λ p x w. after_begin p x w;

@@ -1,4 +1,4 @@
--- The text of a fault: its number and its name, and the place of the event in the list.
+-- The text of a fault: its number, its name, and the place of the event in the list.
 use Rattle.std.specs.Prelude.{ℕ, List, codes, Option, Some, None}
 use Rattle.cn_table.specs.FaultText.{numbered_text}
 use Rattle.cn_log.specs.declared.fault.ReplayFault.{ReplayFault}

@@ -1,4 +1,4 @@
--- Which lists of events cannot be replayed, and why.
+-- The lists of events that cannot be replayed, and their faults.
 use Rattle.std.specs.Prelude.{ℕ, ◌≡◌, List, length, take, slice_get, nat_lt, if◌then◌else◌, Option, Some, None}
 use Rattle.cn_log.specs.declared.event.Event.{Event}
 use Rattle.cn_log.specs.declared.event.Event.TheVariants.{Invoke, Step}
@@ -21,7 +21,7 @@ step_fault i IsIdle = Some (Idle i)
 step_fault i (Looks e q batch) = None
 step_fault i (Runs e) = None
 
--- why this event cannot come as event i, if it cannot: of two reasons, the one with the least number
+-- the fault of this event as event i, if it cannot come: of two faults, the one with the least number
 abbrev pub event_fault : {R : Type 0} → Setting R → World R → ℕ → Event → Option ReplayFault
 event_fault L w i (Invoke p operation) =
     if nat_lt p L.processes

@@ -1,4 +1,4 @@
--- What a core keeps in its fields: the state after its schedule.
+-- The fields of a core: the state after its schedule.
 use Rattle.std.specs.Prelude.{ℕ, ◌≡◌, ◌<◌, ◌+◌, ◌*◌, ◌≤◌, ◌==◌, nat_lt, List, [], ◌∷◌, length, replicate, slice_index_or, if◌then◌else◌, Option, Some, None}
 use Rattle.cn_table.specs.TypeTable.{transition}
 use Rattle.cn_table.specs.Run.{state_after}
@@ -22,25 +22,25 @@ use Rattle.cn_choice.specs.declared.limits.TheConstants.{MOST_PROCESSES}
 abbrev pub no_calls : CallCounts
 no_calls = record { calls = replicate MOST_PROCESSES 0 }
 
--- how many calls of process p
+-- the number of calls of process p
 abbrev pub count_at : CallCounts → ℕ → ℕ
 count_at counts p = slice_index_or counts.calls p 0
 
 abbrev pub no_caller_state : CallerState
 no_caller_state = record { applied_slots = 0; applied_entries = 0; calls_seen = no_calls; calls = 0; phase = Idle; state = record { 0 = 0 } }
 
--- what a process has gathered that has read the announcement of process q, where so many calls of process q stand in the slots that it has applied
+-- the batch after reading the announcement of process q, if the slots applied hold this many calls of process q
 abbrev pub batch_with_calls : Option Entry → ℕ → ℕ → Batch → Batch
 batch_with_calls None calls q batch = batch
 batch_with_calls (Some other) calls q batch = if nat_lt other.call calls then batch else with_entry batch q other
 
--- what comes behind so many batches that are fixed: that of slot k, where it is the next one and fixed
+-- the batch of slot k, if it is fixed and the next one after this many fixed batches
 abbrev pub next_batch : ℕ → ℕ → Option Batch → List Batch
 next_batch many k None = []
 next_batch many k (Some b) = if many == k then b ∷ [] else []
 
--- what is kept of a log: the round of each slot, the announcement register of each process, how far each process has come, the entries of the
--- fixed slots, each with its slot, how many slots are fixed, and how many entries and slots there is room for
+-- the fields of a log: the round of each slot, the announcement of each process, the progress of each process, the entries of the
+-- fixed slots, each with its slot, the number of fixed slots, and the room for entries and slots
 pub record Fields (R : Type 0) : Type 0 where
   pub rounds : List R
   pub announced : List (Option Entry)
@@ -52,14 +52,14 @@ pub record Fields (R : Type 0) : Type 0 where
   pub slots_room : ℕ
 
 module _ {R : Type 0} (L : Setting R) where
-  -- what a process answers with this call pending that replays batch x in slot k, where its copy of the object is in this state
+  -- the answer of a process with this call pending that replays batch x in slot k, if its copy of the object is in this state
   abbrev pub step_answer : ℕ → ℕ → Entry → Batch → StepAnswer
   step_answer k state mine x =
       if has x mine
       then Answered k (record { 0 = (transition L.object mine.operation.0 (state_after L.object state (operations_of (members mine.process 0 x)))).0 })
       else (if k + 1 == L.capacity then Full else Working)
 
-  -- of what a caller has seen only the numbers of slots, of entries and of each process's calls are kept, and the state of its copy of the object
+  -- of what a caller has applied, the numbers of slots, of entries and of calls of each process, and the state of its copy of the object
   pub record IsCallerState (here : CallerState) (caller : Caller) : Type 0 where
     pub applied_slots : here.applied_slots ≡ length caller.seen
     pub applied_entries : here.applied_entries ≡ length (entries_of_batches L caller.seen)
@@ -70,7 +70,7 @@ module _ {R : Type 0} (L : Setting R) where
     pub state : here.state.0 ≡ object_after L (entries_of_batches L caller.seen)
     pub known : here.state.0 < length L.object.states
 
-  -- this state is kept
+  -- the fields of this world
   pub record AreFieldsOf (w : World R) (fields : Fields R) : Type 0 where
     pub rounds_many : length fields.rounds ≡ L.capacity
     pub round : (k : ℕ) → k < L.capacity → slice_index_or fields.rounds k L.untouched ≡ w.round k
@@ -82,7 +82,7 @@ module _ {R : Type 0} (L : Setting R) where
     pub slots_are : fields.slots ≡ slots_from L.processes 0 (batches_of L w)
     pub fixed_is : fields.fixed ≡ length (batches_of L w)
 
-  -- the state after the schedule is kept
+  -- the fields of the state after the schedule
   pub record Keeps (schedule : List Event) (fields : Fields R) : Type 0 where
     pub events : IsEventList L schedule
     pub fits : AreFieldsOf (state_of L schedule) fields
@@ -93,7 +93,7 @@ module _ {R : Type 0} (L : Setting R) where
     pub process : p < L.processes
     pub phase_is : ((state_of L schedule).caller p).phase ≡ phase
 
--- what a log keeps that runs by rounds of a plan
+-- the fields of a log with the rounds of a plan
 abbrev pub LogFields : Type 0
 LogFields = Fields (RoundWorld Batch)
 
@@ -110,7 +110,7 @@ pub record HasRoom (o : Opening) (state : LogFields) : Type 0 where
   pub entries : processes_of o.plan * o.capacity ≤ state.entries_room
   pub slots : processes_of o.plan * o.capacity ≤ state.slots_room
 
--- and as much as before
+-- the room is the same as before
 pub record HasSameRoom (old new : LogFields) : Type 0 where
   pub entries : new.entries_room ≡ old.entries_room
   pub slots : new.slots_room ≡ old.slots_room

@@ -1,4 +1,4 @@
--- What a list of events leaves, whoever made them and in whatever order: answers as of one sequential run of the calls, in the order of the log.
+-- A linearized log: for every list of events, the answers are those of one sequential run of the calls, in the order of the log.
 use Rattle.std.specs.Prelude.{ℕ, ◌≡◌, ◌+◌, ◌<◌, ◌==◌, Bool, false, List, ◌++◌, length, take, slice_get, count_by, Some}
 use Rattle.cn_table.specs.Run.{responses_along}
 use Rattle.cn_log.specs.declared.entry.Entry.{Entry}
@@ -14,11 +14,11 @@ abbrev pub is_call_of : ℕ → Event → Bool
 is_call_of p (Invoke q operation) = q == p
 is_call_of p (Step q) = false
 
--- how many calls process p makes in these events
+-- the number of calls that process p makes in these events
 abbrev pub calls_of : ℕ → List Event → ℕ
 calls_of p events = count_by (is_call_of p) events
 
--- event i makes this call: an Invoke of its process with its operation, and the call's number is how many the process made before
+-- event i makes this call: an Invoke of its process with its operation; the call's number is the number of calls that the process made before
 pub record IsCall (events : List Event) (i : ℕ) (e : Entry) : Type 0 where
   pub invoke : slice_get events i ≡ Some (Invoke e.process e.operation.0)
   pub number : e.call ≡ calls_of e.process (take i events)
@@ -37,7 +37,7 @@ module _ {R : Type 0} (L : Setting R) (events : List Event) where
     pub step : IsStepOf events i e
     pub answers : answer L (take i events) e.process ≡ Answered slot (record { 0 = response })
 
-  -- event i is the step that ends the call with no answer, since no slot is left
+  -- event i is the step that ends the call without an answer, since no slot is left
   pub record FindsFull (i : ℕ) (e : Entry) : Type 0 where
     pub step : IsStepOf events i e
     pub answers : answer L (take i events) e.process ≡ Full
@@ -73,23 +73,23 @@ module _ {R : Type 0} (L : Setting R) (events : List Event) where
     pub called : (k : ℕ) (e : Entry) → Stands k e → (i : ℕ) × IsCall events i e
     -- and no entry stands twice
     pub once : (j k : ℕ) (e : Entry) → Stands j e → Stands k e → j ≡ k
-    -- before an entry stand all earlier calls of its process, so these stand in the order of its calls and none is left out between
+    -- before an entry stand all earlier calls of its process: they are in order, and none is left out
     pub in_order : (k : ℕ) (e : Entry) (call : ℕ) → Stands k e → call < e.call → (j : ℕ) × (f : Entry) × (j < k) × (f.process ≡ e.process)
         × (f.call ≡ call) × Stands j f
     -- a call that is answered before another is made stands before it, in an earlier slot
     pub real_time : (i j : ℕ) (e f : Entry) (slot response place k : ℕ) → IsAnswered i e slot response → IsCall events j f → i < j → StandsIn place k f
         → slot < k
-    -- a call ends with no answer only where every slot is fixed, and it stands in none
+    -- a call ends without an answer only if every slot is fixed and none holds it
     pub full : (i : ℕ) (e : Entry) → FindsFull i e → (length (batches L events) ≡ L.capacity) × ((k : ℕ) → Stands k e → ⊥)
     -- entries stand by slot: those of an earlier slot before those of a later one
     pub by_slot : (a b j k : ℕ) (e f : Entry) → StandsIn a j e → StandsIn b k f → j < k → a < b
-    -- in a slot by process, of each at most one
+    -- entries in a slot stand by process, at most one of each
     pub by_process : (a b k : ℕ) (e f : Entry) → StandsIn a k e → StandsIn b k f → e.process < f.process → a < b
     pub one_each : (a b k : ℕ) (e f : Entry) → StandsIn a k e → StandsIn b k f → e.process ≡ f.process → e ≡ f
     -- each entry has its slot, which is fixed
     pub slots : (place : ℕ) (e : Entry) → Stands place e → (k : ℕ) × (k < length (batches L events)) × StandsIn place k e
 
-  -- slots come one after the other: a process begins in a slot only after every slot before it is fixed
+  -- slots come one after the other: a process begins in a slot only after every earlier slot is fixed
   pub record BeginsInTurn : Type 0 where
     pub before : (k p : ℕ) (x : Batch) → L.consensus.input ((state_of L events).round k) p ≡ Some x → (j : ℕ) → j < k → (y : Batch)
         × (L.consensus.fixed ((state_of L events).round j) ≡ Some y)

@@ -14,8 +14,8 @@ use Rattle.cn_log.specs.declared.event.StepAnswer.TheVariants.{Working, Answered
 use Rattle.cn_log.specs.declared.caller_state.Phase.{Phase}
 use Rattle.cn_log.specs.declared.caller_state.Phase.TheVariants.{Idle, Looks, Runs}
 
--- what a log runs by: consensus in each slot and a round in which nothing has happened, how many processes and slots there are, and the object with its
--- start state
+-- the setting of a log: consensus in each slot and a round before any step, the numbers of processes and slots, and the object with
+-- its start state
 pub record Setting (R : Type 0) : Type 0 where
   pub consensus : Consensus R
   pub untouched : R
@@ -24,19 +24,19 @@ pub record Setting (R : Type 0) : Type 0 where
   pub object : TypeTable
   pub start : ℕ
 
--- what a process knows: the batch of each slot that it has applied, how many calls it has made, and what it does next
+-- the knowledge of a process: the batch of each slot that it has applied, the number of its calls, and its next move
 pub record Caller : Type 0 where
   pub seen : List Batch
   pub calls : ℕ
   pub phase : Phase
 
--- what is on record: a call, with the number of slots fixed when it was made; an answer to a call, with its slot and response; a call that found no slot
+-- the record: a call, with the number of slots fixed when it was made; an answer to a call, with its slot and response; a call that found the log full
 pub data Note : Type 0 where
   Called : Entry → ℕ → Note
   Replied : Entry → ℕ → ℕ → Note
   FoundFull : Entry → Note
 
--- the round of each slot, the announcement register of each process, what each process knows, and what is on record, newest first, which no step reads
+-- the round of each slot, the announcement of each process, the knowledge of each process, and the record, newest first, which no step reads
 pub record World (R : Type 0) : Type 0 where
   pub round : ℕ → R
   pub announced : ℕ → Option Entry
@@ -47,7 +47,7 @@ pub record World (R : Type 0) : Type 0 where
 abbrev pub put : {A : Type 0} → (ℕ → A) → ℕ → A → ℕ → A
 put f i x j = if j == i then x else f j
 
--- the entry is listed
+-- the list has the entry
 abbrev pub has_entry : List Entry → Entry → Bool
 has_entry entries e = list_any (λ f. same_entry f e) entries
 
@@ -55,23 +55,23 @@ has_entry entries e = list_any (λ f. same_entry f e) entries
 abbrev pub operations_of : List Entry → List ℕ
 operations_of entries = map (λ e. e.operation.0) entries
 
--- what a process has gathered that has read the announcement of process q: also the call that it finds there, unless that stands in the slots that it has
--- applied
+-- the batch after reading the announcement of process q: it takes the call there, unless the slots that the process has applied
+-- hold it
 abbrev pub batch_with : Option Entry → List Entry → ℕ → Batch → Batch
 batch_with None seen q batch = batch
 batch_with (Some other) seen q batch = if has_entry seen other then batch else with_entry batch q other
 
--- with this call pending, a process goes on to its next slot, where it looks at the announcements in order
+-- a process with this call pending goes on to its next slot, where it looks at the announcements in order
 abbrev pub first_look : Entry → Phase
 first_look mine = Looks mine 0 no_entries
 
--- the batch of a fixed slot and those behind it, or none from an open slot on
+-- the batch of a fixed slot and those after it, or none from an open slot on
 abbrev pub up_to_open : Option Batch → List Batch → List Batch
 up_to_open None rest = []
 up_to_open (Some b) rest = b ∷ rest
 
 module _ {R : Type 0} (L : Setting R) where
-  -- the object after the entries: one sequential run of their operations
+  -- the object after the entries, by one sequential run of their operations
   abbrev pub object_after : List Entry → ℕ
   object_after entries = state_after L.object L.start (operations_of entries)
 
@@ -83,12 +83,12 @@ module _ {R : Type 0} (L : Setting R) where
   abbrev pub entries_of_batches : List Batch → List Entry
   entries_of_batches batches = entries_in L.processes batches
 
-  -- the response of the object to a call in this batch, behind these batches: that after the entries of the batches, and those of the processes before in
-  -- its own batch
+  -- the response of the object to a call in this batch, behind these batches: it comes after their entries, and those of the processes
+  -- before in its own batch
   abbrev pub response_in : List Batch → Batch → Entry → ℕ
   response_in batches batch e = response_after (entries_of_batches batches ++ members e.process 0 batch) e.operation.0
 
-  -- of so many slots from slot k on, the batches of those before the first that is not fixed
+  -- the batches before the first slot that is not fixed, of this many slots from slot k on
   abbrev pub fixed_from : ℕ → ℕ → (ℕ → R) → List Batch
   fixed_from zero k round = []
   fixed_from (suc slots) k round = up_to_open (L.consensus.fixed (round k)) (fixed_from slots (suc k) round)
@@ -101,7 +101,7 @@ module _ {R : Type 0} (L : Setting R) where
   abbrev pub entries_of : World R → List Entry
   entries_of w = entries_of_batches (batches_of w)
 
-  -- process p makes its next call: it writes it to its announcement register
+  -- process p makes its next call: it writes the call to its announcement
   abbrev pub after_invoke : World R → ℕ → ℕ → Caller → World R
   after_invoke w p operation here =
       let e : Entry = record { process = p; operation = record { 0 = operation }; call = here.calls } in
@@ -111,8 +111,8 @@ module _ {R : Type 0} (L : Setting R) where
         history = Called e (length (batches_of w)) ∷ w.history;
       }
 
-  -- process p, with this call pending, has read the announcement of process q and gathered this batch; after the last it begins with the batch in the round
-  -- of its slot
+  -- process p, with this call pending, has read the announcement of process q and gathered this batch; after the last announcement it begins
+  -- with the batch in the round of its slot
   abbrev pub after_gathering : World R → ℕ → Caller → Entry → ℕ → Batch → Bool → World R
   after_gathering w p here mine q batch false = record w { caller = put w.caller p (record here { phase = Looks mine (q + 1) batch }) }
   after_gathering w p here mine q batch true =
@@ -126,7 +126,7 @@ module _ {R : Type 0} (L : Setting R) where
   abbrev pub after_look : World R → ℕ → Caller → Entry → ℕ → Batch → World R
   after_look w p here mine q batch = after_gathering w p here mine q (batch_with (w.announced q) (entries_of_batches here.seen) q batch) (q + 1 == L.processes)
 
-  -- what a process does next that has decided x in slot k: its call is over where it is in x, and where there is no slot more; else it looks for the next slot
+  -- the next move of a process that has decided x in slot k: its call is over if x holds it or if no slot is left; else it looks for the next slot
   abbrev pub phase_after : ℕ → Entry → Batch → Phase
   phase_after k mine x = if has x mine then Idle else (if k + 1 == L.capacity then Idle else first_look mine)
 
@@ -136,7 +136,7 @@ module _ {R : Type 0} (L : Setting R) where
       then Replied mine (length seen) (response_in seen x mine) ∷ notes
       else (if length seen + 1 == L.capacity then FoundFull mine ∷ notes else notes)
 
-  -- after a step in its round, process p replays the batch that it has decided there, if it has
+  -- after a step in its round, process p replays the batch if it has decided one there
   abbrev pub after_decision : World R → ℕ → Caller → Entry → Option Batch → World R
   after_decision w p here mine None = w
   after_decision w p here mine (Some x) =
@@ -167,7 +167,7 @@ module _ {R : Type 0} (L : Setting R) where
   after_events [] w = w
   after_events (e ∷ es) w = after_events es (after_event w e)
 
-  -- nothing has happened
+  -- the world before any event
   abbrev pub first_world : World R
   first_world = record {
     round = λ k. L.untouched;
@@ -201,7 +201,7 @@ module _ {R : Type 0} (L : Setting R) where
   MayAllCome [] w = Unit {0}
   MayAllCome (e ∷ es) w = MayCome w e × MayAllCome es (after_event w e)
 
-  -- each event can come where it stands in the list
+  -- each event of the list can come at its place
   abbrev pub IsEventList : List Event → Type 0
   IsEventList events = MayAllCome events first_world
 
@@ -213,8 +213,8 @@ module _ {R : Type 0} (L : Setting R) where
   abbrev pub entries : List Event → List Entry
   entries events = entries_of (state_of events)
 
-  -- what a process that has applied these batches answers, with this call pending, once it has decided: the call is answered with its slot and its
-  -- response where it is in what was decided
+  -- the answer of a process that has applied these batches, with this call pending, once it has decided: the call is answered with its slot
+  -- and its response if the decided batch holds it
   abbrev pub answer_with : List Batch → Entry → Option Batch → StepAnswer
   answer_with seen mine None = Working
   answer_with seen mine (Some x) =
@@ -227,6 +227,6 @@ module _ {R : Type 0} (L : Setting R) where
   answer_from w p here (Looks mine q batch) = Working
   answer_from w p here (Runs mine) = answer_with here.seen mine (L.consensus.decided (L.consensus.step p (w.round (length here.seen))) p)
 
-  -- what a step of process p answers after these events
+  -- the answer of a step of process p after these events
   abbrev pub answer : List Event → ℕ → StepAnswer
   answer events p = answer_from (state_of events) p ((state_of events).caller p) ((state_of events).caller p).phase

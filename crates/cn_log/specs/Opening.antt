@@ -1,4 +1,4 @@
--- What a log is made of, and what has happened in it.
+-- The opening of a log, and its events.
 use Rattle.std.specs.Prelude.{ℕ, ◌≤◌, ◌<◌, List, length}
 use Rattle.cn_table.specs.TypeTable.{TypeTable}
 use Rattle.cn_proto.specs.Plan.{Plan, IsPlan, protocol_of, processes_of, nodes_of}
@@ -10,7 +10,7 @@ use Rattle.cn_log.specs.declared.limits.TheConstants.{MOST_SLOTS}
 use Rattle.cn_log.specs.Consensus.{consensus_by}
 use Rattle.cn_log.specs.Log.{Setting}
 
--- the plan of its rounds, the object that it serves and the state in which that starts, and how many slots it has
+-- the plan of the rounds, the object that the log serves, its start state, and the number of slots
 pub record Opening : Type 0 where
   pub plan : Plan
   pub object : TypeTable
@@ -20,12 +20,12 @@ pub record Opening : Type 0 where
 abbrev pub opening_of : Plan → TypeTable → ℕ → ℕ → Opening
 opening_of plan object start capacity = record { plan = plan; object = object; start = start; capacity = capacity }
 
--- its opening, and what has happened since
+-- the opening, and the events since
 pub record Log : Type 0 where
   pub opening : Opening
   pub schedule : List Event
 
--- a log of this opening runs by rounds of its plan
+-- the setting of a log of this opening, with the rounds of its plan
 abbrev pub setting_of : Opening → Setting (RoundWorld Batch)
 setting_of o = record {
   consensus = consensus_by (protocol_of o.plan);
@@ -39,7 +39,7 @@ setting_of o = record {
 abbrev pub setting : Log → Setting (RoundWorld Batch)
 setting c = setting_of c.opening
 
--- the plan is one, the start state is one of the object, and there are 1 to MOST_SLOTS slots
+-- the plan is a plan, the start state is one of the object's, and there are 1 to MOST_SLOTS slots
 pub record IsOpening (o : Opening) : Type 0 where
   pub plan : IsPlan o.plan
   pub start : o.start < length o.object.states

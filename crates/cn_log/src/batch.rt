@@ -1,4 +1,4 @@
-//! What a slot of the log takes.
+//! Batches, which the slots of the log take.
 ghost use Rattle.std.specs.Prelude.{◌≡◌, ◌≤◌, ◌<◌, ◌+◌, ◌++◌, ℕ, Some, length};
 ghost use Rattle.cn_log.specs.Batches.{no_entries, each_slot, entry_at, has, members, with_entry};
 ghost use Rattle.cn_log.specs.declared.entry.Entry.{Entry as EntryOf};
@@ -19,7 +19,7 @@ pub struct Batch {
 }
 
 impl Batch {
-    /// No entry.
+    /// The empty batch.
     pub(crate) fn new() -> Batch
         ensures { result ≡ no_entries }
     {
@@ -47,7 +47,7 @@ impl Batch {
         }
     }
 
-    /// This is the entry of process `p`.
+    /// Makes this the entry of process `p`.
     pub(crate) fn put(&mut self, p: u8, entry: Entry)
         requires { p < MOST_PROCESSES }
         ensures { self.new ≡ with_entry self.old p entry }
@@ -55,9 +55,9 @@ impl Batch {
         self.entries[usize::from(p)] = Some(entry);
     }
 
-    /// What a process has gathered that has read the announcement of process `q`: also the call that
-    /// it finds there, unless that is one of the calls of process `q` in the slots that it has
-    /// applied, which are its first so many.
+    /// Reads the announcement of process `q`: the batch takes the call there, unless the process
+    /// that reads has applied it. `calls_seen` is the number of calls of process `q` that it has
+    /// applied, its first ones.
     pub(crate) fn gather(&mut self, q: u8, announced: Option<Entry>, calls_seen: u16)
         requires { q < MOST_PROCESSES }
         ensures { self.new ≡ batch_with_calls announced calls_seen q self.old }
@@ -70,7 +70,7 @@ impl Batch {
     }
 }
 
-/// The entries of a batch go behind the others, each with its slot.
+/// Pushes the entries of a batch, each with its slot.
 pub(crate) fn put_batch(
     entries: &mut Vec<Entry>,
     slots: &mut Vec<u16>,
@@ -95,7 +95,7 @@ pub(crate) fn put_batch(
     }
 }
 
-/// The state of the object after the calls of the first so many processes in the batch.
+/// The state of the object after the calls in the batch by processes below `processes`.
 pub(crate) fn state_after(object: &Table, processes: u8, batch: &Batch, start: State) -> State
     requires processes { processes ≤ MOST_PROCESSES }
     requires start { start.0 < length object.now.states }

@@ -1,4 +1,4 @@
-//! How many calls of each process a process has applied.
+//! The number of calls of each process that a process has applied.
 ghost use Rattle.std.specs.Prelude.{◌≡◌, ◌≤◌, ◌<◌, ◌+◌, slice_set};
 ghost use Rattle.cn_log.specs.Fields.{count_at, no_calls};
 ghost use Rattle.cn_choice.specs.declared.limits.TheConstants.{MOST_PROCESSES};
@@ -6,15 +6,14 @@ ghost use Rattle.cn_log.specs.declared.limits.TheConstants.{MOST_ENTRIES};
 
 use cn_choice::MOST_PROCESSES;
 
-/// At the place of each process, how many of its calls stand in the slots applied: its first so
-/// many.
+/// For each process, the number of its calls in the slots applied. These are its first calls.
 #[derive(Clone, Copy, Debug, PartialEq, Eq)]
 pub(crate) struct CallCounts {
     calls: [u16; MOST_PROCESSES],
 }
 
 impl CallCounts {
-    /// No call.
+    /// No calls.
     pub fn new() -> CallCounts
         ensures { result ≡ no_calls }
     {
@@ -23,7 +22,7 @@ impl CallCounts {
         }
     }
 
-    /// How many calls of process `p`.
+    /// The number of calls of process `p`.
     pub fn of(&self, p: u8) -> u16
         requires { p < MOST_PROCESSES }
         ensures { result ≡ count_at self.now p }
@@ -31,7 +30,7 @@ impl CallCounts {
         self.calls[usize::from(p)]
     }
 
-    /// One call more of process `p`.
+    /// Adds one call of process `p`.
     pub fn add_one(&mut self, p: u8)
         requires process { p < MOST_PROCESSES }
         requires few { count_at self.old p ≤ MOST_ENTRIES }

@@ -1,4 +1,4 @@
-//! What a process knows of the log.
+//! The knowledge of a process about the log.
 ghost use Rattle.std.specs.Prelude.{◌≡◌, ◌+◌, ◌<◌, ◌≤◌, ℕ, Some, [], length};
 ghost use Rattle.cn_table.specs.Run.{state_after as run_of};
 ghost use Rattle.cn_log.specs.Batches.{and_entry, entry_at, members};
@@ -15,21 +15,21 @@ use crate::call_counts::CallCounts;
 use crate::entry::Entry;
 use cn_table::{State, Table};
 
-/// What a process does next.
+/// The next move of a process.
 #[derive(Clone, Copy, Debug, PartialEq, Eq)]
 pub(crate) enum Phase {
     /// It is in no call.
     Idle,
-    /// With this call pending, it looks for its next slot at the announcement of this process, and
-    /// has gathered these entries from the announcements before.
+    /// With this call pending, it is about to read the announcement of this process, for its next
+    /// slot. It has gathered this batch from the announcements before.
     Looks(Entry, u8, Batch),
     /// With this call pending, it takes steps in the round of its next slot.
     Runs(Entry),
 }
 
-/// How far a process has come: how many slots it has applied, how many entries stand there, and
-/// how many calls of each process; how many calls it has made, what it does next, and the state of
-/// its copy of the object.
+/// The progress of a process: the numbers of slots and entries that it has applied, and of the
+/// calls of each process there; the number of its own calls, its next move, and the state of its
+/// copy of the object.
 #[derive(Clone, Copy, Debug, PartialEq, Eq)]
 pub(crate) struct CallerState {
     pub applied_slots: u16,
@@ -41,8 +41,8 @@ pub(crate) struct CallerState {
 }
 
 impl CallerState {
-    /// The process, which looks at the announcement of process `q`, reads this there: what it gathers
-    /// goes to its batch, and the next process is next.
+    /// The process looks at the announcement of process `q` and reads this there. Its batch takes
+    /// what it gathers, and it looks at the next process next.
     pub fn look(&mut self, q: u8, announced: Option<Entry>)
         requires { q < MOST_PROCESSES }
         ensures { (mine : EntryOf) (batch : BatchOf) → self.old.phase ≡ Looks mine q batch
@@ -57,8 +57,8 @@ impl CallerState {
         }
     }
 
-    /// The process, which has looked at all announcements, begins in the round of its next slot with
-    /// what it has gathered.
+    /// The process has looked at all announcements. It begins in the round of its next slot with
+    /// its batch.
     pub fn begin(&mut self) -> Batch
         requires { (mine : EntryOf) × (q : ℕ) × (batch : BatchOf) × (self.old.phase ≡ Looks mine q batch) }
         ensures { (mine : EntryOf) (q : ℕ) (batch : BatchOf) → self.old.phase ≡ Looks mine q batch
@@ -73,7 +73,7 @@ impl CallerState {
         }
     }
 
-    /// The process applies the calls of the first so many processes in the batch, in order.
+    /// The process applies the calls in the batch by processes below `processes`, in order.
     pub fn apply(&mut self, object: &Table, processes: u8, batch: &Batch)
         requires processes { processes ≤ MOST_PROCESSES }
         requires applied_entries { self.old.applied_entries ≤ MOST_ENTRIES }

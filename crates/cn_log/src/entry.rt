@@ -4,15 +4,15 @@ ghost use Rattle.cn_log.specs.Batches.{same_entry};
 
 use cn_table::Operation;
 
-/// A call as it stands in the log: the process, its operation, and the number of the call among
-/// those of the process, from 0.
+/// A call in the log: the process, its operation, and the number of the call among those of the
+/// process, from 0.
 #[derive(Clone, Copy, Debug, PartialEq, Eq)]
 pub struct Entry {
-    /// Whose call it is, from 0.
+    /// The process that makes the call, from 0.
     pub process: u8,
-    /// What it calls, an operation of the object.
+    /// The operation of the object.
     pub operation: Operation,
-    /// Which of the calls of its process it is, from 0.
+    /// The number of the call among those of its process, from 0.
     pub call: u16,
 }
 

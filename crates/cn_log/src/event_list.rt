@@ -1,4 +1,4 @@
-//! A core of a list of events.
+//! The core after a list of events.
 ghost use Rattle.std.specs.Prelude.{◌≡◌, ◌++◌, [], List, IfErr, IfOk};
 ghost use Rattle.cn_log.specs.declared.event.Event.{Event as EventOf};
 ghost use Rattle.cn_log.specs.Bypass.{IsBypassBounded};
@@ -13,14 +13,15 @@ use crate::fault::ReplayFault;
 use crate::laws;
 use crate::log_core::LogCore;
 
-/// The core after these events, one after the other: for a caller who has the whole list, as of a
-/// schedule that was kept. In the core nothing has happened before. [`LogCore::take`] does one
-/// event, and tells how it ends a call.
+/// The core after these events, one after the other, from a core without events. It is for callers
+/// that have the whole list, such as a stored schedule. [`LogCore::take`] does one event and
+/// answers how it ends a call.
 ///
 /// # Errors
 ///
-/// The fault of the first event that cannot come, with its place in the list; of several the one
-/// with the least number. `OutOfMemory` is none of them: events take no memory.
+/// The fault of the first event that cannot come, with its place in the list. If it has several
+/// faults, the answer is the one with the least number. `OutOfMemory` never occurs, since events
+/// take no memory.
 pub fn replay(core: LogCore, events: &[Event]) -> Result<LogCore, ReplayFault>
     requires empty { core.schedule ≡ [] }
     ensures opening { IfOk result (λ r. r.opening ≡ core.opening) }
@@ -28,7 +29,7 @@ pub fn replay(core: LogCore, events: &[Event]) -> Result<LogCore, ReplayFault>
     ensures fault { IfErr result
         (λ fault. IsFirstEventFault (setting core) events.now fault) }
 
-    // Where there is no fault, these are events that can come, and the log is as it should be.
+    // Without a fault, these events can come, and the log is well-formed.
     ensures events { IfOk result (λ r. IsEventList (setting r) r.schedule) }
     ensures linearized { IfOk result (λ r. IsLinearized (setting r) r.schedule) }
     ensures grows { IfOk result (λ r. (before after : List EventOf)

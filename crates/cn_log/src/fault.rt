@@ -7,10 +7,10 @@ use std::alloc::{AllocError, AllocFailed};
 use std::error::Error;
 use std::fmt;
 
-/// Why a list of events cannot be replayed: the place of the first event that cannot come, and
-/// why. Of several reasons, the one that stands first here is answered. Want of memory is told by
-/// callers alone that make a core, or keep something of the events: neither
-/// [`replay`](crate::replay) nor [`LogCore::take`](crate::LogCore::take) answers it.
+/// Why a list of events cannot be replayed: the place of the first event that cannot come, and the
+/// reason. If there are several reasons, the answer is the first in this order. `OutOfMemory` comes
+/// only from callers that make a core or keep something of the events. [`replay`](crate::replay)
+/// and [`LogCore::take`](crate::LogCore::take) never answer it.
 #[derive(Clone, Copy, Debug, PartialEq, Eq)]
 pub enum ReplayFault {
     /// The plan has no process of this number.
@@ -44,7 +44,7 @@ impl From<AllocError> for ReplayFault {
 }
 
 impl ReplayFault {
-    /// Its number in their order, from 1.
+    /// The number of the fault, from 1.
     pub fn number(&self) -> u8
         ensures { result ≡ replay_fault_number self.now }
     {
@@ -58,7 +58,7 @@ impl ReplayFault {
         }
     }
 
-    /// Its name.
+    /// The name of the fault.
     pub fn name(&self) -> &'static str
         ensures { result.now ≡ replay_fault_name self.now }
     {
@@ -72,7 +72,7 @@ impl ReplayFault {
         }
     }
 
-    /// The place in the list that it carries.
+    /// The place in the list, if the fault has one.
     pub fn place(&self) -> Option<u64>
         ensures { result ≡ replay_fault_place self.now }
     {
@@ -87,7 +87,7 @@ impl ReplayFault {
     }
 }
 
-/// Number and name, and the place where it carries one.
+/// The number, the name, and the place if the fault has one.
 impl fmt::Display for ReplayFault {
     ghost use Rattle.std.specs.Prelude.{Some};
     ghost use Rattle.cn_log.specs.FaultText.{replay_fault_text};

@@ -24,8 +24,8 @@ use crate::opening::Opening;
 use cn_agree::laws::{atomic_steps, every_round};
 use cn_proto::laws::{every_plan, plans_are_sound};
 
-/// The law of rounds: `agrees`, those of a plan are what a log needs; `begun` and `sizes`, what stands
-/// in them for each process.
+/// The law of rounds: the rounds of a plan are as a log needs them (`agrees`), and have entries for
+/// each process (`begun`, `sizes`).
 pub(crate) fn rounds_agree()
     ensures agrees { (o : OpeningOf) → IsPlan o.plan → RoundsAgree (setting_of o) (RunsBy o.plan) }
     ensures begun { (o : OpeningOf) → IsPlan o.plan → (w : RoundWorld BatchOf) → RunsBy o.plan w
@@ -38,9 +38,12 @@ pub(crate) fn rounds_agree()
     every_round::<Batch>();
 }
 
-/// The law of openings in memory, however they came to be: `opening`, the plan is one, the start state
-/// is one of the object, and there are 1 to [`MOST_SLOTS`](crate::MOST_SLOTS) slots; `agrees`, the
-/// rounds are what a log needs; `begun` and `sizes`, what stands in them for each process.
+/// The law of openings in memory:
+///
+/// - `opening`: the plan is a plan, the start state is one of the object's, and there are 1 to
+///   [`MOST_SLOTS`](crate::MOST_SLOTS) slots;
+/// - `agrees`: the rounds are as a log needs them;
+/// - `begun`, `sizes`: the rounds have entries for each process.
 pub(crate) fn openings_are_valid(opening: &Opening)
     ensures opening { IsOpening opening.now }
     ensures agrees { RoundsAgree (setting_of opening.now) (RunsBy opening.now.plan) }
@@ -57,11 +60,13 @@ pub(crate) fn openings_are_valid(opening: &Opening)
 }
 
 /// The law of logs, for every plan, object, start state, number of slots and list of events:
-/// `linearized`, the answers are those of one sequential run of the calls in the order of the log;
-/// `grows`, entries stay, and new ones come behind them; `in_turn`, a slot begins only after those
-/// before it are fixed; `bypass`, a call stands in the slot after those fixed when it was made or in
-/// the next; `wait_free`, it is over within so many steps of its process; `room`, there are fewer
-/// events than a log has room for.
+///
+/// - `linearized`: the answers are those of one sequential run of the calls, in log order;
+/// - `grows`: entries stay, and new ones come behind them;
+/// - `in_turn`: a slot begins only after all earlier slots are fixed;
+/// - `bypass`: a call stands in the first slot that was not fixed when it was made, or in the next;
+/// - `wait_free`: a call is over within a bounded number of steps of its process;
+/// - `room`: there are fewer events than a log has room for.
 pub fn every_log()
     ensures linearized { (o : OpeningOf) (events : List EventOf) → IsOpening o
         → IsEventList (setting_of o) events → IsLinearized (setting_of o) events }
@@ -80,10 +85,12 @@ pub fn every_log()
     rounds_agree();
 }
 
-/// The law of cores in memory, however they came to be: `opening`, the plan is one, the start state is
-/// one of the object, and there are 1 to [`MOST_SLOTS`](crate::MOST_SLOTS) slots; `events`, each event
-/// of the schedule could come where it stands; and of the schedule all that [`every_log`] says but
-/// `room`.
+/// The law of cores in memory:
+///
+/// - `opening`: the plan is a plan, the start state is one of the object's, and there are 1 to
+///   [`MOST_SLOTS`](crate::MOST_SLOTS) slots;
+/// - `events`: each event of the schedule could come at its place;
+/// - all others: the clauses of [`every_log`], except `room`, for the schedule.
 pub fn logs_are_linearized(core: &LogCore)
     ensures opening { IsOpening core.now.opening }
     ensures events { IsEventList (setting core.now) core.now.schedule }
@@ -98,18 +105,22 @@ pub fn logs_are_linearized(core: &LogCore)
     every_log();
 }
 
-/// The law of faults: after any list of events, an event has a fault exactly where it cannot come.
+/// The law of faults: after any list of events, an event has a fault exactly if it cannot come.
 pub fn every_fault()
     ensures { (o : OpeningOf) (events : List EventOf) (place : ℕ) (event : EventOf)
         → (event_fault (setting_of o) (state_of (setting_of o) events) place event ≡ None)
         ↔ MayCome (setting_of o) (state_of (setting_of o) events) event }
 {}
 
-/// The law of what a process knows: `front`, a beginning of a list of events is one; `stays`, events
-/// of others change nothing of it; `invoked`, a call adds itself, pending, and the process has seen
-/// what it had seen; `pending`, the pending call is the last that the process has made, and it has
-/// applied neither that nor every slot; `stepped`, what a step makes of it, by its answer;
-/// `replayed`, the fixed slots begin with those that the process has applied.
+/// The law of what a process knows:
+///
+/// - `front`: a prefix of a list of events is a list of events;
+/// - `stays`: events of other processes change nothing of it;
+/// - `invoked`: a call becomes pending, and the process has applied the same slots as before;
+/// - `pending`: the pending call is the last that the process has made. The process has applied
+///   neither this call nor every slot;
+/// - `stepped`: the change by a step, for each answer;
+/// - `replayed`: the fixed slots begin with those that the process has applied.
 pub fn every_caller()
     ensures front { (o : OpeningOf) (before rest : List EventOf)
         → IsEventList (setting_of o) (before ++ rest) → IsEventList (setting_of o) before }
@@ -139,11 +150,15 @@ pub fn every_caller()
     rounds_agree();
 }
 
-/// The law of the calls of a process: `grow`, `stay`, `called`, a call is an event of its process,
-/// and its number is how many it made before; `own`, its calls are the entries of its own that it has
-/// applied, in order, and then the one that it has no answer to, if there is one; `own_stepped`,
-/// the same after a step, by its answer; `made`, `seen_made`, the entries of the process in the log,
-/// and among those that any process has applied, are the first of its calls, in order.
+/// The law of the calls of a process:
+///
+/// - `grow`, `stay`, `called`: a call is an event of its process, and its number is the number of
+///   calls that the process made before;
+/// - `own`: its calls are its own entries that it has applied, in order, and then the one without
+///   an answer, if there is one;
+/// - `own_stepped`: the same after a step, for each answer;
+/// - `made`, `seen_made`: the entries of the process in the log, and among those that any process
+///   has applied, are the first of its calls, in order.
 pub fn every_call()
     ensures grow { (before rest : List EventOf) (p : ℕ)
         → BeginsWith (calls_by p (before ++ rest)) (calls_by p before) }
@@ -169,12 +184,15 @@ pub fn every_call()
     rounds_agree();
 }
 
-/// Every event of a log is atomic. A call writes the announcement of its process, and nothing else
-/// that is shared changes. A look reads one announcement and changes nothing that is shared: its
-/// process gathers the call there, if it does not stand in the log yet, and after the last look it
-/// begins in the round of its slot. Any other step is one action of that round. What the process
-/// knows afterwards, what the event answers and what then stands where it acted depend on
-/// the local state of the process and on what the event touched, and on nothing else.
+/// Every event of a log is atomic:
+///
+/// - A call writes the announcement of its process, and nothing else that is shared changes.
+/// - A look reads one announcement and changes nothing that is shared. Its process gathers the call
+///   there, if it is not in the log yet. After the last look it begins in the round of its slot.
+/// - Any other step is one action of this round.
+///
+/// The new knowledge of the process, the answer of the event, and the new content of what it
+/// touched depend only on the local state of the process and on the old content.
 pub fn atomic_events()
     ensures { (o : OpeningOf) (events : List EventOf) (event : EventOf) → IsOpening o
         → IsEventList (setting_of o) (events ++ event ∷ []) → IsAtomicEvent o events event }

@@ -1,17 +1,19 @@
-//! The universal log: a server for any tabulated object, by rounds of consensus among the
-//! processes of a plan.
+//! The universal log: a server for any tabulated object, by rounds of consensus among the processes
+//! of a plan.
 //!
-//! A [`LogCore`] is made of an [`Opening`]. It has so many slots, and a round of consensus for each.
-//! A process that makes a call announces it, and then goes through the slots, one after the other:
-//! it looks at the announcement of each process in turn, and gathers the calls that do not stand in
-//! the log yet, its own among them, in a [`Batch`]. With that it begins in the round of the slot, and
-//! takes steps until it has decided. The batch that it decides it replays on its own copy of the
-//! object, call by call in the order of processes. Its call is answered when it replays it.
+//! An [`Opening`] makes a [`LogCore`]. It has a number of slots, and a round of consensus for each.
+//! A process that makes a call announces it and then goes through the slots, one after the other:
 //!
-//! What happens is a list of [`Event`]s: a process makes a call, or takes one step. A core is what
-//! its own list of events makes of it; [`LogCore::take`] does one event, whatever it is, or says why
-//! it cannot come, and [`replay`] does a whole list on a new core. For every list the answers are
-//! those of one sequential run of the calls, in the order of the log ([`laws`]).
+//! 1. It looks at the announcement of each process in turn, and gathers the calls that the log does
+//!    not have yet, its own among them, in a [`Batch`].
+//! 2. It begins in the round of the slot with this batch, and takes steps until it has decided.
+//! 3. It replays the decided batch on its copy of the object, call by call in the order of
+//!    processes. If its own call is in the batch, this gives the answer.
+//!
+//! The history of a core is a list of [`Event`]s: a process makes a call, or takes one step. This
+//! list determines the core. [`LogCore::take`] does any one event, or says why it cannot come.
+//! [`replay`] does a whole list on a new core. For every list, the answers are those of one
+//! sequential run of the calls, in the order of the log ([`laws`]).
 //!
 //! ```text
 //! let mut core = LogCore::new(alloc, &plan, &counter, start, 8)?;

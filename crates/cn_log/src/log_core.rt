@@ -30,9 +30,9 @@ use std::marker::Model;
 
 /// The universal log over the rounds of a plan, for one object.
 ///
-/// It is what its schedule, the list of all events so far, makes of its opening: plan, object,
-/// start state and number of slots. Each event goes to the end of the schedule. Rounds, log and
-/// schedule have room for all that can come from the first on, so that no event takes memory.
+/// Its opening and its schedule determine it. The opening is a plan, an object, a start state and a
+/// number of slots; the schedule is the list of all events so far. `new` and `open` make room for
+/// all events, so no event takes memory.
 #[derive(Drop)]
 pub struct LogCore {
     pub(crate) opening: Box<Opening>,
@@ -59,12 +59,12 @@ impl Model for LogCore {
 }
 
 impl LogCore {
-    /// A core in which nothing has happened, with a plan and a table of its own: the object starts
-    /// in a state of its table, and there are 1 to [`MOST_SLOTS`](crate::MOST_SLOTS) slots.
+    /// A core without events, with this plan and this table. The start state is one of the table's,
+    /// and `capacity` is from 1 to [`MOST_SLOTS`](crate::MOST_SLOTS).
     ///
     /// # Errors
     ///
-    /// Fails only for want of memory.
+    /// `AllocError` if memory runs out.
     pub fn new(
         alloc: Global,
         plan: &Plan,
@@ -83,11 +83,11 @@ impl LogCore {
         LogCore::open(alloc, Opening::new(plan, object, start, capacity))
     }
 
-    /// A core of this opening, in which nothing has happened.
+    /// A core of this opening without events.
     ///
     /// # Errors
     ///
-    /// Fails only for want of memory.
+    /// `AllocError` if memory runs out.
     pub fn open(alloc: Global, opening: Opening) -> Result<LogCore, AllocError>
         ensures opening { IfOk result (λ core. core.opening ≡ opening) }
         ensures empty { IfOk result (λ core. core.schedule ≡ []) }
@@ -114,9 +114,9 @@ impl LogCore {
         self.state.invoke(&self.opening, p, operation);
     }
 
-    /// Process `p`, which is in a call, takes one step. `Answered` is the answer to its call, with
-    /// its slot and a response of the object; `Full` ends the call with no answer, since every slot
-    /// is fixed and it stands in none.
+    /// Process `p`, which is in a call, takes one step. `Answered` answers its call, with its slot
+    /// and a response of the object. `Full` ends the call without an answer, since every slot is
+    /// fixed and none holds the call.
     pub fn step(&mut self, p: u8) -> StepAnswer
         requires { MayCome (setting self.old) (state_of (setting self.old) self.old.schedule)
             (Step p) }
@@ -128,12 +128,13 @@ impl LogCore {
         self.state.step(&self.opening, p)
     }
 
-    /// Any event comes next, if it can: how it ended a call, if it did.
+    /// Does any event, if it can come, and answers how it ended a call, if it did.
     ///
     /// # Errors
     ///
-    /// The fault of the event, with the number of events so far for its place; of several the one
-    /// with the least number. The core is as it was. Want of memory is none of them.
+    /// The fault of the event, with the number of events so far as its place. If it has several
+    /// faults, the answer is the one with the least number. The core stays unchanged. `OutOfMemory`
+    /// never occurs.
     pub fn take(&mut self, event: Event) -> Result<Option<CallEnd>, ReplayFault>
         ensures came { OnOk result
             (MayCome (setting self.old) (state_of (setting self.old) self.old.schedule) event) }
@@ -164,14 +165,14 @@ impl LogCore {
         self.state.entries.as_slice()
     }
 
-    /// How many slots are fixed: how far the log is, whatever each process has applied of it.
+    /// The number of fixed slots, whether or not a process has applied them.
     pub fn fixed_slots(&self) -> u16
         ensures { result ≡ length (batches (setting self.now) self.now.schedule) }
     {
         self.state.fixed
     }
 
-    /// The slot of entry `i`, which is one of the log.
+    /// The slot of entry `i` of the log.
     pub fn slot_at(&self, i: usize) -> u16
         requires { i < length (entries (setting self.now) self.now.schedule) }
         ensures { Some result ≡ slice_get (entry_slots (setting self.now) self.now.schedule) i }
@@ -186,14 +187,14 @@ impl LogCore {
         self.schedule.as_slice()
     }
 
-    /// What the log was opened with.
+    /// The opening of the log.
     pub fn opening(&self) -> &Opening
         ensures { result.now ≡ self.now.opening }
     {
         &self.opening
     }
 
-    /// How many processes there are: 2 to 8.
+    /// The number of processes: 2 to 8.
     pub fn processes(&self) -> u8
         ensures number { result ≡ processes_of self.now.opening.plan }
         ensures range { (2 ≤ result) × (result ≤ MOST_PROCESSES) }
@@ -201,7 +202,7 @@ impl LogCore {
         self.opening.plan.processes()
     }
 
-    /// How many slots there are: 1 to [`MOST_SLOTS`](crate::MOST_SLOTS).
+    /// The number of slots: 1 to [`MOST_SLOTS`](crate::MOST_SLOTS).
     pub fn capacity(&self) -> u16
         ensures number { result ≡ self.now.opening.capacity }
         ensures range { (1 ≤ result) × (result ≤ MOST_SLOTS) }
@@ -209,14 +210,14 @@ impl LogCore {
         self.opening.capacity
     }
 
-    /// How many operations the object has.
+    /// The number of operations of the object.
     pub fn operations(&self) -> u8
         ensures { result ≡ length self.now.opening.object.operations }
     {
         self.opening.object.operations()
     }
 
-    /// How many slots process `p` has applied.
+    /// The number of slots that process `p` has applied.
     pub fn applied_slots(&self, p: u8) -> u16
         requires { p < processes_of self.now.opening.plan }
         ensures number { result
@@ -227,7 +228,7 @@ impl LogCore {
         self.state.callers[usize::from(p)].applied_slots
     }
 
-    /// How many entries stand in the slots that process `p` has applied.
+    /// The number of entries in the slots that process `p` has applied.
     pub fn applied_entries(&self, p: u8) -> u16
         requires { p < processes_of self.now.opening.plan }
         ensures { result ≡ length (seen_of (setting self.now) self.now.schedule p) }
@@ -244,7 +245,7 @@ impl LogCore {
         matches!(self.state.callers[usize::from(p)].phase, Phase::Idle)
     }
 
-    /// Whether process `p` has applied every slot; else it has applied fewer.
+    /// Whether process `p` has applied every slot. Otherwise it has applied fewer.
     pub fn at_end(&self, p: u8) -> bool
         requires { p < processes_of self.now.opening.plan }
         ensures end { IsTrue result
@@ -258,7 +259,7 @@ impl LogCore {
     }
 }
 
-/// No events, and room for all that can come.
+/// No events, with room for all that can come.
 fn empty_schedule(alloc: Global, opening: &Opening) -> Result<Vec<Event>, AllocError>
     ensures empty { IfOk result (λ schedule. schedule.items ≡ []) }
     ensures room { IfOk result (λ schedule. event_room (processes_of opening.now.plan)
@@ -271,7 +272,7 @@ fn empty_schedule(alloc: Global, opening: &Opening) -> Result<Vec<Event>, AllocE
     Vec::with_capacity(alloc, processes * (slots * (slot_cost + 1) + 1))
 }
 
-/// One event more.
+/// Pushes one event.
 fn put_event(schedule: &mut Vec<Event>, opening: &Opening, event: Event)
     requires events { IsEventList (setting_of opening.now) schedule.old.items }
     requires room { event_room (processes_of opening.now.plan) opening.now.capacity

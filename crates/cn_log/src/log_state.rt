@@ -31,8 +31,8 @@ use cn_table::{Operation, Response, State};
 use std::alloc::{AllocError, Global};
 use std::marker::Model;
 
-/// The round of each slot, the announcement register of each process, how far each process has
-/// come, and the entries of the fixed slots, each with its slot, and how many slots are fixed.
+/// The round of each slot, the announcement of each process, the progress of each process, the
+/// entries of the fixed slots, each with its slot, and the number of fixed slots.
 #[derive(Drop)]
 pub(crate) struct LogState {
     pub rounds: Vec<Round<Batch>>,
@@ -62,7 +62,7 @@ impl Model for LogState {
 }
 
 impl LogState {
-    /// Nothing has happened.
+    /// The state before any event.
     pub fn new(alloc: Global, opening: &Opening) -> Result<LogState, AllocError>
         ensures keeps { IfOk result (λ state. IsStateAfter opening.now [] state) }
         ensures room { IfOk result (λ state. HasRoom opening.now state) }
@@ -133,8 +133,8 @@ impl LogState {
         }
     }
 
-    /// The process reads the announcement of process q, and after that of the last process it begins
-    /// with what it has gathered in the round of its next slot.
+    /// The process reads the announcement of process q. After that of the last process, it begins
+    /// with its batch in the round of its next slot.
     fn look(&mut self, opening: &Opening, p: u8, q: u8)
         requires { (s : List EventOf) × (mine : EntryOf) × (batch : BatchOf)
             × IsStateAt opening.now s self.old p (Looks mine q batch) }
@@ -153,8 +153,9 @@ impl LogState {
         }
     }
 
-    /// The process takes one atomic step in the round of its next slot, and replays what it decides.
-    // Apart, so that a look has no part in what this keeps on the stack.
+    /// The process takes one atomic step in the round of its next slot, and replays the batch if it
+    /// decides.
+    // A function of its own, so that a look does not pay for its locals on the stack.
     #[inline(never)]
     fn run(&mut self, opening: &Opening, p: u8, mine: Entry) -> StepAnswer
         requires room { HasRoom opening.now self.old }
@@ -180,7 +181,7 @@ impl LogState {
             slot,
             round,
         );
-        // Asked here, so that only a step that decides copies a batch.
+        // Only a step that decides copies a batch.
         match round.decision(p) {
             None => StepAnswer::Working,
             Some(batch) => replay_batch(opening, here, mine, &batch),
@@ -188,7 +189,7 @@ impl LogState {
     }
 }
 
-/// A round for each slot, in which nothing has happened.
+/// A round for each slot, without steps.
 fn untouched_rounds(alloc: Global, opening: &Opening) -> Result<Vec<Round<Batch>>, AllocError>
     ensures { IfOk result (λ rounds. rounds.items
         ≡ replicate opening.now.capacity (setting_of opening.now).untouched) }
@@ -200,15 +201,15 @@ fn untouched_rounds(alloc: Global, opening: &Opening) -> Result<Vec<Round<Batch>
     Ok(rounds)
 }
 
-/// With this call pending, a process goes on to its next slot.
+/// A process with this call pending goes on to its next slot.
 fn first_look(mine: Entry) -> Phase
     ensures { result ≡ first_look mine }
 {
     Phase::Looks(mine, 0, Batch::new())
 }
 
-/// Where the slot is the next one and its round has just fixed a batch, the entries of that go behind
-/// the others.
+/// If the slot is the next one and its round has just fixed a batch, pushes the entries of this
+/// batch.
 fn enter(
     entries: &mut Vec<Entry>,
     slots: &mut Vec<u16>,
@@ -241,7 +242,7 @@ fn enter(
     }
 }
 
-/// The process, with a call of its own pending, replays the batch of its next slot.
+/// The process, with this call of its own pending, replays the batch of its next slot.
 fn replay_batch(opening: &Opening, here: &mut CallerState, mine: Entry, batch: &Batch) -> StepAnswer
     requires slot { here.old.applied_slots < opening.now.capacity }
     requires few { opening.now.capacity ≤ MOST_SLOTS }
@@ -290,7 +291,8 @@ fn replay_batch(opening: &Opening, here: &mut CallerState, mine: Entry, batch: &
     answer
 }
 
-/// The response to this call at its place in the batch, where the object was in this state before.
+/// The response to this call at its place in the batch, if the object was in this state before the
+/// batch.
 fn response_at(opening: &Opening, state: State, batch: &Batch, mine: Entry) -> Response
     requires mine { mine.process ≤ MOST_PROCESSES }
     requires operation { mine.operation.0 < length opening.now.object.operations }

@@ -1,4 +1,4 @@
-//! The next event: why it cannot come, or what it does.
+//! The next event: why it cannot come, or its effect.
 ghost use Rattle.std.specs.Prelude.{◌≡◌, ◌++◌, ◌∷◌, [], length, IfSome};
 ghost use Rattle.cn_log.specs.CallEnds.{call_end, EndsWithResponse};
 ghost use Rattle.cn_log.specs.Faults.{event_fault};
@@ -10,7 +10,7 @@ use crate::fault::ReplayFault;
 use crate::log_core::LogCore;
 use cn_table::Operation;
 
-/// Why the event cannot come next, if it cannot.
+/// The fault of the event as the next one, if it cannot come.
 pub(crate) fn fault_of(core: &LogCore, event: Event) -> Option<ReplayFault>
     ensures { result
         ≡ event_fault (setting core.now) (state_of (setting core.now) core.now.schedule)
@@ -43,7 +43,7 @@ pub(crate) fn fault_of(core: &LogCore, event: Event) -> Option<ReplayFault>
     }
 }
 
-/// Does the event, which can come: how it ends a call, if it does.
+/// Does the event, which can come, and answers how it ends a call, if it does.
 pub(crate) fn apply_event(core: &mut LogCore, event: Event) -> Option<CallEnd>
     requires { MayCome (setting core.old) (state_of (setting core.old) core.old.schedule) event }
     ensures core { core.new ≡ record core.old { schedule = core.old.schedule ++ event ∷ [] } }

@@ -1,4 +1,4 @@
-//! What a log is made of.
+//! The opening of a log.
 ghost use Rattle.std.specs.Prelude.{◌≡◌, ◌<◌, ◌≤◌, length};
 ghost use Rattle.cn_log.specs.declared.limits.TheConstants.{MOST_SLOTS};
 ghost use Rattle.cn_log.specs.Opening.{opening_of};
@@ -7,8 +7,8 @@ use cn_proto::Plan;
 use cn_table::{State, Table};
 use std::marker::Model;
 
-/// What a log is made of: the plan of its rounds, the object that it serves, the state in which that
-/// starts, and how many slots it has. The state is one of the object's, and there are 1 to
+/// The opening of a log: the plan of its rounds, the object that it serves, the start state of the
+/// object, and the number of slots. The state is one of the object's, and there are 1 to
 /// [`MOST_SLOTS`](crate::MOST_SLOTS) slots.
 #[derive(Drop)]
 pub struct Opening {
@@ -32,7 +32,7 @@ impl Model for Opening {
 }
 
 impl Opening {
-    /// The opening of a log with so many slots.
+    /// The opening of a log with this number of slots.
     pub fn new(plan: Plan, object: Table, start: State, capacity: u16) -> Opening
         requires start { start.0 < length object.states }
         requires some { 1 ≤ capacity }
@@ -61,7 +61,7 @@ impl Opening {
         &self.object
     }
 
-    /// The state in which the object starts: one of the object's.
+    /// The start state of the object, one of its states.
     pub fn start(&self) -> State
         ensures number { result.0 ≡ self.now.start }
         ensures range { result.0 < length self.now.object.states }

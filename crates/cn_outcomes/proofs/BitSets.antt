@@ -78,7 +78,7 @@ odd_has k = set_from (2 * k + 1) 0 (omega (arith, bit_at_lowest (2 * k + 1)))
 pub even_half : (set : ℕ) → ¬ IsBitSet set 0 → 2 * (set / 2) ≡ set
 even_half set n = elim (by_bit set 0) [ inl z ↦ omega (arith, z, bit_at_lowest set) | inr o ↦ absurd (n (set_from set 0 o)) ]
 
--- a subset is what is left without p, with p
+-- the subset without p, together with p, is the subset
 pub filled : (subset p rest : ℕ) → IsBitSet subset p → IsWithout subset p rest → bit_or rest (2 ^ p) ≡ subset
 filled subset p rest s w = same_from_bits (bit_or rest (2 ^ p)) subset (λ i. bit_at_or rest (2 ^ p) i ∙ each i (same_or_not i p))
   where
@@ -92,7 +92,7 @@ filled subset p rest s w = same_from_bits (bit_or rest (2 ^ p)) subset (λ i. bi
       | inr o ↦ (let kept = bit_from rest i ((w i).1 (set_from subset i o, n)) in omega (arith, kept, o, bit_at-pow_other p i n))
     ]
 
--- it is less by 2 to the p
+-- removing p lowers the number by 2 to the p
 pub without_less : (subset p rest : ℕ) → IsBitSet subset p → IsWithout subset p rest → rest + 2 ^ p ≡ subset
 without_less subset p rest s w =
     let apart : bit_and rest (2 ^ p) ≡ 0 = same_from_bits (bit_and rest (2 ^ p)) 0 (λ i. bit_at_and rest (2 ^ p) i ∙ (none i (same_or_not i p) ∙ sym (bit_at-zero i))) in
@@ -102,7 +102,7 @@ without_less subset p rest s w =
     none i (inl e) = elim (by_bit rest i) [ inl z ↦ omega (arith, z) | inr o ↦ absurd (((w i).0 (set_from rest i o)).1 e) ]
     none i (inr n) = omega (arith, bit_at-pow_other p i n)
 
--- two numbers that are the subset without p are one
+-- two numbers that are the subset without p are equal
 pub without_one : (subset p a b : ℕ) → IsBitSet subset p → IsWithout subset p a → IsWithout subset p b → a ≡ b
 without_one subset p a b s v w = omega (arith, without_less subset p a s v, without_less subset p b s w)
 
@@ -114,7 +114,7 @@ member_below k set q l s = cases q k (λ h. omega (arith, bit_at_above set k q l
     cases zero (suc k) h = omega arith
     cases (suc q) (suc k) h = let r = cases q k (λ l. h (omega arith)) in omega (arith, r)
 
--- both sets have a number exactly where their common part is not 0
+-- the sets have a common number exactly if their intersection is not 0
 pub common_some : (a b : ℕ) → a < 2 ^ 16 → bit_and a b ≢ 0 → (q : ℕ) × IsBitSet a q × IsBitSet b q
 common_some a b l n =
     let less : bit_and a b < 2 ^ 16 = omega (arith, l, and_le_l a b) in
@@ -133,7 +133,7 @@ shared a b l = cases (nat_eq (bit_and a b) 0) refl
     cases true e = (λ t. absurd (true≢false (sym t)), λ h. absurd (common_none a b h.0 (eqb-true (bit_and a b) 0 e) h.1 h.2))
     cases false e = (λ t. common_some a b l (λ z. true≢false (sym (eq-eqb (bit_and a b) 0 z) ∙ e)), λ h. refl)
 
--- the numbers of both
+-- the numbers of both sets
 pub intersection_set : (a b q : ℕ) → IsBitSet (bit_and a b) q ↔ (IsBitSet a q × IsBitSet b q)
 intersection_set a b q = (
   λ s. (
@@ -159,7 +159,7 @@ difference_set a b q l u = (
     clear : ¬ IsBitSet b q → bit_at b q ≡ 0
     clear n = elim (by_bit b q) [ inl e ↦ e | inr e ↦ absurd (n (set_from b q e)) ]
 
--- the numbers of both, less one
+-- the numbers of both sets, each less one
 pub common_predecessors_set : (a b q : ℕ) → IsBitSet (bit_and a b / 2) q ↔ (IsBitSet a (q + 1) × IsBitSet b (q + 1))
 common_predecessors_set a b q =
     let next : suc q ≡ q + 1 = omega arith in

@@ -1,11 +1,11 @@
--- The dead ends that are kept, after one is added.
+-- The dead ends after one more is added.
 use Rattle.std.proofs.Common.{◌≡◌, ℕ, zero, suc, ◌⊎◌, ◌↔◌, inl, inr, List, [], ◌∷◌, get_or, get_or-set_other, replicate, refl, sym, ap, ◌∙◌, subst, arith, Bool, false, Option, Some, None}
 use Rattle.std.proofs.Math.ListN.{set}
 use Rattle.std.specs.Prelude.{IsBitSet}
 use Rattle.cn_outcomes.specs.Tails.{IsKept, rank_of}
 use Rattle.cn_outcomes.proofs.LastProcess.{same_or_not, zero_has_none}
 
--- what was put is there, or there is no such place
+-- the element set is there, or there is no such place
 set_at : {X : Type 0} (xs : List X) (i : ℕ) (a d : X) → (get_or (set xs i a) i d ≡ a) ⊎ (get_or (set xs i a) i d ≡ d)
 set_at [] i a d = inr refl
 set_at (x ∷ xs) zero a d = inl refl
@@ -23,7 +23,7 @@ none_begun zero used = refl
 none_begun (suc n) zero = refl
 none_begun (suc n) (suc used) = none_begun n used
 
--- one state more
+-- one more state
 pub kept_more : (begun : List Bool) (rows : List (List ℕ)) (used state w : ℕ) (seen : Option ℕ) → ((q : ℕ) → IsBitSet w q ↔ (IsBitSet (get_or (get_or rows used []) (rank_of seen) 0) q ⊎ (q ≡ state)))
     → (u q : ℕ) (s : Option ℕ) → IsKept (begun, set rows used (set (get_or rows used []) (rank_of seen) w)) u s q → IsKept (begun, rows) u s q ⊎ ((u ≡ used) × (s ≡ seen) × (q ≡ state))
 kept_more begun rows used state w seen added u q s h = elim (same_or_not u used) [

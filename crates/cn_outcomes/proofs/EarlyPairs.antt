@@ -1,4 +1,4 @@
--- What a process gets from lists of one or two processes.
+-- The pairs of a process from orders of one or two processes.
 use Rattle.std.proofs.Common.{◌≡◌, ◌≢◌, ℕ, ◌<◌, ◌⊎◌, ◌↔◌, inl, inr, List, [], ◌∷◌, length, Some, refl, sym, ap, ◌∙◌, subst}
 use Rattle.std.specs.Prelude.{slice_get, slice_index}
 use Rattle.cn_table.specs.TypeTable.{TypeTable, transition}
@@ -24,7 +24,7 @@ module _ (t : TypeTable) (c : RawChoice) (team : Team) (j : ℕ) (l : j < length
     pair_whole t c j (j ∷ k ∷ []) _ _ (last_other t c j k (j ∷ []) apart ∙ last_self t c j [] (λ i. absurd i)) refl,
   )
 
-  -- the same, by what the code has found: the numbers of the operations, the state, and what each step gives
+  -- the same, for the values of the code: the numbers of the operations, the state, and the pair of each step
   module _ (own start : ℕ) (is_own : own ≡ slice_index c.operations j) (is_start : start ≡ c.state) where
     pub alone_is : (r q : ℕ) → (r, q) ≡ transition t own start → slice_get c.marks j ≡ Some team → InOutcomeSet t c team j (r, q)
     alone_is r q e m = subst (λ (p : ℕ × ℕ). InOutcomeSet t c team j p) (sym (e ∙ rw (is_own, is_start) refl)) (alone_gets t c team j l m)

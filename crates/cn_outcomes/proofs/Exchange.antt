@@ -1,4 +1,4 @@
--- Two processes exchanged: where they are twins, what is shown to the others stays.
+-- Two processes exchanged. If they are twins, the others see the same.
 use Rattle.std.proofs.Common.{◌≡◌, ◌≢◌, ℕ, ◌+◌, ◌<◌, ◌⊎◌, ◌↔◌, inl, inr, List, length, map, refl, sym, ap, ◌∙◌, subst, arith, cond, nat_eq}
 use Rattle.std.specs.Prelude.{slice_get, slice_index, IsBitSet}
 use Rattle.std.proofs.lemmas.Bool.{eq-eqb, ne_eqb}
@@ -20,7 +20,7 @@ use Rattle.cn_choice.proofs.Walks.{pair_takes_part}
 abbrev pub exchange : ℕ → ℕ → ℕ → ℕ
 exchange p q i = cond (nat_eq i p) q (cond (nat_eq i q) p i)
 
--- which of the three a number is
+-- the three cases of a number
 abbrev pub Which : ℕ → ℕ → ℕ → Type 0
 Which p q i = (i ≡ p) ⊎ ((i ≡ q) ⊎ ((i ≢ p) × (i ≢ q)))
 
@@ -58,7 +58,7 @@ exchanged_back p q U V h i = (
   λ s. subst (IsBitSet U) (exchange_twice p q i) ((h (exchange p q i)).0 s),
 )
 
--- where both are in the subset, it goes from the one without the first to the one without the second
+-- if both are in the subset, the exchange takes it without the first to it without the second
 pub without_exchanged : (p subset one other : ℕ) → IsBitSet subset p → IsBitSet subset (p + 1) → IsWithout subset p one → IsWithout subset (p + 1) other → IsExchanged p (p + 1) one other
 without_exchanged p subset one other s u v w i = elim (which p (p + 1) i) [
   | inl e ↦ (
@@ -135,7 +135,7 @@ module _ (t : TypeTable) (c : RawChoice) (p : ℕ) (twins : AreTwins c p) where
         ap (pair_of t c (map (exchange p (p + 1)) h.0)) (sym (exchange_other p (p + 1) j n m)) ∙ (sym (pair_embeds (exchange p (p + 1)) c c embeds t h.0 j l h.1.ordered.known) ∙ h.3),
       )
 
-  -- what the one finds where the others have moved, the other finds
+  -- the second finds what the first finds after the others
   pub finds_next : (team : Team) (subset one other q : ℕ) → IsBitSet subset p → IsBitSet subset (p + 1) → IsWithout subset p one → IsWithout subset (p + 1) other → FindsState t c team p one q → FindsState t c team (p + 1) other q
   finds_next team subset one other q s u v w h = elim h [
     | inl a ↦ absurd (zero_has_none (p + 1) (subst (λ (x : ℕ). IsBitSet x (p + 1)) a.0 ((v (p + 1)).1 (u, (let n : p + 1 ≢ p = omega arith in n)))))
@@ -148,7 +148,7 @@ module _ (t : TypeTable) (c : RawChoice) (p : ℕ) (twins : AreTwins c p) where
     | inr b ↦ inr (leaves_exchanged team other one q (exchanged_back p (p + 1) one other (without_exchanged p subset one other s u v w)) b)
   ]
 
-  -- both get the same from the orders that begin in a team
+  -- both get the same pairs from the orders that begin in a team
   pub twin_results : (team : Team) (pair : ℕ × ℕ) → InOutcomeSet t c team p pair ↔ InOutcomeSet t c team (p + 1) pair
   twin_results team pair = (
     λ h. subst (λ (j : ℕ). InOutcomeSet t c team j pair) (exchange_first p (p + 1) p refl) (result_embeds (exchange p (p + 1)) c c embeds t team p pair h),

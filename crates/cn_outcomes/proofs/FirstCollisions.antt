@@ -18,7 +18,7 @@ pub same_pair : (a b x y : ℕ) → a ≡ x → b ≡ y → ◌≡◌ {A = Optio
 same_pair a b x y e f = cc
 
 module _ (t : TypeTable) (c : RawChoice) (j : ℕ) where
-  -- the set has the pairs that lead from B, and the single one has one of them
+  -- the set has the pairs of orders that begin in B, and the single set has one of these pairs
   module _ (set : List ℕ) (from_b : (r q : ℕ) → Has set r q ↔ InOutcomeSet t c B j (r, q)) where
     into_set : (x y : List ℕ) → IsCollision t c j x y → LeadsInto t c A j set x
     into_set x y k =
@@ -33,7 +33,7 @@ module _ (t : TypeTable) (c : RawChoice) (j : ℕ) where
         let r = (from_b pair.0 pair.1).0 first.has in
         none r.0 r.1 (pair, (r.2, r.3), (only pair.0 pair.1).1 (refl, refl))
 
-  -- the first order into the set of the one pair is the first with this pair
+  -- the first order into the set of one pair is the first with this pair
   pub first_of_pair : (team : Team) (pair : ℕ × ℕ) (single : List ℕ) → ((r q : ℕ) → Has single r q ↔ ((r ≡ pair.0) × (q ≡ pair.1))) → (order : List ℕ) (again : ℕ × ℕ) → IsFirstInto t c team j single order again
       → IsFirstOfPair t c team j pair order
   first_of_pair team pair single only order again first =
@@ -44,7 +44,7 @@ module _ (t : TypeTable) (c : RawChoice) (j : ℕ) where
         earlier = λ x o before l. first.earlier x o before (pair, l, (only pair.0 pair.1).1 (refl, refl));
       }
 
-  -- the set has at least the pairs that lead from B
+  -- the set has at least the pairs of orders that begin in B
   pub first_collision : (set : List ℕ) → ((r q : ℕ) → InOutcomeSet t c B j (r, q) → Has set r q) → (alpha : List ℕ) (pair : ℕ × ℕ) → IsFirstInto t c A j set alpha pair
       → (beta : List ℕ) → IsFirstOfPair t c B j pair beta → IsFirstCollision t c j alpha beta
   first_collision set from_b alpha pair first beta second = record {
@@ -60,14 +60,14 @@ module _ (t : TypeTable) (c : RawChoice) (j : ℕ) where
     first_beta = λ y before k. second.earlier y k.beta_order before (k.beta_in_b, sym k.same ∙ first.leads.1);
   }
 
--- where the outcome sets have no common pair there is no collision
+-- if the outcome sets have no common pair, there is no collision
 pub apart : (t : TypeTable) (c : RawChoice) (j : ℕ) (from_a from_b : List ℕ) → ((r q : ℕ) → Has from_a r q ↔ InOutcomeSet t c A j (r, q)) → ((r q : ℕ) → Has from_b r q ↔ InOutcomeSet t c B j (r, q))
     → ¬ HaveCommonPair from_a from_b → (x y : List ℕ) → ¬ IsCollision t c j x y
 apart t c j from_a from_b a b none x y k =
     let p = the_pair (pair_of t c x j) k.takes_part in
     none (p.0.0, p.0.1, (a p.0.0 p.0.1).1 (x, k.alpha_order, k.alpha_in_a, p.1), (b p.0.0 p.0.1).1 (y, k.beta_order, k.beta_in_b, sym k.same ∙ p.1))
 
--- a linked process has a collision only where the one before it has one
+-- a linked process has a collision only if the one before it has one
 pub linked_collides : (t : TypeTable) (c : RawChoice) (links : ℕ) → AreLinks c links → (j : ℕ) → IsBitSet links j → ((i : ℕ) → i < j → (x y : List ℕ) → ¬ IsCollision t c i x y) → (x y : List ℕ) → ¬ IsCollision t c j x y
 linked_collides t c links linked j s none x y k =
     let p = the_pair (pair_of t c x j) k.takes_part in

@@ -32,7 +32,7 @@ first_of_cond None true r rest = refl
 first_of_cond None false r rest = refl
 first_of_cond (Some x) b r rest = refl
 
--- ---- where a way ends
+-- ---- the end of a way
 
 abbrev along : TypeTable → RawChoice → ℕ → ℕ → List ℕ → Option ℕ
 along t c j state ps = response_of j ps (responses_along t state (operations_of c ps))

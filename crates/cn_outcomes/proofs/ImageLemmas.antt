@@ -1,4 +1,4 @@
--- The images of sets of states, by two sets of eight.
+-- The images of sets of states, from the images of two sets of eight.
 use Rattle.std.proofs.Common.{◌≡◌, ℕ, zero, suc, List, [], ◌∷◌, get_or, refl, ◌≤◌, ◌+◌, ◌-◌, ◌/◌, ◌%◌, ◌^◌, ◌<◌, ◌⊎◌, inl, inr, ◌↔◌, length, sym, ap, ◌∙◌, subst, arith}
 use Rattle.std.specs.Prelude.{IsBitSet}
 use Rattle.std.proofs.Math.ListN.{set}
@@ -12,11 +12,11 @@ use Rattle.cn_outcomes.proofs.BitSets.{below_or_not, member_below}
 use Rattle.cn_outcomes.proofs.LastProcess.{bit_from, set_from}
 use Rattle.cn_outcomes.proofs.Unions.{at_more}
 
--- number i stands for a state, which the operation leads to state q
+-- number i stands for a state that the operation takes to state q
 abbrev pub image_part : TypeTable → ℕ → ℕ → ℕ → ℕ → Type 0
 image_part t operation first i q = (first + i < length t.states) × ((transition t operation (first + i)).1 ≡ q)
 
--- the number by its last eight bits and those before them
+-- the bits of a number, from its last eight bits and the rest
 low_bit : (n i : ℕ) → i < 8 → bit_at n i ≡ bit_at (n % 256) i
 low_bit n i l = ap (λ (m : ℕ). bit_at m i) (sym (shr_split n 8)) ∙ bit_at_cat_low (n / 256) 8 (n % 256) i l
 
@@ -60,14 +60,14 @@ module _ (t : TypeTable) (operation from low high image : ℕ) (below : Below (l
   pub image_known : Below (length t.states) image
   image_known q s = elim ((both q).0 s) [ inl x ↦ a.known q x | inr x ↦ b.known q x ]
 
--- the same of an equal table and an equal operation
+-- the same for an equal table and an equal operation
 pub image_of : (s t : TypeTable) → s ≡ t → (o p : ℕ) → o ≡ p → (from set : ℕ) → ((q : ℕ) → IsBitSet set q ↔ ((x : ℕ) × IsBitSet from x × ((transition s o x).1 ≡ q)))
     → (q : ℕ) → IsBitSet set q ↔ ((x : ℕ) × IsBitSet from x × ((transition t p x).1 ≡ q))
 image_of s t e o p f from set h =
     subst (λ (u : TypeTable). (q : ℕ) → IsBitSet set q ↔ ((x : ℕ) × IsBitSet from x × ((transition u p x).1 ≡ q))) e
     (subst (λ (k : ℕ). (q : ℕ) → IsBitSet set q ↔ ((x : ℕ) × IsBitSet from x × ((transition s k x).1 ≡ q))) f h)
 
--- ---- what so many moves may leave
+-- ---- the states in which moves may end
 
 pub reach_first : (t : TypeTable) (first : List ℕ) (rows : List (List ℕ)) → length t.states ≤ 16 → ((state : ℕ) → state < 16 → IsBitSet (get_or first state 0) state) → HaveReach t 1 (first ∷ rows)
 reach_first t first rows few h zero l state u last e = subst (IsBitSet (get_or first state 0)) e (h state (omega (arith, u, few)))

@@ -1,4 +1,4 @@
--- The law of the last process for what a process gets, and the union over the subsets.
+-- The law of the last process for the pairs of a process, and the union over the subsets.
 use Rattle.std.proofs.Common.{◌≡◌, ◌≢◌, ℕ, ◌^◌, ◌<◌, ◌⊎◌, inl, inr, ◌↔◌, List, [], ◌∷◌, ◌++◌, length, refl, sym, ap, ◌∙◌, subst, arith, Bool, true, false, cond, nat_eq, Option, Some, None}
 use Rattle.std.specs.Prelude.{IsBitSet}
 use Rattle.std.specs.Int.{bit_at}
@@ -29,7 +29,7 @@ pair_parts t c j ps r q e =
     let m = map_some (λ (r : ℕ). (r, after t c ps)) (along t c j ps) (r, q) (sym (pair_of-response_of t c ps j) ∙ e) in
     (m.1 ∙ ap Some (ap (λ (p : ℕ × ℕ). p.0) m.2), ap (λ (p : ℕ × ℕ). p.1) m.2)
 
--- another moved last
+-- another process moved last
 pub last_other : (t : TypeTable) (c : RawChoice) (j p : ℕ) (ps : List ℕ) → p ≢ j → along t c j (ps ++ p ∷ []) ≡ along t c j ps
 last_other t c j p ps n = response_along_last t c j ps p ∙ rw (ne_eqb p j n) (none_more (along t c j ps))
   where
@@ -128,7 +128,7 @@ pub subset_below : (n : ℕ) (ps : List ℕ) → ((p : ℕ) → IsIn p ps → p 
 subset_below n [] h = pow_pos n
 subset_below n (p ∷ ps) h = or_lt n (subset_of ps) (2 ^ p) (subset_below n ps (λ q i. h q (inr i))) (pow_below p n (h p (inl refl)))
 
--- a process that gets something is in the order
+-- a process with a response is in the order
 gets_in : (t : TypeTable) (c : RawChoice) (j : ℕ) (ps rs : List ℕ) (r : ℕ) → response_of j ps rs ≡ Some r → IsIn j ps
 gets_in t c j [] rs r e = absurd (cc e)
 gets_in t c j (p ∷ ps) [] r e = absurd (cc e)
@@ -141,7 +141,7 @@ gets_in t c j (p ∷ ps) (s ∷ rs) r e = by_test (nat_eq p j) refl (gets_in t c
 pub pair_in : (t : TypeTable) (c : RawChoice) (j : ℕ) (order : List ℕ) (pair : ℕ × ℕ) → pair_of t c order j ≡ Some pair → IsIn j order
 pair_in t c j order pair e = gets_in t c j order (responses_along t c.state (operations_of c order)) pair.0 (pair_parts t c j order pair.0 pair.1 e).0
 
--- a pair is in the outcome set exactly where some subset with j in it gives it
+-- a pair is in the outcome set exactly if some subset that contains j gives it
 pub outcome_subset : (t : TypeTable) (c : RawChoice) (team : Team) (j r q : ℕ)
     → InOutcomeSet t c team j (r, q) ↔ ((subset : ℕ) × (subset < 2 ^ length c.operations) × IsBitSet subset j × GivesPair t c team j subset r q)
 outcome_subset t c team j r q = (
@@ -154,6 +154,6 @@ outcome_subset t c team j r q = (
   λ g. (g.3.0, g.3.1.ordered, g.3.2, g.3.3),
 )
 
--- what a subset gives to j, it gives where j is in it
+-- a subset that gives j a pair contains j
 pub gives_member : (t : TypeTable) (c : RawChoice) (team : Team) (j subset r q : ℕ) → GivesPair t c team j subset r q → IsBitSet subset j
 gives_member t c team j subset r q g = (exactly_from subset g.0 g.1.exactly j).0 (gets_in t c j g.0 (responses_along t c.state (operations_of c g.0)) r (pair_parts t c j g.0 r q g.3).0)

@@ -1,4 +1,4 @@
--- The law of the last process: what orders of a subset lead to, from what orders of the subset without one process lead to.
+-- The law of the last process: the orders of a subset, from the orders of the subset without one process.
 use Rattle.std.proofs.Common.{◌≡◌, ◌≢◌, ℕ, zero, suc, ◌*◌, ◌^◌, ◌<◌, ◌⊎◌, inl, inr, ◌↔◌, List, [], ◌∷◌, ◌++◌, length, refl, sym, ap, ◌∙◌, subst, arith, Bool, true, false, nat_eq, Some, Contains}
 use Rattle.std.specs.Prelude.{slice_index, slice_get, IsBitSet}
 use Rattle.std.specs.Int.{bit_at}
@@ -49,7 +49,7 @@ none_set n h = same_from_bits n 0 (λ i. clear_from n i (h i) ∙ sym (bit_at-ze
 pub zero_has_none : (k : ℕ) → ¬ IsBitSet 0 k
 zero_has_none k s = absurd (omega (arith, bit_from 0 k s, bit_at-zero k))
 
--- ---- a list by its last element
+-- ---- a list and its last element
 
 pub last_of : {X : Type 0} (x : X) (xs : List X) → (before : List X) × (p : X) × (x ∷ xs ≡ before ++ p ∷ [])
 last_of x [] = ([], x, refl)
@@ -63,7 +63,7 @@ differ_before (y ∷ xs) p d =
       λ x i. elim i [ inl e ↦ subst (λ (w : ℕ). w ≢ p) e (each_at (λ z. y ≢ z) (xs ++ p ∷ []) p d.0 (IsIn-append_right p xs (p ∷ []) (inl refl))) | inr j ↦ r.1 x j ],
     )
 
--- ---- runs by their last operation
+-- ---- runs and their last operation
 
 pub state_last : (t : TypeTable) (q : ℕ) (os : List ℕ) (o : ℕ) → state_after t q (os ++ o ∷ []) ≡ (transition t o (state_after t q os)).1
 state_last t q [] o = refl
@@ -72,7 +72,7 @@ state_last t q (x ∷ os) o = state_last t (transition t x q).1 os o
 pub state_along : (t : TypeTable) (c : RawChoice) (ps : List ℕ) (p : ℕ) → state_after t c.state (operations_of c (ps ++ p ∷ [])) ≡ next_of t c p (state_after t c.state (operations_of c ps))
 state_along t c ps p = ap (state_after t c.state) (map-append (λ p. slice_index c.operations p) ps (p ∷ [])) ∙ state_last t c.state (operations_of c ps) (slice_index c.operations p)
 
--- ---- orders by their last process
+-- ---- orders and their last process
 
 pub known_from : (n : ℕ) (order : List ℕ) → IsOrder n order → Known n order
 known_from n order o = record {
@@ -114,7 +114,7 @@ exactly_last subset rest p ps s w h x = (
   λ b. elim (same_or_not x p) [ inl e ↦ IsIn-append_right x ps (p ∷ []) (inl (sym e)) | inr n ↦ IsIn-append_left x ps (p ∷ []) ((h x).1 ((w x).1 (b, n))) ],
 )
 
--- an order of a subset, taken apart at its last process
+-- an order of a subset, split at its last process
 pub record Ending (n subset : ℕ) (rest : ℕ → ℕ) (order : List ℕ) : Type 0 where
   pub before : List ℕ
   pub last : ℕ
@@ -134,7 +134,7 @@ ending n subset rest (x ∷ xs) w o =
     let s : IsBitSet subset r.1 = (e r.1).0 (IsIn-append_right r.1 r.0 (r.1 ∷ []) (inl refl)) in
     record { before = r.0; last = r.1; is = r.2; in_subset = s; below = k.2; known = k.0; apart = k.1; exactly = exactly_before subset (rest r.1) r.1 r.0 k.1 (w r.1 s) e }
 
--- an order of a subset without p, with p behind it
+-- an order of a subset without p, followed by p
 pub with_last : (n subset rest p : ℕ) (order : List ℕ) → IsBitSet subset p → p < n → IsWithout subset p rest → IsOrderOf n rest order → IsOrderOf n subset (order ++ p ∷ [])
 with_last n subset rest p [] s l w o = absurd (o.ordered.someone refl)
 with_last n subset rest p (x ∷ xs) s l w o =
@@ -154,7 +154,7 @@ alone n subset rest p s l w z = record {
 empty_rest : (rest : ℕ) → Exactly rest [] → rest ≡ 0
 empty_rest rest e = none_set rest (λ k s. (e k).1 s)
 
--- where someone moved before the last process, the order without it is an order, and begins as before
+-- if someone moved before the last process, the order without the last process is an order, and begins in the same team
 pub order_before : (n rest x : ℕ) (xs : List ℕ) → Known n (x ∷ xs) → Exactly rest (x ∷ xs) → IsOrderOf n rest (x ∷ xs)
 order_before n rest x xs k e = record { ordered = order_from n x xs k; exactly = exactly_to rest (x ∷ xs) e }
 
@@ -202,7 +202,7 @@ leaves_from t c team subset rest p state s l w h = elim h.1 [
   )
 ]
 
--- no order has nobody
+-- no order is empty
 pub leaves_some : (t : TypeTable) (c : RawChoice) (team : Team) (q : ℕ) → LeavesState t c team 0 q → ⊥
 leaves_some t c team q h = some h.0 h.1.ordered.someone (exactly_from 0 h.0 h.1.exactly)
   where

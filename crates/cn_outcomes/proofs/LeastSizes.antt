@@ -26,7 +26,7 @@ size_of_list (p ∷ ps) l d =
 abbrev pub CanGive : ℕ → List (List ℕ) → ℕ → ℕ → ℕ → Type 0
 CanGive links rows r q subset = IsPacked links subset × Has (get_or rows subset []) r q
 
--- the least size so far, and that of one more where it counts
+-- the least size so far, with one more subset if it counts
 pub least_more : (size : ℕ → ℕ) (counts : ℕ → Type 0) (k least new : ℕ) → ((s : ℕ) → s < k → counts s → least ≤ size s) → new ≡ min least (size k)
     → (s : ℕ) → s < k + 1 → counts s → new ≤ size s
 least_more size counts k least new g m s u c =

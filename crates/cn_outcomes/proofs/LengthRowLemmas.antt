@@ -1,4 +1,4 @@
--- The rows by the number of the other processes have what each order leads to.
+-- The rows by the number of other processes have the end of each order.
 use Rattle.std.proofs.Common.{◌≡◌, ◌≢◌, ℕ, ◌+◌, ◌-◌, ◌<◌, ◌≤◌, ◌⊎◌, ◌↔◌, inl, inr, List, [], ◌∷◌, length, get_or, get_or-set_other, get_or-set_same, length-set, refl, sym, ap, ◌∙◌, subst, arith, Option, Some, None}
 use Rattle.std.specs.Prelude.{IsBitSet, slice_get}
 use Rattle.std.proofs.Math.ListN.{set}
@@ -25,7 +25,7 @@ use Rattle.cn_outcomes.proofs.Packing.{below_or_last}
 use Rattle.cn_outcomes.proofs.Unions.{zeros, zeros_none}
 
 module _ (t : TypeTable) (c : RawChoice) where
-  -- what was got stays
+  -- the response of process 0 stays
   got_stays : (state got : ℕ) (ps : List ℕ) (pair : ℕ × ℕ) → Ends t c 0 state (Some got) ps pair → got ≡ pair.0
   got_stays state got [] pair e = cc e.0
   got_stays state got (p ∷ ps) pair e = got_stays (next_of t c p state) got ps pair e
@@ -49,7 +49,7 @@ module _ (t : TypeTable) (c : RawChoice) where
         goes_on (k + 1) (next_of t c p state) got ps pair (are_given.passes k p state (omega (arith, short)) (below p (inl refl)) (apart p (inl refl)) b) e
         (λ q i. below q (inr i)) (λ q i. apart q (inr i)) (omega (arith, short)))
 
-    -- process 0 is still to move
+    -- process 0 has not moved yet
     comes_to : (k state : ℕ) (ps : List ℕ) (pair : ℕ × ℕ) → 1 ≤ k → (1 ≤ length ps → IsBitSet (get_or left k 0) state) → Ends t c 0 state None ps pair → pair.0 ≡ response
         → ((p : ℕ) → IsIn p ps → p < length c.operations) → Differ ps → k + length ps ≤ length c.operations → IsBitSet (get_or rows (k + length ps - 1) 0) pair.1
     comes_to k state [] pair some b e is below differ short = absurd (cc e.0)
@@ -101,7 +101,7 @@ module _ (t : TypeTable) (c : RawChoice) where
           less [] n l = absurd (n refl)
           less (x ∷ xs) n l = omega (arith, l)
 
-  -- process 0 gets its response in some state that others leave
+  -- process 0 gets its response in some state that the others leave
   module _ (team : Team) (left : List ℕ) (are_left : AreLeftRows t c team (length c.operations) left) where
     finds : (k state : ℕ) (ps : List ℕ) (pair : ℕ × ℕ) → 1 ≤ k → (1 ≤ length ps → IsBitSet (get_or left k 0) state) → Ends t c 0 state None ps pair
         → ((p : ℕ) → IsIn p ps → p < length c.operations) → k + length ps ≤ length c.operations → (q : ℕ) × (q < length t.states) × (answer_of t c 0 q ≡ pair.0)
@@ -136,7 +136,7 @@ module _ (t : TypeTable) (c : RawChoice) where
             let fits = fits_below (length c.operations) (p ∷ ps) (recursion_from_All (λ p. p < length c.operations) (p ∷ ps) o.known) known.differ in
             finds 1 (next_of t c p c.state) ps (r, q) (omega arith) (λ _. are_left.begins p (known.below p (inl refl)) mark) f (λ x i. known.below x (inr i)) (omega (arith, fits))
 
--- no order is shorter than the least number of others whose row has the state, with process 0
+-- no order with process 0 is shorter than the least number of others whose row has the state
 pub none_shorter_given : (t : TypeTable) (c : RawChoice) (team : Team) (response state : ℕ) (rows single : List ℕ)
     → ((order : List ℕ) (q : ℕ) → IsOrder (length c.operations) order → LeadsTo t c team 0 (response, q) order → IsBitSet (get_or rows (length order - 1) 0) q)
     → ((x y : ℕ) → Has single x y ↔ ((x ≡ response) × (y ≡ state))) → (least : ℕ) → ((k : ℕ) → k < least → ¬ IsBitSet (get_or rows k 0) state)
@@ -150,7 +150,7 @@ none_shorter_given t c team response state rows single given only least none k l
     less [] n e = absurd (n refl)
     less (y ∷ ys) n e = omega (arith, e, l)
 
--- one number more that a set must have
+-- one more number that a set must have
 pub number_more : (counts : ℕ → Type 0) (number : ℕ → ℕ) (k new set more : ℕ) → ((p : ℕ) → p < k → counts p → IsBitSet set (number p)) → new ≡ number k
     → ((q : ℕ) → IsBitSet more q ↔ (IsBitSet set q ⊎ (q ≡ new))) → (p : ℕ) → p < k + 1 → counts p → IsBitSet more (number p)
 number_more counts number k new set more g e h p l c = elim (below_or_last p k l) [
@@ -166,7 +166,7 @@ below_more bound new set more g l h q s = elim ((h q).0 s) [ inl a ↦ g q a | i
 
 -- ---- the rows, one after the other
 
--- each row is below the bound, with one that is
+-- setting a row below the bound keeps each row below it
 known_set : (bound k new : ℕ) (rows : List ℕ) → k < length rows → ((i : ℕ) → Below bound (get_or rows i 0)) → Below bound new → (i : ℕ) → Below bound (get_or (set rows k new) i 0)
 known_set bound k new rows l g b i = elim (same_or_not i k) [
   | inl e ↦ subst (λ (j : ℕ). Below bound (get_or (set rows k new) j 0)) (sym e) (subst (Below bound) (sym (get_or-set_same rows k new 0 l)) b)
@@ -174,7 +174,7 @@ known_set bound k new rows l g b i = elim (same_or_not i k) [
 ]
 
 module _ (t : TypeTable) (c : RawChoice) where
-  -- a row that the one before it leads to
+  -- a row to which the row before it leads
   abbrev pub Leads : ℕ → ℕ → Type 0
   Leads before new = (p q : ℕ) → p < length c.operations → p ≢ 0 → IsBitSet before q → IsBitSet new (next_of t c p q)
 
@@ -233,7 +233,7 @@ module _ (t : TypeTable) (c : RawChoice) where
     long = length-set rows k new ∙ a.long;
   }
 
--- a move of one of the operations
+-- a move by one of the operations
 pub any_leads : (s t : TypeTable) → s ≡ t → (c : RawChoice) (operations from set : ℕ)
     → ((q : ℕ) → IsBitSet set q ↔ ((o : ℕ) × IsBitSet operations o × ((x : ℕ) × IsBitSet from x × ((transition s o x).1 ≡ q))))
     → (p q : ℕ) → IsBitSet operations (get_or c.operations p 0) → IsBitSet from q → IsBitSet set (next_of t c p q)

@@ -1,4 +1,4 @@
--- Packed subsets stand for all: twins may be exchanged until each linked process has its neighbour.
+-- Packed subsets are enough: exchanging twins gives each linked process its neighbour.
 use Rattle.std.proofs.Common.{◌≡◌, ℕ, zero, suc, ◌+◌, ◌-◌, ◌^◌, ◌<◌, ◌≤◌, ◌⊎◌, ◌↔◌, inl, inr, length, refl, sym, ap, ◌∙◌, subst, arith, ◌≢◌}
 use Rattle.std.specs.Prelude.{IsBitSet}
 use Rattle.std.specs.Int.Bits.{bit_or}
@@ -24,13 +24,13 @@ below_or_last zero (suc k) l = inl (omega arith)
 below_or_last (suc i) zero l = absurd (omega arith)
 below_or_last (suc i) (suc k) l = elim (below_or_last i k (omega arith)) [ inl h ↦ inl (omega arith) | inr e ↦ inr (ap suc e) ]
 
--- whether a number is in a set
+-- a number is in a set or not
 in_or_not : (set k : ℕ) → IsBitSet set k ⊎ (¬ IsBitSet set k)
 in_or_not set k = elim (by_bit set k) [ inl e ↦ inr (λ s. absurd (omega (arith, e, bit_from set k s))) | inr e ↦ inl (set_from set k e) ]
 
--- ---- up to the last of the linked ones
+-- ---- up to the last of the linked processes
 
--- what holds of a process of the subset and goes on to the linked one behind it holds of some mover
+-- if a property holds of a process of the subset and passes to the linked process after it, it holds of some mover
 pub climb : (P : ℕ → Type 0) (links subset : ℕ) → subset < 2 ^ 16 → ((p : ℕ) → IsBitSet links (p + 1) → IsBitSet subset p → IsBitSet subset (p + 1) → P p → P (p + 1))
     → (fuel p : ℕ) → 16 ≤ p + fuel → IsBitSet subset p → P p → (top : ℕ) × IsMover links subset top × P top
 climb P links subset u step zero p l s h = absurd (omega (arith, l, member_below 16 subset p u s))
@@ -42,7 +42,7 @@ climb P links subset u step (suc fuel) p l s h = by_next (in_or_not links (p + 1
     by_next (inl a) (inr n) more = (p, (s, λ g. n g.1), h)
     by_next (inr n) both more = (p, (s, λ g. n g.0), h)
 
--- all of a run up to a member of a packed subset are in it
+-- a packed subset with a member contains the whole run before it
 run_members : (links subset last : ℕ) → IsPacked links subset → IsBitSet subset last → (k j : ℕ) → last ≡ j + k → IsRun links j last → IsBitSet subset j
 run_members links subset last packed s zero j e run = let same : last ≡ j = omega (arith, e) in subst (IsBitSet subset) same s
 run_members links subset last packed s (suc k) j e run =
@@ -61,7 +61,7 @@ run_down P links j (suc k) last e step run h =
     let before : last ≡ (j + k) + 1 = omega (arith, e) in
     run_down P links j k (j + k) refl (λ p l u. step p l (omega (arith, u, e))) (λ p l u. run p l (omega (arith, u, e))) (step (j + k) (omega arith) (omega (arith, e)) (run (j + k) (omega arith) (omega (arith, e))) (subst P before h))
 
--- a subset is packed, or some process is linked to one that it doesn't have
+-- a subset is packed, or some process is linked to one outside it
 packed_or_not : (links subset : ℕ) → subset < 2 ^ 16 → IsPacked links subset ⊎ ((p : ℕ) × IsBitSet links (p + 1) × IsBitSet subset (p + 1) × ¬ IsBitSet subset p)
 packed_or_not links subset u = elim (so_far 16) [ inl h ↦ inl (λ p a s. h p (omega (arith, member_below 16 subset (p + 1) u s)) a s) | inr h ↦ inr h ]
   where
@@ -121,7 +121,7 @@ size_moved p subset rest l s n w =
     let other = count_more 8 (p + 1) rest l (λ a. ((w (p + 1)).0 a).1 refl) in
     one ∙ (sym other ∙ ap (count_below 8) (filled subset (p + 1) rest s w))
 
--- what holds of a subset, and of each that comes from it where a linked process moves down, holds of a packed one of its size
+-- if a property holds of a subset, and passes on as a linked process moves down, it holds of a packed subset of the same size
 pub packed_down : (links n : ℕ) (P : ℕ → Type 0) → n ≤ 8 → ((p subset other : ℕ) → IsBitSet links (p + 1) → ¬ IsBitSet subset p → IsExchanged p (p + 1) subset other → P subset → P other)
     → (fuel subset : ℕ) → subset < fuel → subset < 2 ^ n → P subset → (packed : ℕ) × (packed < 2 ^ n) × IsPacked links packed × P packed × (count_below 8 packed ≡ count_below 8 subset)
 packed_down links n P few moves zero subset l u g = absurd (omega (arith, l))
@@ -157,7 +157,7 @@ module _ (t : TypeTable) (c : RawChoice) (team : Team) (links : ℕ) (linked : A
   without : (subset p : ℕ) → subset < 2 ^ 16 → IsBitSet subset p → IsWithout subset p (cleared subset p)
   without subset p u s = cleared_is subset p (member_below 16 subset p u s) u
 
-  -- where some process moved last, some mover did
+  -- if some process moved last, some mover moved last
   pub leaves_by_mover : (subset p q : ℕ) → subset < 2 ^ 16 → IsBitSet subset p → LeavesLast t c team p (cleared subset p) q → (top : ℕ) × IsMover links subset top × LeavesLast t c team top (cleared subset top) q
   leaves_by_mover subset p q u s h =
       climb (λ p. LeavesLast t c team p (cleared subset p) q) links subset u
@@ -168,7 +168,7 @@ module _ (t : TypeTable) (c : RawChoice) (team : Team) (links : ℕ) (linked : A
       ))
       16 p (omega arith) s h
 
-  -- what process j finds where it moves last, the last one of its run finds
+  -- the last process of the run finds what process j finds if j moves last
   pub finds_last : (j subset last q : ℕ) → subset < 2 ^ 16 → j ≤ last → IsBitSet subset last → IsPacked links subset → IsRun links j last → FindsState t c team j (cleared subset j) q ↔ FindsState t c team last (cleared subset last) q
   finds_last j subset last q u l s packed run =
       let member : (p : ℕ) → j ≤ p → p ≤ last → IsBitSet subset p = λ p a b. run_members links subset last packed s (last - p) p (omega (arith, b)) (λ i d e. run i (omega (arith, a, d)) e) in (
@@ -184,11 +184,11 @@ module _ (t : TypeTable) (c : RawChoice) (team : Team) (links : ℕ) (linked : A
     not_linked : (p : ℕ) → IsBitSet links (p + 1) → j ≢ p + 1
     not_linked p a e = first (subst (IsBitSet links) (sym e) a)
 
-    -- process p moved last, and j before
+    -- process p moved last, and j before it
     abbrev pub MovedBefore : ℕ → ℕ → ℕ → ℕ → ℕ → Type 0
     MovedBefore subset r q p rest = (found : ℕ) × GivesPair t c team j rest r found × (next_of t c p found ≡ q)
 
-    -- where some other process moved last, some mover did
+    -- if some other process moved last, some mover moved last
     pub gives_by_mover : (subset p r q : ℕ) → subset < 2 ^ 16 → IsBitSet subset p → p ≢ j → MovedBefore subset r q p (cleared subset p) → (top : ℕ) × IsMover links subset top × MovedBefore subset r q top (cleared subset top)
     gives_by_mover subset p r q u s n h =
         let g = climb (λ p. (p ≢ j) × MovedBefore subset r q p (cleared subset p)) links subset u
@@ -204,7 +204,7 @@ module _ (t : TypeTable) (c : RawChoice) (team : Team) (links : ℕ) (linked : A
         16 p (omega arith) s (n, h) in
         (g.0, g.1, g.2.1)
 
-    -- what a subset gives, a packed one of its size gives
+    -- a packed subset of the same size gives what a subset gives
     pub packing : (fuel subset r q : ℕ) → subset < fuel → subset < 2 ^ length c.operations → length c.operations ≤ 8 → GivesPair t c team j subset r q
         → (packed : ℕ) × (packed < 2 ^ length c.operations) × IsPacked links packed × GivesPair t c team j packed r q × (count_below 8 packed ≡ count_below 8 subset)
     packing fuel subset r q l u few g =
@@ -212,14 +212,14 @@ module _ (t : TypeTable) (c : RawChoice) (team : Team) (links : ℕ) (linked : A
         (λ p s o link n x h. gives_exchanged t c p (linked.twins p link) team j s o r q (λ e. n (subst (IsBitSet s) e (gives_member t c team j s r q h))) (not_linked p link) x h)
         fuel subset l u g
 
--- all twins of a run get the same
+-- all twins of a run get the same pairs
 pub run_results : (t : TypeTable) (c : RawChoice) (team : Team) (links : ℕ) → AreLinks c links → (first j : ℕ) (pair : ℕ × ℕ) → first ≤ j → IsRun links first j → InOutcomeSet t c team first pair ↔ InOutcomeSet t c team j pair
 run_results t c team links linked first j pair l run = (
   run_up (λ p. InOutcomeSet t c team p pair) links first (j - first) j (omega (arith, l)) (λ p a b m h. (twin_results t c p (linked.twins p m) team pair).0 h) run,
   run_down (λ p. InOutcomeSet t c team p pair) links first (j - first) j (omega (arith, l)) (λ p a b m h. (twin_results t c p (linked.twins p m) team pair).1 h) run,
 )
 
--- a linked process gets what the one before it gets
+-- a linked process gets the pairs of the one before it
 pub linked_outcomes : (t : TypeTable) (c : RawChoice) (links : ℕ) → AreLinks c links
     → (j : ℕ) → IsBitSet links j → (before : ℕ) × (before < j) × ((team : Team) (pair : ℕ × ℕ) → InOutcomeSet t c team j pair → InOutcomeSet t c team before pair)
 linked_outcomes t c links linked zero s = absurd (linked.not_first s)

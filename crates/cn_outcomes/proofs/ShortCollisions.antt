@@ -1,4 +1,4 @@
--- Collisions of process 0 whose first order has one or two processes and is led by it.
+-- Collisions of process 0 whose first order has one or two processes and begins with 0.
 use Rattle.std.proofs.Common.{◌≡◌, ℕ, ◌<◌, ◌≤◌, inl, inr, List, [], ◌∷◌, length, refl, sym, ap, ◌∙◌, subst, arith, ◌↔◌, Option, Some, None}
 use Rattle.std.specs.Prelude.{IsBitSet, slice_get}
 use Rattle.std.proofs.lemmas.List.Elements.{All-from_recursion, recursion_from_All}
@@ -22,7 +22,7 @@ use Rattle.cn_choice.proofs.Listing.{differ_from, distinct_from, not_empty}
 use Rattle.cn_choice.proofs.Members.{IsIn}
 use Rattle.cn_outcomes.proofs.TailLemmas.{not_above}
 
--- a list with 0 in it that comes before one that 0 leads and that has at most two elements, 0 leads too
+-- if 0 leads an order of at most two processes, it leads each earlier order that contains it
 led_before : (x ps : List ℕ) → length ps ≤ 1 → IsIn 0 x → ComesBefore x (0 ∷ ps) → (xs : List ℕ) × (x ≡ 0 ∷ xs)
 led_before [] ps few i b = absurd i
 led_before (a ∷ xs) ps few i b = elim b [
@@ -35,7 +35,7 @@ led_before (a ∷ xs) ps few i b = elim b [
     by_one (y ∷ ys) i l = absurd (omega (arith, l))
 
 module _ (t : TypeTable) (c : RawChoice) where
-  -- what process 0 gets from an order that it leads
+  -- the response of process 0 to an order that it leads
   led_gets : (xs : List ℕ) (pair : ℕ × ℕ) → pair_of t c (0 ∷ xs) 0 ≡ Some pair → answer_of t c 0 c.state ≡ pair.0
   led_gets xs pair e =
       let f : ◌≡◌ {A = Option ℕ} (Some (answer_of t c 0 c.state)) (Some pair.0) = (pair_parts t c 0 (0 ∷ xs) pair.0 pair.1 e).0 in
@@ -86,7 +86,7 @@ module _ (t : TypeTable) (c : RawChoice) where
           first_beta = λ y before k. second.earlier y k.beta_order before (k.beta_in_b, sym k.same ∙ gets);
         }
 
-  -- where the way alone, and then that of two, is the first
+  -- the way alone, and then that of two, is the first
   nobody : (set x : List ℕ) → length x ≡ 0 → ¬ Hits t c 0 set c.state None x
   nobody set [] e h = absurd (cc h.1.0)
   nobody set (p ∷ ps) e h = absurd (omega (arith, e))
@@ -108,7 +108,7 @@ module _ (t : TypeTable) (c : RawChoice) where
     ];
   }
 
-  -- the pairs of the one response that team B can give are among these
+  -- the pairs of the one response that orders of team B can give are among these
   pub given_by_one : (set : List ℕ) (response all : ℕ) → ((r q : ℕ) → Has set r q ↔ ((r ≡ response) × IsBitSet all q)) → ((q : ℕ) → InOutcomeSet t c B 0 (response, q) → IsBitSet all q)
       → (r q : ℕ) → r ≡ response → InOutcomeSet t c B 0 (r, q) → Has set r q
   given_by_one set response all h a r q e g = (h r q).1 (e, a q (subst (λ (z : ℕ). InOutcomeSet t c B 0 (z, q)) e g))

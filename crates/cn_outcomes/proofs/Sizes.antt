@@ -1,4 +1,4 @@
--- How many numbers are in a set.
+-- The number of elements of a set.
 use Rattle.std.proofs.Common.{◌≡◌, ◌≢◌, ℕ, zero, suc, ◌+◌, ◌^◌, ◌<◌, ◌≤◌, inl, inr, refl, ap, ◌∙◌, subst, arith}
 use Rattle.std.specs.Prelude.{IsBitSet}
 use Rattle.std.specs.Int.{bit_at}
@@ -13,7 +13,7 @@ count_other (suc k) p used l =
     let n : k ≢ p = omega (arith, l) in
     omega (arith, count_other k p used (omega (arith, l)), bit_at_or used (2 ^ p) k, bit_at-pow_other p k n, bit_at-lt used k)
 
--- one more
+-- one more element
 pub count_more : (k p used : ℕ) → p < k → ¬ IsBitSet used p → count_below k (bit_or used (2 ^ p)) ≡ suc (count_below k used)
 count_more zero p used l z = absurd (omega (arith, l))
 count_more (suc k) p used l z = elim (same_or_not k p) [
@@ -21,7 +21,7 @@ count_more (suc k) p used l z = elim (same_or_not k p) [
   | inr n ↦ omega (arith, count_more k p used (omega (arith, l, n)) z, bit_at_or used (2 ^ p) k, bit_at-pow_other p k n, bit_at-lt used k)
 ]
 
--- the next number is in the set, or not
+-- the next number is in the set or not
 pub count_in : (k set : ℕ) → IsBitSet set k → count_below (k + 1) set ≡ count_below k set + 1
 count_in k set s = let next : suc k ≡ k + 1 = omega arith in subst (λ (i : ℕ). count_below i set ≡ count_below k set + 1) next (omega (arith, bit_from set k s))
 

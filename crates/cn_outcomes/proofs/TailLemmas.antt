@@ -1,4 +1,4 @@
--- The ways to go on, one first process after the other.
+-- The ways to go on, by the first process.
 use Rattle.std.proofs.Common.{◌≡◌, ◌≢◌, ℕ, suc, ◌+◌, ◌-◌, ◌^◌, ◌<◌, ◌≤◌, ◌⊎◌, inl, inr, List, [], ◌∷◌, length, map, refl, sym, ap, ◌∙◌, subst, arith, Bool, cond, nat_eq, Option, Some, None, Less, Equal, Greater}
 use Rattle.std.specs.Prelude.{IsBitSet, slice_index}
 use Rattle.std.specs.Int.Bits.{bit_or}
@@ -56,7 +56,7 @@ module _ (p q : ℕ) where
     fresh_exchanged n (bit_or U (2 ^ y)) (bit_or V (2 ^ exchange p q y)) l m (with_exchanged U V y x) ys h.2,
   )
 
-  -- a set with neither stays
+  -- a set without either stays the same
   neither : (U : ℕ) → ¬ IsBitSet U p → ¬ IsBitSet U q → IsExchanged p q U U
   neither U n m i = elim (which p q i) [
     | inl e ↦ (λ s. absurd (n (subst (IsBitSet U) e s)), λ s. absurd (m (subst (IsBitSet U) (exchange_first p q i e) s)))
@@ -96,15 +96,15 @@ module _ (t : TypeTable) (c : RawChoice) (p q : ℕ) (same : slice_index c.opera
       let moved = subst (λ (o : ℕ). Ends t c j (transition t o state).1 (seen_after j y (transition t o state).0 seen) (map (exchange p q) ys) pair) (same_operation y) here in
       subst (λ (s : Option ℕ). Ends t c j (next_of t c (exchange p q y) state) s (map (exchange p q) ys) pair) (same_seen y (answer_of t c (exchange p q y) state) seen) moved
 
--- ---- a response that was got stays
+-- ---- a response stays
 
 ends_seen : (t : TypeTable) (c : RawChoice) (j state r : ℕ) (ps : List ℕ) (pair : ℕ × ℕ) → Ends t c j state (Some r) ps pair → r ≡ pair.0
 ends_seen t c j state r [] pair h = cc h.0
 ends_seen t c j state r (p ∷ ps) pair h = ends_seen t c j (next_of t c p state) r ps pair h
 
--- ---- how many have moved
+-- ---- the number of processes that have moved
 
--- with one more, as many as before are in the order
+-- after one more move, the length of the order is the same
 pub long_after : (used p left : ℕ) → p < 8 → ¬ IsBitSet used p → 1 ≤ left → left - 1 + count_moved (bit_or used (2 ^ p)) ≡ left + count_moved used
 unfolding count_moved
 long_after used p left l n some = omega (arith, count_more 8 p used l n, some)
@@ -114,7 +114,7 @@ long_after used p left l n some = omega (arith, count_more 8 p used l n, some)
 pub tried_more : (c : RawChoice) (j low end used o : ℕ) → IsTried c j low end used o → IsTried c j low (end + 1) used o
 tried_more c j low end used o h = (h.0, h.1, omega (arith, h.2), h.3, h.4, h.5)
 
--- and the operation of the next process
+-- with the operation of the next process
 pub tried_next : (c : RawChoice) (j low p used before after : ℕ) → low ≤ p → ¬ IsBitSet used p → ((o : ℕ) → IsBitSet before o → IsTried c j low p used o)
     → ((o : ℕ) → IsBitSet after o → IsBitSet before o ⊎ ((p ≢ j) × (o ≡ slice_index c.operations p))) → (o : ℕ) → IsBitSet after o → IsTried c j low (p + 1) used o
 tried_next c j low p used before after from free old added o s = elim (added o s) [
@@ -141,7 +141,7 @@ module _ (t : TypeTable) (c : RawChoice) (j : ℕ) (set : List ℕ) (size low hi
       absurd (cc no)
   dead_late p n one none (x ∷ ps) way hits = absurd (omega (arith, way.long, one))
 
-  -- it gets a response of no pair of the set
+  -- process j gets a response of no pair of the set
   pub dead_unwanted : (p r : ℕ) → seen_after j p (answer_of t c p state) seen ≡ Some r → ((q : ℕ) → ¬ Has set r q) → Dead p
   dead_unwanted p r got none ps way hits =
       let same = ends_seen t c j (next_of t c p state) r ps hits.0 (subst (λ (s : Option ℕ). Ends t c j (next_of t c p state) s ps hits.0) got hits.1) in
@@ -155,7 +155,7 @@ module _ (t : TypeTable) (c : RawChoice) (j : ℕ) (set : List ℕ) (size low hi
         (fresh_exchanged p q (length c.operations) used used (omega (arith, less, way.fresh.0)) way.fresh.0 (neither p q used n way.fresh.1) (q ∷ ps) way.fresh);
   }
 
-  -- an earlier process with the same operation stands for it
+  -- an earlier process with the same operation makes this one unnecessary
   dead_tried : (q : ℕ) → q ≢ j → q < high → IsTried c j low q used (slice_index c.operations q) → ((p : ℕ) → low ≤ p → p < q → Dead p) → Dead q
   dead_tried q m high tried dead ps way hits =
       let p = tried.0 in
@@ -233,7 +233,7 @@ module _ (t : TypeTable) (c : RawChoice) (j : ℕ) (set : List ℕ) (left low hi
 -- ---- dead ends
 
 module _ (t : TypeTable) (c : RawChoice) (j : ℕ) (set : List ℕ) (long : ℕ) where
-  -- one place more
+  -- one more prefix
   pub dead_kept : (before after : List Bool × List (List ℕ)) (used left state : ℕ) (seen : Option ℕ) → left + count_moved used ≡ long → NoWay t c j set left 0 (length c.operations) used state seen
       → ((u q : ℕ) (s : Option ℕ) → IsKept after u s q → IsKept before u s q ⊎ ((u ≡ used) × (s ≡ seen) × (q ≡ state))) → AreDead t c j set long before → AreDead t c j set long after
   dead_kept before after used left state seen sum none added dead u q l s kept e = elim (added u q s kept) [
@@ -245,9 +245,9 @@ module _ (t : TypeTable) (c : RawChoice) (j : ℕ) (set : List ℕ) (long : ℕ)
         (subst (λ (x : ℕ). NoWay t c j set left 0 (length c.operations) used x s) (sym new.2) (subst (λ (x : Option ℕ). NoWay t c j set left 0 (length c.operations) used state x) (sym new.1) none)))
   ]
 
--- ---- states that cannot be left any more
+-- ---- states from which the moves left cannot reach the target
 
--- a way leaves a state that its number of moves may leave
+-- a way ends in a state in which its number of moves may end
 ends_leave : (t : TypeTable) (c : RawChoice) → IsRawChoice t (length c.operations) c → (j state used : ℕ) (seen : Option ℕ) (ps : List ℕ) (pair : ℕ × ℕ) → IsFresh (length c.operations) used ps → Ends t c j state seen ps pair
     → MayLeave t (length ps) state pair.1
 ends_leave t c fits j state used None [] pair f e = e.1

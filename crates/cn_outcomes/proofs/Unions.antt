@@ -1,4 +1,4 @@
--- Sets that are gathered one part after another.
+-- Sets that are unions of parts, one part after another.
 use Rattle.std.proofs.Common.{replicate, ◌^◌, ◌*◌, ◌%◌, List, [], ◌∷◌, length, get_or, get_or-set_other, get_or-set_same, length-set, ◌≡◌, ◌≢◌, ℕ, zero, suc, ◌+◌, ◌<◌, ◌≤◌, ◌⊎◌, inl, inr, ◌↔◌, refl, sym, ap, ◌∙◌, subst, arith}
 use Rattle.std.specs.Prelude.{IsBitSet, slice_get, slice_index, Some}
 use Rattle.cn_choice.specs.declared.team.Team.{Team}
@@ -18,7 +18,7 @@ use Rattle.cn_outcomes.proofs.LastProcess.{exactly_to, known_from, zero_has_none
 use Rattle.cn_outcomes.proofs.LastAnswers.{exactly_subset, gives_to, gives_from, gives_member, outcome_subset, pair_parts, subset_below, subset_of}
 use Rattle.cn_outcomes.proofs.BitSets.{below_or_not, cleared, cleared_is, without_one, member_below}
 
--- the set has what the parts below k have
+-- the set is the union of the parts below k
 abbrev pub Gathers : (ℕ → ℕ → Type 0) → ℕ → ℕ → Type 0
 Gathers part k set = (q : ℕ) → IsBitSet set q ↔ ((i : ℕ) × (i < k) × part i q)
 
@@ -44,7 +44,7 @@ zeros_none n r q b = zero_has_none q (subst (λ (x : ℕ). IsBitSet x q) (zeros_
 
 -- ---- unions over the members of a set, of which some are left
 
--- the set has what the parts of those members have that are not left any more
+-- the set is the union of the parts of those members that are not left
 pub record GathersFrom (part : ℕ → ℕ → Type 0) (from left set : ℕ) : Type 0 where
   pub within : (i : ℕ) → IsBitSet left i → IsBitSet from i
   pub same : (q : ℕ) → IsBitSet set q ↔ ((i : ℕ) × IsBitSet from i × (¬ IsBitSet left i) × part i q)
@@ -69,14 +69,14 @@ from_more part from left set k rest more g s w h = record {
   );
 }
 
--- none is left
+-- no member is left
 pub from_all : (part : ℕ → ℕ → Type 0) (from left set : ℕ) → GathersFrom part from left set → left ≡ 0 → (q : ℕ) → IsBitSet set q ↔ ((i : ℕ) × IsBitSet from i × part i q)
 from_all part from left set g e q = (
   λ s. (let r = (g.same q).0 s in (r.0, r.1, r.3)),
   λ r. (g.same q).1 (r.0, r.1, (λ b. zero_has_none r.0 (subst (λ (x : ℕ). IsBitSet x r.0) e b)), r.2),
 )
 
--- ---- what a process may find
+-- ---- the states that a process may find
 
 module _ (t : TypeTable) (c : RawChoice) (team : Team) (p rest : ℕ) where
   pub found_first : rest ≡ 0 → slice_get c.marks p ≡ Some team → (set : ℕ) → ((q : ℕ) → IsBitSet set q ↔ (IsBitSet 0 q ⊎ (q ≡ c.state))) → ((q : ℕ) → ¬ IsBitSet 0 q) → (q : ℕ) → IsBitSet set q ↔ FindsState t c team p rest q

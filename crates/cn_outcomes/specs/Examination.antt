@@ -1,4 +1,4 @@
--- What the examination of a choice finds.
+-- The answer of the examination of a choice.
 use Rattle.std.specs.Prelude.{◌≡◌}
 use Rattle.cn_outcomes.specs.declared.examination.Examined.{Examined}
 use Rattle.cn_outcomes.specs.declared.examination.Examined.TheVariants.{Splits, Meets}
@@ -7,7 +7,7 @@ use Rattle.cn_choice.specs.Canonical.{Choice, raw_choice_of}
 use Rattle.cn_choice.specs.Collisions.{IsRecordedCollision}
 use Rattle.cn_choice.specs.Discerning.{IsWitness}
 
--- a witness splits; of any other choice it is the recorded collision
+-- `Splits` for a witness, and the recorded collision for any other choice
 abbrev pub IsExamined : TypeTable → Choice → Examined → Type 0
 IsExamined t c Splits = IsWitness t (raw_choice_of c)
 IsExamined t c (Meets e) = (e.choice ≡ c) × IsRecordedCollision t (raw_choice_of c) e.process e.alpha e.beta

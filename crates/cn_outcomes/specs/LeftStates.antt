@@ -1,4 +1,4 @@
--- The states in which orders leave the object, by the team that begins them.
+-- The states in which the orders that begin in a team leave the object.
 use Rattle.std.specs.Prelude.{◌≡◌, ℕ, List, length}
 use Rattle.cn_table.specs.TypeTable.{TypeTable}
 use Rattle.cn_table.specs.Run.{state_after}
@@ -9,4 +9,5 @@ use Rattle.cn_choice.specs.OutcomeSets.{BeginsIn, operations_of}
 
 -- some order that begins in the team, run from the start state, leaves the object in this state
 abbrev pub LeavesIn : TypeTable → RawChoice → Team → ℕ → Type 0
-LeavesIn t c team state = (order : List ℕ) × IsOrder (length c.operations) order × BeginsIn c team order × (state_after t c.state (operations_of c order) ≡ state)
+LeavesIn t c team state =
+    (order : List ℕ) × IsOrder (length c.operations) order × BeginsIn c team order × (state_after t c.state (operations_of c order) ≡ state)

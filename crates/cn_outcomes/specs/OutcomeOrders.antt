@@ -1,4 +1,4 @@
--- Which orders give a process which pairs.
+-- The orders that give a process a pair.
 use Rattle.std.specs.Prelude.{◌≡◌, ℕ, List, length, Some}
 use Rattle.cn_choice.specs.declared.team.Team.{Team}
 use Rattle.cn_table.specs.TypeTable.{TypeTable}
@@ -20,11 +20,11 @@ LeadsInto t c team j set order = (pair : ℕ × ℕ) × LeadsTo t c team j pair 
 abbrev pub NoneInto : TypeTable → RawChoice → Team → ℕ → List ℕ → Type 0
 NoneInto t c team j set = (order : List ℕ) → IsOrder (length c.operations) order → ¬ LeadsInto t c team j set order
 
--- and no order of so many processes
+-- no such order with this many processes
 abbrev pub NoneOfLength : TypeTable → RawChoice → Team → ℕ → List ℕ → ℕ → Type 0
 NoneOfLength t c team j set k = (order : List ℕ) → IsOrder (length c.operations) order → length order ≡ k → ¬ LeadsInto t c team j set order
 
--- the first order, in list order, that begins in the team and gives process j a pair of the set, and that pair
+-- the first order, in list order, that begins in the team and gives process j a pair of the set, and this pair
 pub record IsFirstInto (t : TypeTable) (c : RawChoice) (team : Team) (j : ℕ) (set : List ℕ) (order : List ℕ) (pair : ℕ × ℕ) : Type 0 where
   pub ordered : IsOrder (length c.operations) order
   pub leads : LeadsTo t c team j pair order

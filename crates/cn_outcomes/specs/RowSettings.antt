@@ -1,4 +1,4 @@
--- What rows are made for, and the rows that are made.
+-- The setting of rows, and the rows.
 use Rattle.std.specs.Prelude.{ℕ, ◌^◌, ◌<◌, ◌≤◌, List, length}
 use Rattle.cn_choice.specs.RawChoices.{IsRawChoice}
 use Rattle.cn_choice.specs.declared.limits.TheConstants.{MOST_PROCESSES}
@@ -7,13 +7,13 @@ use Rattle.cn_outcomes.specs.Twins.{AreLinks, IsPacked}
 use Rattle.cn_outcomes.specs.declared.limits.TheConstants.{SUBSETS}
 use Rattle.cn_outcomes.specs.declared.row_setting.RowSetting.{RowSetting}
 
--- the choice is one for the table, of few processes, and the links are between its processes
+-- the choice is one of the table, for at most the most processes, and the links are between its processes
 pub record IsRowSetting (s : RowSetting) : Type 0 where
   pub few : length s.choice.now.operations ≤ MOST_PROCESSES
   pub fits : IsRawChoice s.table.now (length s.choice.now.operations) s.choice.now
   pub linked : AreLinks s.choice.now s.links
 
--- how many subsets the processes have
+-- the number of subsets of the processes
 abbrev pub subset_count : RowSetting → ℕ
 subset_count s = 2 ^ length s.choice.now.operations
 

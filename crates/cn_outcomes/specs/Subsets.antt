@@ -16,21 +16,21 @@ pub record IsOrderOf (n subset : ℕ) (order : List ℕ) : Type 0 where
   pub ordered : IsOrder n order
   pub exactly : (p : ℕ) → Contains order p ↔ IsBitSet subset p
 
--- some order of exactly this subset, beginning in the team, leaves the object in this state
+-- some order of exactly this subset that begins in the team leaves the object in this state
 abbrev pub LeavesState : TypeTable → RawChoice → Team → ℕ → ℕ → Type 0
 LeavesState t c team subset state =
     (order : List ℕ) × IsOrderOf (length c.operations) subset order × BeginsIn c team order × (state_after t c.state (operations_of c order) ≡ state)
 
--- some order of exactly this subset, beginning in the team, gives process j this response and leaves this state
+-- some order of exactly this subset that begins in the team gives process j this response and leaves this state
 abbrev pub GivesPair : TypeTable → RawChoice → Team → ℕ → ℕ → ℕ → ℕ → Type 0
 GivesPair t c team j subset response state =
     (order : List ℕ) × IsOrderOf (length c.operations) subset order × BeginsIn c team order × (pair_of t c order j ≡ Some (response, state))
 
--- the subset with process p taken out
+-- the subset without process p
 abbrev pub IsWithout : ℕ → ℕ → ℕ → Type 0
 IsWithout subset p rest = (i : ℕ) → IsBitSet rest i ↔ (IsBitSet subset i × (i ≢ p))
 
--- the states in which process p may find the object where the others have moved: the start state if there are none and p is in the team
+-- the states in which process p may find the object after the others: the start state if there are no others and p is in the team
 abbrev pub FindsState : TypeTable → RawChoice → Team → ℕ → ℕ → ℕ → Type 0
 FindsState t c team p rest state = ((rest ≡ 0) × (slice_get c.marks p ≡ Some team) × (c.state ≡ state)) ⊎ LeavesState t c team rest state
 
@@ -38,7 +38,7 @@ FindsState t c team p rest state = ((rest ≡ 0) × (slice_get c.marks p ≡ Som
 abbrev pub Below : ℕ → ℕ → Type 0
 Below bound set = (q : ℕ) → IsBitSet set q → q < bound
 
--- the row of each subset below the end that has one is the set of these states of it, which are below the bound
+-- each subset below the end that has a row has these states in it, which are below the bound
 pub record AreRowsOf (has_row : ℕ → Type 0) (states : ℕ → ℕ → Type 0) (bound end : ℕ) (rows : List ℕ) : Type 0 where
   pub same : (subset : ℕ) → subset < end → has_row subset → (q : ℕ) → IsBitSet (slice_index rows subset) q ↔ states subset q
   pub known : (subset : ℕ) → subset < end → has_row subset → Below bound (slice_index rows subset)
@@ -48,7 +48,7 @@ pub record AreRowsOf (has_row : ℕ → Type 0) (states : ℕ → ℕ → Type 0
 abbrev pub AreRows : TypeTable → RawChoice → Team → ℕ → ℕ → List ℕ → Type 0
 AreRows t c team links end rows = AreRowsOf (IsPacked links) (LeavesState t c team) (length t.states) end rows
 
--- it has a place for each state
+-- the row has a place for each state
 pub record IsRow (t : TypeTable) (row : List ℕ) : Type 0 where
   pub long : length row ≡ 16
 
@@ -68,7 +68,7 @@ abbrev pub OtherLast : TypeTable → RawChoice → Team → ℕ → ℕ → ℕ 
 OtherLast t c team j subset state p response =
     (rest : ℕ) × IsWithout subset p rest × ((found : ℕ) × GivesPair t c team j rest response found × (next_of t c p found ≡ state))
 
--- the row of each packed subset below the end has the pairs that orders of that subset give
+-- the row of each packed subset below the end has the pairs that orders of this subset give
 pub record ArePairRows (t : TypeTable) (c : RawChoice) (team : Team) (j links end : ℕ) (rows : List (List ℕ)) : Type 0 where
   pub same : (subset : ℕ) → subset < end → IsPacked links subset → (r q : ℕ) → Has (slice_index_or rows subset []) r q ↔ GivesPair t c team j subset r q
   pub row : (subset : ℕ) → subset < end → IsPacked links subset → IsRow t (slice_index_or rows subset [])

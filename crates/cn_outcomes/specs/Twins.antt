@@ -1,4 +1,4 @@
--- Neighbours with the same operation in the same team, which can stand for each other.
+-- Twins: neighbours with the same operation in the same team, which are interchangeable.
 use Rattle.std.specs.Prelude.{◌≡◌, ℕ, ◌+◌, ◌<◌, ◌≤◌, length, slice_get, slice_index, IsBitSet}
 use Rattle.cn_choice.specs.RawChoices.{RawChoice}
 
@@ -13,14 +13,14 @@ pub record AreLinks (c : RawChoice) (links : ℕ) : Type 0 where
   pub twins : (p : ℕ) → IsBitSet links (p + 1) → AreTwins c p
   pub not_first : ¬ IsBitSet links 0
 
--- with each linked process the subset has the one before it
+-- the subset contains, for each linked process in it, the process before it
 abbrev pub IsPacked : ℕ → ℕ → Type 0
 IsPacked links subset = (p : ℕ) → IsBitSet links (p + 1) → IsBitSet subset (p + 1) → IsBitSet subset p
 
--- a process of the subset with no linked one of it behind
+-- a process of the subset that no linked process of it follows
 abbrev pub IsMover : ℕ → ℕ → ℕ → Type 0
 IsMover links subset p = IsBitSet subset p × ¬ (IsBitSet links (p + 1) × IsBitSet subset (p + 1))
 
--- the processes behind process i up to process k are linked
+-- the processes after process i up to process k are linked
 abbrev pub IsRun : ℕ → ℕ → ℕ → Type 0
 IsRun links i k = (p : ℕ) → i ≤ p → p < k → IsBitSet links (p + 1)

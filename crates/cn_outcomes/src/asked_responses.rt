@@ -11,21 +11,21 @@ use crate::subset_rows::operation_of;
 use cn_choice::RawChoice;
 use cn_table::{MOST_RESPONSES, State, Table};
 
-/// A response of a process, and the states in which it gets it.
+/// A response of a process, and the states in which it gets this response.
 #[derive(Clone, Copy)]
 pub(crate) struct AskedResponse {
     pub response: u8,
     pub states: u16,
 }
 
-/// What a process gets: the responses, and by response the states in which it gets that one.
+/// The responses of a process, and for each response the states in which it gets it.
 #[derive(Drop)]
 pub(crate) struct Answers {
     pub responses: u16,
     pub states: [u16; MOST_RESPONSES],
 }
 
-/// What the process gets in the states of the table.
+/// The responses of the process in the states of the table.
 pub(crate) fn answers_of(table: &Table, choice: &RawChoice, j: u8) -> Answers
     requires fits { IsRawChoice table.now (length choice.now.operations) choice.now }
     requires j { j < length choice.now.operations }
@@ -47,7 +47,7 @@ pub(crate) fn answers_of(table: &Table, choice: &RawChoice, j: u8) -> Answers
     Answers { responses, states }
 }
 
-/// The response that the process gets in the start state, and the states in which it gets that.
+/// The response of the process in the start state, and the states in which it gets it.
 pub(crate) fn start_response(
     table: &Table,
     choice: &RawChoice,

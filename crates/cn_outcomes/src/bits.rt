@@ -1,4 +1,5 @@
-//! Sets of numbers, each the bit of its place in a `u16`. So states and responses are below 16.
+//! Sets of numbers as bits of a `u16`: bit k says whether k is in the set. All numbers are below
+//! 16.
 ghost use Rattle.std.specs.Prelude.{◌≡◌, ◌≢◌, ◌<◌, ◌↔◌, ◌⊎◌, ◌+◌, ◌^◌, ℕ, IsBitSet, IsTrue};
 ghost use Rattle.cn_outcomes.specs.Subsets.{IsWithout};
 ghost use Rattle.cn_outcomes.specs.Tails.{count_below};
@@ -29,7 +30,7 @@ pub fn union(a: u16, b: u16) -> u16
     a | b
 }
 
-/// Whether some number is in both sets.
+/// Whether the sets have a common number.
 pub(crate) fn share(a: u16, b: u16) -> bool
     ensures { IsTrue result ↔ ((q : ℕ) × IsBitSet a q × IsBitSet b q) }
 {
@@ -50,14 +51,14 @@ pub(crate) fn difference(a: u16, b: u16) -> u16
     a & !b
 }
 
-/// The numbers that are in both sets, each less one; 0 is left out.
+/// The numbers of both sets, each less one, without those that would be below 0.
 pub(crate) fn common_predecessors(a: u16, b: u16) -> u16
     ensures { (q : ℕ) → IsBitSet result q ↔ (IsBitSet a (q + 1) × IsBitSet b (q + 1)) }
 {
     (a & b) >> 1
 }
 
-/// The set without one of its numbers.
+/// The set without this number.
 pub(crate) fn without(set: u16, number: u8) -> u16
     requires known { number < 16 }
     requires member { IsBitSet set number }
@@ -67,7 +68,7 @@ pub(crate) fn without(set: u16, number: u8) -> u16
     set & !(1 << number)
 }
 
-/// The least number of a set that has one.
+/// The least number of a set that is not empty.
 pub(crate) fn least(set: u16) -> u8
     requires { set ≢ 0 }
     ensures member { IsBitSet set result }
@@ -77,7 +78,7 @@ pub(crate) fn least(set: u16) -> u8
     set.trailing_zeros() as u8
 }
 
-/// How many processes are in the set.
+/// The number of processes in the set.
 pub(crate) fn size(set: u16) -> u8
     ensures { result ≡ count_below MOST_PROCESSES set }
 {

@@ -1,4 +1,4 @@
-//! Beginnings of orders that cannot go on into a set.
+//! Dead ends: beginnings of orders that do not lead into a set.
 ghost use Rattle.std.specs.Prelude.{◌≡◌, ◌<◌, ◌⊎◌, ℕ, Option, IfSome, IsTrue};
 ghost use Rattle.cn_table.specs.declared.limits.TheConstants.{MOST_RESPONSES, MOST_STATES};
 ghost use Rattle.cn_outcomes.specs.Tails.{IsKept, rank_of};
@@ -9,8 +9,8 @@ use crate::limits::{RANKS, SUBSETS};
 use crate::tails::Prefix;
 use std::marker::Model;
 
-/// Prefixes, by the processes that have moved: whether the row of these was begun, and the row, which
-/// has a set of states for each response.
+/// Prefixes of orders, by the set of processes that have moved: whether this set has a row, and the
+/// row, which has a set of states for each response.
 #[derive(Drop)]
 pub(crate) struct DeadEnds {
     begun: [bool; SUBSETS],
@@ -27,7 +27,7 @@ impl Model for DeadEnds {
     ghost invariant = { λ _. Unit {0} };
 }
 
-/// The rank of the response in a row. With none yet it is the first.
+/// The place of the response in a row. Place 0 is for no response yet.
 fn rank_of(seen: Option<u8>) -> usize
     requires { IfSome seen (λ response. response < MOST_RESPONSES) }
     ensures rank { result ≡ rank_of seen }
@@ -50,14 +50,14 @@ impl DeadEnds {
         }
     }
 
-    /// Keeps no prefix any more.
+    /// Drops all prefixes.
     pub(crate) fn clear(&mut self)
         ensures { (used state : ℕ) (seen : Option ℕ) → ¬ IsKept self.new used seen state }
     {
         self.begun = [false; SUBSETS];
     }
 
-    /// Whether the prefix is kept. None is with fewer than two processes to go.
+    /// Whether the prefix is kept. No prefix with fewer than two moves left is kept.
     pub(crate) fn has(&self, prefix: Prefix) -> bool
         requires used { prefix.used < SUBSETS }
         requires seen { IfSome prefix.seen (λ response. response < MOST_RESPONSES) }
@@ -72,7 +72,7 @@ impl DeadEnds {
         contains(self.rows[used][rank_of(prefix.seen)], prefix.state.0)
     }
 
-    /// Begins the row of these processes, if it was not begun.
+    /// Begins the row of these processes, if they have none.
     fn begin(&mut self, used: usize)
         requires { used < SUBSETS }
         ensures { (u q : ℕ) (s : Option ℕ) → IsKept self.new u s q → IsKept self.old u s q }
@@ -83,7 +83,7 @@ impl DeadEnds {
         }
     }
 
-    /// Keeps the prefix, if there are two processes or more to go.
+    /// Keeps the prefix, if it has two moves or more left.
     pub(crate) fn add(&mut self, prefix: Prefix)
         requires used { prefix.used < SUBSETS }
         requires seen { IfSome prefix.seen (λ response. response < MOST_RESPONSES) }

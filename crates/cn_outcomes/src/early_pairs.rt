@@ -1,4 +1,4 @@
-//! Pairs that a process gets soon: from lists of one or two processes.
+//! Pairs that a process gets from orders of one or two processes.
 ghost use Rattle.std.specs.Prelude.{◌≡◌, ◌≤◌, ◌<◌, length, slice_get, IsTrue, Some};
 ghost use Rattle.cn_choice.specs.Discerning.{IsWitness};
 ghost use Rattle.cn_choice.specs.RawChoices.{IsRawChoice};
@@ -12,7 +12,7 @@ use crate::twins::links;
 use cn_choice::{RawChoice, Team};
 use cn_table::Table;
 
-/// What the process gets where it moves first, and then another one or none.
+/// The pairs of the process if it moves first, alone or before one other process.
 fn pairs_of_first_move(table: &Table, choice: &RawChoice, team: Team, j: u8) -> OutcomeSet
     requires few { length choice.now.operations ≤ MOST_PROCESSES }
     requires fits { IsRawChoice table.now (length choice.now.operations) choice.now }
@@ -32,7 +32,7 @@ fn pairs_of_first_move(table: &Table, choice: &RawChoice, team: Team, j: u8) -> 
     set
 }
 
-/// What the process gets where one of the team moves first, and then itself.
+/// The pairs of the process if one process of the team moves first, and then itself.
 fn pairs_of_second_move(table: &Table, choice: &RawChoice, team: Team, j: u8) -> OutcomeSet
     requires few { length choice.now.operations ≤ MOST_PROCESSES }
     requires fits { IsRawChoice table.now (length choice.now.operations) choice.now }
@@ -51,7 +51,7 @@ fn pairs_of_second_move(table: &Table, choice: &RawChoice, team: Team, j: u8) ->
     set
 }
 
-/// Whether process j gets one pair from two such lists that begin in different teams.
+/// Whether process j gets the same pair from two such orders that begin in different teams.
 fn meets_soon(table: &Table, choice: &RawChoice, j: u8) -> bool
     requires few { length choice.now.operations ≤ MOST_PROCESSES }
     requires fits { IsRawChoice table.now (length choice.now.operations) choice.now }
@@ -70,8 +70,8 @@ fn meets_soon(table: &Table, choice: &RawChoice, j: u8) -> bool
     }
 }
 
-/// Whether some process gets one pair from two such lists that begin in different teams: then the
-/// choice is no witness.
+/// Whether some process gets the same pair from two such orders that begin in different teams. Then
+/// the choice is no witness.
 pub(crate) fn some_meet_soon(table: &Table, choice: &RawChoice) -> bool
     requires few { length choice.now.operations ≤ MOST_PROCESSES }
     requires fits { IsRawChoice table.now (length choice.now.operations) choice.now }

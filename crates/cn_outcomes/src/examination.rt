@@ -1,4 +1,4 @@
-//! Whether a choice is a witness, and the collision that is recorded where it is none.
+//! Whether a choice is a witness, and the recorded collision of a choice that is none.
 ghost use Rattle.std.specs.Prelude.{◌≡◌, ◌<◌, ◌≤◌, ◌+◌, ◌↔◌, ℕ, List, length, ◌^◌, IsBitSet, IfNone, IfSome, IsFalse};
 ghost use Rattle.cn_table.specs.declared.limits.TheConstants.{MOST_RESPONSES, MOST_STATES};
 ghost use Rattle.cn_outcomes.specs.Examination.{IsExamined};
@@ -30,7 +30,7 @@ use cn_choice::laws::{collision_or_witness, process_of_pair};
 use cn_choice::{Choice, Collision, MOST_PROCESSES, RawChoice, Team};
 use cn_table::{MOST_STATES, Table};
 
-/// Room for the tables of [`examine_in`]. What it holds from earlier choices doesn't matter.
+/// Room for the tables of [`examine_in`]. Its contents from earlier choices do not matter.
 #[derive(Drop)]
 pub struct Room {
     dead: DeadEnds,
@@ -49,17 +49,17 @@ impl Room {
     }
 }
 
-/// What [`examine`] finds.
+/// The answer of [`examine`].
 #[derive(Drop)]
 pub enum Examined {
     /// The choice is a witness.
     Splits,
-    /// The choice is none: its recorded collision.
+    /// The choice is no witness. This is its recorded collision.
     Meets(Collision),
 }
 
-/// Whether the target's process, the first of its twins, has a pair of the target's set in its outcome
-/// set for team A. The target's set is its outcome set for team B.
+/// Whether the target's process has a pair of the target's set in its outcome set for team A. The
+/// process is the first of its twins, and the target's set is its outcome set for team B.
 fn meets(
     subject: &Subject<'_>,
     links: u16,
@@ -81,8 +81,8 @@ fn meets(
     outcomes_from(&setting, target.process, &rows_a, pairs).meets(target.set)
 }
 
-/// The first order that begins in team A and leads to the target, and the pair that it gives. The
-/// target's process is the first of its twins, and its set is the outcome set for team B.
+/// The first order that begins in team A and leads to the target, and its pair. The target's
+/// process is the first of its twins, and the target's set is its outcome set for team B.
 fn first_alpha(
     subject: &Subject<'_>,
     links: u16,
@@ -102,7 +102,8 @@ fn first_alpha(
     ensures in_range { IfSome result (λ found.
         (found.1.0 < MOST_RESPONSES) × (found.1.1 < MOST_STATES)) }
 {
-    // Mostly a list of one or two is found, and the rows of team A are not wanted.
+    // An order of one or two processes mostly leads there, and then the rows of team A are not
+    // needed.
     let soon = first_order_into(subject, Team::A, target, 0, 3, dead);
     if let Some((order, pair)) = soon {
         return Some((order, pair));
@@ -116,8 +117,8 @@ fn first_alpha(
     Some((order, pair))
 }
 
-/// The first collision of the process, the first of its twins, if it has one: the one whose first order
-/// comes first, and of these the one whose second does.
+/// The first collision of the process, if it has one. The process is the first of its twins. The
+/// first collision has the least first order, and with it the least second order.
 fn collision_of(
     subject: &Subject<'_>,
     process: u8,
@@ -172,7 +173,7 @@ fn collision_of(
     Some((alpha, beta))
 }
 
-/// The first collision of the least process that has one, by the rows of both teams.
+/// The first collision of the least process that has one, from the rows of both teams.
 fn collision_by_rows(
     subject: &Subject<'_>,
     links: u16,
@@ -235,12 +236,11 @@ fn raw_collision(
     Some((process, found))
 }
 
-/// Whether the choice is a witness, and its recorded collision where it is none: that of the least
-/// process that has one, with the first list that begins in A whose pair also comes from a list
-/// that begins in B, and the first list that begins in B with that pair.
+/// Whether the choice is a witness, and the recorded collision of a choice that is none. That is
+/// the collision of the least process that has one. In list order its `alpha` is the first of this
+/// process, and its `beta` is the first with the pair of `alpha`.
 ///
-/// The choice is for the table and for 2 to [`MOST_PROCESSES`](crate::MOST_PROCESSES)
-/// processes.
+/// The choice is one of the table, for 2 to [`MOST_PROCESSES`](crate::MOST_PROCESSES) processes.
 pub fn examine(table: &Table, choice: &Choice) -> Examined
     requires { FitsTable table.now choice.now }
     ensures { IsExamined table.now choice.now result }
@@ -248,8 +248,7 @@ pub fn examine(table: &Table, choice: &Choice) -> Examined
     examine_in(table, choice, &Images::new(table), &mut Room::new())
 }
 
-/// As [`examine`], with the table made ready, and with room, so that neither is made anew for each
-/// choice.
+/// The same as [`examine`]. The caller prepares the table and the room once for many choices.
 pub fn examine_in(table: &Table, choice: &Choice, images: &Images, room: &mut Room) -> Examined
     requires fits { FitsTable table.now choice.now }
     requires images { images.now ≡ table.now }

@@ -12,8 +12,8 @@ use crate::tails::{Prefix, Target, way_into};
 use arrayvec::ArrayVec;
 use cn_choice::{MOST_PROCESSES, Team};
 
-/// The first order that begins in the team and leads to the target, and the pair that it gives, of the
-/// orders with fewer processes than the end. None is shorter than the first length.
+/// The first order that begins in the team and leads to the target, and its pair. It searches the
+/// orders with fewer processes than `end`. No order shorter than `first` leads there.
 pub(crate) fn first_order_into(
     subject: &Subject<'_>,
     team: Team,

@@ -11,15 +11,16 @@ use cn_choice::MOST_PROCESSES;
 use cn_table::{MOST_OPERATIONS, MOST_STATES, Operation, State, Table};
 use std::marker::Model;
 
-/// A table, made ready for [`examine_in`](crate::examine_in): it knows to which states each
+/// A prepared table for [`examine_in`](crate::examine_in): it knows the states to which each
 /// operation leads from each set of states. Contracts see it as the table.
 #[derive(Drop)]
 pub struct Images<'t> {
     table: &'t Table,
-    /// By operation, for the sets of the first eight states and for those of the others.
+    /// For each operation, the images of the sets of the first eight states. `high` is for the
+    /// others.
     low: [[u16; 256]; MOST_OPERATIONS],
     high: [[u16; 256]; MOST_OPERATIONS],
-    /// By the number of moves and by state, the states that so many moves from it may leave.
+    /// For each number of moves and each state: the states in which this many moves may end.
     reach: [[u16; MOST_STATES]; MOST_PROCESSES],
 }
 
@@ -36,7 +37,7 @@ impl<'t> Model for Images<'t> {
         × HaveReach s.table.now MOST_PROCESSES s.reach };
 }
 
-/// The image of a set whose number i stands for state first + i.
+/// The image of a set whose number i stands for state `first + i`.
 fn image_from(table: &Table, operation: Operation, first: u8, from: u16) -> u16
     requires operation { operation.0 < length table.now.operations }
     requires first { first ≤ 8 }
@@ -58,7 +59,7 @@ fn image_from(table: &Table, operation: Operation, first: u8, from: u16) -> u16
     set
 }
 
-/// The images of all sets of eight states from the first on.
+/// The images of all sets of eight states, from the first on.
 fn images_from(table: &Table, operation: Operation, first: u8) -> [u16; 256]
     requires operation { operation.0 < length table.now.operations }
     requires first { first ≤ 8 }
@@ -84,7 +85,7 @@ fn rows_from(table: &Table, first: u8) -> [[u16; 256]; MOST_OPERATIONS]
     rows
 }
 
-/// The states that a move from this state may leave, and then so many moves as the rows are for.
+/// The states in which a move from this state and then the moves of the row before may end.
 fn reach_from(table: &Table, before: &[u16; MOST_STATES], state: u8) -> u16
     requires state { state < length table.now.states }
     ensures has { (operation q : ℕ) → operation < length table.now.operations
@@ -102,7 +103,7 @@ fn reach_from(table: &Table, before: &[u16; MOST_STATES], state: u8) -> u16
     set
 }
 
-/// The row for one move more than the row before is for.
+/// The row for one more move than the row before.
 fn reach_row(table: &Table, before: &[u16; MOST_STATES]) -> [u16; MOST_STATES]
     ensures has { (operation state q : ℕ) → operation < length table.now.operations
         → state < length table.now.states
@@ -130,7 +131,7 @@ fn reach_at_once() -> [u16; MOST_STATES]
     row
 }
 
-/// These rows for fewer moves than there are processes.
+/// The rows for each number of moves below the most processes.
 fn reach_rows(table: &Table) -> [[u16; MOST_STATES]; MOST_PROCESSES]
     ensures { HaveReach table.now MOST_PROCESSES result }
 {
@@ -150,7 +151,7 @@ impl<'t> Images<'t> {
     ghost use Rattle.cn_outcomes.specs.Images.{MayLeave};
     ghost use Rattle.cn_outcomes.specs.Subsets.{Below};
 
-    /// The table, made ready.
+    /// Prepares the table.
     pub fn new(table: &'t Table) -> Images<'t>
         ensures { result ≡ table.now }
     {
@@ -162,7 +163,7 @@ impl<'t> Images<'t> {
         }
     }
 
-    /// The states in which the operation leaves the object, from one of these states.
+    /// The states to which the operation leads from one of these states.
     pub(crate) fn of(&self, operation: Operation, from: u16) -> u16
         requires operation { operation.0 < length self.now.operations }
         requires known { Below (length self.now.states) from }
@@ -178,7 +179,7 @@ impl<'t> Images<'t> {
         union(low, high)
     }
 
-    /// The states in which any of the operations leaves the object, from one of these states.
+    /// The states to which any of the operations leads from one of these states.
     pub(crate) fn of_any(&self, operations: u16, from: u16) -> u16
         requires operations { Below (length self.now.operations) operations }
         requires known { Below (length self.now.states) from }
@@ -199,7 +200,7 @@ impl<'t> Images<'t> {
         set
     }
 
-    /// The states that so many moves from the state may leave.
+    /// The states in which this many moves from the state may end.
     pub(crate) fn reach(&self, moves: u8, state: State) -> u16
         requires moves { moves < MOST_PROCESSES }
         requires state { state.0 < length self.now.states }

@@ -1,5 +1,6 @@
-//! Rows for process 0 and one response of it, by how many of the other processes move. Each of these
-//! may have any of their operations, so that the rows are quickly made and may have too many states.
+//! Rows for process 0 and one of its responses, one for each number of other processes that move.
+//! The other processes may take any of their operations, so the rows are cheap and may have too
+//! many states.
 ghost use Rattle.std.specs.Prelude.{◌≡◌, ◌≢◌, ◌<◌, ◌≤◌, ◌-◌, ℕ, List, length, slice_get, slice_index, IsBitSet, Some};
 ghost use Rattle.cn_table.specs.declared.limits.TheConstants.{MOST_RESPONSES, MOST_STATES};
 ghost use Rattle.cn_choice.specs.Moves.{answer_of};
@@ -21,16 +22,16 @@ use crate::subset_rows::{is_in, operation_of};
 use cn_choice::{MOST_PROCESSES, RawChoice, Team};
 use cn_table::Table;
 
-/// By the number of the other processes, the states in which orders with so many of them may leave
-/// the object where process 0 gets the response, and these states for all numbers.
+/// For each number of other processes: the states in which orders with this many of them may leave
+/// the object if process 0 gets the response. Also these states for all numbers together.
 #[derive(Drop)]
 pub(crate) struct LengthRows {
     pub given: [u16; MOST_PROCESSES],
     pub all: u16,
 }
 
-/// How processes other than process 0 may move: their operations, and by their number the states in
-/// which orders of so many of them that begin in the team may leave the object.
+/// The moves of the processes other than process 0: their operations, and for each number of them
+/// the states in which orders of this many of them that begin in the team may leave the object.
 #[derive(Drop)]
 pub(crate) struct OtherMoves {
     pub team: Team,
@@ -73,8 +74,8 @@ fn other_operations(table: &Table, choice: &RawChoice) -> u16
     set
 }
 
-/// By the number of the other processes, the states in which orders of so many of them that begin in
-/// the team may leave the object.
+/// For each number of other processes, the states in which orders of this many of them that begin
+/// in the team may leave the object.
 fn left_rows(
     table: &Table,
     choice: &RawChoice,
@@ -100,7 +101,7 @@ fn left_rows(
     rows
 }
 
-/// How the other processes move where orders begin in the team, which process 0 is not in.
+/// The moves of the other processes in orders that begin in the team. Process 0 is not in the team.
 pub(crate) fn other_moves(
     table: &Table,
     choice: &RawChoice,
@@ -123,7 +124,7 @@ pub(crate) fn other_moves(
     }
 }
 
-/// The rows for process 0 and the response, where the others move so.
+/// The rows for process 0, the response and these moves of the others.
 pub(crate) fn length_rows(
     table: &Table,
     choice: &RawChoice,
@@ -157,7 +158,7 @@ pub(crate) fn length_rows(
     LengthRows { given, all }
 }
 
-/// The pairs of all rows for process 0: at least its outcome set.
+/// The pairs of all rows for process 0. They include its outcome set.
 pub(crate) fn pairs_of_rows(
     table: &Table,
     choice: &RawChoice,
@@ -192,7 +193,7 @@ pub(crate) fn pairs_of_rows(
     set
 }
 
-/// The least number of other processes, of n processes, whose row has the state, or n if none has it.
+/// The least number of other processes whose row has the state, or n, the number of processes.
 pub(crate) fn least_count(given: &[u16; MOST_PROCESSES], n: u8, state: u8) -> u8
     requires few { n ≤ MOST_PROCESSES }
     requires state { state < MOST_STATES }

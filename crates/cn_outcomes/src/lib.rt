@@ -1,4 +1,4 @@
-//! What each process of a choice can see, computed fast.
+//! The view of each process of a choice, computed fast.
 //!
 //! [`outcomes`] answers the outcome set of a process as a set of bits, [`is_witness`] whether a
 //! choice is a witness, and [`examine`] also the recorded collision where it is none.

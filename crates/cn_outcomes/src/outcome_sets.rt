@@ -1,5 +1,4 @@
-//! Outcome sets: which pairs of its response and the last state a process can get where a team moves
-//! first.
+//! Outcome sets: the pairs of response and last state that a process can get if a team moves first.
 ghost use Rattle.std.specs.Prelude.{◌≡◌, ◌≤◌, ◌<◌, ◌↔◌, ◌⊎◌, ◌+◌, ◌^◌, ℕ, length, IsBitSet, IsTrue};
 ghost use Rattle.cn_table.specs.declared.limits.TheConstants.{MOST_RESPONSES, MOST_STATES};
 ghost use Rattle.cn_table.specs.TypeTable.{transition};
@@ -25,7 +24,7 @@ use std::marker::Model;
 /// A set of pairs of a response and a state.
 #[derive(Drop)]
 pub struct OutcomeSet {
-    /// By state the set of the responses.
+    /// For each state the set of the responses.
     row: [u16; MOST_STATES],
 }
 
@@ -41,7 +40,7 @@ impl Model for OutcomeSet {
 }
 
 impl OutcomeSet {
-    /// The set of no pairs.
+    /// The empty set.
     pub fn none() -> OutcomeSet
         ensures { (r q : ℕ) → ¬ Has result r q }
     {
@@ -86,7 +85,7 @@ impl OutcomeSet {
         }
     }
 
-    /// The set of what the operation answers in one of these states and where it leads.
+    /// The pairs of response and next state of the operation from one of these states.
     pub fn of_answers(table: &Table, operation: Operation, from: u16) -> OutcomeSet
         requires operation { operation.0 < length table.now.operations }
         requires known { Below (length table.now.states) from }
@@ -99,8 +98,8 @@ impl OutcomeSet {
         OutcomeSet { row }
     }
 
-    /// The set with the pairs of another one, whose states are among these, once the operation was
-    /// applied to their states.
+    /// The set together with the pairs of another set after the operation: each keeps its response,
+    /// and its state, which is one of these, becomes the next state.
     pub fn with_moved(
         &self,
         table: &Table,
@@ -130,7 +129,7 @@ impl OutcomeSet {
         set
     }
 
-    /// Whether the pair is in the set. A response or state that no table has is in no pair.
+    /// Whether the pair is in the set. No set has a response or a state that no table has.
     pub fn has(&self, response: Response, state: State) -> bool
         ensures found { IsTrue result ↔ Has self.now response.0 state.0 }
         ensures in_range { IsTrue result → (response.0 < MOST_RESPONSES) × (state.0 < MOST_STATES) }
@@ -203,11 +202,11 @@ pub(crate) fn outcomes_from(
     }
 }
 
-/// The outcome set of the team for the process: what it can get where that team moves first, from
-/// every list of distinct processes that has it.
+/// The outcome set of the team for the process: the pairs that it gets from the orders that contain
+/// it and begin in the team.
 ///
-/// The choice is for the table and for 2 to [`MOST_PROCESSES`](crate::MOST_PROCESSES) processes,
-/// numbered with team A first.
+/// The choice is one of the table, for 2 to [`MOST_PROCESSES`](crate::MOST_PROCESSES) processes.
+/// Team A has the lowest numbers.
 pub fn outcomes(table: &Table, choice: &Choice, team: Team, process: u8) -> OutcomeSet
     requires fits { FitsTable table.now choice.now }
     requires process { process < length choice.now.a + length choice.now.b }
@@ -227,8 +226,8 @@ pub fn outcomes(table: &Table, choice: &Choice, team: Team, process: u8) -> Outc
     outcomes_from(&setting, first, &rows, &mut [[0; MOST_STATES]; SUBSETS])
 }
 
-/// Whether the raw choice is a witness, by the outcome sets of each process that is the first of its
-/// twins.
+/// Whether the raw choice is a witness, by the outcome sets of each process that is the first of
+/// its twins.
 fn is_witness_by_rows(table: &Table, choice: &RawChoice) -> bool
     requires few { length choice.now.operations ≤ MOST_PROCESSES }
     requires fits { IsRawChoice table.now (length choice.now.operations) choice.now }
@@ -261,8 +260,8 @@ fn is_witness_by_rows(table: &Table, choice: &RawChoice) -> bool
     true
 }
 
-/// Whether the raw choice is a witness. The arrays of the rows are cleared where their function is
-/// entered, so that the short look comes before it.
+/// Whether the raw choice is a witness. The short test comes first, since the call of the other
+/// test clears its arrays at entry.
 fn raw_is_witness(table: &Table, choice: &RawChoice) -> bool
     requires few { length choice.now.operations ≤ MOST_PROCESSES }
     requires fits { IsRawChoice table.now (length choice.now.operations) choice.now }
@@ -273,8 +272,7 @@ fn raw_is_witness(table: &Table, choice: &RawChoice) -> bool
 
 /// Whether the choice is a witness: no process has a pair in the outcome sets of both teams.
 ///
-/// The choice is for the table and for 2 to [`MOST_PROCESSES`](crate::MOST_PROCESSES)
-/// processes.
+/// The choice is one of the table, for 2 to [`MOST_PROCESSES`](crate::MOST_PROCESSES) processes.
 pub fn is_witness(table: &Table, choice: &Choice) -> bool
     requires { FitsTable table.now choice.now }
     ensures { IsTrue result ↔ IsWitness table.now (raw_choice_of choice.now) }

@@ -1,9 +1,9 @@
-//! What rows are made for.
+//! The setting of rows.
 use cn_choice::{RawChoice, Team};
 use cn_table::Table;
 
-/// What rows are made for: the orders of a choice that begin in a team, where a linked process follows
-/// the one before it.
+/// The setting of rows: a choice, the team in which its orders begin, and the links. A linked
+/// process moves after the one before it.
 #[derive(Clone, Copy)]
 pub(crate) struct RowSetting<'s> {
     pub table: &'s Table,

@@ -1,4 +1,4 @@
-//! Collisions of process 0 whose first order is short.
+//! Collisions of process 0 with a short first order.
 ghost use Rattle.std.specs.Prelude.{◌≡◌, ◌≤◌, ◌<◌, ◌+◌, ◌-◌, ℕ, List, length, slice_get, slice_index, IfSome, IsBitSet, Some};
 ghost use Rattle.cn_table.specs.declared.limits.TheConstants.{MOST_RESPONSES, MOST_STATES};
 ghost use Rattle.cn_choice.specs.FirstCollision.{IsFirstCollision};
@@ -29,8 +29,8 @@ use arrayvec::ArrayVec;
 use cn_choice::{MOST_PROCESSES, RawChoice, Team};
 use cn_table::Table;
 
-/// The first order of one or two processes that process 0 leads and that gives it a pair of the set,
-/// and that pair.
+/// The first order of one or two processes that process 0 leads and that gives it a pair of the
+/// set, and this pair.
 fn short_alpha(
     table: &Table,
     raw: &RawChoice,
@@ -62,8 +62,8 @@ fn short_alpha(
     Some((order, pair))
 }
 
-/// The first order that begins in team B and gives process 0 the pair, whose rows these are, if it is
-/// as short as these allow; else it may be none.
+/// The first order that begins in team B and gives process 0 the pair of these rows, if it is as
+/// short as the rows allow. It may be none otherwise.
 fn first_beta(
     subject: &Subject<'_>,
     rows: &LengthRows,
@@ -97,9 +97,9 @@ fn first_beta(
     Some(beta)
 }
 
-/// The first collision of process 0, if its first order has one or two processes and 0 leads it;
-/// else it may be none. Then 0 gets in it what it gets in the start state, so that the rows for this
-/// response are enough.
+/// The first collision of process 0, if its first order has one or two processes and 0 leads it. It
+/// may be none otherwise. If process 0 moves first, its response is the one in the start state, so
+/// only the rows for this response are needed.
 fn led_collision(
     subject: &Subject<'_>,
     moves: &OtherMoves,
@@ -133,8 +133,8 @@ fn led_collision(
     Some((alpha, beta))
 }
 
-/// The first collision of process 0, if its first order has one or two processes; else it may be
-/// none.
+/// The first collision of process 0, if its first order has one or two processes. It may be none
+/// otherwise.
 fn collision_by_lengths(
     subject: &Subject<'_>,
     moves: &OtherMoves,
@@ -174,8 +174,8 @@ fn collision_by_lengths(
     Some((alpha, beta))
 }
 
-/// The first collision of process 0, if its first order has one or two processes; else it may be
-/// none.
+/// The first collision of process 0, if its first order has one or two processes. It may be none
+/// otherwise.
 pub(crate) fn short_collision(
     subject: &Subject<'_>,
     dead: &mut DeadEnds,

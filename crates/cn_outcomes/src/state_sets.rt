@@ -32,7 +32,7 @@ impl StateSet {
     ghost use Rattle.std.specs.Prelude.{◌≡◌, ◌<◌, ◌⊎◌, ◌↔◌, ℕ, IsBitSet, IsTrue};
     ghost use Rattle.cn_table.specs.declared.limits.TheConstants.{MOST_STATES};
 
-    /// The set of no states.
+    /// The empty set.
     pub fn new() -> StateSet
         ensures { (q : ℕ) → ¬ IsBitSet result q }
     {
@@ -47,7 +47,7 @@ impl StateSet {
         self.states = with(self.states, state.0);
     }
 
-    /// Whether the state is in the set. A state that no table has is in none.
+    /// Whether the state is in the set. No set has a state that no table has.
     pub fn has(&self, state: State) -> bool
         ensures { IsTrue result ↔ IsBitSet self.now state.0 }
     {
@@ -58,7 +58,7 @@ impl StateSet {
         contains(states, state.0)
     }
 
-    /// Whether some state is in both sets.
+    /// Whether the sets have a common state.
     pub fn meets(&self, other: &StateSet) -> bool
         ensures { IsTrue result ↔ ((q : ℕ) × IsBitSet self.now q × IsBitSet other.now q) }
     {
@@ -86,7 +86,7 @@ fn states_of_rows(setting: &RowSetting<'_>, rows: &[u16; SUBSETS]) -> u16
 
 /// The states in which the orders that begin in the team leave the object.
 ///
-/// The raw choice is for the table and for at most [`MOST_PROCESSES`](cn_choice::MOST_PROCESSES)
+/// The raw choice is one of the table, for at most [`MOST_PROCESSES`](cn_choice::MOST_PROCESSES)
 /// processes.
 pub fn left_states(table: &Table, choice: &RawChoice, team: Team) -> StateSet
     requires few { length choice.now.operations ≤ MOST_PROCESSES }

@@ -1,4 +1,4 @@
-//! Rows for the subsets of the processes: what the orders of exactly one subset lead to.
+//! Rows for the subsets of the processes: what the orders of exactly one subset give.
 ghost use Rattle.std.specs.Prelude.{◌≡◌, ◌≤◌, ◌<◌, ◌↔◌, ◌⊎◌, ◌^◌, ℕ, [], length, IsBitSet, slice_index, slice_index_or, slice_get, IsTrue, Some};
 ghost use Rattle.cn_table.specs.TypeTable.{transition};
 ghost use Rattle.cn_table.specs.declared.limits.TheConstants.{MOST_RESPONSES, MOST_STATES};
@@ -18,7 +18,7 @@ use crate::twins::{is_packed, last_twin, movers};
 use cn_choice::{RawChoice, Team};
 use cn_table::{MOST_STATES, Operation, State, Table};
 
-/// The states in which the operation leaves the object, from one of these states.
+/// The states to which the operation leads from one of these states.
 pub fn image(table: &Table, operation: Operation, from: u16) -> u16
     requires operation { operation.0 < length table.now.operations }
     requires known { Below (length table.now.states) from }
@@ -38,7 +38,7 @@ pub fn image(table: &Table, operation: Operation, from: u16) -> u16
     set
 }
 
-/// What a process gets by the operation, and the states that it leaves, from one of these states.
+/// The responses of the operation from these states, and the states to which it leads.
 pub(crate) fn answer_row(table: &Table, operation: Operation, from: u16) -> [u16; MOST_STATES]
     requires operation { operation.0 < length table.now.operations }
     requires known { Below (length table.now.states) from }
@@ -75,7 +75,7 @@ pub(crate) fn operation_of(choice: &RawChoice, process: u8) -> Operation
     Operation(choice.operations[process as usize])
 }
 
-/// The states in which the process may find the object where the rest moved.
+/// The states in which the process may find the object after the rest have moved.
 pub(crate) fn found_states(
     setting: &RowSetting<'_>,
     rows: &[u16; SUBSETS],
@@ -103,7 +103,7 @@ pub(crate) fn found_states(
     }
 }
 
-/// The row of the packed subset, from the rows of smaller ones.
+/// The row of the packed subset, from the rows of smaller subsets.
 fn row(setting: &RowSetting<'_>, rows: &[u16; SUBSETS], subset: u16) -> u16
     requires setting { IsRowSetting setting.now }
     requires rows { HasRowsBefore setting.now subset rows.now }
@@ -186,7 +186,7 @@ pub(crate) fn row_union(
     both
 }
 
-/// What process j gets where it moves last of the packed subset, and the states that it leaves.
+/// The pairs of process j if it moves last of the packed subset.
 fn own_row(
     setting: &RowSetting<'_>,
     j: u8,
@@ -207,7 +207,7 @@ fn own_row(
     answer_row(setting.table, operation_of(setting.choice, j), from)
 }
 
-/// The pairs that process j got before some other process moved last of the packed subset.
+/// The pairs of process j if another process moves last of the packed subset.
 fn others_row(
     setting: &RowSetting<'_>,
     j: u8,
@@ -242,8 +242,8 @@ fn others_row(
     row
 }
 
-/// The pairs that orders of the packed subset give to process j, the first of its twins, from the rows
-/// of smaller ones.
+/// The pairs that orders of the packed subset give to process j, the first of its twins, from the
+/// rows of smaller subsets.
 fn pair_row(
     setting: &RowSetting<'_>,
     j: u8,
@@ -266,8 +266,8 @@ fn pair_row(
     row_union(setting.table, &own, &others)
 }
 
-/// The pairs that orders of any subset give to process j, which is the first of its twins. The rows
-/// for the pairs are made anew.
+/// The pairs that orders of any subset give to process j, the first of its twins. It makes the rows
+/// of pairs anew.
 pub(crate) fn outcome_row(
     setting: &RowSetting<'_>,
     j: u8,
@@ -301,8 +301,8 @@ pub(crate) fn outcome_row(
     all
 }
 
-/// The size of the least packed subset of n processes whose row has the pair, or `TOO_LONG` if none
-/// has it.
+/// The size of the least packed subset of n processes whose row has the pair, or `TOO_LONG` if no
+/// row has it.
 pub(crate) fn least_size(
     links: u16,
     n: u8,

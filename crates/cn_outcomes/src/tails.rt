@@ -1,4 +1,4 @@
-//! How an order may go on: the first way, in list order, to a pair of a set.
+//! The ways in which an order can go on: the first one, in list order, to a pair of a set.
 ghost use Rattle.std.specs.Prelude.{◌≡◌, ◌≢◌, ◌+◌, ◌-◌, ◌^◌, ◌<◌, ◌≤◌, ◌⊎◌, ℕ, [], length, slice_index};
 ghost use Rattle.std.specs.Prelude.{IfNone, IfSome, IsBitSet, IsFalse, IsTrue, Some};
 ghost use Rattle.std.specs.Int.Bits.{bit_or};
@@ -21,8 +21,8 @@ use arrayvec::ArrayVec;
 use cn_choice::{MOST_PROCESSES, RawChoice};
 use cn_table::{Response, State, Table};
 
-/// What counts of the beginning of an order: the processes that have moved, how many are still to move,
-/// the state that was left, and the response that the process in question has got, if it has moved.
+/// The beginning of an order: the processes that have moved, the number of moves left, the current
+/// state, and the response of the process in question, if it has moved.
 #[derive(Clone, Copy)]
 pub(crate) struct Prefix {
     pub used: u16,
@@ -31,7 +31,7 @@ pub(crate) struct Prefix {
     pub seen: Option<u8>,
 }
 
-/// The end that is looked for: the process gets a pair of the set, in one of these states.
+/// The target of a search: the process gets a pair of the set, in one of these states.
 #[derive(Clone, Copy)]
 pub(crate) struct Target<'s> {
     pub process: u8,
@@ -40,7 +40,7 @@ pub(crate) struct Target<'s> {
     pub images: &'s Images<'s>,
 }
 
-/// The response that process j has got: the first.
+/// The response of process j, which is that to its first move.
 fn seen_after(j: u8, process: u8, response: u8, seen: Option<u8>) -> Option<u8>
     ensures { result ≡ seen_after j process response seen }
 {
@@ -50,7 +50,7 @@ fn seen_after(j: u8, process: u8, response: u8, seen: Option<u8>) -> Option<u8>
     }
 }
 
-/// The prefix to which the process comes.
+/// The prefix after a move of the process.
 fn prefix_after(table: &Table, choice: &RawChoice, j: u8, prefix: Prefix, process: u8) -> Prefix
     requires fits { IsRawChoice table.now (length choice.now.operations) choice.now }
     requires state { prefix.state.0 < length table.now.states }
@@ -97,7 +97,7 @@ fn end_within(set: &OutcomeSet, prefix: Prefix) -> Option<(ArrayVec<u8, MOST_PRO
     }
 }
 
-/// Whether the set has no pair of the response that was got.
+/// Whether the set has no pair with the response of the prefix.
 fn is_unwanted(set: &OutcomeSet, prefix: Prefix) -> bool
     requires { IfSome prefix.seen (λ response. response < MOST_RESPONSES) }
     ensures { IsTrue result
@@ -109,8 +109,8 @@ fn is_unwanted(set: &OutcomeSet, prefix: Prefix) -> bool
     }
 }
 
-/// Whether the process is to move next: it has not moved, and it is j, or there is time for j and no
-/// process with its operation was tried.
+/// Whether the search tries the process next. The process has not moved. It is j, or there is time
+/// for j and no process with its operation was tried.
 fn is_open(choice: &RawChoice, j: u8, prefix: Prefix, tried: u16, process: u8) -> bool
     requires process { process < length choice.now.operations }
     requires few { length choice.now.operations ≤ MOST_PROCESSES }
@@ -131,7 +131,7 @@ fn is_open(choice: &RawChoice, j: u8, prefix: Prefix, tried: u16, process: u8) -
     !contains(tried, operation_of(choice, process).0)
 }
 
-/// The operations tried, with that of the process. Process j stands for itself alone.
+/// The operations tried, with that of the process. Process j does not count.
 fn tried_after(choice: &RawChoice, j: u8, tried: u16, process: u8) -> u16
     requires process { process < length choice.now.operations }
     requires operation { slice_index choice.now.operations process < 16 }
@@ -159,8 +159,8 @@ fn is_lost(table: &Table, target: &Target<'_>, prefix: Prefix) -> bool
     )
 }
 
-/// From which process on, and below which, the next one is tried: j alone where there is no time for
-/// another.
+/// The bounds of the next process: from the first number on and below the second. Only j is within
+/// them if there is no time for another process.
 fn turns(j: u8, prefix: Prefix, n: u8) -> (u8, u8)
     ensures { IsTurn j prefix.left prefix.seen n result.0 result.1 }
 {
@@ -171,9 +171,9 @@ fn turns(j: u8, prefix: Prefix, n: u8) -> (u8, u8)
     }
 }
 
-/// The first way to go on to the end that leads into the set, and its pair. The first process of it
-/// is from low on and below high; of those with the same operation only the first is tried. The dead
-/// ends of orders of this length are kept, but for the last two processes.
+/// The first way to go on that leads into the set, and its pair. Its first process is from low on
+/// and below high. Of processes with the same operation, the search tries only the first. It keeps
+/// the dead ends of orders of this length, except for the last two processes.
 pub(crate) fn way_into(
     table: &Table,
     choice: &RawChoice,

@@ -1,4 +1,4 @@
-//! Neighbours with the same operation in the same team, which can stand for each other.
+//! Twins: neighbours with the same operation in the same team, which are interchangeable.
 ghost use Rattle.std.specs.Prelude.{◌≡◌, ◌-◌, ◌<◌, ◌≤◌, ◌↔◌, ℕ, length, IsBitSet, IsTrue};
 ghost use Rattle.cn_outcomes.specs.Twins.{AreLinks, AreTwins, IsMover, IsPacked, IsRun};
 ghost use Rattle.cn_choice.specs.declared.limits.TheConstants.{MOST_PROCESSES};
@@ -6,7 +6,7 @@ ghost use Rattle.cn_choice.specs.declared.limits.TheConstants.{MOST_PROCESSES};
 use crate::bits::{common_predecessors, contains, difference, with};
 use cn_choice::RawChoice;
 
-/// Whether the process and the one before it have the same operation, in the same team.
+/// Whether the process has the same operation and team as the one before it.
 fn is_linked(choice: &RawChoice, process: usize) -> bool
     requires some { 1 ≤ process }
     requires operation { process < length choice.now.operations }
@@ -32,21 +32,21 @@ pub(crate) fn links(choice: &RawChoice) -> u16
     links
 }
 
-/// Whether the subset has with each linked process the one before it.
+/// Whether the subset contains, for each linked process in it, the process before it.
 pub(crate) fn is_packed(links: u16, subset: u16) -> bool
     ensures { IsTrue result ↔ IsPacked links subset }
 {
     difference(common_predecessors(links, subset), subset) == 0
 }
 
-/// The processes of the subset with no linked one of it behind.
+/// The processes of the subset that no linked process of it follows.
 pub(crate) fn movers(links: u16, subset: u16) -> u16
     ensures { (p : ℕ) → IsBitSet result p ↔ IsMover links subset p }
 {
     difference(subset, common_predecessors(links, subset))
 }
 
-/// The last of the processes of the subset that are linked to process j, one to the next.
+/// The last process of the subset in the run of linked processes from j on.
 pub(crate) fn last_twin(links: u16, subset: u16, j: u8) -> u8
     requires known { j < 16 }
     requires member { IsBitSet subset j }
@@ -64,7 +64,7 @@ pub(crate) fn last_twin(links: u16, subset: u16, j: u8) -> u8
     last
 }
 
-/// The first of the processes that are linked to process j, one to the next.
+/// The first process of the run of linked processes that contains j.
 pub(crate) fn first_twin(links: u16, j: u8) -> u8
     requires known { j < 16 }
     requires links { ¬ IsBitSet links 0 }

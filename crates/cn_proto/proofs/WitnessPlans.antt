@@ -12,7 +12,7 @@ use Rattle.cn_proto.specs.Plan.{Plan, IsPlan}
 use Rattle.cn_proto.proofs.JudgedLists.{AreListed-push, AreListed-row, AreListed-without, AreOutcomeSets-push, pairs_exact}
 use Rattle.cn_proto.proofs.PlanLemmas.{plan_from}
 
--- ---- the pairs of which something holds that can be tested
+-- ---- the pairs with a decidable property
 
 module _ (P : ℕ → ℕ → Type 0) (test : (r q : ℕ) → P r q ⊎ ¬ P r q) (states : ℕ) where
   abbrev HasList : ℕ → ℕ → Type 0
@@ -57,7 +57,7 @@ module _ (t : TypeTable) (c : RawChoice) (is : IsTypeTable t) (known : c.state <
       subst (λ (m : ℕ). (judged : List (List (ℕ × ℕ))) × AreOutcomeSets t c m judged) e
       (before.0 ++ here.0 ∷ [], AreOutcomeSets-push t c n before.0 here.0 before.1 exact here.1.in_order)
 
--- `decided`: a pair is in an outcome set, or is not
+-- `decided`: a pair is in an outcome set or not
 pub witness_plan : ((t : TypeTable) (c : RawChoice) (team : Team) (j : ℕ) (pair : ℕ × ℕ) → InOutcomeSet t c team j pair ⊎ ¬ InOutcomeSet t c team j pair)
     → (t : TypeTable) (c : Choice) → IsTypeTable t → FitsTable t c → IsWitness t (raw_choice_of c) → (p : Plan) × IsPlan p × (p.table ≡ t) × (p.choice ≡ c)
 witness_plan decided t c is fits witness =

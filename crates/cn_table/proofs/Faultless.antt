@@ -12,7 +12,7 @@ use Rattle.cn_table.specs.declared.limits.TheConstants.{MOST_OPERATIONS, MOST_RE
 use Rattle.cn_table.specs.Faults.{is_misfit, has_bad_length, is_miscounted, has_bad_count, has_bad_name, has_repeated_name}
 use Rattle.cn_table.proofs.Lists.{none_skipped}
 
--- the parts of a reading that gave something
+-- the parts of a reading that gives a value
 bind_some : {A B : Type 0} (o : Option A) (f : A → Option B) (y : B) → (o >>= f) ≡ Some y → (x : A) × (o ≡ Some x) × (f x ≡ Some y)
 bind_some None f y e = cc
 bind_some (Some x) f y e = (x, refl, e)
@@ -20,7 +20,7 @@ bind_some (Some x) f y e = (x, refl, e)
 number_below : (names : List (List ℕ)) (t : List ℕ) (n : ℕ) → number_of names t ≡ Some n → n < length names
 number_below names t n e = grind (arith, common_steps, e)
 
--- what holds of each thing read, for a list that was read
+-- a property of each element of the list read, if each reading that is not skipped gives an element with it
 each_read : {X Y : Type 0} (f : X → Option Y) (skips : X → Bool) (P : Y → Type 0) → ((x : X) (y : Y) → skips x ≡ false → f x ≡ Some y → P y)
     → (xs : List X) (ys : List Y) → list_any skips xs ≡ false → all_some (map f xs) ≡ Some ys → (length ys ≡ length xs) × AllByRecursion P ys
 each_read f skips P reads [] ys none e = let empty : [] ≡ ys = cc in rw (← empty) (refl, tt)
@@ -38,7 +38,7 @@ numbers_below names texts ns e = each_read (number_of names) (λ _. false) (λ x
 same_length : (m n : ℕ) → not (m == n) ≡ false → m ≡ n
 same_length m n e = grind (arith, common_steps, not-false (m == n) e)
 
--- where a row comes from
+-- the parts of the draft's row from which a row comes
 row_parts : (states responses : List (List ℕ)) (r : DraftRow) (row : Row) → row_from states responses r ≡ Some row
     → (numbers_of responses r.response ≡ Some row.response) × (numbers_of states r.next ≡ Some row.next) × (row.name ≡ r.name)
 unfolding row_from

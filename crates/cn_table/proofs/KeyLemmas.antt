@@ -18,12 +18,12 @@ use Rattle.cn_table.proofs.Lists.{list_any-map}
 abbrev pub Entry : Type 0
 Entry = String Global × Value
 
--- a test of the keys is one of the map's keys
+-- a test of the table's keys, as a test of the map's keys
 pub keys_in-members : (p : List ℕ → Bool) (es : List Entry) → list_any p (keys_in (members_view es)) ≡ list_any (λ k. p (string_bytes k)) (keys_of es)
 keys_in-members p [] = refl
 keys_in-members p (e ∷ es) = ap (λ b. p (string_bytes e.0) || b) (keys_in-members p es)
 
--- a key that is none of these
+-- some key is none of these
 pub other_key : (known : List (Bor (List ℕ))) (es : List Entry)
     → list_any (λ k. not (list_any (λ l. bytes_eq l.now (string_bytes k)) known)) (keys_of es) ≡ has_other_key (map (λ k. k.now) known) (members_view es)
 other_key known es =
@@ -33,20 +33,20 @@ is_some-map : {X Y : Type 0} (f : X → Y) (o : Option X) → is_some (option_ma
 is_some-map f None = refl
 is_some-map f (Some x) = refl
 
--- whether the map has a key is whether the table has a member
+-- the map has a key exactly if the table has the member
 pub has_member : (k : List ℕ) (es : List Entry) → is_some (lookup (is_at (λ x. slice_cmp nat_cmp k (string_bytes x))) es) ≡ is_some (get_member k (members_view es))
 has_member k es = sym (is_some-map view _) ∙ ap is_some (view-lookup k es)
 
--- one of these keys that is missing
+-- one of these keys is missing
 pub lacking : (known : List (Bor (List ℕ))) (es : List Entry)
     → list_any (λ k. not (is_some (lookup (is_at (λ x. slice_cmp nat_cmp k.now (string_bytes x))) es))) known ≡ lacks_a_key (map (λ k. k.now) known) (members_view es)
 lacking known es = list_any-same _ _ known (λ k. ap not (has_member k.now es)) ∙ sym (list_any-map _ (λ k. k.now) known)
 
--- the items of an array, as the values of its list
+-- the items of an array are the values of its list
 pub list_of-view : (vs : List Value) → list_of (items_view vs) ≡ map view vs
 list_of-view [] = refl
 list_of-view (v ∷ vs) = ap (λ ds. view v ∷ ds) (list_of-view vs)
 
--- a test of some table among the items, at the values
+-- a test of some table among the items, as a test of the values
 pub some_table-view : (test : Members → Bool) (vs : List Value) → list_any (λ v. option_map_or test (as_table (view v)) false) vs ≡ some_table test (map view vs)
 some_table-view test vs = sym (list_any-map (λ d. option_map_or test (as_table d) false) view vs)

@@ -1,4 +1,4 @@
--- A draft can be made of a document where each value is of its kind, and a table of a draft where each entry is a name.
+-- A document in which each value is of its kind has a draft. A draft in which each entry is a name has a table.
 use Rattle.std.proofs.Common.{◌≡◌, codes, ℕ, List, [], ◌∷◌, map, Option, Some, None, Bool, true, false, cond, ◌&&◌, not, is_none, is_some, Err, refl, ◌∙◌}
 use Rattle.std.specs.List.{list_all}
 use Rattle.std.specs.Option.{option_map_or, ok_or}
@@ -13,7 +13,7 @@ use Rattle.cn_table.specs.Reads.{draft_reading, document_reading}
 use Rattle.cn_table.specs.TypeTable.{TypeTable}
 use Rattle.cn_table.specs.declared.fault.TableFault.TheVariants.{NotToml, UnknownKey, MissingKey, WrongKind, BadName, Count, Repeated, RowLength, UnknownName}
 
--- one step of a reading, whose rest gives something where `more` says so
+-- one step of a reading, if `more` says whether the rest gives a value
 then_some : {A B : Type 0} (o : Option A) (f : A → Option B) (more : Bool) → ((x : A) → is_some (f x) ≡ more) → is_some (o >>= f) ≡ (is_some o && more)
 then_some None f more rest = refl
 then_some (Some x) f more rest = rest x
@@ -31,7 +31,7 @@ is_none-not : {X : Type 0} (o : Option X) (b : Bool) → is_some o ≡ b → not
 is_none-not None b e = rw (← e) refl
 is_none-not (Some x) b e = rw (← e) refl
 
--- a thing made of an array, where each item is of its kind
+-- an array whose items are all of their kind gives a value
 array_of : {X : Type 0} (f : Data → Option X) (kind : Data → Bool) → ((d : Data) → is_some (f d) ≡ kind d) → (key : List ℕ) (table : Members)
     → is_some (option_and_then (λ ds. all_some (map f ds)) (array_at key table)) ≡ is_at (is_array_of kind) key table
 array_of f kind same key table = of_value (get_member key table) where
@@ -85,7 +85,7 @@ no_table draft = is_none-not (table_from draft) _ (
     ∙ all_are_some (row_from draft.states draft.responses) _ (row_is_known draft.states draft.responses) draft.operations
     )
 
--- ---- the readings step by step are those by the list of faults
+-- ---- reading step by step gives the same as the list of faults
 
 by_draft : (u m : Bool) (o : Option Draft)
     → option_map_or Err (cond u (Some UnknownKey) (cond m (Some MissingKey) (cond (is_none o) (Some WrongKind)

@@ -2,7 +2,7 @@
 use Rattle.std.proofs.Common.{◌≡◌, ℕ, zero, suc, ◌+◌, List, ◌++◌, append-nil, append_assoc, ap, arith, flat_map, sym, ◌∙◌}
 use Rattle.std.specs.List.{range_with_len}
 
--- a line more
+-- one line more
 pub lines_more : (line : ℕ → List ℕ) (text before now : List ℕ) (n : ℕ) → before ≡ text ++ flat_map line (range_with_len 0 n) → now ≡ before ++ line n → now ≡ text ++ flat_map line (range_with_len 0 (n + 1))
 lines_more line text before now n e f = f ∙ (ap (λ t. t ++ line n) e ∙ (append_assoc text (flat_map line (range_with_len 0 n)) (line n) ∙ ap (λ t. text ++ t) (sym (one_more (more 0 n n (omega arith))))))
   where

@@ -1,4 +1,4 @@
--- Lists of what a function makes of a list's elements.
+-- Lists to whose elements a function is applied.
 use Rattle.std.proofs.Common.{◌≡◌, List, [], ◌∷◌, map, Bool, refl, ap}
 use Rattle.std.specs.List.{list_any, position, prefix_len}
 use Rattle.std.proofs.lemmas.List.{length-map}

@@ -19,7 +19,7 @@ marks_few [] = omega arith
 marks_few (true ∷ ms) = let rest = marks_few ms in omega arith
 marks_few (false ∷ ms) = let rest = marks_few ms in omega arith
 
--- one mark more
+-- a new mark raises the number of marks by one
 pub marks_more : (ms : List Bool) (q : ℕ) → q < length ms → get_or ms q false ≡ false → marks (set ms q true) ≡ suc (marks ms)
 marks_more [] q within off = absurd (omega arith)
 marks_more (true ∷ ms) zero within off = absurd cc
@@ -27,13 +27,13 @@ marks_more (false ∷ ms) zero within off = refl
 marks_more (true ∷ ms) (suc q) within off = ap suc (marks_more ms q (omega arith) off)
 marks_more (false ∷ ms) (suc q) within off = marks_more ms q (omega arith) off
 
--- where an operation leads
+-- the state to which an operation leads is one of the type's
 pub next_below : (t : TypeTable) (o p : ℕ) → IsTypeTable t → o < length t.operations → p < length t.states → (transition t o p).1 < length t.states
 next_below t o p table operation state =
     let row : IsRow (length t.states) (length t.responses) (slice_index_or t.operations o no_row) = all_at (IsRow (length t.states) (length t.responses)) t.operations o no_row operation table.rows in
     all_at (λ q. q < length t.states) (slice_index_or t.operations o no_row).next p 0 (rw row.next_len state) row.next
 
--- what is reached is marked, where the marks are closed
+-- if the marks are closed, each reached state is marked
 pub reached_is_marked : (t : TypeTable) (ms : List Bool) → IsTypeTable t
     → ((p : ℕ) → p < length t.states → get_or ms p false ≡ true → (o : ℕ) → o < length t.operations → get_or ms (transition t o p).1 false ≡ true)
     → (p : ℕ) → p < length t.states → get_or ms p false ≡ true → (os : List ℕ) → AllByRecursion (λ o. o < length t.operations) os
@@ -42,7 +42,7 @@ reached_is_marked t ms table closed p within marked [] known = marked
 reached_is_marked t ms table closed p within marked (o ∷ os) known =
     reached_is_marked t ms table closed (transition t o p).1 (next_below t o p table known.0 within) (closed p within marked o known.0) os known.1
 
--- one operation more
+-- the state after one operation more
 after_one_more : (t : TypeTable) (p o : ℕ) (os : List ℕ) → state_after t p (os ++ o ∷ []) ≡ (transition t o (state_after t p os)).1
 after_one_more t p o [] = refl
 after_one_more t p o (x ∷ os) = after_one_more t (transition t x p).1 o os
@@ -84,7 +84,7 @@ unmarked zero q = refl
 unmarked (suc n) zero = refl
 unmarked (suc n) (suc q) = unmarked n q
 
--- of one mark in front, and none behind it
+-- if a list has one mark in front and none behind it, the mark is at place 0
 pub first_alone : (n q : ℕ) → get_or (true ∷ replicate n false) q false ≡ true → q ≡ 0
 first_alone n zero on = refl
 first_alone n (suc q) on = absurd (false≢true (sym (unmarked n q) ∙ on))

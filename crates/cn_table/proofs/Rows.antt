@@ -12,7 +12,7 @@ all_at P [] i d within all = absurd (omega arith)
 all_at P (x ∷ xs) zero d within all = all.0
 all_at P (x ∷ xs) (suc i) d within all = all_at P xs i d (omega arith) all.1
 
--- what holds of every row of the view holds of the one in memory
+-- a property of each row of the view holds for each row in memory
 pub row_holds : (P : Row → Type 0) (rows : List Transitions) (i : ℕ) (r : Transitions) → i < length (map transitions_view rows) → r ≡ get_or rows i r → AllByRecursion P (map transitions_view rows) → P (transitions_view r)
 row_holds P [] i r within is all = absurd (omega arith)
 row_holds P (x ∷ xs) zero r within is all = rw is all.0

@@ -1,10 +1,10 @@
--- The document that bytes spell, and what stands at its keys.
+-- The document that bytes spell, and the values at its keys.
 use Rattle.std.specs.Prelude.{ℕ, List, [], ◌∷◌, Option, None, if◌then◌else◌, option_map, option_and_then}
 use Rattle.std.specs.Str.{is_utf8}
 use Rattle.toml.specs.Data.{Data, Items, no_items, item, Members, no_members, member, get_member, as_array}
 use Rattle.toml.specs.Parse.{parse_document}
 
--- the document, where the bytes are UTF-8 and TOML
+-- the document, if the bytes are UTF-8 and TOML
 abbrev pub document_of : List ℕ → Option Members
 document_of bytes = if is_utf8 bytes then parse_document bytes else None
 
@@ -17,6 +17,6 @@ abbrev pub keys_in : Members → List (List ℕ)
 keys_in no_members = []
 keys_in (member k d ms) = k ∷ keys_in ms
 
--- the items of the array at a key, where an array stands there
+-- the items of the array at a key, if the value there is an array
 abbrev pub array_at : List ℕ → Members → Option (List Data)
 array_at key table = option_map list_of (option_and_then as_array (get_member key table))

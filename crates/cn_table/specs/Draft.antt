@@ -1,4 +1,4 @@
--- What a document says where each value is of its kind, before any name or count is looked at.
+-- A document in which each value is of its kind. Its names and counts are not checked.
 use Rattle.std.specs.Prelude.{codes, ℕ, List, [], ◌∷◌, Option, Some, map, option_and_then}
 use Rattle.toml.specs.Data.{Data, Members, get_member, as_str, as_table}
 use Rattle.cn_table.specs.Document.{array_at}
@@ -21,7 +21,7 @@ infixl 10 ◌>>=◌
 abbrev pub ◌>>=◌ : {A B : Type 0} → Option A → (A → Option B) → Option B
 o >>= f = option_and_then f o
 
--- all of them, or none where one is missing
+-- all of them, or nothing if one is missing
 abbrev pub all_some : {X : Type 0} → List (Option X) → Option (List X)
 all_some [] = Some []
 all_some (o ∷ os) = do

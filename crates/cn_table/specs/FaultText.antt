@@ -5,7 +5,7 @@ use Rattle.cn_table.specs.declared.fault.TableFault.{TableFault}
 use Rattle.cn_table.specs.declared.fault.TableFault.TheVariants.{NotToml, UnknownKey, MissingKey, WrongKind, BadName}
 use Rattle.cn_table.specs.declared.fault.TableFault.TheVariants.{Count, Repeated, RowLength, UnknownName, OutOfMemory}
 
--- a fault's number and its name, and the number that it carries, if it carries one, with one space between them
+-- a fault's number, its name, and the number that it carries, if any, with one space between two
 abbrev pub numbered_text : ℕ → List ℕ → Option ℕ → List ℕ
 numbered_text number name None = decimal number ++ codes " " ++ name
 numbered_text number name (Some x) = decimal number ++ codes " " ++ name ++ codes " " ++ decimal x

@@ -1,4 +1,4 @@
--- The nine faults that bytes can have as a table, and what reading the bytes comes to.
+-- The nine faults that bytes can have as a table, and the result of reading the bytes.
 use Rattle.std.specs.Prelude.{codes, ℕ, List, [], ◌∷◌, length, ◌==◌, Bool, false, ◌||◌, ◌&&◌, not, Option, Result, Err}
 use Rattle.std.specs.Prelude.{is_none, is_some, nat_le, find, option_and_then}
 use Rattle.std.specs.List.{list_all, list_any}
@@ -26,7 +26,7 @@ operation_keys = codes "name" ∷ codes "response" ∷ codes "next" ∷ []
 abbrev pub has_other_key : List (List ℕ) → Members → Bool
 has_other_key known table = list_any (λ key. not (list_any (λ k. bytes_eq k key) known)) (keys_in table)
 
--- one of these keys is not in the table
+-- the table lacks one of these keys
 abbrev pub lacks_a_key : List (List ℕ) → Members → Bool
 lacks_a_key known table = list_any (λ key. not (is_some (get_member key table))) known
 
@@ -79,7 +79,7 @@ has_bad_count draft = is_miscounted MOST_STATES draft.states || (is_miscounted M
 abbrev pub has_repeated_name : Draft → Bool
 has_repeated_name draft = has_repeat draft.states || (has_repeat draft.responses || has_repeat (row_names draft.operations))
 
--- not an entry for each state
+-- the lengths of the row are not the number of states
 abbrev pub is_misfit : ℕ → DraftRow → Bool
 is_misfit states row = not (length row.response == states) || not (length row.next == states)
 
@@ -93,7 +93,7 @@ are_among names texts = list_all (λ text. is_some (number_of names text)) texts
 unfoldable pub has_unknown_name : Draft → Bool
 has_unknown_name draft = not (list_all (λ row. are_among draft.responses row.response && are_among draft.states row.next) draft.operations)
 
--- the bytes spell a document of which this holds; one whose draft has this
+-- the bytes spell a document for which this holds; a document with a draft for which this holds
 abbrev pub in_document : (Members → Bool) → List ℕ → Bool
 in_document test bytes = option_map_or test (document_of bytes) false
 
@@ -126,6 +126,6 @@ abbrev pub table_of : List ℕ → Option TypeTable
 table_of bytes = option_and_then (λ document. option_and_then table_from (draft_of document)) (document_of bytes)
 
 -- the first fault that the bytes have, else the table that they spell
--- (bytes without a fault spell one, so the `UnknownName` here is never met)
+-- (bytes without a fault spell a table, so this `UnknownName` never comes up)
 abbrev pub reading : List ℕ → Result TypeTable TableFault
 reading bytes = option_map_or Err (fault_of bytes) (ok_or (table_of bytes) UnknownName)

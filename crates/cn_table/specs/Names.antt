@@ -4,7 +4,7 @@ use Rattle.std.specs.List.{list_all, list_any}
 use Rattle.std.specs.Str.{bytes_eq}
 use Rattle.cn_table.specs.declared.limits.TheConstants.{LONGEST_NAME}
 
--- a byte from the first of two letters to the second
+-- a byte from the first of two letters to the last
 abbrev pub is_from : List ℕ → ℕ → Bool
 is_from (first ∷ last ∷ []) b = nat_le first b && nat_le b last
 is_from letters b = false
@@ -18,7 +18,7 @@ is_letter letters b = false
 abbrev pub is_name_byte : ℕ → Bool
 is_name_byte b = (is_from (codes "az") b || is_from (codes "09") b) || is_letter (codes "_") b
 
--- some such bytes, and not too many
+-- 1 to this many such bytes
 abbrev pub is_name : List ℕ → Bool
 is_name text = (nat_le 1 (length text) && nat_le (length text) LONGEST_NAME) && list_all is_name_byte text
 

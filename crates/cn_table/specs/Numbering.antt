@@ -1,4 +1,4 @@
--- The table of a draft: the entries of its rows by number.
+-- The table of a draft, with numbers for the entries of its rows.
 use Rattle.std.specs.Prelude.{ℕ, List, Option, Some, map}
 use Rattle.cn_table.specs.Draft.{Draft, DraftRow, all_some, ◌>>=◌}
 use Rattle.cn_table.specs.Names.{number_of}
@@ -17,7 +17,7 @@ row_from states responses row = do
 abbrev pub rows_from : List (List ℕ) → List (List ℕ) → List DraftRow → Option (List Row)
 rows_from states responses rows = all_some (map (row_from states responses) rows)
 
--- the table, where each entry of a `response` is a response and each entry of a `next` is a state
+-- the table, if each entry of a `response` is a response and each entry of a `next` is a state
 unfoldable pub table_from : Draft → Option TypeTable
 table_from draft = do
   operations ← rows_from draft.states draft.responses draft.operations

@@ -14,7 +14,7 @@ pub record Leads (t : TypeTable) (from to : ℕ) : Type 0 where
 abbrev pub AreReached : TypeTable → List Bool → Type 0
 AreReached t reached = (q : ℕ) → q < length t.states → (get_or reached q false ≡ true) ↔ Leads t 0 q
 
--- each of these is its own place, counted from here
+-- each element is its own place, counted from this number
 abbrev pub is_in_place : ℕ → List ℕ → Bool
 is_in_place i [] = true
 is_in_place i (q ∷ qs) = (q == i) && is_in_place (i + 1) qs

@@ -1,4 +1,4 @@
--- A table in memory, as the type table that it holds.
+-- A table in memory, as the type table of the definitions.
 use Rattle.std.specs.Prelude.{List, map, string_bytes, Vec}
 use Rattle.std.specs.declared.alloc.Global.{Global}
 use Rattle.cn_table.specs.TypeTable.{TypeTable, Row}

@@ -1,11 +1,11 @@
--- A finite shared object type: names, and for each operation what it answers and where it leads, state by state.
+-- A finite shared object type: names, and for each operation the response and the next state of each state.
 use Rattle.std.specs.Prelude.{◌≡◌, ℕ, ◌<◌, List, [], length, map, IsTrue, refl, slice_index, slice_index_or}
 use Rattle.std.specs.Coded.{Coded, code_by, coded×, coded_ℕ, coded_list}
 use Rattle.std.specs.List.{AllByRecursion}
 use Rattle.cn_table.specs.Names.{is_name, IsNameList}
 use Rattle.cn_table.specs.declared.limits.TheConstants.{MOST_OPERATIONS, MOST_RESPONSES, MOST_STATES}
 
--- an operation: its name, and by state the number of the response and the number of the next state
+-- an operation: its name, and for each state the numbers of the response and of the next state
 pub record Row : Type 0 where
   pub name : List ℕ
   pub response : List ℕ
@@ -42,7 +42,7 @@ pub record IsTypeTable (t : TypeTable) : Type 0 where
   pub operations : IsNameList MOST_OPERATIONS (operation_names t)
   pub rows : AllByRecursion (IsRow (length t.states) (length t.responses)) t.operations
 
--- how a table is written as plain lists, which equality and copies go by
+-- a table as plain lists: equality and copies use these
 abbrev pub texts_code : Coded (List (List ℕ))
 texts_code = coded_list (coded_list coded_ℕ)
 

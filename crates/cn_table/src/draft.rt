@@ -1,8 +1,8 @@
-//! Drafts: what documents say where each value is of its kind.
+//! Drafts: documents in which each value is of its kind.
 //!
-//! A draft has the states, responses and operations of a document as they stand there, with names
-//! where a table has numbers. No more is known of it: a text may be no name, or stand twice, there
-//! may be too few or too many of them, and a row may have any length and any entries.
+//! A draft has the states, responses and operations of a document, with names where a table has
+//! numbers. Nothing else of it is checked: a text may be no name or stand twice, and a row may have
+//! any length and any entries.
 ghost use Rattle.std.specs.Prelude.{map, string_bytes};
 ghost use Rattle.toml.specs.View.{table_view, view};
 ghost use Rattle.cn_table.specs.Draft.{text_at, texts_of, texts_at, row_of, row_at, rows_of, rows_at, draft_of};
@@ -18,7 +18,7 @@ use toml::{Table, Value};
 /// An operation of a draft.
 #[derive(Drop)]
 pub struct DraftRow {
-    /// What it is called.
+    /// The name.
     pub name: String,
     /// For each state a response, by its name.
     pub response: Vec<String>,
@@ -34,10 +34,10 @@ impl HasName for DraftRow {
     }
 }
 
-/// What a document says where each value is of its kind, before any name or count is looked at.
+/// A document in which each value is of its kind. Its names and counts are not checked.
 #[derive(Drop)]
 pub struct Draft {
-    /// What the type is called.
+    /// The name of the type.
     pub name: String,
     /// The names of the states.
     pub states: Vec<String>,
@@ -112,11 +112,11 @@ fn rows_at(alloc: Global, table: &Table, key: &str) -> Result<Vec<DraftRow>, Tab
     rows(alloc, values)
 }
 
-/// The draft of a document. Keys that a table has not are passed over.
+/// The draft of a document, without the keys that a table does not have.
 ///
 /// # Errors
 ///
-/// `WrongKind` where a value is missing or not of its kind, or `OutOfMemory`.
+/// `WrongKind` if a value is missing or not of its kind, or `OutOfMemory`.
 #[tactic(auto, unfolding(crate::specs::Draft::draft_of))]
 pub fn draft_from(alloc: Global, document: &Table) -> Result<Draft, TableFault>
     ensures { Reads TableFault.WrongKind draft_view result (draft_of (table_view document.now)) }

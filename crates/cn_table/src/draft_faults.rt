@@ -1,4 +1,4 @@
-//! The faults of a draft, but for entries that name nothing.
+//! The faults of a draft, except for entries that name nothing.
 ghost use Rattle.std.specs.Prelude.{◌≡◌, ◌&&◌, not, nat_le};
 ghost use Rattle.std.specs.List.{list_any};
 ghost use Rattle.cn_table.specs.DraftView.{draft_view, row_view};
@@ -59,7 +59,7 @@ fn some_row_misfits(rows: &[DraftRow], states: usize) -> bool
     rows.iter().any(|row| is_misfit(row, states))
 }
 
-/// Whether some row has not an entry for each state.
+/// Whether the length of some row is not the number of states.
 pub(crate) fn has_bad_length(draft: &Draft) -> bool
     ensures { result ≡ has_bad_length (draft_view draft.now) }
 {

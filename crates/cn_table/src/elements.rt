@@ -1,4 +1,4 @@
-//! The elements of a type, each by its number: the place where the table lists it, from 0.
+//! The elements of a type, each by its number: its place in the list of the table, from 0.
 
 /// A state of the object.
 #[derive(Clone, Copy, Debug, PartialEq, Eq)]

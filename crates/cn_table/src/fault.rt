@@ -1,4 +1,4 @@
-//! What can be wrong with the bytes of a table.
+//! The faults of the bytes of a table.
 ghost use Rattle.std.specs.Prelude.{◌≡◌};
 ghost use Rattle.cn_table.specs.declared.fault.TableFault.TheVariants.{OutOfMemory};
 
@@ -6,10 +6,10 @@ use std::alloc::{AllocError, AllocFailed};
 use std::error::Error;
 use std::fmt;
 
-/// Why bytes were not read as a table.
+/// Why bytes could not be read as a table.
 ///
-/// Each fault has a number, from 1 to 10. Where bytes have several of the first nine, the one with
-/// the least number is answered.
+/// Each fault has a number, from 1 to 10. If bytes have several of the first nine, the answer is
+/// the one with the least number.
 #[derive(Clone, Copy, Debug, PartialEq, Eq)]
 pub enum TableFault {
     /// The bytes are not UTF-8, or not a TOML document.
@@ -19,21 +19,21 @@ pub enum TableFault {
     UnknownKey = 2,
     /// The root or an operation lacks one of these keys.
     MissingKey = 3,
-    /// A `name` is not a text, or `states`, `responses`, a `response` or a `next` not an array of
-    /// texts, or `operation` not an array of tables.
+    /// A `name` is not a text, or `operation` is not an array of tables, or `states`, `responses`,
+    /// a `response` or a `next` is not an array of texts.
     WrongKind = 4,
-    /// The type, a state, a response or an operation is called by a text that is not a name, which
-    /// is 1 to [`LONGEST_NAME`](crate::LONGEST_NAME) small letters, digits and underscores.
+    /// The text that names the type, a state, a response or an operation is not a name, which is 1
+    /// to [`LONGEST_NAME`](crate::LONGEST_NAME) small letters, digits and underscores.
     BadName = 5,
-    /// There are not 1 to [`MOST_STATES`](crate::MOST_STATES) states, 1 to
+    /// The type does not have 1 to [`MOST_STATES`](crate::MOST_STATES) states, 1 to
     /// [`MOST_RESPONSES`](crate::MOST_RESPONSES) responses and 1 to
     /// [`MOST_OPERATIONS`](crate::MOST_OPERATIONS) operations.
     Count = 6,
-    /// Two states, two responses or two operations have one name.
+    /// Two states, two responses or two operations have the same name.
     Repeated = 7,
-    /// A `response` or a `next` has not exactly one entry for each state.
+    /// The length of a `response` or a `next` is not the number of states.
     RowLength = 8,
-    /// An entry of a `response` is no response, or an entry of a `next` is no state.
+    /// An entry of a `response` names no response, or an entry of a `next` names no state.
     UnknownName = 9,
     /// There was not enough memory to read the table.
     OutOfMemory = 10,

@@ -1,4 +1,4 @@
-//! The keys of a document: which it must have, and the values that stand there.
+//! The keys of a document, and the values at them.
 ghost use Rattle.std.specs.Prelude.{◌≡◌, map, not, is_some, option_map, string_bytes, false};
 ghost use Rattle.std.specs.Ordering.{nat_cmp};
 ghost use Rattle.std.specs.List.{list_any};
@@ -21,21 +21,21 @@ pub const ROOT_KEYS: [&str; 4] = ["name", "states", "responses", "operation"];
 /// The keys of an operation.
 pub const OPERATION_KEYS: [&str; 3] = ["name", "response", "next"];
 
-/// The value at a key, where one stands there.
+/// The value at a key, if there is one.
 pub fn value_at<'a>(table: &'a Table, key: &str) -> Option<&'a Value>
     ensures { option_map (λ v. view v.now) result ≡ get_member key.now (table_view table.now) }
 {
     table.get(key)
 }
 
-/// The text at a key, where a text stands there.
+/// The text at a key, if the value there is a text.
 pub fn text_at<'a>(table: &'a Table, key: &str) -> Option<&'a str>
     ensures { option_map (λ s. s.now) result ≡ text_at key.now (table_view table.now) }
 {
     value_at(table, key)?.as_str()
 }
 
-/// The items of a value that is an array.
+/// The items of a value, if it is an array.
 pub fn items_of(value: &Value) -> Option<&[Value]>
     ensures { option_map (λ s. map view s.now) result
         ≡ option_map list_of (as_array (view value.now)) }
@@ -44,7 +44,7 @@ pub fn items_of(value: &Value) -> Option<&[Value]>
     Some(items.as_slice())
 }
 
-/// The items of the array at a key, where an array stands there.
+/// The items of the array at a key, if the value there is an array.
 pub fn array_at<'a>(table: &'a Table, key: &str) -> Option<&'a [Value]>
     ensures { option_map (λ s. map view s.now) result ≡ array_at key.now (table_view table.now) }
 {
@@ -82,7 +82,7 @@ fn some_entry_is_missing(table: &Table, known: &[&str]) -> bool
     known.iter().any(|key| !table.contains_key(*key))
 }
 
-/// Whether one of these keys is not in the table.
+/// Whether the table lacks one of these keys.
 fn lacks_a_key(table: &Table, known: &[&str]) -> bool
     ensures { result ≡ lacks_a_key (map (λ k. k.now) known.now) (table_view table.now) }
 {
@@ -106,7 +106,7 @@ fn some_table_has_other_key(values: &[Value]) -> bool
     some_value_has_other_key(values)
 }
 
-/// Whether the root or an operation has a key that it should not have.
+/// Whether the root or an operation has an unknown key.
 pub(crate) fn has_unknown_key(document: &Table) -> bool
     ensures { result ≡ has_unknown_key (table_view document.now) }
 {

@@ -1,9 +1,9 @@
 //! Type tables: finite shared object types, read from TOML.
 //!
-//! A type has states, responses and operations, each with a name; in each state each operation
-//! gives one response and leads to one next state. [`read_table`] makes a [`Table`] of the bytes
-//! of a file, or says by a [`TableFault`] what is wrong with them. [`Table::apply`] does one
-//! operation. States, responses and operations are numbers from 0; names are found and told:
+//! A type has states, responses and operations, each with a name. In each state, each operation
+//! gives one response and leads to one next state. [`read_table`] reads a [`Table`] from the bytes
+//! of a file, or answers a [`TableFault`] that says what is wrong. [`Table::apply`] applies one
+//! operation. States, responses and operations are numbers from 0, and calls translate their names:
 //!
 //! ```text
 //! let table = read_table(alloc, bytes)?;
@@ -13,9 +13,9 @@
 //! }
 //! ```
 //!
-//! What a document says before it is a table stands in [`draft`], what it has at its keys in
-//! [`keys`], and what goes by a name in [`names`]: by these a caller looks further into a document
-//! that spells no table.
+//! A caller can look further into a document that spells no table: [`draft`] has what the document
+//! says before it is a table, [`keys`] has the values at its keys, and [`names`] has names and the
+//! things with a name.
 #![tactic(auto)]
 
 mod document;

@@ -1,4 +1,4 @@
-//! Names, and the things that go by them.
+//! Names, and the things that have one.
 ghost use Rattle.std.specs.Prelude.{◌≡◌, ◌<◌, ℕ, List, IfSome, length, map, string_bytes};
 ghost use Rattle.std.specs.List.{list_all, list_any, position};
 ghost use Rattle.std.specs.Str.{bytes_eq};
@@ -26,11 +26,11 @@ pub fn is_name(text: &str) -> bool
     text.len() >= 1 && text.len() <= LONGEST_NAME && has_name_bytes(text)
 }
 
-/// What goes by a name.
+/// A thing that has a text for its name.
 pub trait HasName {
     ghost name_of: { Self → List ℕ };
 
-    /// The text that it goes by, which need not be a name.
+    /// The text, which need not be a name.
     fn name(&self) -> &str
         ensures { result.now ≡ name_of self.now };
 }
@@ -49,21 +49,21 @@ fn all_go_by_names<T: HasName>(things: &[T]) -> bool
     things.iter().all(|thing| is_name(thing.name()))
 }
 
-/// Whether each of the things goes by a name.
+/// Whether the text of each thing is a name.
 pub fn have_names<T: HasName>(things: &[T]) -> bool
     ensures { result ≡ list_all is_name (map T.name_of things.now) }
 {
     all_go_by_names(things)
 }
 
-/// Whether one of the things goes by this name.
+/// Whether one of the things has this name.
 pub fn has_namesake<T: HasName>(things: &[T], name: &str) -> bool
     ensures { result ≡ list_any (λ x. bytes_eq (T.name_of x) name.now) things.now }
 {
     things.iter().any(|thing| thing.name() == name)
 }
 
-/// Whether two of the things go by one name.
+/// Whether two of the things have the same name.
 pub(crate) fn have_repeat<T: HasName>(things: &[T]) -> bool
     ensures { result ≡ has_repeat (map T.name_of things.now) }
 {
@@ -81,7 +81,7 @@ fn position_of<T: HasName>(things: &[T], name: &str) -> Option<usize>
     things.iter().position(|thing| thing.name() == name)
 }
 
-/// The number of the thing that goes by a name, if there is one: its place among the things.
+/// The number of the thing with this name, if there is one: its place among the things.
 pub fn number_of<T: HasName>(things: &[T], name: &str) -> Option<usize>
     ensures number { result ≡ number_of (map T.name_of things.now) name.now }
     ensures range { IfSome result (λ i. i < length things.now) }

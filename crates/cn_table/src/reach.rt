@@ -17,12 +17,12 @@ impl Table {
         ensures range { result.0 < length self.now.states }
         ensures small { result.0 < MOST_STATES }
     {
-        // No effect at run time: a proof reads from it what every table is.
+        // No effect at run time: from this read the proof knows what holds of every table.
         let _ = &self.name;
         self.apply(operation, state).1
     }
 
-    /// A state that is not marked, to which an operation leads from this one.
+    /// An unmarked state to which an operation leads from this one.
     fn next_unmarked_from(&self, marked: &[bool; MOST_STATES], from: State) -> Option<State>
         requires { from.0 < length self.now.states }
         ensures { MatchOption result
@@ -42,7 +42,7 @@ impl Table {
         None
     }
 
-    /// A state that is not marked, to which an operation leads from a marked one.
+    /// An unmarked state to which an operation leads from a marked one.
     fn next_unmarked(&self, marked: &[bool; MOST_STATES]) -> Option<State>
         ensures way { MatchOption result
             ((p : ℕ) → p < length self.now.states → get_or marked.now p false ≡ true
@@ -64,7 +64,7 @@ impl Table {
         None
     }
 
-    /// For each state, by its number, whether operations lead to it from the first one.
+    /// For each state, by its number, whether operations lead to it from the first state.
     pub fn reached_states(&self) -> [bool; MOST_STATES]
         ensures { AreReached self.now result }
     {

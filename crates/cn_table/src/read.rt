@@ -16,8 +16,8 @@ use crate::resolve::table_from;
 use crate::table::Table;
 use std::alloc::Global;
 
-/// The table of a draft, or the first fault that the draft has. A fault other than an unknown name
-/// is told before memory is taken.
+/// The table of a draft, or the first fault of the draft. It answers every fault but an unknown
+/// name before it takes memory.
 #[tactic(auto, unfolding(crate::specs::Reads::draft_reading))]
 fn table_of_draft(alloc: Global, draft: Draft) -> Result<Table, TableFault>
     ensures table { IfOk result (λ t. draft_reading (draft_view draft) ≡ Ok t) }
@@ -41,7 +41,7 @@ fn table_of_draft(alloc: Global, draft: Draft) -> Result<Table, TableFault>
     table_from(alloc, draft)
 }
 
-/// The table of a document, or the first fault that the document has.
+/// The table of a document, or the first fault of the document.
 #[tactic(auto, unfolding(crate::specs::Reads::document_reading))]
 fn table_of_document(alloc: Global, document: &toml::Table) -> Result<Table, TableFault>
     ensures table { IfOk result (λ t. document_reading (table_view document.now) ≡ Ok t) }
@@ -61,13 +61,13 @@ fn table_of_document(alloc: Global, document: &toml::Table) -> Result<Table, Tab
 /// Reads a table from the bytes of a TOML document.
 ///
 /// The root has a `name`, the arrays `states` and `responses` of names, and an array `operation` of
-/// tables; each of these has a `name` and the arrays `response` and `next`, with an entry for each
-/// state, in the order of `states`. Keys stand in any order.
+/// tables. Each of these tables has a `name` and the arrays `response` and `next`, with one entry
+/// for each state, in the order of `states`. Keys stand in any order.
 ///
 /// # Errors
 ///
-/// The first of the faults 1 to 9 of [`TableFault`] that the bytes have, or `OutOfMemory`; bytes
-/// that are not UTF-8 are refused before memory is taken.
+/// The first of the faults 1 to 9 of [`TableFault`] that the bytes have, or `OutOfMemory`. The call
+/// refuses bytes that are not UTF-8 before it takes memory.
 #[tactic(auto, using(crate::proofs::KindLemmas::reading_by_document))]
 pub fn read_table(alloc: Global, bytes: &[u8]) -> Result<Table, TableFault>
     ensures table { IfOk result (λ t. reading bytes.now ≡ Ok t) }

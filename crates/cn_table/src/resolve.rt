@@ -1,4 +1,4 @@
-//! From a draft to a table: the entries of its rows by number.
+//! From a draft to a table, with numbers for the entries of its rows.
 ghost use Rattle.std.specs.Prelude.{◌≡◌, ◌≤◌, ◌<◌, ◌^◌, length, map, string_bytes, false};
 ghost use Rattle.cn_table.specs.Reads.{Reads};
 ghost use Rattle.cn_table.specs.DraftView.{row_view, draft_view};

@@ -1,4 +1,4 @@
-//! Type tables: what every later layer stands on.
+//! Type tables, the base of every later layer.
 ghost use Rattle.std.specs.Prelude.{◌≡◌, ◌<◌, ◌≤◌, IfOk, IfSome, IsTrue, Some, length, map, option_map, slice_get, string_bytes};
 ghost use Rattle.cn_table.specs.DraftView.{texts_view};
 ghost use Rattle.cn_table.specs.TableView.{transitions_view, transitions_views};
@@ -11,8 +11,7 @@ use crate::names::{HasName, number_of};
 use std::alloc::{AllocError, Global};
 use std::marker::Model;
 
-/// What one operation does: its name, and by state the numbers of the response and of the next
-/// state.
+/// One operation: its name, and for each state the numbers of the response and of the next state.
 #[derive(Drop)]
 pub(crate) struct Transitions {
     pub name: String,
@@ -28,13 +27,13 @@ impl HasName for Transitions {
     }
 }
 
-/// A finite shared object type: 1 to [`MOST_STATES`](crate::MOST_STATES) states, 1 to
+/// A finite shared object type. It has 1 to [`MOST_STATES`](crate::MOST_STATES) states, 1 to
 /// [`MOST_RESPONSES`](crate::MOST_RESPONSES) responses and 1 to
-/// [`MOST_OPERATIONS`](crate::MOST_OPERATIONS) operations, each with a name, and for each operation
-/// and state one response and one next state.
+/// [`MOST_OPERATIONS`](crate::MOST_OPERATIONS) operations, each with a name. For each operation and
+/// state it has one response and one next state.
 ///
-/// Tables come from [`read_table`](crate::read_table). States, operations and responses are
-/// numbered from 0 in the order of the file. Only calls that answer an `AllocError` take memory.
+/// Tables come from [`read_table`](crate::read_table). States, operations and responses have
+/// numbers from 0, in the order of the file. Only calls that answer an `AllocError` take memory.
 #[derive(Drop)]
 pub struct Table {
     pub(crate) name: String,
@@ -90,7 +89,7 @@ impl Table {
         self.responses.len() as u8
     }
 
-    /// The response that an operation gives in a state, and the state that it leads to.
+    /// The response that an operation gives in a state, and the next state.
     pub fn apply(&self, operation: Operation, state: State) -> (Response, State)
         requires operation { operation.0 < length self.now.operations }
         requires state { state.0 < length self.now.states }
@@ -129,7 +128,7 @@ impl Table {
         self.responses[response.0 as usize].as_str()
     }
 
-    /// The state of this name, if there is one.
+    /// The state with this name, if there is one.
     pub fn find_state(&self, name: &str) -> Option<State>
         ensures number { option_map (λ q. q.0) result ≡ number_of self.now.states name.now }
         ensures range { IfSome result (λ q. q.0 < length self.now.states) }
@@ -138,7 +137,7 @@ impl Table {
         Some(State(number as u8))
     }
 
-    /// The operation of this name, if there is one.
+    /// The operation with this name, if there is one.
     #[tactic(auto, using(crate::proofs::ListLemmas::map_twice))]
     pub fn find_operation(&self, name: &str) -> Option<Operation>
         ensures number { option_map (λ o. o.0) result
@@ -149,7 +148,7 @@ impl Table {
         Some(Operation(number as u8))
     }
 
-    /// The response of this name, if there is one.
+    /// The response with this name, if there is one.
     pub fn find_response(&self, name: &str) -> Option<Response>
         ensures number { option_map (λ r. r.0) result ≡ number_of self.now.responses name.now }
         ensures range { IfSome result (λ r. r.0 < length self.now.responses) }
@@ -162,7 +161,7 @@ impl Table {
     ///
     /// # Errors
     ///
-    /// Fails only for want of memory.
+    /// `AllocError` if memory runs out.
     pub fn copy(&self, alloc: Global) -> Result<Table, AllocError>
         ensures { IfOk result (λ table. table ≡ self.now) }
     {

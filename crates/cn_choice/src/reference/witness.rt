@@ -1,4 +1,4 @@
-//! What a process sees of a run, and whether a raw choice is a witness, by every pair of orders.
+//! What a process sees of a run, and by every pair of orders whether a raw choice is a witness.
 ghost use Rattle.std.specs.Prelude.{◌≡◌, ◌<◌, ◌↔◌, ℕ, length, All, Any, IfOk, IfSome, IsTrue, Some};
 ghost use Rattle.cn_choice.specs.RawChoices.{IsRawChoice};
 ghost use Rattle.cn_choice.specs.OutcomeSets.{BeginsIn, pair_of};
@@ -12,9 +12,9 @@ use arrayvec::ArrayVec;
 use cn_table::{Operation, Table};
 use std::alloc::{AllocError, Global};
 
-/// What the process sees of the run in this order: its response and the last state, and nothing
-/// where the order leaves it out. The choice is one of the table, and the order names only its
-/// processes; where it names one twice, the response to the first step counts.
+/// What the process sees of the run in this order: its response and the last state, or nothing if
+/// the order leaves it out. The choice is one of the table, and the order names only its processes.
+/// If the order names the process twice, the response to its first step counts.
 pub fn raw_pair(table: &Table, choice: &RawChoice, order: &[u8], process: u8) -> Option<(u8, u8)>
     requires fits { IsRawChoice table.now (length choice.now.operations) choice.now }
     requires known { All (λ p. p < length choice.now.operations) order.now }
@@ -117,7 +117,7 @@ fn collides_with_any(
     false
 }
 
-/// Whether one of the orders collides with one of them.
+/// Whether two of the orders collide.
 fn any_collide(table: &Table, choice: &RawChoice, orders: &[ArrayVec<u8, MOST_PROCESSES>]) -> bool
     requires fits { IsRawChoice table.now (length choice.now.operations) choice.now }
     requires orders_known { All (λ order. All (λ p. p < length choice.now.operations) order.items)
@@ -135,13 +135,13 @@ fn any_collide(table: &Table, choice: &RawChoice, orders: &[ArrayVec<u8, MOST_PR
     false
 }
 
-/// Whether the raw choice is a witness: no process sees the same pair in an order that begins in
-/// A and in one that begins in B. The choice is one of the table, for 2 to
+/// Whether the raw choice is a witness: no process sees the same pair in an order that begins in A
+/// and in one that begins in B. The choice is one of the table, for 2 to
 /// [`MOST_PROCESSES`](crate::MOST_PROCESSES) processes.
 ///
 /// # Errors
 ///
-/// Fails only for want of memory.
+/// `AllocError` if memory runs out.
 pub fn raw_splits(alloc: Global, table: &Table, choice: &RawChoice) -> Result<bool, AllocError>
     requires fits { IsRawChoice table.now (length choice.now.operations) choice.now }
     ensures { IfOk result (λ yes. IsTrue yes ↔ IsWitness table.now choice.now) }

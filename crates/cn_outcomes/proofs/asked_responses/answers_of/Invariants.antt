@@ -4,7 +4,7 @@ use Rattle.cn_table.specs.TypeTable.{transition}
 use Rattle.cn_table.specs.declared.limits.TheConstants.{MOST_RESPONSES}
 use Rattle.cn_outcomes.proofs.asked_responses.answers_of.Given as goal
 
--- what it gets in the states so far
+-- the responses in the states so far
 abbrev pub invariant-loop-state : goal.invariant-loop-state
 invariant-loop-state l =
     ((q : ℕ) → q < l.state → IsBitSet l.responses (transition l.table l.operation.0 q).0)

@@ -3,7 +3,7 @@ use Rattle.std.specs.Prelude.{IsBitSet}
 use Rattle.cn_table.specs.TypeTable.{transition}
 use Rattle.cn_outcomes.proofs.images.reach_from.Given as goal
 
--- what the operations so far lead to
+-- the states to which the operations so far lead
 abbrev pub invariant-loop-operation : goal.invariant-loop-operation
 invariant-loop-operation l =
     ((operation q : ℕ) → operation < l.operation

@@ -3,7 +3,7 @@ use Rattle.std.specs.Prelude.{IsBitSet}
 use Rattle.cn_table.specs.TypeTable.{transition}
 use Rattle.cn_outcomes.proofs.images.reach_row.Given as goal
 
--- what the states so far lead to
+-- the rows of the states so far
 abbrev pub invariant-loop-state : goal.invariant-loop-state
 invariant-loop-state l =
     (length l.row ≡ 16)

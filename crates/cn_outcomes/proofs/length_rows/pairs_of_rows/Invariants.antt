@@ -4,7 +4,7 @@ use Rattle.cn_choice.specs.OutcomeSets.{InOutcomeSet}
 use Rattle.cn_outcomes.specs.PairSets.{Has}
 use Rattle.cn_outcomes.proofs.length_rows.pairs_of_rows.Given as goal
 
--- the pairs of the responses that are not left any more
+-- the pairs of the responses done so far
 abbrev pub invariant-loop-left : goal.invariant-loop-left
 invariant-loop-left l =
     (r q : ℕ) → IsBitSet l.answers.responses r → ¬ IsBitSet l.left r

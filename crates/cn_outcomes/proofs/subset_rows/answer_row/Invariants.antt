@@ -4,7 +4,7 @@ use Rattle.cn_outcomes.specs.Subsets.{IsRow}
 use Rattle.cn_outcomes.proofs.Unions.{GathersFrom, answer_part}
 use Rattle.cn_outcomes.proofs.subset_rows.answer_row.Given as goal
 
--- the answers from the states that are not left any more
+-- the answers from the states done so far
 abbrev pub invariant-loop-left : goal.invariant-loop-left
 invariant-loop-left l =
     let step = transition l.table l.operation.0 in

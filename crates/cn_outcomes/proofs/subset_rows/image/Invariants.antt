@@ -4,7 +4,7 @@ use Rattle.cn_outcomes.specs.Subsets.{Below}
 use Rattle.cn_outcomes.proofs.Unions.{GathersFrom}
 use Rattle.cn_outcomes.proofs.subset_rows.image.Given as goal
 
--- the images of the states that are not left any more
+-- the images of the states done so far
 abbrev pub invariant-loop-left : goal.invariant-loop-left
 invariant-loop-left l =
     GathersFrom (λ i q. (transition l.table l.operation.0 i).1 ≡ q) l.from l.left l.set

@@ -3,7 +3,7 @@ use Rattle.cn_outcomes.specs.Subsets.{IsRow, OtherLast}
 use Rattle.cn_outcomes.proofs.Unions.{GathersFrom}
 use Rattle.cn_outcomes.proofs.subset_rows.others_row.Given as goal
 
--- the pairs by those movers that moved last and are not left any more
+-- the pairs of the movers done so far, each as the last mover
 abbrev pub invariant-loop-left : goal.invariant-loop-left
 invariant-loop-left l =
     let s = l.setting in

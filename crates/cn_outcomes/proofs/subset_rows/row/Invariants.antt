@@ -3,7 +3,7 @@ use Rattle.cn_outcomes.specs.Subsets.{Below}
 use Rattle.cn_outcomes.proofs.Unions.{GathersFrom, row_part}
 use Rattle.cn_outcomes.proofs.subset_rows.row.Given as goal
 
--- what is left by those movers that moved last and are not left any more
+-- the states after the movers done so far, each as the last mover
 abbrev pub invariant-loop-left : goal.invariant-loop-left
 invariant-loop-left l =
     let s = l.setting in

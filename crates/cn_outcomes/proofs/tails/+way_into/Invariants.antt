@@ -4,7 +4,7 @@ use Rattle.cn_outcomes.specs.Tails.{AreDead, IsTried, count_moved}
 use Rattle.cn_outcomes.proofs.TailLemmas.{Dead}
 use Rattle.cn_outcomes.proofs.tails.+way_into.Given as goal
 
--- no process so far leads into the set, and what was tried is the operation of one of them
+-- no process so far leads into the set, and each operation tried is that of one of them
 abbrev pub invariant-loop-process : goal.invariant-loop-process
 invariant-loop-process l =
     let j = l.target.process in

@@ -3,7 +3,7 @@ use Rattle.cn_choice.specs.Blocks.{Block, IsBlock}
 use Rattle.cn_choice.specs.LiveLeft.{all_blocks_left, live_blocks_left}
 use Rattle.cn_choice.proofs.blocks.BlocksIterator.next.Given as goal
 
--- in none of the blocks that were passed by does each operation of team A lead away
+-- in each block skipped, some operation of team A does not lead away
 abbrev pub invariant-loop-block : goal.invariant-loop-block
 invariant-loop-block l = record {
   same_table : l.self-inside.table.now ≡ l.table;

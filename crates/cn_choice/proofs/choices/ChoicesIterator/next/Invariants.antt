@@ -3,7 +3,7 @@ use Rattle.cn_choice.specs.ChoicesLeft.{IsWellFormed}
 use Rattle.cn_choice.specs.LiveLeft.{all_left, live_left}
 use Rattle.cn_choice.proofs.choices.ChoicesIterator.next.Given as goal
 
--- none of the choices that were passed by is live
+-- the search has skipped only choices that are not live
 abbrev pub invariant-loop-choice : goal.invariant-loop-choice
 invariant-loop-choice l = record {
   same_table : l.self-inside.table.now ≡ l.table;

@@ -5,7 +5,7 @@ use Rattle.cn_choice.specs.Arrangements.{arrangements}
 use Rattle.cn_choice.specs.Orders.{lists_of}
 use Rattle.cn_choice.proofs.reference.orders.push_orders.Given as goal
 
--- the lists that were taken, and those that are left, are all of them
+-- the lists taken and those left are all lists
 abbrev pub invariant-loop-order : goal.invariant-loop-order
 invariant-loop-order l =
     (goal.iterator-loop-order).can_next l.order-iterator ×

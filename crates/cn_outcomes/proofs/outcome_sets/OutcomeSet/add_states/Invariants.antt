@@ -3,7 +3,7 @@ use Rattle.std.specs.Prelude.{IsBitSet}
 use Rattle.cn_outcomes.specs.PairSets.{Has}
 use Rattle.cn_outcomes.proofs.outcome_sets.OutcomeSet.add_states.Given as goal
 
--- the pairs at first, and those of the response and the states that are not left any more
+-- the pairs at first, and those of the response and the states done so far
 abbrev pub invariant-loop-left : goal.invariant-loop-left
 invariant-loop-left l =
     ((q : ℕ) → IsBitSet l.left q → IsBitSet l.states q)

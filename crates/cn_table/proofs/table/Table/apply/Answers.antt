@@ -7,7 +7,7 @@ use Rattle.cn_table.specs.TypeTable.{TypeTable, IsRow, IsTypeTable}
 use Rattle.cn_table.proofs.Rows.{all_at, row_holds}
 use Rattle.cn_table.proofs.table.Table.apply.Goals as goal
 
--- the row that is read is one of the table
+-- the row read is one of the table
 the_row : (inside : Inside) (t : TypeTable) (o : ℕ) (r : Transitions) → table_view inside ≡ t → IsTypeTable (table_view inside) → o < length t.operations → r ≡ get_or inside.operations.items o r
     → IsRow (length t.states) (length t.responses) (transitions_view r)
 the_row inside t o r seen table within is =

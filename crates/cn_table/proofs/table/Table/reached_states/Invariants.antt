@@ -3,7 +3,7 @@ use Rattle.cn_table.specs.Reach.{Leads}
 use Rattle.cn_table.proofs.ReachLemmas.{marks}
 use Rattle.cn_table.proofs.table.Table.reached_states.Given as goal
 
--- each round marks one state more, and only states to which operations lead
+-- each round marks one more state, and only states to which operations lead
 abbrev pub invariant-loop-round : goal.invariant-loop-round
 invariant-loop-round l = record {
   size : length l.marked ≡ 16;
