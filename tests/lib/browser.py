@@ -90,7 +90,7 @@ class Browser:
         self.call("Page.navigate", url=address)
 
     def until(self, text, seconds=LONGEST):
-        """Whether an expression comes to hold in this time."""
+        """Whether an expression holds within this time."""
         end = time.monotonic() + seconds
         while time.monotonic() < end:
             try:

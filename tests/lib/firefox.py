@@ -83,7 +83,7 @@ class Firefox:
         return answer[0]
 
     def until(self, text, seconds=LONGEST):
-        """Whether an expression comes to hold in this time."""
+        """Whether an expression holds within this time."""
         end = time.monotonic() + seconds
         while time.monotonic() < end:
             if self.value(text):

@@ -100,7 +100,7 @@ class Use:
         return self.value(f"document.getElementById('{name}').hidden")
 
     def has_number(self, number):
-        """Whether the page comes to show this number."""
+        """Whether the page shows this number in the end."""
         return self.until(f"document.getElementById('number').textContent === {json.dumps(number)}")
 
     def do(self, action):

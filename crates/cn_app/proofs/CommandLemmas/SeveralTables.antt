@@ -38,7 +38,7 @@ module _ {R W D : Type 0} (remaining : R → Option (List ℕ)) (contents : W �
       → AreClassified remaining contents tells asked rest after v d first w e
       → AreClassified remaining contents tells asked tables (before ++ after) u c (option_or so_far first) w e
 
-  -- one more came to be this: the same for the tables behind it
+  -- one more table came to be this: the same for the tables behind it
   behind : (before after : List (NamedTable R)) (new : NamedTable R) (first : Option AppFault) (w : Output W) (e : D)
       → AreClassified remaining contents tells asked tables (before ++ new ∷ after) u c first w e
       → AreClassified remaining contents tells asked tables ((before ++ new ∷ []) ++ after) u c first w e

@@ -23,7 +23,7 @@ pub(crate) enum End {
 }
 
 impl End {
-    /// The end of calls of which the last has no reply.
+    /// The end of calls whose last one has no reply.
     fn by(fault: CallFault) -> End
         ensures { result ≡ end_by fault }
     {
