@@ -249,7 +249,7 @@ counts_first draft =
 stands_itself : (t : List ℕ) (ts : List (List ℕ)) → stands_in (t ∷ ts) t ≡ true
 stands_itself t ts = rw ((bytes_eq-Decides t t).1 refl) refl
 
--- no name before stands in these names
+-- no name of `before` is one of `names`
 abbrev IsNew : List (List ℕ) → List (List ℕ) → Type 0
 IsNew before names = (name : List ℕ) → stands_in before name ≡ true → stands_in names name ≡ false
 
@@ -265,7 +265,7 @@ new_joined before t ts new once name there = by_place (stands_in before name) re
         by_name true is h = ap (stands_in ts) (sym ((bytes_eq-Decides t name).0 is)) ∙ once
         by_name false is h = absurd (true≢false (sym h))
 
--- the repeated names from one place on, if no name before stands in them
+-- the repeated names from one place on, if no name before is one of them
 repeats_from : (what : List ℕ) (names before rest : List (List ℕ)) → before ++ rest ≡ names → IsNew before rest
     → first_fault (each (repeat_at what names) (length before) rest) ≡ told Repeated (has_repeat rest)
 repeats_from what names before [] split new = refl
