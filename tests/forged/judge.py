@@ -1,8 +1,8 @@
 """What docs/FORMATS.md says of a table, of a certificate and of a certificate against a table.
 
-Each answers the first fault as the program names it, or None. TOML is read by Python's tomllib, which knows
-TOML 1.0, with the bounds of the crate `toml` and the escapes of TOML 1.1; JSON by a reader after RFC 8259, with
-the bounds of `serde_json`.
+Each function answers the first fault as the program names it, or None. Python's tomllib reads TOML: it knows
+TOML 1.0, and here it has the bounds of the crate `toml` and the escapes of TOML 1.1. A reader after RFC 8259
+reads JSON, with the bounds of `serde_json`.
 """
 import itertools
 import re
@@ -20,7 +20,7 @@ class Refused(Exception):
 
 
 def finite(text):
-    """A float as it is written, which has to be one of 64 bits."""
+    """A float as it is written. It has to be one of 64 bits."""
     value = float(text.replace("_", ""))
     if value in (float("inf"), float("-inf")) and "inf" not in text:
         raise Refused
@@ -28,7 +28,7 @@ def finite(text):
 
 
 def depth(value):
-    """How deep arrays lie in each other; numbers are looked at on the way."""
+    """How deep arrays lie in each other. Looks at the numbers on the way."""
     if isinstance(value, int) and not isinstance(value, bool) and not -(2**63) <= value < 2**63:
         raise Refused
     if isinstance(value, dict):
@@ -37,7 +37,7 @@ def depth(value):
 
 
 def document(data):
-    """The document of a text in TOML, or None. The escapes that came with TOML 1.1 are put as those of 1.0."""
+    """The document of a text in TOML, or None. Puts the escapes of TOML 1.1 as those of 1.0."""
     try:
         text = re.sub(r"(?<!\\)((?:\\\\)*)\\e", r"\1\\u001b", data.decode().removeprefix("\ufeff"))
         text = re.sub(r"(?<!\\)((?:\\\\)*)\\x(?=[0-9a-fA-F]{2})", r"\1\\u00", text)
@@ -251,7 +251,7 @@ def is_choice_of(kind, choice, n):
 
 
 def choices(kind, n, live):
-    """The canonical choices for n processes, in order; the live ones alone, where they are asked for."""
+    """The canonical choices for n processes, in order; only the live ones if `live`."""
     for state in range(len(kind.states)):
         moving = [o for o in range(len(kind.operations)) if not live or kind.act(o, state)[1] != state]
         for size in range(1, n // 2 + 1):

@@ -17,7 +17,7 @@ def found():
 
 
 class Browser:
-    """A Chromium with one page, without a window; what it tells in between is in `events`."""
+    """A Chromium with one page and no window. `events` has what it reports in between."""
 
     def __init__(self, width=1200, height=900):
         self.home = tempfile.mkdtemp(prefix="cnum-browser-")
@@ -80,7 +80,7 @@ class Browser:
             self.events.append(answer)
 
     def value(self, text):
-        """The value of an expression in the page; of a promise, what it comes to."""
+        """The value of an expression in the page; for a promise, its result."""
         answer = self.call("Runtime.evaluate", expression=text, awaitPromise=True, returnByValue=True)
         if "exceptionDetails" in answer:
             raise RuntimeError(json.dumps(answer["exceptionDetails"])[:800])
@@ -90,7 +90,7 @@ class Browser:
         self.call("Page.navigate", url=address)
 
     def until(self, text, seconds=LONGEST):
-        """Whether an expression comes to hold in this time."""
+        """Whether an expression holds within this time."""
         end = time.monotonic() + seconds
         while time.monotonic() < end:
             try:
@@ -107,5 +107,5 @@ class Browser:
         return base64.b64decode(self.call("Page.captureScreenshot", format="png", captureBeyondViewport=True, clip={**box, "scale": 0.8})["data"])
 
     def told(self, method):
-        """What the browser has told of this kind."""
+        """The reports of the browser of this kind."""
         return [it["params"] for it in self.events if it.get("method") == method]

@@ -1,4 +1,4 @@
-"""How the tests call the program, what they hand to it, and how they count."""
+"""How the tests call the program, the texts that they hand to it, and its faults."""
 import os
 import pathlib
 import re
@@ -29,8 +29,8 @@ def path_of(name):
 
 def called(words, stdin="", stdout=None, pass_fds=(), env=os.environ, program=PROGRAM, room=None, memory=None):
     """What the program, or another, prints, tells and answers with these words. Standard input is a text, bytes, the
-    path of a file or a descriptor, or None where it is closed; standard output can be a descriptor, and then nothing that
-    is printed is seen. With a room the program runs in this folder, as a shell runs it, and with at most `memory` KiB of
+    path of a file, a descriptor, or None if it is closed. Standard output can be a descriptor; then what is printed is
+    not seen. With a room the program runs in this folder, as a shell runs it, and with at most `memory` KiB of
     addresses, if that is given."""
     is_path = isinstance(stdin, pathlib.Path)
     given = stdin if stdin is None or isinstance(stdin, int) else os.open(stdin, os.O_RDONLY) if is_path else in_memory(stdin)
@@ -50,7 +50,7 @@ def called(words, stdin="", stdout=None, pass_fds=(), env=os.environ, program=PR
 
 
 def watch():
-    """Ends a run that has come to no end in two minutes: it then answers as no case wants."""
+    """Ends a run that has not ended in two minutes. It then answers as no case wants."""
     while True:
         time.sleep(5)
         for process, started in list(RUNNING.items()):
@@ -87,13 +87,13 @@ STATUSES = [
 
 
 def fault(text):
-    """What is printed, told and answered where the program ends with this fault."""
+    """What is printed, told and answered if the program ends with this fault."""
     status = next(it for pattern, it in STATUSES if re.match(pattern, text))
     return b"", f"cnum: {text}\n".encode(), status
 
 
 def answer(text, status=0):
-    """What is printed, told and answered where the program ends with this output."""
+    """What is printed, told and answered if the program ends with this output."""
     return text.encode(), b"", status
 
 
@@ -105,7 +105,7 @@ def found(name, limit, room):
 
 
 def shim(source, room):
-    """The library of a C source beside the test, or none where there is no compiler."""
+    """The library of a C source beside the test, or None if there is no compiler."""
     compiler = shutil.which("cc")
     if not compiler:
         return None

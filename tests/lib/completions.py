@@ -12,8 +12,8 @@ _cnum() {
     COMPREPLY=()
     case ${COMP_WORDS[1]} in
 """
-# Behind these: the values of an option, the options, a file behind < or >, or the argument whose place it is. Where bash parts
-# a word at its @, the @ is the word before, and yet a part of what is replaced.
+# Behind these: the values of an option, the options, a file behind < or >, or the argument at this place. bash parts a word at
+# its @: the @ is the word before, and yet a part of what is replaced.
 BASH_TAIL = """\
     esac
     if ((COMP_CWORD == 1)); then
@@ -131,7 +131,7 @@ def note(about):
 
 
 def zsh_options(one):
-    """The options as `_arguments` takes them; behind -h and -V stands no other word."""
+    """The options as `_arguments` takes them. No other word stands behind -h and -V."""
     for (names, value, values), (_, about) in zip(one.options(), one.parts["Options"], strict=True):
         offered = "_files" if value in FILES else f"({' '.join(values)})"
         tail = f"[{note(about)}]" + (f":{value}:{offered}" if value else "")

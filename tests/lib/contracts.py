@@ -1,5 +1,5 @@
-"""What the sources say: the functions with their contracts, the definitions that these go by, and the proofs that a crate
-has from another. tests/pages compares the pages with it."""
+"""What the sources say: the functions with their contracts, the definitions that these go by, and the proofs that one crate
+cites from another. tests/pages compares the pages with it."""
 import collections
 import re
 
@@ -12,21 +12,21 @@ IMPORT = re.compile(r"\buse (Rattle[\w.]*)\.\{([^}]*)\}")
 HEAD = re.compile(r"^[ \t]*(?:pub(?:\(\w+\))? )?(impl|trait)\b([^{;]*)\{", re.M)
 FUNCTION = re.compile(r"^([ \t]*(?:pub(?:\(\w+\))? )?)(?:unsafe |const )*fn (\w+)", re.M)
 
-# A function: where it stands (crate, modules, and the names in the head of its impl or trait, which are its owners), and
-# its clauses, a list of texts for each name.
+# A function: its place (crate, modules, and the names in the head of its impl or trait, which are its owners), and its
+# clauses, a list of texts for each name.
 Function = collections.namedtuple("Function", "crate name places owners is_public clauses imports")
 Impl = collections.namedtuple("Impl", "names members")
-# A definition of specs: its text, and the fields where it is a record.
+# A definition of specs: its text, and its fields if it is a record.
 Definition = collections.namedtuple("Definition", "module name text fields")
 
 
 def masked(text):
-    """A text of the same length without what stands in comments and between quotes."""
+    """A text of the same length, without comments and without what stands between quotes."""
     return HIDDEN.sub(lambda it: re.sub(r"[^\n]", " ", it[0]), text)
 
 
 def end_of(text, start):
-    """The place behind the bracket that closes the one that stands here."""
+    """The place behind the bracket that closes the one here."""
     depth = 0
     for place in range(start, len(text)):
         depth += (text[place] in "{([") - (text[place] in "})]")
@@ -111,7 +111,7 @@ class Sources:
                 yield self.definitions[where][real]
 
     def within(self, definitions, steps):
-        """These definitions, and those by which they go within so many steps."""
+        """These definitions, and those that they use within this many steps."""
         reached, met = [], set()
         for _ in range(steps + 1):
             new = [it for it in definitions if (it.module, it.name) not in met]
@@ -121,7 +121,7 @@ class Sources:
         return reached
 
     def by_clauses(self, function, names, steps):
-        """The definitions by which these clauses of a function go within so many steps; by all of its clauses if none are named."""
+        """The definitions that these clauses of a function use within this many steps; those of all clauses if none are named."""
         texts = [text for name, texts in function.clauses.items() for text in texts if not names or name in names]
         return self.within(list(self.defined(" ".join(texts), function.imports)), steps)
 

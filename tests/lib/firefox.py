@@ -32,7 +32,7 @@ class Firefox:
         self.call("WebDriver:SetTimeouts", script=600_000)
 
     def port(self):
-        """The port that it has chosen, once it has."""
+        """The port that Firefox has chosen, once it has."""
         file, end = pathlib.Path(self.home, "MarionetteActivePort"), time.monotonic() + LONGEST
         while not file.exists() or not file.read_text():
             if time.monotonic() > end or self.process.poll() is not None:
@@ -75,7 +75,7 @@ class Firefox:
         self.call("WebDriver:Navigate", url=address)
 
     def value(self, text):
-        """The value of an expression in the page; of a promise, what it comes to."""
+        """The value of an expression in the page; for a promise, its result."""
         script = f"const done = arguments[arguments.length - 1]; Promise.resolve({text}).then(it => done([it]), it => done(String(it)));"
         answer = self.call("WebDriver:ExecuteAsyncScript", script=script, args=[], sandbox=None)["value"]
         if not isinstance(answer, list):
@@ -83,7 +83,7 @@ class Firefox:
         return answer[0]
 
     def until(self, text, seconds=LONGEST):
-        """Whether an expression comes to hold in this time."""
+        """Whether an expression holds within this time."""
         end = time.monotonic() + seconds
         while time.monotonic() < end:
             if self.value(text):

@@ -1,4 +1,4 @@
-"""Scripts that run others: each command is shown as it runs, and what the last lines count is added up."""
+"""Scripts that run others: shows each command as it runs, and adds up the counts of the last lines."""
 import re
 import subprocess
 import sys
@@ -15,8 +15,8 @@ class Parts:
         self.passed = self.failed = 0
 
     def add(self, *words):
-        """Runs a command of the repository, and adds what its last line counts, 'N .. passed, M failed'. A command with no
-        such line has failed, and so has one that counts no failure and ends with a status other than 0."""
+        """Runs a command of the repository, and adds the counts of its last line, 'N .. passed, M failed'. A command without
+        such a line has failed. So has one that counts no failure and ends with a status other than 0."""
         last = b""
         with subprocess.Popen(words, cwd=TOP, stdout=subprocess.PIPE, stderr=subprocess.STDOUT) as process:
             for last in process.stdout:
@@ -28,7 +28,7 @@ class Parts:
         self.failed += failed or process.returncode != 0
 
     def program(self):
-        """The program that ./cnum runs; where there is none, the script ends with a failure."""
+        """The program that ./cnum runs. If there is none, the script ends with a failure."""
         try:
             return built()
         except subprocess.CalledProcessError:

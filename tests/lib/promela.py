@@ -1,6 +1,6 @@
-"""Reads and walks through the models that `show --as promela` writes, by the part of Promela that they use:
-arrays and variables of bytes, one macro, one inline, processes of atomic blocks with if, goto, assert and
-assignments. Nothing is known of plans here: what a model does is what its text says.
+"""Reads and walks through the models that `show --as promela` writes, by the part of Promela that they use: arrays
+and variables of bytes, one macro, one inline, processes of atomic blocks with if, goto, assert and assignments.
+It knows nothing of plans: a model does what its text says.
 """
 import re
 
@@ -23,7 +23,7 @@ def tokens_of(text):
 
 
 class Model:
-    """A model by its text. A world is a tuple of numbers: the variables, those of each process, and where each stands."""
+    """A model by its text. A world is a tuple of numbers: the variables, those of each process, and the place of each process."""
 
     def __init__(self, text):
         text = re.sub(r"/\*.*?\*/", "", text, flags=re.S)
@@ -61,7 +61,7 @@ class Model:
             self.first += [int(value or 0)] * int(many or 1)
 
     def body(self, name, text):
-        """The atomic blocks of a process; it may stop before each."""
+        """The atomic blocks of a process. It may stop before each."""
         line, _, text = text.partition("\n")
         self.declare(line, f"{name}.")
         reader = Reader(self, name, self.expanded(tokens_of(text)))
@@ -77,7 +77,7 @@ class Model:
         self.starts.append(0)
 
     def expanded(self, tokens):
-        """The tokens with each call in place of what it stands for."""
+        """The tokens, with the text of each call in its place."""
         made = []
         while tokens:
             word, tokens = tokens[0], tokens[1:]
@@ -92,7 +92,7 @@ class Model:
         return made
 
     def after(self, world, p):
-        """The worlds after the next atomic block of a process that goes on, or none where it is at its end."""
+        """The worlds after the next atomic block of a process that goes on, or none if it is at its end."""
         at = world[self.pcs + p]
         if at == len(self.bodies[p]):
             return []
@@ -103,7 +103,7 @@ class Model:
         return [tuple(it) for it in worlds]
 
     def worlds(self):
-        """All worlds. A process that stops changes nothing, so each is one in which any of them have stopped."""
+        """All worlds. A process that stops changes nothing, so in each world any processes may have stopped."""
         queue = [tuple(self.first)]
         seen = set(queue)
         for world in queue:
@@ -128,7 +128,7 @@ def split(tokens):
 
 
 class Reader:
-    """Makes of the statements of a process functions from a world, a list, to the worlds after it."""
+    """Turns the statements of a process into functions from a world, a list, to the worlds after it."""
 
     def __init__(self, model, owner, tokens):
         self.model, self.owner, self.tokens = model, owner, tokens
@@ -200,7 +200,7 @@ class Reader:
         return places.get(f"{self.owner}.{name}") or places[name]
 
     def target(self):
-        """The place that is assigned to."""
+        """The place of an assignment."""
         name = self.tokens.pop(0)
         start, many = self.place(name)
         if not self.takes("["):

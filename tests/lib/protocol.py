@@ -1,7 +1,7 @@
 """Rounds and logs by the text of `show`: what each step does, after docs/DEFINITIONS.md.
 
-Nothing here is the program's: a plan is read from its text, a type from its table, and a world is a
-value that a step makes anew. What a world has to meet stands with the tests that ask for it.
+Nothing here is the program's: a plan is read from its text, a type from its table, and a step makes a new
+world. The tests say what a world has to meet.
 """
 
 EMPTY = None  # what an unwritten register holds
@@ -9,7 +9,7 @@ TEAMS = "AB"
 
 
 class Plan:
-    """What the text of `show` says, with the numbers of the names in the table of its type."""
+    """What the text of `show` says. Names are numbers in the table of its type."""
 
     def __init__(self, text, kind):
         lines = text.splitlines()
@@ -21,7 +21,7 @@ class Plan:
         assert len(self.roles) == self.n and len(self.paths) == self.n
 
     def role(self, j, words):
-        """The team, the operation and the pairs that are judged to be team A's."""
+        """The team, the operation, and the pairs that the role judges to be team A's."""
         assert words[0] == "role" and int(words[1]) == j and words[4] == "judges"
         pairs = [pair.split("/") for pair in words[5:]]
         judged = frozenset((self.kind.responses.index(r), self.kind.states.index(s)) for r, s in pairs)
@@ -37,11 +37,11 @@ class Plan:
 
 
 class Round:
-    """The rounds of a plan. A world is (nodes, locals, first): at each node the object's state and the two
-    registers; of each process what it knows; and the team that came first at the root.
+    """The rounds of a plan. A world is (nodes, locals, first): at each node the state of the object and the two
+    registers; for each process what it knows; and the team that came first at the root.
 
-    A process that has not begun knows None, one that has decided (value,); any other (place, value, stage)
-    with what it has kept: its response from stage 2 on, and the state read in stage 3."""
+    A process that has not begun knows None, and one that has decided knows (value,). Any other knows (place,
+    value, stage) and what it has kept: its response from stage 2 on, and the state read in stage 3."""
 
     def __init__(self, plan):
         self.plan = plan
@@ -52,7 +52,7 @@ class Round:
         return nodes, changed(known, p, (0, value, 0)), first
 
     def step(self, world, p):
-        """One action of a process that has begun; none where it has decided."""
+        """One action of a process that has begun, or none if it has decided."""
         nodes, known, first = world
         mine = known[p]
         if len(mine) == 1:
@@ -95,16 +95,16 @@ class Round:
         return f"decides {taken}" if place + 1 == len(self.plan.paths[p]) else f"takes {taken} from {TEAMS[first]} of node {at}"
 
     def judges(self, team, pair, judged):
-        """The team that is judged to have come first."""
+        """The team that the process judges to have come first."""
         return 0 if pair in judged else 1
 
     def decision(self, world, p):
-        """What a process has decided, in a list, or an empty one."""
+        """The decision of a process in a list, or an empty list."""
         mine = world[1][p]
         return list(mine) if mine and len(mine) == 1 else []
 
     def fixed(self, world):
-        """The value that the round has fixed, in a list, or an empty one."""
+        """The value that the round has fixed in a list, or an empty list."""
         nodes, _, first = world
         return [] if first is None else [nodes[0][1 + first]]
 
@@ -112,8 +112,8 @@ class Round:
 class Consensus:
     """The walk through all worlds of a round in which each process began with a value, and what they have to meet.
 
-    A world stands with how many steps each process has taken. To stop is to come no more: so every world is
-    one in which some have stopped."""
+    Each world comes with the number of steps of each process. A process that stops takes no more steps, so in
+    every world some may have stopped."""
 
     def __init__(self, plan, inputs):
         self.plan, self.inputs, self.steps = plan, inputs, Round(plan)
@@ -142,7 +142,7 @@ class Consensus:
                         queue.append(there)
 
     def holds(self, taken, decisions):
-        """Agreement, validity and the bound, where each process has taken, or tried, so many steps."""
+        """Agreement, validity and the bound, if each process has taken, or tried, this many steps."""
         values = {it for decision in decisions for it in decision}
         valid = values <= {value for value, steps in zip(self.inputs, taken) if steps}
         in_time = all(bool(it) == (steps >= most) for it, steps, most in zip(decisions, taken, self.needed))
@@ -164,9 +164,9 @@ def way(ways, here):
 
 class Log:
     """The logs of a plan that serve an object. A world is (announced, rounds, callers, made): the register
-    of each process; the round of each slot; of each process its phase and the batches replayed; and how
-    many calls it has made. A phase is None, ("look", next, batch) or "run"; an entry is (process,
-    operation, call), a batch has an entry or None for each process."""
+    of each process; the round of each slot; for each process its phase and the batches replayed; and how
+    many calls it has made. A phase is None, ("look", next, batch) or "run". An entry is (process,
+    operation, call). A batch has an entry or None for each process."""
 
     def __init__(self, plan, kind, start, capacity):
         self.plan, self.kind, self.start, self.capacity, self.round = plan, kind, start, capacity, Round(plan)
@@ -187,7 +187,7 @@ class Log:
         return changed(announced, p, entry), rounds, calling, changed(made, p, made[p] + 1)
 
     def step(self, world, p):
-        """The world after a step, and what the step answers: None, (slot, response) or "full"."""
+        """The world after a step, and the answer of the step: None, (slot, response) or "full"."""
         announced, rounds, callers, made = world
         phase, seen = callers[p]
         slot = len(seen)
@@ -255,7 +255,7 @@ class Log:
         return "5 AtEnd" if self.at_end(world, p) else None
 
     def replayed(self, events):
-        """The world after a list of events, and what they answer, (process, answer) each."""
+        """The world after a list of events, and their answers, (process, answer) each."""
         world, answers = self.first_world, []
         for p, operation in events:
             if self.fault(world, (p, operation)):
@@ -278,13 +278,13 @@ class Log:
         return f"full {p}\n" if answer == "full" else f"answer {p} {answer[0]} {self.kind.responses[answer[1]]}\n"
 
     def lines(self, events):
-        """What `replay` prints of a list of events, and its status."""
+        """What `replay` prints for a list of events, and its status."""
         world, answers = self.replayed(events)
         text = "".join(self.answer_line(p, answer) for p, answer in answers) + self.entry_lines(world)
         return text.encode(), b"", int("full" in (answer for _, answer in answers))
 
     def is_served(self, calls, ended):
-        """Whether `serve` may have printed this of these calls: the events of its last line say what came."""
+        """Whether `serve` may have printed this for these calls. The events of its last line say what came."""
         printed, told, status = ended
         head, last, line = printed.decode().rpartition("events ")
         if told or not last:
@@ -299,7 +299,7 @@ class Log:
             made = [operation for q, operation in events if q == p and operation is not None]
             replies = [answer for q, answer in answers if q == p]
             if len(made) < len(wanted) and self.at_end(world, p) and "full" not in replies:
-                replies.append("full")  # told at once, with no event
+                replies.append("full")  # answered at once, with no event
             whole = len(replies) == len(wanted) or "full" in replies[-1:]
             if made != wanted[: len(made)] or not whole:
                 return False
@@ -308,7 +308,7 @@ class Log:
 
 
 def changed(values, place, value):
-    """A tuple with another value in one place."""
+    """A tuple with another value at one place."""
     return values[:place] + (value,) + values[place + 1 :]
 
 

@@ -1,32 +1,32 @@
 """The tables of tests/rows: what each row hands to the program, and what has to come of it.
 
-A file holds tables, each of which is one command with its rows:
+A file holds tables. Each is one command with its rows:
   about     what the rows show
   words     the words after the program's name: a list, or a text with spaces between them
-  stdin     standard input; empty, where it is left out
-  closed    true where standard input is closed
+  stdin     standard input; empty if it is left out
+  closed    true if standard input is closed
   files     the files that the program finds, by name; or a list of files of the repository, which have their own names
-  changed   where the columns FROM and TO change a text: `stdin`, or the name of a file
+  changed   the text that the columns FROM and TO change: `stdin`, or the name of a file
   output    the file that standard output goes to in place of a pipe, as /dev/full
   memory    the most KiB of addresses that the program may have
-  says      what the program prints, which ends in a newline where it is not empty, or the line of its refusal after
+  says      what the program prints, which ends in a newline if it is not empty, or the line of its refusal after
             `cnum: `, with no newline
   prints    what the program prints beside a refusal
-  tells     what it tells on standard error, where that is more than one refusal, or another text
-  status    the exit status; 0, where it is left out
-  judged    true where `check` of what is printed is to say `ok`; its number is in the column NUMBER, `none` for null
-  columns   the names of the columns, in capitals; left out, as the rows, where there is one row and the keys say it all
+  tells     what it tells on standard error, if that is more than one refusal, or another text
+  status    the exit status; 0 if it is left out
+  judged    true if `check` has to say `ok` to what is printed; the column NUMBER has its number, `none` for null
+  columns   the names of the columns, in capitals; left out, with the rows, if there is one row and the keys say it all
   rows      the rows
 
-The columns SAYS, PRINTS, TELLS and STATUS stand in the place of these keys. The column CASE tells what a row shows.
+The columns SAYS, PRINTS, TELLS and STATUS replace these keys. The column CASE tells what a row shows.
 
-A word is the name of a column, or the word itself. `words` and `files` may be the name of a column that has them. Any other
+A word is the name of a column, or the word itself. `words` and `files` may be the name of a column with them. Any other
 text is one of these:
   the name of a column
   a type of types/ or tests/types, or a certificate of tests/certificates without the end of its line: `idle`, `idle_at_2`
   a file of these folders, of tests/refused or a picture of docs/ as it stands there: `idle_at_2.json`
   the text itself
-  [TEXT, PART, N]: the text, and then the part so many times
+  [TEXT, PART, N]: the text, and then N times the part
   { bytes = TEXT }: a byte for each character, by its number
 """
 import json
@@ -64,7 +64,7 @@ class Row:
         self.about = f"{file}, {table['about']}: {values}"
 
     def value(self, key, otherwise):
-        """What the column of a key says in this row, or else the key of the table."""
+        """What the column of a key says in this row, or else what the key of the table says."""
         return self.cells.get(key.upper(), self.table.get(key, otherwise))
 
     def words(self):
@@ -75,7 +75,7 @@ class Row:
         return [meaning(word, self.cells, {}) for word in words]
 
     def given(self):
-        """Standard input, or None where it is closed, and the files, each with its bytes."""
+        """Standard input, or None if it is closed, and the files, each with its bytes."""
         named = self.table.get("files", {})
         named = self.cells[named] if isinstance(named, str) else named
         named = {name: name for name in named} if isinstance(named, list) else named
@@ -89,7 +89,7 @@ class Row:
         return None if self.table.get("closed") else stdin, texts
 
     def wanted(self):
-        """What is to be printed, told and answered, or of a judged row its number."""
+        """What has to be printed, told and answered; for a judged row its number."""
         if self.table.get("judged"):
             return self.cells["NUMBER"], (b"ok\n", b"", 0)
         says = meaning(self.value("says", ""), self.cells)
@@ -99,7 +99,7 @@ class Row:
         return says or prints, tells, self.value("status", 0)
 
     def found(self):
-        """What the program prints, tells and answers, or of a judged row the number that it finds, and what `check` says."""
+        """What the program prints, tells and answers; for a judged row the number that it finds, and the answer of `check`."""
         stdin, files = self.given()
         ended = ran(self.words(), stdin, files, self.table.get("output"), self.table.get("memory"))
         if not self.table.get("judged"):
@@ -112,7 +112,7 @@ class Row:
 
 
 def ran(words, stdin, files, output=None, memory=None):
-    """What the program prints, tells and answers in a folder with these files, and that it changed these, if it did."""
+    """What the program prints, tells and answers in a folder with these files, and whether it changed them."""
     with tempfile.TemporaryDirectory() as name:
         room = pathlib.Path(name)
         for file, text in files.items():
@@ -134,7 +134,7 @@ def rows():
 
 
 def printed(file, about):
-    """What the program has to print in the one table of a file that shows this, or in the row whose CASE it is."""
+    """What the program has to print in the one table of a file with this `about`, or in the row with this CASE."""
     shown = [row for row in rows() if row.about.startswith(f"{file}, ") and about in (row.table["about"], row.cells.get("CASE"))]
     assert len(shown) == 1, f"{file} has {len(shown)} rows that show {about}"
     return shown[0].wanted()[0].decode()

@@ -1,4 +1,4 @@
-"""What bash, zsh and fish offer to complete a line, by the completions that they are given."""
+"""What bash, zsh and fish offer to complete a line, by given completions."""
 import os
 import pathlib
 import pty
@@ -25,7 +25,7 @@ for line in $argv[2..]
     complete -C $line | string replace -r '\\t.*' ''
 end
 """
-# The folder of this file is the first in which zsh looks for completions. It asks as a person does, with no key pressed.
+# zsh looks for completions first in the folder of this file. It asks as a person does, with no key pressed.
 ZSH = """\
 fpath=(${ZDOTDIR} $fpath)
 autoload -Uz compinit
@@ -65,7 +65,7 @@ def in_fish(script, lines, room):
 
 
 def in_zsh(script, lines, room):
-    """zsh completes on a terminal alone, and gets one."""
+    """Completes in zsh. It does so on a terminal alone, and gets one."""
     home = pathlib.Path(room).parent / "zsh"
     home.mkdir()
     (home / ".zshrc").write_text(ZSH)
@@ -90,7 +90,7 @@ def in_zsh(script, lines, room):
 
 
 def plainly(words, room):
-    """What a shell prints and tells. Its home is the room, so that nobody's own settings count."""
+    """What a shell prints and tells. Its home is the room, so nobody's own settings count."""
     ran = subprocess.run(words, cwd=room, env={**os.environ, "HOME": str(room)}, capture_output=True, text=True)
     return ran.stdout + ran.stderr
 

@@ -1,6 +1,6 @@
 """The words of a script's command line, by the first line of its text: 'ABOUT: tests/NAME WORDS'.
 
-A word in brackets may be left out, and two points stand behind one that may come again.
+A word in brackets may be left out. Two points stand behind a word that may come again.
 """
 import __main__
 import sys
@@ -9,7 +9,7 @@ ABOUT, _, LINE = __main__.__doc__.split("\n", 1)[0].rpartition(": ")
 
 
 def words():
-    """The words behind the script's name. The script ends here where they ask for help, or are too few or too many."""
+    """The words behind the script's name. The script ends here if they ask for help, or are too few or too many."""
     given, named = sys.argv[1:], LINE.split()[1:]
     if given in (["--help"], ["-h"]):
         print(f"usage: {LINE}\n{__main__.__doc__}", end="")
@@ -21,6 +21,6 @@ def words():
 
 
 def refuse():
-    """Ends the script, whose words it does not take."""
+    """Ends the script, since it does not take these words."""
     print(f"usage: {LINE}", file=sys.stderr)
     sys.exit(3)

@@ -1,4 +1,4 @@
-"""`find` near 100,000 choices, and the number of types that tell from 2 to 7 times which team was first, for each limit."""
+"""`find` near 100,000 choices; for each limit, the types that tell from 2 to 7 times which team was first."""
 import math
 import pathlib
 import tempfile
@@ -10,7 +10,7 @@ MOST = 100_000
 
 
 def count(states, operations, n):
-    """How many canonical choices there are for n processes."""
+    """The number of canonical choices for n processes."""
     lists = lambda k: math.comb(operations + k - 1, k)
     below = sum(lists(k) * lists(n - k) for k in range(1, (n + 1) // 2))
     return states * (below + (lists(n // 2) * (lists(n // 2) + 1) // 2 if n % 2 == 0 else 0))
@@ -32,7 +32,7 @@ def edges():
 
 
 def classified(files, words):
-    """What `classify` prints of these texts, each in a file of its name."""
+    """What `classify` prints for these texts, each in a file of its name."""
     with tempfile.TemporaryDirectory() as room:
         for name, text in files.items():
             (pathlib.Path(room) / name).write_text(text)

@@ -1,5 +1,5 @@
-"""`check` and `explain` of certificates with many entries, as they are written and with a space in them, and the greatest numbers
-that a fault of an entry can carry."""
+"""`check` and `explain` of certificates with many entries, as they are written and with a space in them; and the greatest numbers
+in the faults of entries."""
 import dataclasses
 import itertools
 import json
@@ -29,7 +29,7 @@ class Certificate:
     """The text of a certificate, with the texts of its entries."""
 
     entries: list
-    behind: str  # what stands behind the entries
+    behind: str  # the text behind the entries
 
     def text(self):
         return f'{{"collisions":[{",".join(self.entries)}]{self.behind}'
@@ -42,7 +42,7 @@ class Certificate:
         yield f"{self.text()} "
 
     def changed(self, places):
-        """The certificate with another entry at these places, with one more and with one less, and what is to be said of it."""
+        """The certificate with another entry at these places, with one more and with one less, and what `check` says of each."""
         for i in places:
             for entry, said in zip(others(self.entries[i]), ("6 NotNext", "7 NotACollision")):
                 yield f"entry {i}", Certificate([*self.entries[:i], entry, *self.entries[i + 1 :]], self.behind), f"check: {said} {i}"
@@ -57,9 +57,9 @@ def others(entry):
 
 
 def collision(state, n):
-    """A process and two orders by which it cannot tell, in any choice for n processes of a type that `shots` makes for n-1. Behind
-    the first state all operations are alike, so that the second process gets the same whoever was before it. In the first state
-    the last one of all is told nothing."""
+    """A process and two orders that it cannot tell apart, in any choice for n processes of a type that `shots` makes for n-1. Behind
+    the first state all operations are alike, so the second process gets the same whoever was before it. From the first state, the
+    last process of all is told nothing."""
     if state:
         return [1, [0, 1], [n - 1, 1]]
     return [1, [0, *range(2, n), 1], [n - 1, 0, *range(2, n - 1), 1]]
@@ -90,7 +90,7 @@ def explained(certificate, table):
 
 
 def written(number, places, spellings):
-    """A certificate with the collisions told above, of as many entries as the type has canonical choices."""
+    """A certificate with the collisions above, and as many entries as the type has canonical choices."""
     table, certificate = shown(number)
     count = len(certificate.entries)
     assert count == counts.count(16, 8, number + 1)
@@ -122,14 +122,14 @@ def found(name, limit, count):
 
 
 def witness_check(kind, table, witness):
-    """What `check` says of a choice as a witness, for its number of processes as the limit, and what it has to say."""
+    """What `check` says of a choice as a witness, for its number of processes as the limit, and what it should say."""
     value = json.loads(accepted(kind, witness))
     said = judge.check_fault(kind, value)
     return lambda: checked(text(value), table), fault(f"check: {said}") if said else OK
 
 
 def chosen():
-    """Choices by chance, for 5 to 8 processes of some types and for 2 to 4 of the one with all states and operations."""
+    """Random choices, for 5 to 8 processes of some types and for 2 to 4 of the one with all states and operations."""
     chance = random.Random(3)
     sizes = [(name, n) for name in ("sticky_bit", "three_shot", "test_and_set", "compare_and_swap_4", "shots_12_4") for n in (5, 6, 7, 8)]
     for name, n in sizes + [("wide", n) for n in (2, 3, 4)] * 10:

@@ -1,4 +1,4 @@
-"""`lint`: where a text stops to be TOML, the flaws of large tables, and tables as long as they may be."""
+"""`lint`: the place where a text stops to be TOML, the flaws of large tables, and tables of the greatest length."""
 import re
 
 from calls import TYPES, answer, called, fault
@@ -7,23 +7,23 @@ from table import table_text
 
 NAME = re.compile(r"[a-z0-9_]{1,32}\Z")
 LONGEST = 65_536
-# Texts that are no TOML, a character that `*` stands for in some of them.
+# Texts that are no TOML. In some a character stands for `*`.
 NO_TOML = ["name = !", 'name = "a" "b"', "= 1", "[[operation]", 'name = "a', 'name = "a"\nname = "b"', 'a = "\\q"', "a = [1,\n2,\n3"]
 NO_TOML += ["a = 00", "a = { b = 1", "a.b = 1\na = 2", "name ="]
 WIDE = ['name = "*" !', '"*" 1', 'a = ["*", "*" 1]', "# *\n'*'*", "a = '*"]
-# Lines that may stand before any of them; `*` is the number of the line.
+# Lines that may stand before any of them. `*` is the number of the line.
 BEFORE = ["", "# 0123456789", "# é€😀", 'k* = "é€"']
 
 
 def place(text):
-    """The line and the column that `lint` tells of a text that is no TOML."""
+    """The line and the column that `lint` names for a text that is no TOML."""
     printed, told, status = called(["lint"], text)
     line = re.fullmatch(rb"line (\d+), column (\d+): not TOML\n", printed)
     return (int(line[1]), int(line[2])) if line and (told, status) == (b"cnum: table: 1 NotToml\n", 2) else (printed, told, status)
 
 
 def is_in(text, at):
-    """Whether the text has this place; its end counts too."""
+    """Whether the text has this place. Its end counts too."""
     lines = text.split("\n")
     return 1 <= at[0] <= len(lines) and 1 <= at[1] <= len(lines[at[0] - 1]) + 1
 
@@ -57,7 +57,7 @@ def columns():
 
 
 def flaws(name, states, responses, operations):
-    """The lines that `lint` has to write of a draft, (number and name of the fault, line) each; an operation is (name, responses,
+    """The lines that `lint` has to write for a draft, (number and name of the fault, line) each. An operation is (name, responses,
     next states)."""
     names = [it[0] for it in operations]
     called_so = lambda i: f'operation "{names[i]}"' if NAME.match(names[i]) else f"operation[{i}]"
@@ -86,7 +86,7 @@ def flaws(name, states, responses, operations):
 
 
 def told(draft):
-    """A case of a draft that is refused: `lint` writes its flaws, and another command the fault alone."""
+    """A case of a refused draft: `lint` writes its flaws, and another command its fault alone."""
     found = list(flaws(*draft))
     refused = fault(f"table: {found[0][0]}")
     text = table_text(*draft)
@@ -95,12 +95,12 @@ def told(draft):
 
 
 def row_of(states, unknown=()):
-    """A row whose entries are the first name, or none of the names at these places."""
+    """A row whose entries are the first name, or no known name at these places."""
     return ["nosuch" if k in unknown else "n0" for k in range(states)]
 
 
 def drafts():
-    """Drafts with as many names as there may be, and one of them wrong; and with far more."""
+    """Drafts with the most names, one of which is wrong; and drafts with far more."""
     names = [f"n{k}" for k in range(16)]
     operations = lambda count, *rows: [(f"n{k}", *(rows or (row_of(16), row_of(16)))) for k in range(count)]
     changed = lambda texts, k, text: texts[:k] + [text] + texts[k + 1 :]
@@ -132,7 +132,7 @@ def drafts():
 
 
 def lengths():
-    """A table, and a refused one, filled to some length by a comment, by line feeds and before its end."""
+    """A table, and a refused one, filled to a length by a comment, by line feeds and before its end."""
     text, grid = TYPES["three_shot"], printed("lint", "three shot")
     for length in (511, 512, 513, 1023, 1024, 1025, 4095, 4096, 4097, 8191, 8192, 8193, 32_768, 65_000, LONGEST - 1, LONGEST, LONGEST + 1):
         left = length - len(text)

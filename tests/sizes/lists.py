@@ -7,7 +7,7 @@ from plans import accepted
 from table import Table
 
 ARGUMENTS = ("INPUTS", "SCHEDULE", "EVENTS", "CALLS")
-# Words of right lists of two processes, by their arguments, and what is then printed.
+# Words of right lists for two processes, by their arguments, and what is printed for them.
 RIGHT = {"INPUTS": "7,8", "SCHEDULE": "0,0,0,0", "EVENTS": "i0:0,s0,s0,s0,s0", "CALLS": "none/0"}
 DECIDED = answer("0: 7\n1: undecided\n")
 PRINTED = {
@@ -16,12 +16,12 @@ PRINTED = {
     "EVENTS": answer("entry 0 0 inc 0 1\n"),
     "CALLS": answer("answer 1 0 0\nentry 0 1 inc 0 1\nevents i1:0,s1,s1,s1,s1,s1,s1\n"),
 }
-# A length behind the ends of what is read at once.
+# A length beyond the ends of the pieces that are read at once.
 LENGTHS = [k + d for k in (256, 512, 1024, 4096, 8192, 65_536, 131_072) for d in (-1, 0, 1)]
 
 
 def ran(words, files, certificate=CERTIFICATES["test_and_set_at_3"], table=TYPES["test_and_set"]):
-    """What a command of two lists says in a folder with these files, whose names stand behind an `@`."""
+    """What a command with two lists says in a folder with these files. Their names stand behind an `@`."""
     with tempfile.TemporaryDirectory() as name:
         room = pathlib.Path(name)
         (room / "cert").write_text(certificate)
@@ -32,7 +32,7 @@ def ran(words, files, certificate=CERTIFICATES["test_and_set_at_3"], table=TYPES
 
 
 def with_one(argument, word, files):
-    """What is said where one argument is this word, and the others are right."""
+    """What the program says if one argument is this word, and the others are right."""
     lists = RIGHT | {argument: word}
     command = {"EVENTS": "replay", "CALLS": "serve"}.get(argument, "agree")
     words = [path_of("counter_3"), "0", "4", lists[argument]] if command != "agree" else [lists["INPUTS"], lists["SCHEDULE"]]
@@ -40,7 +40,7 @@ def with_one(argument, word, files):
 
 
 def files_of(argument):
-    """Files that are empty, that are not there, and whose names are lists."""
+    """Files that are empty or missing, and files whose names are lists."""
     right, wrong, unread = RIGHT[argument], fault(f"argument: {argument}"), fault(f"cannot read {argument}")
     for name, text, said in (
         ("an empty file", "", wrong),
@@ -89,7 +89,7 @@ def pairs():
 
 
 def lengths():
-    """A schedule whose last item lets process 0 decide, at the end of so many bytes, and with a line feed behind it."""
+    """A schedule whose last item lets process 0 decide, at the end of this many bytes, with and without a line feed behind it."""
     for length in LENGTHS:
         items = ["0", "0", "0"] + ["1"] * ((length - 7) // 2) + ["0"]
         text = ",".join(items)
@@ -101,7 +101,7 @@ def lengths():
 
 
 def numbers():
-    """The faults of a schedule: an item that names no process, with 0, 1,001 and the greatest numbers; lists of another length."""
+    """The faults of a schedule: an item that names no process, for the numbers 0, 1,001 and the greatest; lists of another length."""
     for place, more in ((0, 0), (0, 9), (1, 0), (9, 1), (10, 0), (255, 3), (256, 0), (1001, 1), (65_535, 0), (65_536, 1), (303_111, 0)):
         for process in (2, 255):
             text = ",".join(["0"] * place + [str(process)] + ["9"] * more)

@@ -1,4 +1,4 @@
-"""`replay` and `serve`: logs of 5 to 8 processes, calls and slots as many as they may be, and the greatest numbers of an event."""
+"""`replay` and `serve`: logs of 5 to 8 processes, the most calls and slots, and the greatest numbers of an event."""
 import pathlib
 import random
 import tempfile
@@ -24,11 +24,11 @@ class Served:
         self.about = f"{self.kind.name}, teams of {len(witness[1])} and {len(witness[2])}"
 
     def steps(self, p):
-        """How many steps a slot costs a process: a look at each process, and four for each place of its path."""
+        """The steps that a slot costs a process: a look at each process, and four for each place of its path."""
         return self.n + 4 * len(self.plan.paths[p])
 
     def says(self, command, capacity, word):
-        """What `replay` says of events, or `serve` of calls; a long word stands in a file."""
+        """What `replay` says of events, or `serve` of calls. A long word stands in a file."""
         with tempfile.TemporaryDirectory() as room:
             file, lists = pathlib.Path(room) / "cert.json", pathlib.Path(room) / "list"
             file.write_text(self.certificate)
@@ -45,7 +45,7 @@ def sticky(a, b):
 
 
 def events_of(log, chance, count):
-    """So many events that can come, by chance, until none can."""
+    """This many random events that can come, or fewer if none can come any more."""
     world, events, left = log.first_world, [], set(range(log.plan.n))
     while left and len(events) < count:
         p = chance.choice(sorted(left))
@@ -59,7 +59,7 @@ def events_of(log, chance, count):
 
 
 def replays():
-    """Events by chance, over plans of 5 to 8 processes; then an event that cannot come."""
+    """Random events, over plans of 5 to 8 processes; then an event that cannot come."""
     chance = random.Random(6)
     plans = [sticky(*it) for it in ((1, 4), (2, 3), (3, 3), (1, 6), (5, 2), (4, 4), (1, 7))]
     plans.append(Served(sums(), [0, [0, 1, 2, 3, 4, 5, 6], [7]]))
@@ -80,7 +80,7 @@ def replays():
 
 
 def whole_slots(served, capacity, callers):
-    """The events in which these processes call, slot by slot, and then go on to their answers one after the other."""
+    """The events in which these processes make a call each, slot by slot, and then go on to their answers one after the other."""
     slot = [f"i{p}:0" for p in callers] + [f"s{p}" for p in callers for _ in range(served.steps(p))]
     return slot * capacity
 
@@ -95,7 +95,7 @@ def filled(served, capacity, callers):
 
 
 def full_logs():
-    """Logs with every slot filled, up to slot 1,023, and what comes after; one slot less is refused one call earlier."""
+    """Logs with every slot filled, up to slot 1,023, and what comes then; with one slot less, one call less."""
     for served, callers in ((sticky(1, 1), [0]), (sticky(1, 1), [1, 0]), (sticky(3, 2), [4, 0, 2]), (sticky(1, 7), list(range(8)))):
         for capacity in (1023, 1024):
             events = whole_slots(served, capacity, callers)
@@ -127,7 +127,7 @@ def numbers():
 
 
 def alone():
-    """One process makes so many calls, and no other makes one: each is in a slot of its own, until there is none."""
+    """One process makes this many calls, and no other makes one. Each call has a slot of its own, until there is none."""
     for served, p in ((sticky(1, 1), 0), (sticky(1, 1), 1), (sticky(2, 3), 2), (sticky(3, 3), 5), (sticky(6, 1), 6), (sticky(4, 4), 7)):
         for calls, capacity in ((513, 1024), (767, 767), (1023, 1024), (1023, 1023), (1024, 1024), (1024, 1023), (600, 513)):
             done = min(calls, capacity)
@@ -140,7 +140,7 @@ def alone():
 
 
 def together():
-    """Several processes make calls at once: what is printed is what comes of the events in the last line."""
+    """Several processes make calls at once. The output is what the events in its last line make."""
     plans = [(sticky(*it), 8) for it in ((1, 4), (2, 3), (3, 3), (5, 1), (1, 6), (3, 4), (4, 4), (7, 1))]
     plans += [(sticky(1, 1), 256), (sticky(2, 3), 100), (Served(sums(), [0, [0, 1, 2, 3, 4, 5, 6], [7]]), 6)]
     for served, most in plans:
@@ -153,7 +153,7 @@ def together():
 
 
 def overfull():
-    """Each process makes more calls than there are slots, so that the last call of each is full."""
+    """Each process makes more calls than there are slots, so the last call of each is full."""
     for served in (sticky(1, 1), sticky(2, 3), sticky(3, 3), sticky(1, 6), sticky(4, 4)):
         for capacity in (1, 3):
             log, counts = Log(served.plan, COUNTER, 0, capacity), [[0] * (capacity + 1)] * served.n

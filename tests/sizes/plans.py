@@ -19,7 +19,7 @@ def accepted(kind, witness):
 
 
 def witnesses():
-    """Types with witnesses: a sticky bit for teams of each size; and `sums`, where each of seven and one judges over 100 pairs."""
+    """Types with witnesses: a sticky bit for teams of each size; and `sums`, for seven and one, whose roles judge over 100 pairs."""
     for n in range(2, 9):
         for a in range(1, n):
             yield TYPES["sticky_bit"], [0, [0] * a, [1] * (n - a)]
@@ -28,7 +28,7 @@ def witnesses():
 
 
 class Tournament:
-    """Who meets whom: of each process the places from the lowest node to the root, (node, team, role) each."""
+    """Who meets whom: for each process its places from the lowest node to the root, (node, team, role) each."""
 
     def __init__(self, a, b):
         self.first_role, self.most, self.nodes = a, b, 0
@@ -36,7 +36,7 @@ class Tournament:
         self.meet(range(a + b))
 
     def meet(self, processes):
-        """Numbers a node of these processes, and those below it, team A's first."""
+        """Numbers the node of these processes, and the nodes below it, team A's first."""
         if len(processes) < 2:
             return
         node, first = self.nodes, max(1, len(processes) - self.most)
@@ -126,7 +126,7 @@ def process(plan, p):
 
 
 def with_certificate(certificate, command, table, *words):
-    """What a command says of the text of a certificate in a file, with the words behind its name."""
+    """What a command says of the text of a certificate in a file, with these words behind its name."""
     with tempfile.NamedTemporaryFile("w", suffix=".json") as file:
         file.write(certificate)
         file.flush()
@@ -147,7 +147,7 @@ def run_lines(plan, inputs, schedule):
 
 
 def schedules(plan, chance):
-    """Schedules that run mixed, that run one process after the other, and that stop some."""
+    """Schedules that mix the processes, that run one after the other, and that stop some."""
     everyone = [p for p in range(plan.n) for _ in range(4 * len(plan.paths[p]))]
     yield chance.sample(everyone, len(everyone))
     order = chance.sample(range(plan.n), plan.n)

@@ -9,9 +9,8 @@ def idle(states, operations):
 
 
 def shots(count, each=1, spare=0, name=None):
-    """A type that tells so many times which kind of operation was first, as `three_shot` does three times, and then nothing
-    more: its number is `count`. The operations x come first, `each` of them, and then as many y. Further states lead to the
-    last one."""
+    """A type that tells `count` times which kind of operation was first, as `three_shot` does three times, and then nothing more:
+    its number is `count`. The operations x come first, `each` of them, and then as many y. Further states lead to the last one."""
     left, right, more = ([f"{letter}{k}" for k in range(1, most)] for letter, most in (("a", count), ("b", count), ("c", spare + 1)))
     states = ["bot", *left, *right, "dead", *more]
     told = ["a"] * len(left) + ["b"] * len(right) + ["none"] * (1 + spare)
@@ -22,8 +21,8 @@ def shots(count, each=1, spare=0, name=None):
 
 
 def sums():
-    """A type that counts modulo 13 where team A was first, by 1, 2, 4, 8, 3, 6, 12 and 11, and tells how far it was; where
-    the last operation was first, it tells no more than that."""
+    """A type that counts modulo 13. If team A was first, it counts by 1, 2, 4, 8, 3, 6, 12 and 11, and tells how far it was; if the
+    last operation was first, it tells no more than that."""
     steps = [1, 2, 4, 8, 3, 6, 12, 11]
     numbers = [f"c{k}" for k in range(13)]
     following = lambda step, first: [first, *(f"c{(k + step) % 13}" for k in range(13)), "late"]
@@ -33,8 +32,8 @@ def sums():
 
 
 def blind():
-    """A type for eight processes of which one, whose operation is `ex` or `ey`, gets no answer; where it comes last, the state
-    tells no more which team was first. The others do `x` in team A and `y` in team B, and are told."""
+    """A type for eight processes, one of which has the operation `ex` or `ey` and gets no answer; if it comes last, the state no longer
+    tells which team was first. The others do `x` in team A and `y` in team B, and are told."""
     left, right = ([f"{letter}{k}" for k in range(1, 8)] for letter in "ab")
     states = ["bot", *left, *right, "dead"]
     told = ["a"] * 7 + ["b"] * 7 + ["ok"]

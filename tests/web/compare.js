@@ -1,8 +1,9 @@
 // Compares the program of the page with the native one: runs each job of jobs.py, in a browser's page or in
-// Node, and says which ones differ. In Node: node compare.js WEB JOBS prints them, and the time.
+// Node, and says which jobs differ. In Node, `node compare.js WEB JOBS` prints these and the time.
 var Cnum = globalThis.Cnum || {};
 
-// The differing jobs, each with what the page's program answered: [number of the job, status, standard error].
+// The differing jobs, each with the answer of the page's program: [number of the job, status, standard
+// error].
 Cnum.compare = async function () {
     'use strict';
     const bytesOf = text => Uint8Array.from(text, letter => letter.charCodeAt(0));

@@ -1,5 +1,5 @@
-"""Runs of the native program, for the comparison with the page's: every command, on all tables at hand, on hostile
-tables and certificates, and on words that are refused.
+"""Runs of the native program, to compare with the page's: every command, on all tables at hand, on hostile tables and
+certificates, and on words that are refused.
 
 A job is [words, number of standard input, {file: number of its content}, status, digest of standard output, digest of
 standard error, the beginning of standard error]; the numbers are those of a list of texts.
@@ -41,7 +41,7 @@ def files(*folders):
 
 
 class Jobs:
-    """The runs, each of them done natively."""
+    """The runs, each made natively."""
 
     def __init__(self, room):
         self.room, self.texts, self.jobs = pathlib.Path(room), {}, []

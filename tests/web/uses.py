@@ -1,5 +1,5 @@
-"""The page in a browser, used as a person uses it: each function here is a part of tests/web/run, and gives cases,
-(about, whether it is well, what was seen) each.
+"""The page in a browser, used as a person uses it. Each function here is a part of tests/web/run, and gives cases,
+(about, whether it is right, what was seen) each.
 """
 import json
 import pathlib
@@ -29,7 +29,7 @@ next = ["b", "b", "b"]
 
 LONG = TYPES["late_sticky_14_8"]  # at the limit 8 the number takes a second natively, on one processor
 
-# What the page is asked in its own language.
+# Questions to the page, in its own language.
 
 READY = "document.documentElement.dataset.ready === 'yes'"
 DECIDED = """[...document.querySelectorAll('.process')].every(it => /decided|stopped/.test(it.className))
@@ -82,7 +82,7 @@ class Use:
         self.browser, self.value, self.until, self.call = browser, browser.value, browser.until, browser.call
 
     def open(self, link=""):
-        """Opens the page anew, and waits until all is there."""
+        """Opens the page anew, and waits until it is all there."""
         self.browser.open("about:blank")
         self.browser.open(PAGE + link)
         return self.until(READY)
@@ -100,7 +100,7 @@ class Use:
         return self.value(f"document.getElementById('{name}').hidden")
 
     def has_number(self, number):
-        """Whether the page comes to show this number."""
+        """Whether the page shows this number in the end."""
         return self.until(f"document.getElementById('number').textContent === {json.dumps(number)}")
 
     def do(self, action):
@@ -111,7 +111,7 @@ class Use:
         self.do(f"Cnum.page.text = {json.dumps(table)}; await Cnum.page.refresh();")
 
     def begin(self, table):
-        """Gives a table, and does not wait for what comes of it."""
+        """Gives a table, and does not wait for the results."""
         self.value(f"(() => {{ Cnum.page.text = {json.dumps(table)}; Cnum.page.refresh(); }})()")
 
     def choose(self, path):
@@ -179,7 +179,7 @@ def flaws(use):
 
 
 def flawed(table):
-    """Tables with one flaw or more, and which parts of the text are marked then."""
+    """Tables with one flaw or more, and the marked parts of the text."""
     number = table.replace("[[operation]]\n", "operation = [3]\n# ").replace("\nresponse =", "\n# ").replace("\nnext", "\n# next")
     return [
         (table.replace('next = ["one"', "next = one"), ["o"]),
@@ -259,7 +259,7 @@ def grid(use):
 
 
 def schedules(use):
-    """The protocol stepped by hand: what the page tells is what the program says of the same schedule."""
+    """The protocol stepped by hand: the page shows what the program says of the same schedule."""
     source = random.Random(4)
     use.open()
     with tempfile.TemporaryDirectory() as room:
@@ -292,7 +292,7 @@ def schedules(use):
 
 
 def random_acts(source, n):
-    """Steps and stops of n processes, [process, whether it stops] each, long enough that all who go on decide."""
+    """Steps and stops of n processes, [process, whether it stops] each, enough for all who go on to decide."""
     acts, going = [], list(range(n))
     while len(acts) < 8 * n * n:
         process = source.choice(going)
@@ -381,7 +381,7 @@ def searches(use):
 
 
 def without(use):
-    """A browser that lacks what the program wants gets a sentence."""
+    """A browser that lacks what the program needs gets a sentence."""
     for name in ("WebAssembly", "DecompressionStream", "Worker"):
         script = use.call("Page.addScriptToEvaluateOnNewDocument", source=f"delete globalThis.{name};")["identifier"]
         use.browser.open("about:blank")
@@ -430,7 +430,7 @@ def for_all(use):
 
 
 def quiet(use):
-    """What the browser told in all of this."""
+    """What the browser reported in all of this."""
     asked = [it["request"]["url"] for it in use.browser.told("Network.requestWillBeSent")]
     away = {it for it in asked if not it.startswith(((TOP / "web").as_uri() + "/", "blob:", "data:", "about:"))}
     yield "no request to anywhere", not away and asked, away

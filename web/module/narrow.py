@@ -1,8 +1,8 @@
 """Gives a WebAssembly module that was linked for 64-bit memory a 32-bit table.
 
-`wasm-opt --memory64-lowering` makes a 32-bit memory of a 64-bit one, and refuses a 64-bit table. Here
-the table becomes a 32-bit one, the offset of its elements too, and the index of each indirect call is
-wrapped to 32 bits just before the call. All else stays as it is, byte for byte.
+`wasm-opt --memory64-lowering` makes a 32-bit memory of a 64-bit one, and refuses a 64-bit table. This script makes the table a
+32-bit one, with the offset of its elements, and wraps the index of each indirect call to 32 bits just before the call. All else
+stays as it is, byte for byte.
 """
 
 HEADER = 8
@@ -14,7 +14,7 @@ BLOCKS = (0x02, 0x03, 0x04)
 ONE_NUMBER = {*BLOCKS, 0x0C, 0x0D, 0x10, *range(0x20, 0x27), 0x3F, 0x40, I32_CONST, I64_CONST, 0xD0, 0xD2}
 TWO_NUMBERS = {*range(0x28, 0x3F)}
 NO_NUMBER = {0x00, 0x01, 0x05, 0x0B, 0x0F, 0x1A, 0x1B, 0xD1, *range(0x45, 0xC5)}
-# How many numbers stand behind each of the operations that begin with MANY; none for those on numbers alone.
+# How many numbers stand behind each of the operations that begin with MANY; none for operations on numbers alone.
 OF_MANY = {8: 2, 9: 1, 10: 2, 11: 1, 12: 2, 13: 1, 14: 2, 15: 1, 16: 1, 17: 1}
 
 
@@ -35,7 +35,7 @@ class Module:
                 return value, at
 
     def behind(self, at, numbers=1):
-        """The place behind so many numbers."""
+        """The place behind this many numbers."""
         for _ in range(numbers):
             at = self.number(at)[1]
         return at
@@ -91,7 +91,7 @@ def leb128(value):
 
 
 def narrow(module):
-    """The same module with a 32-bit table; it has one table, and one list of its elements."""
+    """The same module with a 32-bit table. It has one table, and one list of its elements."""
     it, made, at = Module(module), module[:HEADER], HEADER
     while at < len(module):
         kind, (size, begun) = module[at], it.number(at + 1)

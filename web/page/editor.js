@@ -1,5 +1,5 @@
-// The text of the table: where one types, with the places of its flaws marked, and the list of the flaws,
-// each of which leads to its place.
+// The text of the table: a field to type in, with the places of its flaws marked, and the list of the flaws.
+// Each flaw leads to its place.
 var Cnum = globalThis.Cnum || {};
 
 (() => {
@@ -19,7 +19,7 @@ var Cnum = globalThis.Cnum || {};
             this.marks.scrollLeft = this.text.scrollLeft;
         }
 
-        // Shows flaws, a line of `lint` each.
+        // Shows flaws, one for each line of `lint`.
         show(flaws) {
             const text = this.text.value;
             const places = Cnum.placesOf(flaws, text);
@@ -36,7 +36,7 @@ var Cnum = globalThis.Cnum || {};
             });
         }
 
-        // The marks are made of the same text, which is not seen, with these places marked in it.
+        // The marks have the same text, which is not seen, with these places marked in it.
         mark(text, places) {
             let at = 0;
             const parts = [];

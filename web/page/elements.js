@@ -15,7 +15,7 @@ var Cnum = globalThis.Cnum || {};
     Cnum.element = (name, attributes = {}, ...children) => filled(document.createElement(name), attributes, children);
     Cnum.svgElement = (name, attributes = {}, ...children) => filled(document.createElementNS(SVG, name), attributes, children);
 
-    // A table with these heads, each row as its cells; the first one is the head of its row.
+    // A table with these heads. Each row is given as its cells; the first cell is the head of the row.
     Cnum.tableOf = (heads, rows, attributes = {}) => {
         const { element } = Cnum;
         const row = ([first, ...cells]) => element('tr', {}, element('th', { scope: 'row' }, first), ...cells.map(it => element('td', {}, it)));
@@ -23,7 +23,7 @@ var Cnum = globalThis.Cnum || {};
         return element('table', attributes, element('thead', {}, top), element('tbody', {}, ...rows.map(row)));
     };
 
-    // What may be wider than the page, so that it scrolls by itself, with the keyboard too.
+    // Something that may be wider than the page: it scrolls by itself, with the keyboard too.
     Cnum.wide = (label, content) => Cnum.element('div', { class: 'wide', tabindex: 0, role: 'region', 'aria-label': label }, content);
 
     // A button that does something.
@@ -33,7 +33,7 @@ var Cnum = globalThis.Cnum || {};
         return made;
     };
 
-    // Hands a text or a blob to the reader as a file.
+    // Gives the reader a text or a blob as a file.
     Cnum.offer = (name, content, type) => {
         const place = URL.createObjectURL(new Blob([content], { type }));
         const link = Cnum.element('a', { href: place, download: name });

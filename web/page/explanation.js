@@ -1,4 +1,4 @@
-// Why the number is what it is: reads what `explain` writes, and shows it as a table of pairs and as rows
+// Why the number is what it is: reads the output of `explain`, and shows it as a table of pairs and as rows
 // of states and arrows.
 var Cnum = globalThis.Cnum || {};
 
@@ -7,15 +7,15 @@ var Cnum = globalThis.Cnum || {};
 
     const { button, element, tableOf, wide } = Cnum;
     const PAIRS = 'what each process gets and reads';
-    const AT_ONCE = 100; // how many collisions are shown more at each demand
+    const AT_ONCE = 100; // how many more collisions each demand shows
     const COLLISION = /^ +(\d+)\. (start .*?) +(p\d+) cannot tell:$/;
     const RUN = /^ +([AB]) first: +(.*?) +(p\d+ got .*)$/;
     const FOLD = /(\S)\n {10}(?=\S)/g; // where a line of more than 100 columns goes on in the next one
     const STEP = / --(p\d+) (\w+)\/(\w+)--> (\w+)/g;
     const MORE = /^ +and (\d+) more \(--all tells them\)$/;
 
-    // The parts of the text: its head line, the lines on the witness, the collisions, how many more there
-    // are, and the sentences around them.
+    // The parts of the text: its head line, the lines on the witness, the collisions, the number of further
+    // ones, and the sentences around them.
     function read(text) {
         const [head, , why, rest = ''] = text.trimEnd().replace(FOLD, '$1 ').split('\n\n');
         const found = { head, why: why.split('\n'), title: '', collisions: [], more: 0, sentences: [] };
@@ -35,9 +35,9 @@ var Cnum = globalThis.Cnum || {};
         return found;
     }
 
-    // The pairs of each process: what it gets and reads where team A was first, and where team B was. The
-    // columns of the text tell which team a pair is of; where they have no room side by side, those of team
-    // B stand below.
+    // The pairs of each process: what it gets and reads if team A was first, and if team B was. The columns
+    // of the text tell the team of a pair. If there is no room for them side by side, those of team B stand
+    // below.
     function pairs(lines) {
         const found = [];
         for (const line of lines) {
@@ -66,7 +66,7 @@ var Cnum = globalThis.Cnum || {};
         return [element('h3', {}, title), wide(PAIRS, table), element('p', {}, rest[rest.length - 1].trim())];
     }
 
-    // A run of a collision: the states in a row, an arrow with what is done between two of them.
+    // A run of a collision: the states in a row, with an arrow between two of them for the operation.
     function run(line, doubting) {
         const [, team, steps, end] = RUN.exec(line);
         const part = (kind, ...content) => element('span', { class: kind }, ...content);

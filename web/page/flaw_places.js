@@ -1,4 +1,4 @@
-// Where the flaws that `lint` tells stand in the text of a table.
+// The places of the flaws of `lint` in the text of a table.
 var Cnum = globalThis.Cnum || {};
 
 (() => {
@@ -19,7 +19,7 @@ var Cnum = globalThis.Cnum || {};
         return table.items(LISTS[kind]);
     }
 
-    // The operations that a flaw can be about: told by its name, or by its place in the array.
+    // The operations that a flaw can be about. It gives their name, or their place in the array.
     function operationsOf(table, [, name, place]) {
         if (place !== undefined) return table.items('operation').slice(Number(place), Number(place) + 1);
         return table.operations.filter(it => it.name && it.name.text === name).map(it => it.table);
@@ -29,7 +29,7 @@ var Cnum = globalThis.Cnum || {};
         return table.kind === 'table' ? table.entries.get(key) : undefined;
     }
 
-    // How a flaw begins, and the places in the table that it can be about.
+    // The beginning of a flaw, and the places in the table that it can be about.
     const KINDS = [
         [/^line (\d+), column (\d+): not TOML$/, (table, [, line, column]) => {
             const before = table.text.split('\n').slice(0, line - 1).reduce((sum, it) => sum + it.length + 1, 0);
@@ -55,8 +55,8 @@ var Cnum = globalThis.Cnum || {};
         [/^"(.*)": /, (table, [, key]) => [table.entry(key)]],
     ];
 
-    // For each flaw its place { from, to } in the text, or null. Flaws that read the same stand in turn at
-    // the places that they can be about.
+    // For each flaw its place { from, to } in the text, or null. Flaws with the same text take the places
+    // that they can be about in turn.
     Cnum.placesOf = function (flaws, text) {
         const table = new Cnum.TableText(text);
         const seen = new Map();

@@ -1,5 +1,5 @@
-// The table as a grid: a row for each operation, a column for each state, and in each cell the response
-// and the next state, which can be chosen there. A change is made in the text.
+// The table as a grid: a row for each operation, a column for each state, and in each cell the response and
+// the next state, which the reader can choose there. A change goes into the text.
 var Cnum = globalThis.Cnum || {};
 
 (() => {
@@ -9,7 +9,7 @@ var Cnum = globalThis.Cnum || {};
     const NO_GRID = 'The grid comes back once each operation has a response and a next state for each state.';
     const STEPS = { ArrowUp: [-1, 0], ArrowDown: [1, 0], ArrowLeft: [0, -1], ArrowRight: [0, 1] };
 
-    // A choice among names, as a cell has two. A name that is none of them is shown too.
+    // A choice among names, as a cell has two. It also shows a name that is none of them.
     function choice(label, names, chosen, choose) {
         const isKnown = names.includes(chosen);
         const options = (isKnown ? names : [...names, chosen]).map(it => element('option', { value: it }, it));
@@ -28,7 +28,7 @@ var Cnum = globalThis.Cnum || {};
         return field;
     }
 
-    // A button that takes away what has a name; the last one of its kind stays.
+    // A button that takes away what has a name. The last one of its kind stays.
     function removal(label, isPossible, remove) {
         const made = button('×', remove, { class: 'small', 'aria-label': label, title: label });
         made.disabled = !isPossible;
@@ -36,7 +36,7 @@ var Cnum = globalThis.Cnum || {};
     }
 
     class Grid {
-        // Shows a grid in this place, and hands each changed text on.
+        // Shows a grid in this place, and hands on each changed text.
         constructor(place, change) {
             this.place = place;
             this.change = change;
@@ -124,7 +124,7 @@ var Cnum = globalThis.Cnum || {};
             return element('div', { class: 'buttons' }, ...buttons);
         }
 
-        // The fields of the grid, row by row. A table that is shown anew has the focus where it was.
+        // The fields of the grid, row by row. A table that is shown anew has the focus where it was before.
         fields() {
             return [...this.place.querySelectorAll('input, select, button')];
         }
@@ -140,7 +140,7 @@ var Cnum = globalThis.Cnum || {};
             (same || fields[Math.min(at, fields.length - 1)]).focus();
         }
 
-        // With the key Alt the arrows go from cell to cell.
+        // With the key Alt, the arrow keys go from cell to cell.
         move(event) {
             const cell = event.target.closest('th, td');
             if (!event.altKey || !STEPS[event.key] || !cell) return;

@@ -1,11 +1,11 @@
-// Runs the program: its side of the words, files and streams that web/host/streams.c asks the page for.
-// Each run is a fresh instance of the module, with all that it reads and writes in memory. The text of
+// Runs the program: this is its side of the words, files and streams that web/host/streams.c asks the page
+// for. Each run is a fresh instance of the module, with all that it reads and writes in memory. The text of
 // this function also makes the worker of web/page/program.js, so it names nothing outside itself.
 var Cnum = globalThis.Cnum || {};
 
-// Gives, for a compiled module, the function that runs it: words of the command line, what stands on
-// standard input, and files by their names; texts or bytes. It answers the exit status, and the bytes
-// of standard output and standard error.
+// Gives, for a compiled module, the function that runs it. The function takes the words of the command line,
+// standard input, and files by their names, as texts or bytes. It answers the exit status, and the bytes of
+// standard output and standard error.
 Cnum.makeHost = function (module) {
     'use strict';
     class Exit {
@@ -32,7 +32,7 @@ Cnum.makeHost = function (module) {
         const written = { 1: [], 2: [] };
         let instance;
         const memory = () => new Uint8Array(instance.exports.memory.buffer);
-        // A number that comes as an address or a length is one of 32 bits without a sign.
+        // A number that comes as an address or a length has 32 bits and no sign.
         const part = (from, count) => memory().subarray(from >>> 0, (from >>> 0) + (count >>> 0));
 
         const page = {

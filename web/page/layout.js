@@ -1,8 +1,8 @@
-// Lays out a picture of nodes and arrows, so that no label lies on another one or on a node.
+// Lays out a picture of nodes and arrows, so that no label lies on another label or on a node.
 //
-// A picture is { nodes, arrows, start }: each node has a width and a height, each arrow the numbers of its
-// two nodes and the width and height of its label, and start is the number of the first node. Each way of
-// web/page/points.js is tried, and widened until all labels find a place; the best one is taken.
+// A picture is { nodes, arrows, start }. Each node has a width and a height, each arrow the numbers of its
+// two nodes and the width and height of its label, and start is the number of the first node. The layout
+// tries each way of web/page/points.js, widens it until all labels find a place, and takes the best one.
 var Cnum = globalThis.Cnum || {};
 
 (() => {
@@ -10,11 +10,11 @@ var Cnum = globalThis.Cnum || {};
 
     const GAP = 6; // between a label and what is near
     const MARGIN = 14; // around the whole
-    const FOR_LAYERS = 20; // what it counts that all can be read downwards, in layers
+    const FOR_LAYERS = 20; // the worth of a picture that reads downwards, in layers
     const LOOP = { half: 11, reach: 34 }; // of an arrow from a node to itself
     const WIDER = 1.22;
     const MOST_TRIES = 24;
-    const MOST_SHEETS = 3; // how many widths are compared, of those that have room for all labels
+    const MOST_SHEETS = 3; // how many widths with room for all labels are compared
     const SAMPLES = 20;
     const BOWS = [0, 0.14, -0.14, 0.26, -0.26, 0.42, -0.42, 0.65, -0.65];
     const BOWS_OF_PAIR = [0.13, 0.24, 0.38, 0.6, 0.85];
@@ -25,8 +25,8 @@ var Cnum = globalThis.Cnum || {};
     const meets = (a, b, gap) => a.left < b.right + gap && b.left < a.right + gap && a.top < b.bottom + gap && b.top < a.bottom + gap;
     const holds = (box, [x, y], gap) => x > box.left - gap && x < box.right + gap && y > box.top - gap && y < box.bottom + gap;
 
-    // A Bezier curve by its three or four points: the point and the direction at a share of it, and a part
-    // of a curve of three.
+    // A Bezier curve by its three or four points: the point and the direction at a share of it, and a part of
+    // a curve of three points.
     function pointOn(curve, share) {
         const rest = 1 - share;
         const weights = curve.length === 3
@@ -65,14 +65,14 @@ var Cnum = globalThis.Cnum || {};
 
     const samplesOf = curve => Array.from({ length: SAMPLES + 1 }, (_, index) => pointOn(curve, index / SAMPLES));
 
-    // Whether a point lies in a node, which has round ends.
+    // Whether a point lies in a node. Nodes have round ends.
     function isIn(node, [x, y]) {
         const radius = node.height / 2;
         const straight = Math.max(0, node.width / 2 - radius);
         return Math.hypot(Math.max(0, Math.abs(x - node.x) - straight), y - node.y) < radius;
     }
 
-    // The share of a curve at which it leaves a node or comes to one.
+    // The share of a curve at which it leaves a node or reaches one.
     function edgeShare(curve, node, inside, outside) {
         for (let turn = 0; turn < 12; turn++) {
             const middle = (inside + outside) / 2;
@@ -83,7 +83,7 @@ var Cnum = globalThis.Cnum || {};
     }
 
     class Sheet {
-        // The nodes at their points, which stand this far apart.
+        // The nodes at their points, this far apart.
         constructor(picture, points, scale) {
             this.nodes = picture.nodes.map((it, index) => ({ ...it, x: points[index][0] * scale * 1.2, y: points[index][1] * scale }));
             this.boxes = this.nodes.map(it => boxAt([it.x, it.y], it.width, it.height));
@@ -113,7 +113,7 @@ var Cnum = globalThis.Cnum || {};
             return points.slice(1).reduce((sum, it, index) => sum + Math.hypot(it[0] - points[index][0], it[1] - points[index][1]), 0);
         }
 
-        // An arrow between two nodes: straight, or bowed where another arrow comes back or a node is in the way.
+        // An arrow between two nodes: straight, or bowed if another arrow comes back or a node is in the way.
         curve(arrow) {
             const [from, to] = [this.nodes[arrow.from], this.nodes[arrow.to]];
             const comesBack = this.arrows.some(it => it.from === arrow.to && it.to === arrow.from);
@@ -216,8 +216,8 @@ var Cnum = globalThis.Cnum || {};
             return leading.length / Math.max(1, between.length);
         }
 
-        // The less, the better the picture: crossings (where there are many, one more hardly counts), bows,
-        // labels on arrows, size, and how much longer it is than wide.
+        // A smaller number is a better picture. It counts crossings (of many, one more hardly counts), bows,
+        // labels on arrows, size, and how much longer the picture is than wide.
         cost() {
             const { left, top, right, bottom } = this.bounds();
             const [width, height] = [right - left, bottom - top];
@@ -239,7 +239,8 @@ var Cnum = globalThis.Cnum || {};
         return count;
     }
 
-    // The picture with its nodes at these points, as near to each other as the labels permit, and somewhat wider.
+    // The picture with its nodes at these points, as near to each other as the labels permit, and somewhat
+    // wider.
     function drawn(picture, points) {
         const sheets = [];
         for (let tries = 0, scale = 70; tries < MOST_TRIES && sheets.length < MOST_SHEETS; tries++, scale *= WIDER) {

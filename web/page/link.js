@@ -1,5 +1,5 @@
-// What the address of the page holds behind its #: the table, the limit, and the run of the protocol, so
-// that a link shows all of it again.
+// What the address of the page holds behind its #: the table, the limit, and the run of the protocol. A link
+// so shows all of it again.
 var Cnum = globalThis.Cnum || {};
 
 (() => {
@@ -22,19 +22,19 @@ var Cnum = globalThis.Cnum || {};
         return new TextDecoder().decode(await through(bytes, new DecompressionStream(FORM)));
     }
 
-    // A list of processes, each that takes a step, or with an x before it stops.
+    // A list of processes. Each takes a step, or stops if an x stands before it.
     const wordOf = ({ process, stops }) => (stops ? 'x' : '') + process;
     const actOf = word => ({ process: Number(word.replace('x', '')), stops: word.startsWith('x') });
 
-    // The address's part for what the page shows: the path of an example or a text, the limit, the inputs
-    // and what was done.
+    // The part of the address for what the page shows: the path of an example or a text, the limit, the
+    // inputs and the acts.
     Cnum.linkOf = async function ({ example, text, limit, inputs, acts }) {
         const parts = [example ? `example=${example}` : `table=${await packed(text)}`, `limit=${limit}`];
         if (acts.length) parts.push(`inputs=${inputs.join(',')}`, `run=${acts.map(wordOf).join(',')}`);
         return `#${parts.join('&')}`;
     };
 
-    // What such a part says; what is missing in it, or cannot be read, is left out.
+    // What such a part says. It leaves out what is missing or cannot be read.
     Cnum.linkedBy = async function (hash) {
         const parts = new URLSearchParams(hash.slice(1));
         const list = name => (parts.get(name) || '').split(',').filter(Boolean);

@@ -1,5 +1,5 @@
-// The page: hands what is typed or chosen to the program, and what the program says to the parts that
-// show it. Every number and text on the subject comes from a command of the program.
+// The page: hands what a person types or chooses to the program, and the output of the program to the parts
+// that show it. Every number and text on the subject comes from a command of the program.
 var Cnum = globalThis.Cnum || {};
 
 (() => {
@@ -13,7 +13,7 @@ var Cnum = globalThis.Cnum || {};
     const HEAD = /: consensus number ((?:at least )?)(\d+)/;
     const CLASS = /: ((?:at least )?)(\d+)\n$/;
     const CERTIFICATE = 'certificate';
-    // What a number means.
+    // The meaning of a number.
     const ALONE = 'One process alone decides.';
     const TOGETHER =
         'processes can agree through objects of this type and registers, however fast each of them is and wherever the others stop.';
@@ -69,7 +69,8 @@ var Cnum = globalThis.Cnum || {};
             window.addEventListener('hashchange', () => this.follow());
         }
 
-        // A file can be dropped anywhere: a table comes to be the text, any other is checked as a certificate.
+        // A file can be dropped anywhere: a table becomes the text, and any other file is checked as a
+        // certificate.
         listenToDrops() {
             for (const [name, isOver] of [['dragover', true], ['dragleave', false], ['drop', false]]) {
                 document.body.addEventListener(name, event => {
@@ -90,14 +91,14 @@ var Cnum = globalThis.Cnum || {};
             await this.refresh();
         }
 
-        // Offers a file under the name of the type, as far as the text tells it.
+        // Offers a file under the name of the type, if the text tells it.
         offer(ending, content, kind) {
             const name = new Cnum.TableText(this.text).entry('name');
             const isPlain = name && /^\w+$/.test(name.value.text);
             Cnum.offer(`${isPlain ? name.value.text : 'type'}.${ending}`, content, kind);
         }
 
-        // The example that the text is, if it is one.
+        // The example of this text, if it is one.
         example() {
             return [...examples.values()].find(it => it.text === this.text);
         }
@@ -148,7 +149,7 @@ var Cnum = globalThis.Cnum || {};
             }
         }
 
-        // Runs a command on the table; null where another table has come since.
+        // Runs a command on the table. The answer is null if another table has come since.
         async ask(runner, words, files) {
             const round = this.round;
             const answer = await runner.run(words, this.text, files);
@@ -194,12 +195,12 @@ var Cnum = globalThis.Cnum || {};
             const draw = await this.ask(this.quick, ['draw']);
             if (!draw) return;
             this.dot = draw.stdout;
-            // Where the search takes long, the picture comes before it, with no teams.
+            // If the search takes long, the picture comes before it, without teams.
             this.early = setTimeout(() => this.draw(null), BEFORE_TEAMS);
             await this.showNumber(linked);
         }
 
-        // Finds the number, and shows it, why it is so, and the protocol.
+        // Finds the number, and shows it, its explanation, and the protocol.
         async showNumber(linked) {
             const find = await this.timed(this.ask(this.search, ['find', '--limit', at('limit').value]));
             if (!find) return;
@@ -221,7 +222,8 @@ var Cnum = globalThis.Cnum || {};
         }
 
         // The protocol is that of the certificate for the number alone, which has the same witness and no
-        // collisions: each step has it checked anew, and so takes no longer where there are many.
+        // collisions. Each step checks the certificate anew, and so takes no longer if there are many
+        // collisions.
         async showProtocol(linked) {
             const { number } = JSON.parse(this.certificate);
             if (number === null) {
@@ -270,7 +272,7 @@ var Cnum = globalThis.Cnum || {};
             at('meaning').textContent = 'The search was broken off.';
         }
 
-        // The number alone, where find refuses to look for evidence.
+        // The number alone, if find refuses to look for evidence.
         async classify(why) {
             const answer = await this.timed(this.ask(this.search, ['classify', '--limit', at('limit').value, '-']));
             if (!answer) return;
@@ -296,7 +298,7 @@ var Cnum = globalThis.Cnum || {};
             return this.quick.run(['agree', '--steps', CERTIFICATE, ...words], this.text, this.witness);
         }
 
-        // Checks a certificate that somebody else made, by the table that is here.
+        // Checks a certificate of somebody else by this table.
         async check(file) {
             if (!file) return;
             const claim = new Uint8Array(await file.arrayBuffer());

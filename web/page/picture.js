@@ -1,4 +1,4 @@
-// The picture of the states of a type: reads what `draw` writes, and draws it as SVG.
+// The picture of the states of a type: reads the output of `draw`, and draws it as SVG.
 var Cnum = globalThis.Cnum || {};
 
 (() => {
@@ -11,7 +11,7 @@ var Cnum = globalThis.Cnum || {};
     const LINE = 17;
     const FONT = `${SIZE}px ui-monospace, "DejaVu Sans Mono", Menlo, Consolas, monospace`;
     const BADGE = 17; // the width that the letter of a team takes before a line of a label
-    // What the picture looks like where it is saved; on the page the style sheet has other colours for the dark.
+    // The look of the picture when it is saved. On the page, the style sheet has other colours for the dark.
     const STYLE = `
         text { font: ${FONT}; fill: #1a1a1a }
         .node rect { fill: #fff; stroke: #444; stroke-width: 1.3 }
@@ -31,7 +31,7 @@ var Cnum = globalThis.Cnum || {};
         return measuring.measureText(text).width;
     }
 
-    // The states and arrows that the text of `draw` has; each arrow with its lines.
+    // The states and arrows in the text of `draw`, each arrow with its lines.
     function read(dot) {
         const names = [];
         const arrows = [];
@@ -88,8 +88,8 @@ var Cnum = globalThis.Cnum || {};
         return svgElement('defs', {}, svgElement('marker', { id: 'tip', ...size, orient: 'auto' }, shape));
     }
 
-    // The picture that the text of `draw` describes, as an element. The plan of a witness, what `show --as
-    // json` writes, says the start state and the operations of the teams, if there is one.
+    // The picture in the text of `draw`, as an element. The plan of a witness, as `show --as json` writes it,
+    // adds the start state and the operations of the teams, if there is one.
     Cnum.pictureOf = function (dot, plan) {
         const { names, arrows } = read(dot);
         const roles = plan ? plan.roles : [];

@@ -1,6 +1,6 @@
-// Where the states of a picture can stand, in ways that suit different graphs. A graph is a number of
-// nodes and a list of arrows [from, to]; each way gives a point [x, y] for each node, and the nearest two
-// points are one unit apart or more.
+// Places for the states of a picture, in ways that suit different graphs. A graph is a number of nodes and a
+// list of arrows [from, to]. Each way gives a point [x, y] for each node. The nearest two points are at least
+// one unit apart.
 var Cnum = globalThis.Cnum || {};
 
 (() => {
@@ -23,7 +23,7 @@ var Cnum = globalThis.Cnum || {};
         return found.map(it => [...it].sort((a, b) => a - b));
     }
 
-    // How many steps each node is away from these nodes, and the nodes in the order in which they are met.
+    // The number of steps from these nodes to each node, and the nodes in the order in which they are met.
     function walk(next, begin) {
         const steps = new Map(begin.map(it => [it, 0]));
         const order = [...begin];
@@ -37,7 +37,7 @@ var Cnum = globalThis.Cnum || {};
         return { steps, order };
     }
 
-    // All nodes, from the start on along the arrows; what cannot be reached begins anew.
+    // All nodes, from the start on along the arrows. A node that cannot be reached begins anew.
     function wholeWalk(count, arrows, start) {
         const next = neighbours(count, arrows, false);
         const steps = new Map();
@@ -91,7 +91,8 @@ var Cnum = globalThis.Cnum || {};
         return points;
     }
 
-    // In layers, by how many steps it is from the start, each layer in an order by the neighbours' places.
+    // In layers, by the number of steps from the start. In each layer the order follows the places of the
+    // neighbours.
     function inLayers(count, arrows, start) {
         const { steps, order } = wholeWalk(count, arrows, start);
         const beside = neighbours(count, arrows, true);
@@ -114,7 +115,7 @@ var Cnum = globalThis.Cnum || {};
         return range(count).map(node => [across[node], steps.get(node)]);
     }
 
-    // So that the distance of two nodes comes near to how many steps they are apart.
+    // The distance of two nodes comes near to the number of steps between them.
     function byDistance(count, arrows, start) {
         const beside = neighbours(count, arrows, true);
         const far = Math.ceil(Math.sqrt(count)) + 1;

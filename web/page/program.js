@@ -1,11 +1,11 @@
-// The program as the page uses it: unpacks the module, and runs commands in workers, so that the page
-// stays alive, and a run that takes too long can be broken off.
+// The program as the page uses it: unpacks the module, and runs commands in workers. So the page stays alive,
+// and a run that takes too long can be broken off.
 var Cnum = globalThis.Cnum || {};
 
 (() => {
     'use strict';
 
-    // What a run answers that was broken off. Who began it forgets it then.
+    // The answer of a run that was broken off. The caller then forgets it.
     const BROKEN_OFF = 'broken off';
 
     async function unpacked(packed) {
@@ -16,7 +16,7 @@ var Cnum = globalThis.Cnum || {};
         return new Response(stream).arrayBuffer();
     }
 
-    // What this browser lacks that the program wants, or an empty text.
+    // What the program needs and this browser lacks, or an empty text.
     function lack() {
         if (typeof WebAssembly !== 'object') return 'WebAssembly';
         if (typeof DecompressionStream !== 'function') return 'DecompressionStream';
@@ -24,7 +24,7 @@ var Cnum = globalThis.Cnum || {};
         return '';
     }
 
-    // The module, compiled; where that cannot be, an error that says why in a sentence.
+    // The compiled module; if that cannot be, an error that says why in a sentence.
     async function load() {
         const lacks = lack();
         if (lacks) throw new Error(`This browser cannot run the program: it has no ${lacks}.`);
@@ -53,7 +53,7 @@ var Cnum = globalThis.Cnum || {};
         };
     }
 
-    // The worker is made of the page's own text, since a page that is a file may not load one.
+    // The worker is made of the page's own text, since a page in a file may not load one.
     const TEXT = `var Cnum = {}; Cnum.makeHost = ${Cnum.makeHost}; (${work})();`;
     const PLACE = URL.createObjectURL(new Blob([TEXT], { type: 'text/javascript' }));
 
@@ -76,7 +76,7 @@ var Cnum = globalThis.Cnum || {};
             this.worker.postMessage({ module: this.module });
         }
 
-        // What a command answers: its status, and its texts; or that it was broken off.
+        // The answer of a command: its status and its texts, or that it was broken off.
         async run(words, stdin = '', files = {}) {
             const id = ++this.count;
             const answer = await new Promise(settle => {
@@ -88,7 +88,7 @@ var Cnum = globalThis.Cnum || {};
             return { status: answer.status, stdout: textOf(answer.stdout), stderr: textOf(answer.stderr) };
         }
 
-        // Ends all runs that are under way or wait.
+        // Ends all runs that are running or waiting.
         breakOff() {
             if (!this.waiting.size) return;
             this.worker.terminate();

@@ -1,12 +1,12 @@
-// The protocol, stepped by hand: a column for each process, the nodes where they meet, and a line for
-// each step. The lines and the decisions are those that `agree --steps` writes for the schedule so far.
+// The protocol, stepped by hand: a column for each process, the nodes where they meet, and a line for each
+// step. The lines and the decisions are the output of `agree --steps` for the schedule so far.
 var Cnum = globalThis.Cnum || {};
 
 (() => {
     'use strict';
 
     const { button, element, tableOf, wide } = Cnum;
-    const STOPS = 1 / 14; // how often, in a random run, a process stops in the place of a step
+    const STOPS = 1 / 14; // how often, in a random run, a process stops instead of taking a step
     const UNDECIDED = 'undecided';
 
     // The lines of steps that say what became of a node.
@@ -17,8 +17,8 @@ var Cnum = globalThis.Cnum || {};
     ];
 
     class Protocol {
-        // Shows protocols in this place. `agree` runs the command with these inputs and this schedule;
-        // `changed` is called when what the link holds has changed, and `say` with what happened last.
+        // Shows protocols in this place. `agree` runs the command with these inputs and this schedule.
+        // `changed` is called when the content of the link has changed, and `say` with what happened last.
         constructor(place, { agree, changed, say }) {
             Object.assign(this, { place, agree, changed, say });
             this.clear('');
@@ -33,7 +33,7 @@ var Cnum = globalThis.Cnum || {};
             this.place.replaceChildren(element('p', { class: 'quiet' }, why));
         }
 
-        // Shows the plan that `show --as json` writes, after these acts with these inputs.
+        // Shows the plan of `show --as json`, after these acts with these inputs.
         show(plan, inputs, acts) {
             this.plan = plan;
             this.known = new Map();
@@ -51,7 +51,8 @@ var Cnum = globalThis.Cnum || {};
             return this.acts.some(it => it.stops && it.process === process);
         }
 
-        // What stands still: the fields and buttons of each process, the buttons for all, the nodes, the log.
+        // The parts that stay: the fields and buttons of each process, the buttons for all, the nodes, the
+        // log.
         frame() {
             this.columns = this.plan.paths.map((path, process) => this.column(path, process));
             this.undoing = button('Undo', () => this.undo());
@@ -100,7 +101,7 @@ var Cnum = globalThis.Cnum || {};
             return { whole, step, stop, decision };
         }
 
-        // Does something to the run, and shows what comes of it.
+        // Does something to the run, and shows the result.
         act(change) {
             change();
             return this.update();
@@ -110,7 +111,7 @@ var Cnum = globalThis.Cnum || {};
             return this.act(() => this.acts.pop());
         }
 
-        // Those that have neither stopped nor decided.
+        // The processes that have neither stopped nor decided.
         going(decisions) {
             return this.plan.paths.map((_, process) => process).filter(it => !this.hasStopped(it) && decisions[it] === UNDECIDED);
         }
@@ -141,8 +142,8 @@ var Cnum = globalThis.Cnum || {};
             await this.update();
         }
 
-        // What the program says of a schedule: the lines of its steps and the decisions.
-        // What it said once it need not be asked again.
+        // What the program says of a schedule: the lines of its steps and the decisions. It is asked only
+        // once for each.
         async told(schedule) {
             const words = [this.inputs.join(','), schedule.join(',') || 'none'];
             const key = words.join(' ');
@@ -198,7 +199,7 @@ var Cnum = globalThis.Cnum || {};
             this.nodes.replaceChildren(tableOf(heads, rows));
         }
 
-        // Who comes to a node, and in which team.
+        // The processes that come to a node, each with its team.
         comers(node) {
             const places = this.plan.paths.flatMap((path, process) => path.map(it => ({ ...it, process })));
             return places.filter(it => it.node === node).map(it => `process ${it.process} (${it.team})`).join(', ');

@@ -1,5 +1,5 @@
-// Changes of a table as a grid, done in its text: each gives the text with the change and all else, as
-// comments and the order of the keys, left as it was. Each wants a table that can be shown as a grid.
+// Changes of a table as a grid, done in its text. Each change gives the text with the change, and leaves all
+// else, such as comments and the order of the keys, as it was. It needs a table that can be shown as a grid.
 var Cnum = globalThis.Cnum || {};
 
 (() => {
@@ -10,7 +10,7 @@ var Cnum = globalThis.Cnum || {};
     const behind = (place, text) => ({ from: place.to, to: place.to, text });
     const added = (items, name) => behind(items[items.length - 1], `, ${quoted(name)}`);
 
-    // An item of an array taken away, with the comma that is left over.
+    // Takes an item of an array away, with the comma that is left over.
     function removed(items, index) {
         const [from, to] = index + 1 < items.length
             ? [items[index].from, items[index + 1].from]
@@ -54,7 +54,7 @@ var Cnum = globalThis.Cnum || {};
 
         renameType: (table, name) => edited(table.text, [replaced(table.entry('name').value, quoted(name))]),
 
-        // One state more, in which each operation gives the first response and changes nothing.
+        // One more state. There each operation gives the first response and changes nothing.
         addState(table) {
             const states = table.items('states');
             const name = freshName(states, 's');
@@ -63,7 +63,7 @@ var Cnum = globalThis.Cnum || {};
             return edited(table.text, [added(states, name), ...rows]);
         },
 
-        // A state less; what led to it leads to the first one that is left.
+        // One state less. What led to it leads to the first state that is left.
         removeState(table, index) {
             const states = table.items('states');
             const other = states[index ? 0 : 1];
@@ -79,7 +79,7 @@ var Cnum = globalThis.Cnum || {};
             return edited(table.text, [added(responses, freshName(responses, 'r'))]);
         },
 
-        // A response less; where it was given the first one that is left is given.
+        // One response less. The first response that is left takes its place.
         removeResponse(table, index) {
             const responses = table.items('responses');
             const other = responses[index ? 0 : 1];

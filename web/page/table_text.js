@@ -1,6 +1,6 @@
-// Where things stand in the text of a table, so that the page can mark a flaw in it and change an entry
-// of it. What is right or wrong with a table is the program's to say: of a text that is no TOML this
-// finds what it can, and refuses nothing.
+// The places in the text of a table, so that the page can mark a flaw in it and change an entry of it. The
+// program alone says what is right or wrong with a table: from a text that is no TOML, this code reads what
+// it can, and refuses nothing.
 var Cnum = globalThis.Cnum || {};
 
 (() => {
@@ -14,8 +14,8 @@ var Cnum = globalThis.Cnum || {};
     const OTHER = /[^\s,\]}#]+/y;
 
     // Reads a text from a place on. A value is { kind, from, to } with its `text`, its `items` or its
-    // `entries`; the kinds are text, array, table and other. An entry is { from, to, value }: the place
-    // of its key, and what stands there.
+    // `entries`. The kinds are text, array, table and other. An entry is { from, to, value }: the place of
+    // its key, and its value.
     class Reader {
         constructor(text) {
             this.text = text;
@@ -69,7 +69,7 @@ var Cnum = globalThis.Cnum || {};
             return table;
         }
 
-        // A key; of a dotted one the first part.
+        // A key, or the first part of a dotted one.
         key() {
             this.take(BLANK);
             const from = this.at;
@@ -103,7 +103,7 @@ var Cnum = globalThis.Cnum || {};
             return { kind: 'other', from, to: this.at };
         }
 
-        // What stands between brackets, with a comma between two.
+        // The items between brackets, with a comma between two.
         closed(value, end, takeOne) {
             for (this.take(SPACE); this.at < this.text.length && !this.takes(end); this.take(SPACE)) {
                 const before = this.at;
@@ -123,7 +123,7 @@ var Cnum = globalThis.Cnum || {};
         return inner.endsWith(marks[0]) ? inner.slice(0, -marks[0].length) : inner;
     }
 
-    // The parts of a table in its text; a part that is not there, or of another kind, is left out.
+    // The parts of a table in its text. A part that is missing, or of another kind, is left out.
     class TableText {
         constructor(text) {
             this.text = text;
@@ -144,7 +144,7 @@ var Cnum = globalThis.Cnum || {};
             return itemsOf(this.root, key);
         }
 
-        // Whether it can be shown as a grid: each of its operations has an entry for each state.
+        // Whether the page can show it as a grid: each of its operations has an entry for each state.
         isGrid() {
             const areTexts = items => items.length > 0 && items.every(it => it.kind === 'text');
             const [states, responses, name] = [this.items('states'), this.items('responses'), this.entry('name')];

@@ -1,3 +1,3 @@
--- What is written of a log.
+-- The lines of a log.
 pub mod Log
 pub mod Threads

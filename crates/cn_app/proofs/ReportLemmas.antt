@@ -1,4 +1,4 @@
--- What the commands have to say.
+-- The reports of the commands.
 pub mod AcceptedWitnesses
 pub mod FoundCertificates
 pub mod Numbers

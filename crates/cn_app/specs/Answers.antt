@@ -6,11 +6,11 @@ use Rattle.cn_log.specs.declared.event.CallEnd.{CallEnd}
 use Rattle.cn_log.specs.declared.event.CallEnd.TheVariants.{Answered, Full}
 use Rattle.cn_log.specs.declared.event.Event.{Event}
 
--- how an event ends a call that comes after these, if it ends one
+-- how an event after these ends a call, if it ends one
 abbrev pub ends_by : {R : Type 0} → Setting R → List Event → Event → List CallEnd
 ends_by L before e = option_to_list (call_end L before e)
 
--- how the events end calls, in order, where the others came before
+-- how the events end calls, in order, after the events `before`
 abbrev pub ends_after : {R : Type 0} → Setting R → List Event → List Event → List CallEnd
 ends_after L before [] = []
 ends_after L before (e ∷ es) = ends_by L before e ++ ends_after L (before ++ e ∷ []) es

@@ -1,4 +1,4 @@
--- The text of each fault, as it stands behind `cnum: ` on standard error, and its exit status.
+-- The text of each fault, as standard error has it behind `cnum: `, and its exit status.
 use Rattle.std.specs.Prelude.{ℕ, List, codes, ◌++◌, [], Bool, true, false}
 use Rattle.cn_table.specs.FaultText.{table_fault_text}
 use Rattle.cn_table.specs.declared.fault.TableFault.TheVariants as table
@@ -34,7 +34,7 @@ source_text source.Certificate = codes "certificate"
 source_text source.Object = codes "object"
 source_text (source.Argument a) = argument_text a
 
--- the same fault, with want of memory in whatever layer as one
+-- the same fault; want of memory in any layer becomes one fault
 abbrev pub plain_of : AppFault → AppFault
 plain_of (fault.Table table.OutOfMemory) = fault.OutOfMemory
 plain_of (fault.Object table.OutOfMemory) = fault.OutOfMemory
@@ -44,7 +44,7 @@ plain_of (fault.Schedule schedule.OutOfMemory) = fault.OutOfMemory
 plain_of (fault.Replay replay.OutOfMemory) = fault.OutOfMemory
 plain_of f = f
 
--- the words before the text of the fault that it carries
+-- the words before the text of the carried fault
 abbrev pub head_of : AppFault → List ℕ
 head_of fault.Words = codes "words refused"
 head_of (fault.Argument a) = codes "argument: "
@@ -62,7 +62,7 @@ head_of fault.Write = codes "cannot write"
 head_of fault.Thread = codes "cannot start a thread"
 head_of fault.OutOfMemory = codes "out of memory"
 
--- the text of the fault that it carries
+-- the text of the carried fault
 abbrev pub carried_text : AppFault → List ℕ
 carried_text (fault.Table f) = table_fault_text f
 carried_text (fault.Object f) = table_fault_text f
@@ -73,18 +73,18 @@ carried_text (fault.Schedule f) = schedule_fault_text f
 carried_text (fault.Replay f) = replay_fault_text f
 carried_text f = []
 
--- and the words behind it
+-- the words behind it
 abbrev pub tail_of : AppFault → List ℕ
 tail_of (fault.Argument a) = argument_text a
 tail_of (fault.TooLong s) = codes ": too long"
 tail_of (fault.Read s) = source_text s
 tail_of f = []
 
--- the whole text; want of memory reads the same in whatever layer it was met
+-- the whole text; want of memory reads the same in every layer
 abbrev pub app_fault_text : AppFault → List ℕ
 app_fault_text f = head_of (plain_of f) ++ carried_text (plain_of f) ++ tail_of f
 
--- the status of a fault that is plain
+-- the status of a plain fault
 abbrev pub plain_status : AppFault → ℕ
 plain_status (fault.Check f) = 1
 plain_status fault.NoWitness = 1
@@ -110,7 +110,7 @@ abbrev pub of_serving : ServeFault → AppFault
 of_serving serving.Thread = fault.Thread
 of_serving serving.OutOfMemory = fault.OutOfMemory
 
--- a fault of the limit or of the writer would be that of every table
+-- every table would have a fault of the limit or of the writer
 abbrev pub is_of_every_table : AppFault → Bool
 is_of_every_table (fault.Find f) = true
 is_of_every_table fault.Write = true

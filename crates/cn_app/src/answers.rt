@@ -1,4 +1,4 @@
-//! What comes of events, one after the other.
+//! The run of a list of events on a new log.
 ghost use Rattle.std.specs.Prelude.{◌≡◌, ◌≢◌, ◌<◌, ◌≤◌, ◌+◌, ◌++◌, ◌∷◌, [], List, length, vec_capacity, vec_len, IfErr, IfOk, OnOk};
 ghost use Rattle.cn_log.specs.Faults.{IsFirstEventFault};
 ghost use Rattle.cn_log.specs.Linearized.{IsLinearized};
@@ -13,14 +13,14 @@ use cn_log::laws::logs_are_linearized;
 use cn_log::{CallEnd, Event, LogCore, Opening, ReplayFault};
 use std::alloc::Global;
 
-/// The core in which the events happened, and how they ended calls, in order.
+/// The core after the events, and how they ended calls, in order.
 #[derive(Drop)]
 pub(crate) struct ReplayHistory {
     pub core: LogCore,
     pub ends: Vec<CallEnd>,
 }
 
-/// The event comes, if it can. If it ends a call, that goes behind the others.
+/// Takes one event into the core. If it ends a call, appends how to `ends`.
 fn come(core: &mut LogCore, event: Event, ends: &mut Vec<CallEnd>) -> Result<(), ReplayFault>
     requires room { vec_len ends.old < vec_capacity ends.old }
     ensures core { OnOk result
@@ -40,8 +40,7 @@ fn come(core: &mut LogCore, event: Event, ends: &mut Vec<CallEnd>) -> Result<(),
     Ok(())
 }
 
-/// What comes of the events, one after the other, in a log of this opening in which nothing has
-/// happened before.
+/// Takes the events, one after the other, into a new log of this opening.
 pub(crate) fn answers_of(
     alloc: Global,
     opening: Opening,

@@ -1,12 +1,13 @@
 //! The commands: each reads what it needs, does its work, and writes a report.
 //!
-//! A [`Text`](crate::Text) keeps the bytes that its reader has given, and an
-//! [`Output`](crate::Output) those that were handed to its writer. So what a command promises is
-//! said of the bytes that were read and of the bytes that were written, whatever the streams are. A
-//! caller gives a reader by [`Text::new`](crate::Text::new) and a writer by
-//! [`Output::new`](crate::Output::new), and finds both in their fields afterwards.
+//! A [`Text`](crate::Text) keeps the bytes that its reader has given. An [`Output`](crate::Output)
+//! keeps the bytes that were handed to its writer. So the contract of a command speaks of the bytes
+//! read and the bytes written, for any streams. A caller wraps a reader by
+//! [`Text::new`](crate::Text::new) and a writer by [`Output::new`](crate::Output::new), and
+//! afterwards takes them back by [`Text::into_reader`](crate::Text::into_reader) and
+//! [`Output::into_writer`](crate::Output::into_writer).
 //!
-//! A command that fails has written nothing, but where its writer failed.
+//! A command that fails has written nothing, unless its writer failed.
 
 mod of_certificates;
 mod of_logs;

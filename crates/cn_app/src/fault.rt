@@ -1,4 +1,4 @@
-//! What a command can be refused for, in words and as an exit status.
+//! The faults of commands, with their texts and exit statuses.
 ghost use Rattle.std.specs.Prelude.{◌≡◌, Some};
 ghost use Rattle.cn_app.specs.declared.fault.AppFault.TheVariants.{OutOfMemory};
 
@@ -47,9 +47,9 @@ pub enum Argument {
 /// Why a command wrote nothing, or could not write.
 #[derive(Clone, Copy, Debug, PartialEq, Eq)]
 pub enum AppFault {
-    /// The words of the command line were refused; made by the program alone.
+    /// The words of the command line were refused. Only the program makes this fault.
     Words,
-    /// An argument is not spelled as it should be.
+    /// An argument was refused.
     Argument(Argument),
     /// The text of the type table was refused.
     Table(TableFault),
@@ -75,7 +75,7 @@ pub enum AppFault {
     Write,
     /// A thread could not be started.
     Thread,
-    /// A growth was refused, in whatever layer.
+    /// An allocation was refused, in any layer.
     OutOfMemory,
 }
 
@@ -148,7 +148,7 @@ impl fmt::Display for Argument {
 impl AppFault {
     ghost use Rattle.cn_app.specs.FaultText.{head_of, is_of_every_table, plain_of, status_of, tail_of};
 
-    /// The same fault, with want of memory in whatever layer as `OutOfMemory`.
+    /// The same fault; want of memory in any layer becomes `OutOfMemory`.
     pub fn plain(&self) -> AppFault
         ensures { result ≡ plain_of self.now }
     {
@@ -163,8 +163,8 @@ impl AppFault {
         }
     }
 
-    /// The words of its text before the text of the fault that it carries, or, where it carries
-    /// none, before the [`tail`](AppFault::tail).
+    /// The words before the text of the fault that it carries. If it carries none, the words before
+    /// the [`tail`](AppFault::tail).
     pub fn head(&self) -> &'static str
         ensures { result.now ≡ head_of (plain_of self.now) }
     {
@@ -187,7 +187,7 @@ impl AppFault {
         }
     }
 
-    /// The words of its text behind the text of the fault that it carries, if any.
+    /// The words behind the text of the fault that it carries, if there are any.
     pub fn tail(&self) -> &'static str
         ensures { result.now ≡ tail_of self.now }
     {
@@ -199,10 +199,13 @@ impl AppFault {
         }
     }
 
-    /// The exit status of the program: 1 where the certificate was checked and is refused or has no
-    /// witness, 2 for a text that is refused, 3 for words, an argument, a limit, a count of
-    /// choices, a schedule or events that are refused, 4 where reading or writing failed or
-    /// no thread could be started, 5 for want of memory.
+    /// The exit status of the program:
+    ///
+    /// - 1: the check refused the certificate, or the certificate has no witness;
+    /// - 2: a text was refused;
+    /// - 3: words, an argument, a limit, a count of choices, a schedule or events were refused;
+    /// - 4: reading or writing failed, or a thread could not be started;
+    /// - 5: want of memory.
     pub fn status(&self) -> u8
         ensures { result ≡ status_of self.now }
     {
@@ -217,8 +220,7 @@ impl AppFault {
         }
     }
 
-    /// Whether it would be the fault of every table that is classified: it is one of the limit or of
-    /// the writer.
+    /// Whether every table would have this fault: it is one of the limit or of the writer.
     pub fn is_of_every_table(&self) -> bool
         ensures { result ≡ is_of_every_table self.now }
     {

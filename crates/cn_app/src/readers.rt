@@ -1,5 +1,5 @@
-//! What a command reads, one reader for each shape of input: a table; a table and a certificate that
-//! was checked; these and an object, for the opening of a log.
+//! The readers of commands, one for each shape of input: a table; a table and a checked
+//! certificate; these and an object, for the opening of a log.
 
 pub(crate) mod checked;
 pub(crate) mod opening;

@@ -1,4 +1,4 @@
-//! What a command has to say.
+//! Reports: what a command writes, and how it ends.
 ghost use Rattle.std.specs.Prelude.{◌≡◌};
 
 use cn_table::TableFault;
@@ -8,7 +8,7 @@ use cn_table::TableFault;
 pub enum Outcome {
     /// All was done.
     Whole,
-    /// All was done, but some call found the log full or was stopped, and has no reply: the output
+    /// All was done, but some call found the log full or was stopped, and has no reply. The output
     /// says which.
     Cut,
     /// The table is refused for this fault: its flaws were written.
@@ -18,7 +18,7 @@ pub enum Outcome {
 impl Outcome {
     ghost use Rattle.cn_app.specs.Outcomes.{cut_if};
 
-    /// Cut where some call has no reply, and else whole.
+    /// `Cut` if some call has no reply, and else `Whole`.
     pub(crate) fn cut_if(is_cut: bool) -> Outcome
         ensures { result ≡ cut_if is_cut }
     {
@@ -36,7 +36,7 @@ pub struct Report {
 }
 
 impl Report {
-    /// A report of all that was to be done.
+    /// A report that ends with `Whole`.
     pub(crate) fn whole(text: String) -> Report
         ensures text { result.text ≡ text }
         ensures outcome { result.outcome ≡ Outcome.Whole }

@@ -1,6 +1,6 @@
 //! The work of each command: a function of values, with no stream.
 //!
-//! What a command has to say is a [`Report`](crate::Report). The commands themselves
+//! The result is a [`Report`](crate::Report). The commands themselves
 //! ([`commands`](crate::commands)) read the values and write the reports.
 
 mod agree;

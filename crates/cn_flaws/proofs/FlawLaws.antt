@@ -1,4 +1,4 @@
--- The first flaw of bytes is of the first fault that they have.
+-- The first flaw of bytes is of their first fault.
 use Rattle.std.proofs.Common.{◌≡◌, codes, ℕ, ◌+◌, List, [], ◌∷◌, ◌++◌, length, take, Option, Some, None, Bool, true, false, ◌&&◌, ◌||◌, not, cond, is_none, is_some, ◌≤◌, Vec, Global, Result, Ok, Err, IfOk, append_assoc, refl, ap, sym, true≢false, ◌∙◌}
 use Rattle.std.specs.Prelude.{flat_map, nat_le, ◌==◌, option_map, option_and_then}
 use Rattle.std.specs.Prelude.{IsUtf8}
@@ -30,7 +30,7 @@ use Rattle.cn_table.proofs.Lists.{none_skipped}
 
 -- ---- which fault comes first
 
--- this fault, if so
+-- this fault, if the test holds
 abbrev told : TableFault → Bool → Option TableFault
 told k b = cond b (Some k) None
 
@@ -50,7 +50,7 @@ told_if : (k : TableFault) (text : List ℕ) (b : Bool) → first_fault (cond b 
 told_if k text true = refl
 told_if k text false = refl
 
--- what is found in each thing of a list is of one fault
+-- the flaws of each thing of a list are of one fault
 told_flat : {X : Type 0} (k : TableFault) (flaw_class : X → List Flaw) (test : X → Bool) → ((x : X) → first_fault (flaw_class x) ≡ told k (test x)) → (xs : List X)
     → first_fault (flat_map flaw_class xs) ≡ told k (list_any test xs)
 told_flat k flaw_class test same [] = refl
@@ -170,7 +170,7 @@ not_not : (b : Bool) → not (not b) ≡ b
 not_not true = refl
 not_not false = refl
 
--- an array of operations is an array in which no item is none
+-- an array of operations is an array whose items are all operations
 is_array_of_operations : (document : Members) → (is_at is_array (codes "operation") document
     && not (option_map_or (list_any (λ d. not (is_operation d))) (array_at (codes "operation") document) false)) ≡ is_at (is_array_of is_operation) (codes "operation") document
 is_array_of_operations document = of_value (get_member (codes "operation") document) where
@@ -249,11 +249,11 @@ counts_first draft =
 stands_itself : (t : List ℕ) (ts : List (List ℕ)) → stands_in (t ∷ ts) t ≡ true
 stands_itself t ts = rw ((bytes_eq-Decides t t).1 refl) refl
 
--- none of these names stands in those behind
+-- no name of `before` is one of `names`
 abbrev IsNew : List (List ℕ) → List (List ℕ) → Type 0
 IsNew before names = (name : List ℕ) → stands_in before name ≡ true → stands_in names name ≡ false
 
--- a name that stands first here and not again behind joins those before
+-- a name that stands first here and not again joins the names before
 new_joined : (before : List (List ℕ)) (t : List ℕ) (ts : List (List ℕ)) → IsNew before (t ∷ ts) → stands_in ts t ≡ false → IsNew (before ++ t ∷ []) ts
 new_joined before t ts new once name there = by_place (stands_in before name) refl (sym (list_any-append (λ u. bytes_eq u name) before (t ∷ [])) ∙ there)
   where
@@ -265,7 +265,7 @@ new_joined before t ts new once name there = by_place (stands_in before name) re
         by_name true is h = ap (stands_in ts) (sym ((bytes_eq-Decides t name).0 is)) ∙ once
         by_name false is h = absurd (true≢false (sym h))
 
--- the names from one place on, where none of those before stands in them
+-- the repeated names from one place on, if no name before is one of them
 repeats_from : (what : List ℕ) (names before rest : List (List ℕ)) → before ++ rest ≡ names → IsNew before rest
     → first_fault (each (repeat_at what names) (length before) rest) ≡ told Repeated (has_repeat rest)
 repeats_from what names before [] split new = refl
@@ -323,7 +323,7 @@ entries_first draft =
 
 -- ---- all of them
 
--- a part of one fault, and the rest where it has nothing
+-- a part of one fault, and the rest if the part is empty
 next_first : (k : TableFault) (xs ys : List Flaw) (b : Bool) (o : Option TableFault) → first_fault xs ≡ told k b → (b ≡ false → first_fault ys ≡ o)
     → first_fault (xs ++ ys) ≡ cond b (Some k) o
 next_first k xs ys true o here later = first_append xs ys ∙ rw here refl
@@ -355,7 +355,7 @@ document_first document =
     of_draft None = refl
     of_draft (Some draft) = draft_first draft
 
--- the first fault by the document
+-- the first fault of a document
 abbrev document_fault : Option Members → Option TableFault
 document_fault o =
     cond (is_none o) (Some NotToml)
@@ -384,12 +384,12 @@ text_first place text = of_document (parse_document text) where
   of_document None = refl
   of_document (Some document) = document_first document ∙ by_draft (has_unknown_key document) (has_missing_key document) (has_wrong_kind document) (draft_of document)
 
--- the first flaw is of the first fault; so there is none exactly where there is no fault
+-- the first flaw is of the first fault, so there is a flaw exactly if there is a fault
 pub first_is_fault : (place : ℕ) (bytes : List ℕ) → is_utf8 bytes ≡ true → first_fault (flaws_at place bytes) ≡ fault_of bytes
 unfolding fault_of
 first_is_fault place bytes valid = rw valid (text_first place bytes)
 
--- the same of flaws in memory
+-- the same for flaws in memory
 pub first_in_memory : {E : Type 0} (r : Result (Vec code_flaw.Flaw Global) E) (bytes : List ℕ)
     → IfOk r (λ v. (p : ℕ) × (p ≤ length bytes) × (flaws_view v ≡ flaws_at p bytes)) → IfOk r (λ v. IsUtf8 bytes → first_fault (flaws_view v) ≡ fault_of bytes)
 first_in_memory (Ok v) bytes found = λ valid. ap first_fault found.2 ∙ first_is_fault found.0 bytes (is_utf8-from_IsUtf8 bytes valid)

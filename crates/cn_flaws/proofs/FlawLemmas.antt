@@ -1,4 +1,4 @@
--- Flaws that are found in one thing after another, and the keys and items in which they are found.
+-- Flaws of one thing after another, and the keys and items that have them.
 use Rattle.std.proofs.Common.{◌≡◌, ℕ, ◌<◌, ◌≤◌, ◌+◌, List, [], ◌∷◌, ◌++◌, length, drop, take, get_or, map, Bool, true, false, Option, Some, None, Bor, String, Vec, Global, Result, Ok, Err, IfOk, string_bytes, append_assoc, refl, ap, sym, ◌∙◌}
 use Rattle.std.specs.Prelude.{option_map}
 use Rattle.std.specs.List.{list_all, list_any}
@@ -23,7 +23,7 @@ pub keys_of_view : (es : List (String Global × Value)) → map (λ k. string_by
 keys_of_view [] = refl
 keys_of_view (e ∷ es) = ap (λ ks. string_bytes e.0 ∷ ks) (keys_of_view es)
 
--- an array whose items in memory are of a kind
+-- an array whose items in memory are of a kind is an array of that kind
 pub items_are : (kind : Data → Bool) (d : Data) (vs : List Value) → option_map list_of (as_array d) ≡ Some (map view vs)
     → list_all (λ v. kind (view v)) vs ≡ is_array_of kind d
 items_are kind d vs are = of_array (as_array d) are where
@@ -32,14 +32,14 @@ items_are kind d vs are = of_array (as_array d) are where
   of_array None e = cc
   of_array (Some items) e = let same : list_of items ≡ map view vs = cc in rw same (sym (list_all-map kind view vs))
 
--- what is found in one more thing stands behind what was found before
+-- the flaws of one more thing stand behind those before
 pub each_more : {V X : Type 0} (find : ℕ → X → List Flaw) (f : V → X) (old new all : List Flaw) (vs : List V) (i : ℕ) (v : V) → i < length vs → v ≡ get_or vs i v
     → new ≡ old ++ find i (f v) → old ++ each find i (map f (drop i vs)) ≡ all → new ++ each find (i + 1) (map f (drop (i + 1) vs)) ≡ all
 each_more find f old new all vs i v within is step before =
     let split = rw (drop_more vs i v within, ← is) at before in
     rw step (append_assoc old (find i (f v)) _ ∙ split)
 
--- a key that is one of those known, and one that is not
+-- a known key and an unknown key
 pub other_key_passed : (before after : List ℕ) (known : List (Bor (List ℕ))) (key : List ℕ) (keys : List (List ℕ)) (old all : List Flaw)
     → list_any (λ k. bytes_eq k.now key) known ≡ true → old ++ other_keys before after (map (λ k. k.now) known) (key ∷ keys) ≡ all
     → old ++ other_keys before after (map (λ k. k.now) known) keys ≡ all
@@ -52,7 +52,7 @@ other_key_more before after known key keys old new all none step so_far =
     let split = rw (list_any-map (λ k. bytes_eq k key) (λ k. k.now) known, none) at so_far in
     rw step (append_assoc old (flaw UnknownKey (other_key_text before after key)) _ ∙ split)
 
--- a name stands among the names of the first things, or of those behind, where it stands among theirs
+-- a name stands among the first i names, or among those behind, if it stands among those of the things there
 pub stands_before : {V : Type 0} (f : V → List ℕ) (vs : List V) (i : ℕ) (name : List ℕ) → list_any (λ v. bytes_eq (f v) name) (take i vs) ≡ stands_in (take i (map f vs)) name
 stands_before f vs i name = sym (list_any-map (λ t. bytes_eq t name) f (take i vs)) ∙ ap (λ ts. stands_in ts name) (sym (take-map f i vs))
 
@@ -71,7 +71,7 @@ pub repeat_again : (what : List ℕ) (names : List (List ℕ)) (i : ℕ) (name :
     → repeat_at what names i name ≡ flaw Repeated (repeated_text what (places_of name 0 names) name)
 repeat_again what names i name first again = rw (first, again) refl
 
--- flaws that are those of a text at some place
+-- the flaws of a text at some place
 pub placed : {E : Type 0} (r : Result (Vec code_flaw.Flaw Global) E) (there : List Flaw) (place : ℕ) (text : List ℕ) → place ≤ length text → text_flaws place text ≡ there
     → IfOk r (λ v. flaws_view v ≡ there) → IfOk r (λ v. (p : ℕ) × (p ≤ length text) × (flaws_view v ≡ text_flaws p text))
 placed (Ok v) there place text within are found = (place, within, found ∙ sym are)

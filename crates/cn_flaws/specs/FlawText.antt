@@ -1,4 +1,4 @@
--- The text of a flaw: what is wrong, and where.
+-- The text of a flaw: the error and its place.
 use Rattle.std.specs.Prelude.{codes, ℕ, ◌+◌, List, [], ◌∷◌, ◌++◌, length, map, if◌then◌else◌, Bool, ◌==◌, ◌&&◌, nat_le}
 use Rattle.std.specs.Fmt.{decimal}
 use Rattle.std.specs.List.{list_all}
@@ -6,7 +6,7 @@ use Rattle.cn_table.specs.Names.{is_from, is_name}
 use Rattle.cn_table.specs.Texts.{code_of, joined_texts}
 use Rattle.cn_table.specs.declared.limits.TheConstants.{LONGEST_NAME, MOST_STATES}
 
--- a byte as it is shown: a question mark where it is none that ASCII prints
+-- a byte as it is shown: a question mark for a byte that ASCII does not print
 abbrev pub shown_byte : ℕ → ℕ
 shown_byte b = if is_from (codes " ~") b then b else code_of (codes "?")
 
@@ -14,15 +14,15 @@ shown_byte b = if is_from (codes " ~") b then b else code_of (codes "?")
 abbrev pub in_quotes : List ℕ → List ℕ
 in_quotes text = codes "\"" ++ (map shown_byte text ++ codes "\"")
 
--- an operation: by its name, where it is one, else by its place in the array
+-- the words for an operation: its name, if that is a name, or else its place in the array
 abbrev pub operation_text : ℕ → List ℕ → List ℕ
 operation_text i name = if is_name name then codes "operation \"" ++ (name ++ codes "\"") else codes "operation[" ++ (decimal i ++ codes "]")
 
--- a byte that goes on with a character of UTF-8
+-- a byte that continues a character of UTF-8
 abbrev pub goes_on : ℕ → Bool
 goes_on b = nat_le 128 b && nat_le b 191
 
--- the line and the column, from 1, behind these bytes, where the first of them stands at this line and column; a column counts characters
+-- the line and the column, from 1, behind these bytes, if the first of them stands at this line and column; a column counts characters
 abbrev pub place_after : ℕ → ℕ → List ℕ → ℕ × ℕ
 place_after line column [] = (line, column)
 place_after line column (b ∷ bs) =
@@ -31,15 +31,15 @@ place_after line column (b ∷ bs) =
 abbrev pub not_toml_text : ℕ × ℕ → List ℕ
 not_toml_text place = codes "line " ++ (decimal place.0 ++ (codes ", column " ++ (decimal place.1 ++ codes ": not TOML")))
 
--- a key that should not be there: `before` says of what it is, and `after` which keys that has
+-- a key that should not be there: `before` says where it is, and `after` which keys belong there
 abbrev pub other_key_text : List ℕ → List ℕ → List ℕ → List ℕ
 other_key_text before after key = before ++ (in_quotes key ++ after)
 
--- a key that should be there
+-- a missing key
 abbrev pub missing_key_text : List ℕ → List ℕ → List ℕ
 missing_key_text place key = place ++ (codes " has no \"" ++ (key ++ codes "\""))
 
--- a value of another kind than it should be
+-- a value of a wrong kind
 abbrev pub kind_text : List ℕ → List ℕ → List ℕ → List ℕ
 kind_text before key kind = before ++ (codes "\"" ++ (key ++ (codes "\": not " ++ kind)))
 
@@ -55,16 +55,16 @@ too_many_text what most count = decimal count ++ (codes " " ++ (what ++ (codes "
 abbrev pub too_few_text : List ℕ → List ℕ
 too_few_text what = codes "0 " ++ (what ++ codes "; at least 1")
 
--- what stands before so many more places
+-- what stands before so many further places
 abbrev pub before_places : ℕ → List ℕ
 before_places more = if more == 0 then [] else (if more == 1 then codes " and " else codes ", ")
 
--- places of things that are called `what`, with a comma between two, and `and` before the last
+-- the places of things called `what`, with a comma between two, and `and` before the last
 abbrev pub places_text : List ℕ → List ℕ → List ℕ
 places_text what [] = []
 places_text what (i ∷ others) = what ++ (codes "[" ++ (decimal i ++ (codes "]" ++ (before_places (length others) ++ places_text what others))))
 
--- so many things
+-- the word for so many things
 abbrev pub both_or_all : ℕ → List ℕ
 both_or_all count = if count == 2 then codes "both" else codes "all"
 
@@ -78,16 +78,16 @@ entries_text n = if n == 1 then codes "1 entry" else decimal n ++ codes " entrie
 abbrev pub states_text : ℕ → List ℕ
 states_text n = if n == 1 then codes "there is 1 state" else codes "there are " ++ (decimal n ++ codes " states")
 
--- a row with so many entries, where there are so many states
+-- a row with so many entries, for so many states
 abbrev pub length_text : List ℕ → List ℕ → ℕ → ℕ → List ℕ
 length_text operation row count states = operation ++ (codes ": " ++ (row ++ (codes " has " ++ (entries_text count ++ (codes ", " ++ states_text states)))))
 
--- the names in brackets, where they are few names
+-- the names in brackets, if they are few
 abbrev pub names_in_brackets : List (List ℕ) → List ℕ
 names_in_brackets names =
     if nat_le (length names) MOST_STATES && list_all is_name names then codes " (" ++ (joined_texts (codes ", ") names ++ codes ")") else []
 
--- an entry of a row that is none of the names
+-- an entry of a row that is no known name
 abbrev pub entry_text : List ℕ → List ℕ → ℕ → List ℕ → List ℕ → List ℕ → List ℕ
 entry_text operation row k text what names =
     operation ++ (codes ", " ++ (row ++ (codes "[" ++ (decimal k ++ (codes "]: " ++ (in_quotes text ++ (codes " is no " ++ (what ++ names))))))))

@@ -1,4 +1,4 @@
--- What is wrong with the bytes of a table, and where: flaws, in the order of the faults.
+-- The flaws of the bytes of a table, in the order of the faults.
 use Rattle.std.specs.Prelude.{codes, ℕ, ◌+◌, List, [], ◌∷◌, ◌++◌, length, map, flat_map, take, drop, if◌then◌else◌, Bool}
 use Rattle.std.specs.Prelude.{true, ◌==◌, Option, Some, None, is_some, nat_le, unwrap_or, Vec, string_bytes}
 use Rattle.std.specs.List.{list_any}
@@ -23,7 +23,7 @@ use Rattle.cn_flaws.specs.declared.document_flaws.FlawClass.TheVariants.{OtherKe
 use Rattle.cn_flaws.specs.declared.flaw.Flaw as code_flaw
 use Rattle.cn_table.specs.declared.limits.TheConstants.{MOST_OPERATIONS, MOST_RESPONSES, MOST_STATES}
 
--- a fault, and what is wrong where
+-- a fault, and the text of the error and its place
 pub record Flaw : Type 0 where
   pub fault : TableFault
   pub text : List ℕ
@@ -39,7 +39,7 @@ flaw_view f = record { fault = f.fault; text = string_bytes f.text }
 abbrev pub flaws_view : Vec code_flaw.Flaw Global → List Flaw
 flaws_view v = map flaw_view v.items
 
--- what is found in each thing, the places counted from i on
+-- the flaws of each thing, with the places counted from i on
 abbrev pub each : {X : Type 0} → (ℕ → X → List Flaw) → ℕ → List X → List Flaw
 each find i [] = []
 each find i (x ∷ xs) = find i x ++ each find (i + 1) xs
@@ -51,14 +51,14 @@ abbrev pub other_keys : List ℕ → List ℕ → List (List ℕ) → List (List
 other_keys before after known keys =
     flat_map (λ key. if list_any (λ k. bytes_eq k key) known then [] else flaw UnknownKey (other_key_text before after key)) keys
 
--- those of these keys that are not there
+-- those of these keys that are missing
 abbrev pub missing_keys : List ℕ → List (List ℕ) → Members → List Flaw
 missing_keys place known table = flat_map (λ key. if is_some (get_member key table) then [] else flaw MissingKey (missing_key_text place key)) known
 
 abbrev pub is_array : Data → Bool
 is_array d = is_some (as_array d)
 
--- whether a value is of the kind, and what the kind is called; that the items of an array are tables is looked at one by one
+-- whether a value is of the kind, and the words for the kind; the items of an array of tables are judged one by one
 abbrev pub is_of : Kind → Data → Bool
 is_of Text = is_text
 is_of Texts = is_array_of is_text
@@ -73,11 +73,11 @@ kind_name Tables = codes "an array of tables"
 abbrev pub wrong_kind : Kind → List ℕ → List ℕ → Members → List Flaw
 wrong_kind kind before key table = if option_map_or (is_of kind) (get_member key table) true then [] else flaw WrongKind (kind_text before key (kind_name kind))
 
--- how the table of an operation is called
+-- the words for the table of an operation
 abbrev pub table_text : ℕ → Members → List ℕ
 table_text i table = operation_text i (unwrap_or (text_at (codes "name") table) [])
 
--- what is looked for in the table of an operation: keys that are not its three, those of the three that are not there, values that are not of their kind
+-- the flaws of the table of an operation: keys beside its three, those of the three that are missing, values of a wrong kind
 abbrev pub table_flaws : FlawClass → ℕ → Members → List Flaw
 table_flaws OtherKeys i table = other_keys (table_text i table ++ codes ", ") (codes ": an operation has name, response, next") operation_keys (keys_in table)
 table_flaws MissingKeys i table = missing_keys (table_text i table) operation_keys table
@@ -86,21 +86,21 @@ table_flaws Kinds i table =
     ++ (wrong_kind Texts (table_text i table ++ codes ", ") (codes "response") table
     ++ wrong_kind Texts (table_text i table ++ codes ", ") (codes "next") table)
 
--- and in what is no table
+-- the flaws of what is no table
 abbrev pub no_table_flaws : FlawClass → ℕ → List Flaw
 no_table_flaws OtherKeys i = []
 no_table_flaws MissingKeys i = []
 no_table_flaws Kinds i = flaw WrongKind (no_operation_text i)
 
--- in an item of the array `operation`
+-- the flaws of an item of the array `operation`
 abbrev pub item_flaws : FlawClass → ℕ → Data → List Flaw
 item_flaws flaw_class i d = option_map_or (table_flaws flaw_class i) (as_table d) (no_table_flaws flaw_class i)
 
--- in each item, where it is an array
+-- the flaws of all items, if there is such an array
 abbrev pub operation_flaws : FlawClass → Members → List Flaw
 operation_flaws flaw_class document = option_map_or (each (item_flaws flaw_class) 0) (array_at (codes "operation") document) []
 
--- in the root
+-- the flaws of the root
 abbrev pub root_flaws : FlawClass → Members → List Flaw
 root_flaws OtherKeys document = other_keys [] (codes ": the root has name, states, responses, operation") root_keys (keys_in document)
 root_flaws MissingKeys document = missing_keys (codes "the root") root_keys document
@@ -109,7 +109,7 @@ root_flaws Kinds document =
     ++ (wrong_kind Texts [] (codes "states") document
     ++ (wrong_kind Texts [] (codes "responses") document ++ wrong_kind Tables [] (codes "operation") document))
 
--- in the whole document
+-- the flaws of the whole document
 abbrev pub flaws_by : FlawClass → Members → List Flaw
 flaws_by flaw_class document = root_flaws flaw_class document ++ operation_flaws flaw_class document
 
@@ -124,7 +124,7 @@ name_flaws draft =
     ++ (flat_map (bad_name (codes "state")) draft.states
     ++ (flat_map (bad_name (codes "response")) draft.responses ++ flat_map (bad_name (codes "operation")) (row_names draft.operations)))
 
--- not from 1 to this many
+-- a count that is not from 1 to this many
 abbrev pub bad_count : List ℕ → ℕ → ℕ → List Flaw
 bad_count what most count =
     if nat_le 1 count then (if nat_le count most then [] else flaw Count (too_many_text what most count)) else flaw Count (too_few_text what)
@@ -139,11 +139,11 @@ abbrev pub places_of : List ℕ → ℕ → List (List ℕ) → List ℕ
 places_of name i [] = []
 places_of name i (t ∷ ts) = if bytes_eq t name then i ∷ places_of name (i + 1) ts else places_of name (i + 1) ts
 
--- the name stands among these
+-- the name is one of these
 abbrev pub stands_in : List (List ℕ) → List ℕ → Bool
 stands_in names name = list_any (λ t. bytes_eq t name) names
 
--- the name at place i, where it stands there first and again behind, with all its places
+-- the name at place i, if it stands there first and again behind, with all its places
 abbrev pub repeat_at : List ℕ → List (List ℕ) → ℕ → List ℕ → List Flaw
 repeat_at what names i name =
     if stands_in (take i names) name then [] else
@@ -157,7 +157,7 @@ unfoldable pub repeat_flaws : Draft → List Flaw
 repeat_flaws draft =
     repeats (codes "state") draft.states ++ (repeats (codes "response") draft.responses ++ repeats (codes "operation") (row_names draft.operations))
 
--- a row that has not an entry for each state
+-- a row that lacks an entry for each state
 abbrev pub bad_length : List ℕ → List ℕ → ℕ → ℕ → List Flaw
 bad_length operation row count states = if count == states then [] else flaw RowLength (length_text operation row count states)
 
@@ -169,7 +169,7 @@ row_lengths states i row =
 unfoldable pub length_flaws : Draft → List Flaw
 length_flaws draft = each (row_lengths (length draft.states)) 0 draft.operations
 
--- an entry that is none of the names
+-- an entry that is no known name
 abbrev pub unknown_entry : List ℕ → List ℕ → List ℕ → List (List ℕ) → ℕ → List ℕ → List Flaw
 unknown_entry operation row what names k text =
     if is_some (number_of names text) then [] else flaw UnknownName (entry_text operation row k text what (names_in_brackets names))
@@ -188,12 +188,12 @@ draft_flaws draft = name_flaws draft ++ (count_flaws draft ++ (repeat_flaws draf
 
 -- ---- of bytes
 
--- all flaws of a document; those of names and counts are looked for where each value is of its kind
+-- all flaws of a document; those of names and counts only if each value is of its kind
 unfoldable pub document_flaws : Members → List Flaw
 document_flaws document =
     flaws_by OtherKeys document ++ (flaws_by MissingKeys document ++ (flaws_by Kinds document ++ option_map_or draft_flaws (draft_of document) []))
 
--- the flaws of bytes; those that are no TOML have one, at this place
+-- the flaws of bytes; bytes that are no TOML have one, at this place
 unfoldable pub text_flaws : ℕ → List ℕ → List Flaw
 text_flaws place text = option_map_or document_flaws (parse_document text) (flaw NotToml (not_toml_text (place_after 1 1 (take place text))))
 

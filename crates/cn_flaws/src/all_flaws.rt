@@ -1,4 +1,4 @@
-//! From bytes to what is wrong with them.
+//! From bytes to their flaws.
 ghost use Rattle.std.specs.Prelude.{◌≡◌, ◌≤◌, ◌<◌, ◌^◌, ◌++◌, ℕ, [], IfOk, IsUtf8, OnOk, length, take};
 ghost use Rattle.std.specs.Option.{option_map_or};
 ghost use Rattle.toml.specs.View.{table_view};
@@ -27,7 +27,7 @@ fn push_not_toml(alloc: Global, flaws: &mut Vec<Flaw>, before: &[u8]) -> Result<
     push_flaw(flaws, TableFault::NotToml, text)
 }
 
-/// The flaws of the draft, where each value is of its kind.
+/// The flaws of the draft, if each value is of its kind.
 fn push_flaws_of_draft(
     alloc: Global,
     flaws: &mut Vec<Flaw>,
@@ -67,7 +67,7 @@ fn document_flaws(alloc: Global, document: &Table) -> Result<Vec<Flaw>, AllocErr
     Ok(flaws)
 }
 
-/// The one flaw of a text that is no TOML, where the reading of it stops at this byte.
+/// The one flaw of a text that is no TOML: the parser stops at this byte.
 fn refusal(alloc: Global, text: &str, place: usize) -> Result<Vec<Flaw>, AllocError>
     requires small { length text.now < 2 ^ 63 }
     requires within { place ≤ length text.now }
@@ -94,13 +94,14 @@ fn text_flaws(alloc: Global, text: &str) -> Result<Vec<Flaw>, AllocError>
     }
 }
 
-/// What is wrong with the bytes of a table, and where: all there is, in the order of the faults.
+/// All flaws of the bytes of a table, in the order of the faults.
 ///
-/// Bytes that are no TOML have one flaw, with the place where the reading of them stops. Of a
-/// document the flaws of names, counts and rows are told where each value is there and of its kind,
-/// those of keys and kinds always. Bytes that are not UTF-8 have no flaw to tell; else there is
-/// none exactly where [`read_table`](cn_table::read_table) answers a table, and the first is of the
-/// fault that it answers.
+/// Bytes that are no TOML have one flaw, with the place where the parser stops. A document always
+/// has its flaws of keys and kinds. It has its flaws of names, counts and rows if each value is
+/// there and of its kind. Bytes that are not UTF-8 have no flaw.
+///
+/// UTF-8 has no flaw exactly if [`read_table`](cn_table::read_table) answers a table. Else the
+/// first flaw is of the fault that `read_table` answers.
 ///
 /// # Errors
 ///

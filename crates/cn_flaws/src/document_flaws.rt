@@ -1,5 +1,4 @@
-//! The flaws of a document: keys that should not be there, keys that should, and values that are
-//! not of their kind.
+//! The flaws of a document: unknown keys, missing keys, and values that are not of their kind.
 ghost use Rattle.std.specs.Prelude.{◌≡◌, ◌++◌, OnOk, IfOk, codes, map, string_bytes};
 ghost use Rattle.std.specs.List.{list_all};
 ghost use Rattle.toml.specs.View.{table_view, view};
@@ -16,7 +15,7 @@ use cn_table::keys::{OPERATION_KEYS, ROOT_KEYS, array_at, is_one_of, items_of, t
 use std::alloc::{AllocError, Global};
 use toml::{Table, Value};
 
-/// What is looked for in a document.
+/// What a pass over a document looks for.
 #[derive(Clone, Copy)]
 pub(crate) enum FlawClass {
     OtherKeys,
@@ -63,7 +62,7 @@ fn other_key_text(alloc: Global, before: &str, after: &str, key: &str) -> Result
     format!(in alloc; "{before}{key}{after}")
 }
 
-/// The keys of the table that are none of these.
+/// Appends the keys of the table that are none of these.
 fn push_other_keys(
     alloc: Global,
     flaws: &mut Vec<Flaw>,
@@ -92,7 +91,7 @@ fn missing_key_text(alloc: Global, place: &str, key: &str) -> Result<String, All
     format!(in alloc; "{place} has no \"{key}\"")
 }
 
-/// Those of these keys that the table has not.
+/// Appends those of these keys that the table lacks.
 fn push_missing_keys(
     alloc: Global,
     flaws: &mut Vec<Flaw>,
@@ -140,7 +139,7 @@ fn is_texts(value: &Value) -> bool
     }
 }
 
-/// What stands at a key where it is not of this kind.
+/// Appends the value at a key if it is not of this kind.
 fn push_wrong_kind(
     alloc: Global,
     flaws: &mut Vec<Flaw>,
@@ -283,7 +282,7 @@ fn push_root_flaws(
     }
 }
 
-/// Puts what is looked for in a document behind the others: in the root, then in each operation.
+/// Appends the flaws of a class in a document: those of the root, then those of each operation.
 pub(crate) fn push_flaws_by(
     alloc: Global,
     flaws: &mut Vec<Flaw>,

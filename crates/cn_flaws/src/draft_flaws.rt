@@ -65,7 +65,7 @@ fn operation_names(alloc: Global, rows: &[DraftRow]) -> Result<Vec<String>, Allo
     Ok(names)
 }
 
-/// The type, the states, the responses and the operations that have no name.
+/// Appends the bad names of the type, the states, the responses and the operations.
 #[tactic(auto, unfolding(crate::specs::Flaws::name_flaws))]
 fn push_name_flaws(alloc: Global, flaws: &mut Vec<Flaw>, draft: &Draft) -> Result<(), AllocError>
     ensures { OnOk result (flaws_view flaws.new
@@ -110,7 +110,7 @@ fn push_bad_count(
     Ok(())
 }
 
-/// Too few or too many states, responses or operations.
+/// Appends the counts of states, responses and operations that are too small or too great.
 #[tactic(auto, unfolding(crate::specs::Flaws::count_flaws))]
 fn push_count_flaws(alloc: Global, flaws: &mut Vec<Flaw>, draft: &Draft) -> Result<(), AllocError>
     ensures { OnOk result (flaws_view flaws.new
@@ -158,7 +158,7 @@ fn repeated_text(
     format!(in alloc; "{places} are {all} called {name}")
 }
 
-/// A name that stands more than once, with all its places.
+/// Appends a name that stands more than once, with all its places.
 fn push_repeated(
     alloc: Global,
     flaws: &mut Vec<Flaw>,
@@ -191,7 +191,7 @@ fn stands_behind(names: &[String], i: usize, name: &str) -> bool
     has_namesake(&names[i + 1..], name)
 }
 
-/// A flaw, where the name at this place stands there first, and again behind.
+/// Appends a flaw if the name at this place stands there first, and again behind.
 fn push_repeat_at(
     alloc: Global,
     flaws: &mut Vec<Flaw>,
@@ -225,7 +225,7 @@ fn push_repeats(
     Ok(())
 }
 
-/// The names that stand more than once.
+/// Appends the names that stand more than once.
 #[tactic(auto, unfolding(crate::specs::Flaws::repeat_flaws))]
 fn push_repeat_flaws(alloc: Global, flaws: &mut Vec<Flaw>, draft: &Draft) -> Result<(), AllocError>
     ensures { OnOk result (flaws_view flaws.new
@@ -300,7 +300,7 @@ fn push_all_lengths(
     Ok(())
 }
 
-/// The rows that have not an entry for each state.
+/// Appends the rows that lack an entry for each state.
 #[tactic(auto, unfolding(crate::specs::Flaws::length_flaws))]
 fn push_length_flaws(alloc: Global, flaws: &mut Vec<Flaw>, draft: &Draft) -> Result<(), AllocError>
     ensures { OnOk result (flaws_view flaws.new
@@ -403,7 +403,7 @@ fn push_all_entries(
     Ok(())
 }
 
-/// The entries that name no response or no state.
+/// Appends the entries that name no response or no state.
 #[tactic(auto, unfolding(crate::specs::Flaws::entry_flaws))]
 fn push_entry_flaws(alloc: Global, flaws: &mut Vec<Flaw>, draft: &Draft) -> Result<(), AllocError>
     ensures { OnOk result (flaws_view flaws.new
@@ -418,7 +418,7 @@ fn push_entry_flaws(alloc: Global, flaws: &mut Vec<Flaw>, draft: &Draft) -> Resu
     )
 }
 
-/// Puts the flaws of a draft behind the others.
+/// Appends the flaws of a draft.
 #[tactic(auto, unfolding(crate::specs::Flaws::draft_flaws))]
 pub(crate) fn push_draft_flaws(
     alloc: Global,

@@ -1,20 +1,20 @@
-//! One thing that is wrong with the bytes of a table.
+//! One error in the bytes of a table.
 ghost use Rattle.std.specs.Prelude.{◌≡◌, ◌++◌, OnOk, string_bytes};
 ghost use Rattle.cn_flaws.specs.Flaws.{flaw, flaws_view};
 
 use cn_table::TableFault;
 use std::alloc::AllocError;
 
-/// One thing that is wrong with the bytes of a table, and where.
+/// One error in the bytes of a table, and its place.
 #[derive(Drop)]
 pub struct Flaw {
-    /// The fault that it is.
+    /// The fault of the flaw.
     pub fault: TableFault,
     /// What is wrong, and where: a text of one line, without a line feed.
     pub text: String,
 }
 
-/// Puts a flaw behind the others.
+/// Appends a flaw.
 pub(crate) fn push_flaw(
     flaws: &mut Vec<Flaw>,
     fault: TableFault,

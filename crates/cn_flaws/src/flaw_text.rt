@@ -1,4 +1,4 @@
-//! The parts of which the texts of flaws are made.
+//! The parts of the texts of flaws.
 ghost use Rattle.std.specs.Prelude.{codes, ◌≡◌, ◌<◌, ◌^◌, ◌++◌, IfOk, OnOk, length, map, string_bytes};
 ghost use Rattle.cn_flaws.specs.FlawText.{shown_byte, in_quotes, operation_text, goes_on, place_after, entries_text, states_text, before_places, places_text, names_in_brackets};
 ghost use Rattle.cn_table.specs.Texts.{joined_texts};
@@ -28,7 +28,7 @@ fn printable_text(alloc: Global, text: &str) -> Result<String, AllocError>
     Ok(printable)
 }
 
-/// A text between quotation marks, with a question mark for each byte that ASCII does not print.
+/// A text between quotation marks. A question mark stands for each byte that ASCII does not print.
 pub(crate) fn in_quotes(alloc: Global, text: &str) -> Result<String, AllocError>
     ensures { IfOk result (λ s. string_bytes s ≡ in_quotes text.now) }
 {
@@ -36,7 +36,7 @@ pub(crate) fn in_quotes(alloc: Global, text: &str) -> Result<String, AllocError>
     format!(in alloc; "\"{printable}\"")
 }
 
-/// How an operation is called: by its name, where it is one, else by its place in the array.
+/// The words for an operation: its name, if that is a name, or else its place in the array.
 pub(crate) fn operation_text(alloc: Global, i: usize, name: &str) -> Result<String, AllocError>
     ensures { IfOk result (λ s. string_bytes s ≡ operation_text i name.now) }
 {
@@ -70,7 +70,7 @@ pub(crate) fn place_after(before: &[u8]) -> (usize, usize)
     (line, column)
 }
 
-/// So many entries.
+/// The words for so many entries.
 pub(crate) fn entries_text(alloc: Global, count: usize) -> Result<String, AllocError>
     ensures { IfOk result (λ s. string_bytes s ≡ entries_text count) }
 {
@@ -80,7 +80,7 @@ pub(crate) fn entries_text(alloc: Global, count: usize) -> Result<String, AllocE
     format!(in alloc; "{count} entries")
 }
 
-/// That there are so many states.
+/// The words for so many states.
 pub(crate) fn states_text(alloc: Global, count: usize) -> Result<String, AllocError>
     ensures { IfOk result (λ s. string_bytes s ≡ states_text count) }
 {
@@ -90,7 +90,7 @@ pub(crate) fn states_text(alloc: Global, count: usize) -> Result<String, AllocEr
     format!(in alloc; "there are {count} states")
 }
 
-/// What stands before so many more places.
+/// What stands before so many further places.
 fn before_places(more: usize) -> &'static str
     ensures { result.now ≡ before_places more }
 {
@@ -129,7 +129,7 @@ fn push_names(text: &mut String, names: &[String]) -> Result<(), AllocError>
     Ok(())
 }
 
-/// The names in brackets, where they are few names; else nothing.
+/// The names in brackets if they are few, and else nothing.
 pub(crate) fn names_in_brackets(alloc: Global, names: &[String]) -> Result<String, AllocError>
     ensures { IfOk result (λ s. string_bytes s
         ≡ names_in_brackets (map (λ s. string_bytes s) names.now)) }

@@ -1,8 +1,8 @@
-//! Flaws: all that is wrong with the text of a type table, and where.
+//! Flaws: every error in the text of a type table, with its place.
 //!
-//! [`read_table`](cn_table::read_table) says for which fault bytes are refused. A caller who shows
+//! [`read_table`](cn_table::read_table) answers one fault for refused bytes. A caller who shows
 //! people what to mend hands the same bytes to [`flaws`], and writes the text of each [`Flaw`] as a
-//! line: it says what is wrong, and where. UTF-8 has none exactly where it spells a table.
+//! line. UTF-8 has no flaw exactly if it spells a table.
 //!
 //! ```text
 //! for flaw in &flaws(alloc, bytes)? {

@@ -1,4 +1,4 @@
--- Tables of which none was read.
+-- Tables that are unread.
 use Rattle.std.proofs.Common.{[], ◌∷◌}
 use Rattle.std.proofs.lemmas.List.Elements.{All-cons, All-nil}
 use Rattle.cn_app.specs.Commands.ClassifyEach.{AreUnread}

@@ -28,7 +28,7 @@ fn begin_all<V: Copy>(alloc: Global, plan: &Plan, inputs: &[V]) -> Result<Round<
     Ok(round)
 }
 
-/// One step of a process that has not decided.
+/// Takes one step of a process that has not decided.
 fn take_step<V: Copy>(rt: &impl Abort, plan: &Plan, round: &mut Round<V>, p: u8) -> Option<V>
     requires of_plan { RunsBy plan.now round.old }
     requires begun { AllHaveBegun (processes_of plan.now) round.old }
@@ -42,7 +42,7 @@ fn take_step<V: Copy>(rt: &impl Abort, plan: &Plan, round: &mut Round<V>, p: u8)
     round.step(plan, p)
 }
 
-/// What a process has decided.
+/// The decision of a process.
 fn decision_of<V: Copy>(plan: &Plan, round: &Round<V>, p: u8) -> Option<V>
     requires of_plan { RunsBy plan.now round.now }
     requires process { p < processes_of plan.now }
@@ -73,7 +73,7 @@ pub(super) fn replay<V: Copy>(
     Ok(round)
 }
 
-/// Whether there is a value, which then is the input of process 1.
+/// Whether there is a value exactly if `is_there`, and it is the input of process 1.
 fn is_second(found: Option<(char, bool)>, is_there: bool) -> bool {
     match found {
         Some((letter, mark)) => is_there && letter == 'b' && !mark,
@@ -81,8 +81,8 @@ fn is_second(found: Option<(char, bool)>, is_there: bool) -> bool {
     }
 }
 
-/// Whether a value is fixed after a schedule of two processes, and process 0 has decided; process 1
-/// has not.
+/// Whether a schedule of two processes fixes a value exactly if `is_fixed`, lets process 0 decide
+/// exactly if `is_decided`, and leaves process 1 undecided.
 fn comes_to(
     rt: &impl Abort,
     alloc: Global,
@@ -136,8 +136,9 @@ fn steps_of(schedule: &[u8], p: usize) -> usize {
     steps
 }
 
-/// Whether the decisions in a world, of which nothing else is known, are equal, are inputs of
-/// processes that have taken a step, and came with the last of four steps for each of so many places.
+/// Whether the decisions of a world keep consensus: they are equal, each is the input of a process
+/// that has taken a step, and a process decides with the last of its steps, four for each of its
+/// `places`.
 fn keep_consensus(
     decisions: &[Option<u64>],
     inputs: &[u64],
@@ -162,7 +163,7 @@ fn keep_consensus(
     true
 }
 
-/// What each process has decided.
+/// The decision of each process.
 fn decisions(alloc: Global, plan: &Plan, round: &Round<u64>) -> Result<Vec<Option<u64>>, AllocError>
     requires { RunsBy plan.now round.now }
 {
@@ -173,8 +174,8 @@ fn decisions(alloc: Global, plan: &Plan, round: &Round<u64>) -> Result<Vec<Optio
     Ok(decisions)
 }
 
-/// How many worlds there are, each judged. They are found step by step, and each is kept as a
-/// schedule that leads to it.
+/// Judges every world, and answers how many there are. The search goes step by step, and keeps a
+/// schedule that leads to each world.
 fn judge_worlds(
     rt: &impl Abort,
     alloc: Global,
@@ -219,7 +220,7 @@ fn push_next(
 
 #[test]
 fn every_world_keeps_consensus(rt: HostRuntime) -> Result<(), Fail> {
-    // The counts are those that a separate program found.
+    // A separate program found these counts.
     let alloc = rt.alloc();
     let two = plan_for_two(&rt, alloc)?;
     assert!(rt; judge_worlds(&rt, alloc, &two, &[10, 20], &[1, 1])? == 34);

@@ -1,4 +1,4 @@
-//! Commands over a caller's streams and gates, which the program does not have.
+//! Commands with streams and gates of a caller, which the program does not have.
 mod classify;
 mod kept;
 mod lists;

@@ -1,5 +1,4 @@
-//! How faults read that carry a number, whatever the number: also those that no command and no call
-//! answers.
+//! The texts of faults that carry a number, also for numbers that no command and no call answers.
 use cn_agree::ScheduleFault;
 use cn_app::AppFault;
 use cn_check::CheckFault;
@@ -11,7 +10,7 @@ use std::fmt::Display;
 use std::process::Abort;
 use std::test::Fail;
 
-/// Whether each fault reads as the words beside it, and this number behind them.
+/// Whether the text of each fault is the words beside it, and then this number.
 fn are_read<F: Display>(
     alloc: Global,
     faults: &[(F, &str)],
@@ -26,7 +25,7 @@ fn are_read<F: Display>(
     Ok(true)
 }
 
-/// Those of an entry of a certificate.
+/// The faults of an entry of a certificate.
 fn of_entries(place: u64) -> [(CheckFault, &'static str); 2] {
     [
         (CheckFault::NotNext(place), "6 NotNext "),
@@ -34,7 +33,7 @@ fn of_entries(place: u64) -> [(CheckFault, &'static str); 2] {
     ]
 }
 
-/// Those of an event.
+/// The faults of an event.
 fn of_events(place: u64) -> [(ReplayFault, &'static str); 5] {
     [
         (ReplayFault::NoSuchProcess(place), "1 NoSuchProcess "),
@@ -45,7 +44,7 @@ fn of_events(place: u64) -> [(ReplayFault, &'static str); 5] {
     ]
 }
 
-/// Those that commands tell.
+/// The faults of commands.
 fn of_commands(number: u64) -> [(AppFault, &'static str); 4] {
     [
         (
@@ -67,7 +66,7 @@ fn of_commands(number: u64) -> [(AppFault, &'static str); 4] {
     ]
 }
 
-/// Whether all that carry a place or a count are read with this one.
+/// Whether the faults that carry a place or a count have this number in their texts.
 fn are_read_with(alloc: Global, number: u64, digits: &str) -> Result<bool, AllocError> {
     let count = [(FindFault::TooManyChoices(number), "2 TooManyChoices ")];
     let step = [(ScheduleFault::NoSuchProcess(number), "2 NoSuchProcess ")];
@@ -80,7 +79,7 @@ fn are_read_with(alloc: Global, number: u64, digits: &str) -> Result<bool, Alloc
     )
 }
 
-/// Whether those that carry a process are read with this one.
+/// Whether the faults that carry a process have this process in their texts.
 fn name_process(alloc: Global, process: u8, digits: &str) -> Result<bool, AllocError> {
     let check = [(CheckFault::WitnessMeets(process), "4 WitnessMeets ")];
     let plan = [(PlanFault::Meets(process), "1 Meets ")];

@@ -1,5 +1,5 @@
-//! The texts of certificates of the worked types, each in full: those of version 1, and those of
-//! what is found, which are of version 2.
+//! The full texts of certificates of the worked types: those of version 1, and those of findings,
+//! which have version 2.
 
 pub(crate) fn test_and_set_at_3() -> &'static str {
     r#"{"collisions":[[0,[0],[0,0],1,[0,1],[2,1]],[1,[0],[0,0],0,[0],[1,0]]],"limit":3,"number":2,"type":"test_and_set","version":1,"witness":[0,[0],[0]]}"#

@@ -1,4 +1,4 @@
-//! A certificate of a version that no text gives.
+//! A certificate of a version that no text has.
 use crate::certificates::found_test_and_set_at_3;
 use crate::fixtures::table_of;
 use crate::types::test_and_set;

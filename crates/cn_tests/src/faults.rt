@@ -1,4 +1,4 @@
-//! How each fault reads: its number, its name, and what it carries.
+//! The text of each fault: its number, its name, and what it carries.
 use crate::hall::core_after;
 use cn_agree::ScheduleFault;
 use cn_app::{AppFault, Argument, Source};
@@ -14,7 +14,7 @@ use std::fmt::Display;
 use std::process::Abort;
 use std::test::Fail;
 
-/// Whether each fault reads as the text beside it.
+/// Whether the text of each fault is the one beside it.
 fn are_read<F: Display>(alloc: Global, faults: &[(F, &str)]) -> Result<bool, AllocError> {
     for (fault, expected) in faults {
         if format!(in alloc; "{fault}")?.as_str() != *expected {
@@ -172,7 +172,7 @@ fn wants_of_memory() -> [(AppFault, &'static str); 12] {
     ]
 }
 
-/// Whether the faults of tables, of the search and of certificates are read.
+/// Whether the faults of tables, of the search and of certificates have their texts.
 fn are_of_evidence(alloc: Global) -> Result<bool, AllocError> {
     Ok(
         are_read(alloc, &of_tables())?
@@ -182,7 +182,7 @@ fn are_of_evidence(alloc: Global) -> Result<bool, AllocError> {
     )
 }
 
-/// Whether those of plans, schedules, logs and calls are.
+/// Whether the faults of plans, schedules, logs and calls have their texts.
 fn are_of_protocols(alloc: Global) -> Result<bool, AllocError> {
     Ok(
         are_read(alloc, &of_plans())?

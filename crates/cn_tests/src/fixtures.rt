@@ -1,4 +1,4 @@
-//! Lists and plans that tests of several crates start from.
+//! Lists and plans that the tests of several crates start from.
 ghost use Rattle.std.specs.Prelude.{◌≡◌, ◌<◌, ◌≤◌, ◌+◌, ◌↔◌, length, All, IsTrue};
 ghost use Rattle.cn_choice.specs.Canonical.{FitsTable};
 
@@ -34,7 +34,7 @@ pub(super) fn table_of(alloc: Global, text: &str) -> Result<Table, TableFault> {
     read_table(alloc, text.as_bytes())
 }
 
-/// A list of events: each so many times.
+/// A list of events, each with the number of times that it comes.
 pub(super) fn events_of(alloc: Global, parts: &[(Event, u8)]) -> Result<Vec<Event>, AllocError> {
     let mut events = Vec::new(alloc);
     for (event, times) in parts {

@@ -31,8 +31,8 @@ impl Gate for StopsAt {
     }
 }
 
-/// A gate that counts up before one step, and holds a call before one until a count has come to a
-/// number. Where it does not come to it, the call is stopped.
+/// A gate that counts up before one step, and holds its call before one step until a count reaches
+/// a number. If the count does not reach it, the gate stops the call.
 #[derive(Drop)]
 pub(super) struct Holds<'a> {
     pub counted: &'a AtomicU32,
@@ -65,7 +65,7 @@ impl Gate for Holds<'_> {
     }
 }
 
-/// Whether the count comes to the number within 1,000,000 looks.
+/// Whether the count reaches the number within 1,000,000 looks.
 pub(super) fn comes_to(count: &AtomicU32, number: u32) -> bool {
     for _look in 0..1_000_000u32 {
         if count.load(Ordering::SeqCst) >= number {
@@ -76,8 +76,8 @@ pub(super) fn comes_to(count: &AtomicU32, number: u32) -> bool {
     false
 }
 
-/// A gate that writes down what it is asked, so far as it has room: each number, and how many slots
-/// the seat has seen.
+/// A gate that writes down its questions, as far as it has room: the number of the step, and how
+/// many slots the seat has seen.
 #[derive(Drop)]
 pub(super) struct WritesDown {
     pub asked: [(u32, u16); 16],

@@ -19,7 +19,7 @@ use std::sync::atomic::{AtomicU32, Ordering};
 use std::test::Fail;
 use std::thread::{Threads, join};
 
-/// A core for two processes, in which the counter starts at 0, after these events.
+/// A core for two processes after these events. The counter starts at 0.
 pub(super) fn core_after(
     rt: &impl Abort,
     alloc: Global,
@@ -68,7 +68,7 @@ pub(super) fn opened<R: Wait + Abort>(
     Ok((hall, zero, one, seats))
 }
 
-/// A call of the seat's process, which is in none.
+/// Makes a call of the seat's process, which is in no call.
 pub(super) fn call<R: Wait + Abort, G: Gate>(
     rt: &R,
     hall: &Hall,
@@ -85,7 +85,7 @@ pub(super) fn call<R: Wait + Abort, G: Gate>(
     hall.call(rt, seat, Operation(0), gate)
 }
 
-/// The same with a gate that always says On, and this is its reply.
+/// Makes a call with a gate that always says On, and asserts its reply.
 fn assert_call<R: Wait + Abort>(
     rt: &R,
     hall: &Hall,
@@ -101,7 +101,7 @@ fn assert_call<R: Wait + Abort>(
     assert!(rt; found == expected);
 }
 
-/// The rest of the call that the seat's process is in.
+/// Goes on with the call of the seat's process.
 pub(super) fn resume<R: Wait + Abort, G: Gate>(
     rt: &R,
     hall: &Hall,
@@ -116,7 +116,7 @@ pub(super) fn resume<R: Wait + Abort, G: Gate>(
     hall.resume(rt, seat, gate)
 }
 
-/// The slot of this number, and the response of this number.
+/// The reply with this slot and this response.
 pub(super) fn reply(slot: u16, response: u8) -> Result<Reply, CallFault> {
     Ok(Reply {
         slot,
@@ -124,7 +124,7 @@ pub(super) fn reply(slot: u16, response: u8) -> Result<Reply, CallFault> {
     })
 }
 
-/// Closes the hall, and sees that its schedule has each of these events so many times.
+/// Closes the hall, and asserts that its schedule has these events, each this many times.
 fn close<R: Wait + Abort>(
     rt: &R,
     alloc: Global,
@@ -146,8 +146,8 @@ fn close<R: Wait + Abort>(
     Ok(())
 }
 
-/// A call of one process, so many steps, a call of the other, so many, and the steps that are left to
-/// the first.
+/// The events of a call within another: the outer call with its steps before, the inner call with
+/// its steps, and the outer call's steps after.
 pub(super) fn one_within_another(
     outer: u8,
     before: u8,
@@ -164,9 +164,9 @@ pub(super) fn one_within_another(
     ]
 }
 
-/// Call 1 is stopped before this step, then comes call 0, and then the rest of call 1, where it was
-/// stopped. The replies of both, and how much they have seen, are these, and each slot costs call 0
-/// six steps.
+/// A gate stops call 1 before step `stop`. Then comes call 0, and then the rest of call 1, if there
+/// is one. Asserts the replies of both, how their seats compare, and six steps of call 0 for each
+/// slot.
 fn stops_at<R: Wait + Abort>(
     rt: &R,
     alloc: Global,
@@ -209,8 +209,7 @@ fn resumes_a_call_stopped_before_each_step(rt: HostRuntime) -> Result<(), Fail> 
     Ok(())
 }
 
-/// Call 1 holds at its gate before step 3 until call 0 is answered, and call 0 is begun while it
-/// holds.
+/// A gate holds call 1 before step 3 until call 0 is answered. Call 0 begins while it holds.
 fn overlap<R: Threads + Wait + Sync + Abort>(
     rt: &R,
     hall: &Hall,
@@ -305,7 +304,7 @@ fn opens_over_a_core_in_a_call(rt: HostRuntime) -> Result<(), Fail> {
     Ok(())
 }
 
-/// The questions of a call that goes over two slots, with six steps in each, and room for four more.
+/// The questions of a call over two slots, six steps in each, and room for four more.
 fn questions() -> [(u32, u16); 16] {
     [
         (1, 0),

@@ -1,11 +1,15 @@
 //! The tests of all library crates: what no contract says.
 //!
-//! Each module is named after the crate that it tests; but `faults` has the texts of all faults, and
-//! `carried` those of faults with other numbers; `many` has halls of five to seven processes, and
-//! `wide` compares outcome sets with the definitions. A test calls the public functions on worked
-//! values, whose answers come from outside the program: numbers and texts of worked types, fakes that
-//! fail, and threads that overlap. What the program shows stands in `tests/rows`. `refused` has those
-//! in which allocations are refused, once `tests/memory` runs them.
+//! Most modules are named after the crate that they test. The others:
+//!
+//! - `faults` has the texts of all faults, and `carried` those of faults with other numbers;
+//! - `many` has halls of five to seven processes;
+//! - `wide` compares outcome sets with the definitions;
+//! - `refused` has calls whose allocations are refused, once `tests/memory` runs them.
+//!
+//! A test calls public functions on worked values. The expected answers come from outside the
+//! program: numbers and texts of worked types, fakes that fail, and threads that overlap.
+//! `tests/rows` has what the program shows.
 #![tactic(auto)]
 
 #[cfg(test)]

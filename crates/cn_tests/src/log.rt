@@ -9,12 +9,12 @@ use std::alloc::Global;
 use std::process::Abort;
 use std::test::Fail;
 
-/// Whether two processes call a counter from its first state.
+/// Whether the opening is that of two processes and a counter in its first state.
 fn is_opening(opening: &Opening) -> bool {
     opening.plan().processes() == 2 && opening.object().states() == 3 && opening.start() == State(0)
 }
 
-/// A new core for two processes, whose object is the counter from its first state.
+/// A new core for two processes. Its object is the counter in its first state.
 fn opened(rt: &impl Abort, alloc: Global, capacity: u16) -> Result<LogCore, Fail>
     requires some { 1 ≤ capacity }
     requires few { capacity ≤ 1024 }
@@ -34,8 +34,7 @@ fn invoke(rt: &impl Abort, core: &mut LogCore, p: u8) {
     core.invoke(p, Operation(0));
 }
 
-/// So many steps of the process, none of which ends its call but perhaps the last: what that
-/// answers.
+/// Takes this many steps of the process, and answers the last. No earlier step may end its call.
 fn step(rt: &impl Abort, core: &mut LogCore, p: u8, times: u8) -> StepAnswer {
     let mut answer = StepAnswer::Working;
     for _step in 0..times {
@@ -45,7 +44,7 @@ fn step(rt: &impl Abort, core: &mut LogCore, p: u8, times: u8) -> StepAnswer {
     answer
 }
 
-/// The answer with this slot and the response of this number.
+/// The answer with this slot and this response.
 fn answered(slot: u16, response: u8) -> StepAnswer {
     StepAnswer::Answered {
         slot,
@@ -53,7 +52,7 @@ fn answered(slot: u16, response: u8) -> StepAnswer {
     }
 }
 
-/// The call of this number of a process.
+/// The call of a process with this number.
 fn entry(process: u8, call: u16) -> Entry {
     Entry {
         process,
@@ -62,7 +61,7 @@ fn entry(process: u8, call: u16) -> Entry {
     }
 }
 
-/// Whether process p has replayed so many slots and seen so many entries there, and is in no call.
+/// Whether process p is idle, and has applied this many slots with this many entries.
 fn rests(rt: &impl Abort, core: &LogCore, p: u8, replayed: u16, seen: u16) -> bool {
     assert!(rt; p < core.processes());
     core.is_idle(p)
@@ -79,7 +78,7 @@ fn has_three(core: &LogCore) -> bool {
     is_shaped && (core.slot_at(0), core.slot_at(1), core.slot_at(2)) == (0, 0, 1)
 }
 
-/// A slot takes the calls of both, and the next one another call.
+/// The first slot takes the calls of both processes, and the next one takes another call.
 #[test]
 fn answers_for_a_log(rt: HostRuntime) -> Result<(), Fail> {
     let mut core = opened(&rt, rt.alloc(), 4)?;
@@ -93,7 +92,7 @@ fn answers_for_a_log(rt: HostRuntime) -> Result<(), Fail> {
     Ok(())
 }
 
-/// The event comes so many times, and none may end a call: what it comes to the next time.
+/// Takes the event `before` times without an end of a call, and answers what it does the next time.
 fn take(core: &mut LogCore, event: Event, before: u8) -> Result<Option<CallEnd>, ReplayFault> {
     for _time in 0..before {
         if let Some(end) = core.take(event)? {
@@ -103,7 +102,7 @@ fn take(core: &mut LogCore, event: Event, before: u8) -> Result<Option<CallEnd>,
     core.take(event)
 }
 
-/// Events of a log of one slot in their order: how often each came before, and what it comes to.
+/// Events of a log of one slot, in order. Each has how often it comes before, and its result then.
 fn events_of_one_slot() -> [(Event, u8, Result<Option<CallEnd>, ReplayFault>); 10] {
     let answered = CallEnd::Answered {
         process: 1,
@@ -124,7 +123,7 @@ fn events_of_one_slot() -> [(Event, u8, Result<Option<CallEnd>, ReplayFault>); 1
     ]
 }
 
-/// One event at a time, whatever it is. What is refused leaves the core as it was.
+/// Events, one at a time. A refused event leaves the core as it was.
 #[test]
 fn events_are_taken_or_refused(rt: HostRuntime) -> Result<(), Fail> {
     let mut core = opened(&rt, rt.alloc(), 1)?;

@@ -16,7 +16,7 @@ use std::process::Abort;
 use std::sync::Wait;
 use std::test::Fail;
 
-/// A core for so many processes, in which the counter starts at 0 and nothing has happened.
+/// A core for n processes, in which nothing has happened. The counter starts at 0.
 fn core_for(rt: &impl Abort, alloc: Global, n: u8) -> Result<LogCore, Fail>
     requires some { 2 ≤ n }
     requires few { n ≤ 8 }
@@ -32,7 +32,7 @@ fn core_for(rt: &impl Abort, alloc: Global, n: u8) -> Result<LogCore, Fail>
     Ok(core)
 }
 
-/// A hall for so many processes, and the seats of the last two.
+/// A hall for n processes, and the seats of the last two.
 fn opened<R: Wait + Abort>(rt: &R, alloc: Global, n: u8) -> Result<(Hall, Seat, Seat), Fail>
     requires some { 2 ≤ n }
     requires few { n ≤ 8 }
@@ -54,8 +54,8 @@ fn opened<R: Wait + Abort>(rt: &R, alloc: Global, n: u8) -> Result<(Hall, Seat, 
     Ok((hall, other, last))
 }
 
-/// Whether the hall, closed with these two seats, has these events: the call of the last process with
-/// so many steps before the other, all those of the other, and then the rest.
+/// Closes the hall with these two seats. Whether its events are those of the last process's call, with
+/// the other's whole call behind its first n-1 steps.
 fn has_closed<R: Wait>(
     rt: &R,
     alloc: Global,
@@ -77,8 +77,9 @@ fn has_closed<R: Wait>(
     Ok(core.schedule() == events.as_slice())
 }
 
-/// The gate stops the call of the last process before its last look. Then the one before it calls, and
-/// brings both calls into the first slot; each is the deepest in the tournament.
+/// A gate stops the call of the last process before its last look. Then the process before it makes
+/// a call, and brings both calls into the first slot. Both processes are the deepest in the
+/// tournament.
 fn brings_a_stopped_call<R: Wait + Abort>(rt: &R, alloc: Global, n: u8) -> Result<(), Fail>
     requires some { 2 ≤ n }
     requires few { n ≤ 8 }

@@ -1,22 +1,22 @@
-//! Calls of which each allocation is refused in turn.
+//! Calls whose allocations are refused in turn.
 //!
-//! `tests/memory` runs these tests under a library that refuses allocations (`refuse.c`), and takes
-//! one of the sizes below for a word to it. Without that library nothing is refused, and each call is
-//! made as usual.
+//! `tests/memory` runs these tests under a library that refuses allocations (`refuse.c`). The
+//! library takes an allocation of one of the sizes below for a word to it. Without the library
+//! nothing is refused, and each call is made as usual.
 ghost use Rattle.std.specs.Prelude.{◌<◌};
 
 use std::alloc::Global;
 use std::process::Abort;
 use std::test::Fail;
 
-/// So many bytes, and one more for each allocation up to the one that is refused. The word itself is
-/// refused, where the library hears it.
+/// This many bytes, and k more, refuse the k-th allocation from now on. The library refuses the
+/// word itself too, so that the caller knows that it was heard.
 const REFUSE_ONE: usize = 1_234_000;
 
-/// The same, and all behind it are refused too.
+/// The same, and all later allocations are refused too.
 const REFUSE_ALL: usize = 1_235_000;
 
-/// No more is refused. The word itself is, where something was refused since the word before.
+/// Ends the refusals. The library refuses this word if it refused something since the word before.
 const REFUSE_NONE: usize = 1_236_000;
 
 /// More allocations than any call here makes.
@@ -34,12 +34,12 @@ enum Ended {
 }
 
 impl Ended {
-    /// The call gave an answer, which has to be the whole one.
+    /// The call answered; the answer has to be the whole one.
     fn whole_if(is_whole: bool) -> Ended {
         if is_whole { Ended::Whole } else { Ended::Other }
     }
 
-    /// The call gave a fault, which has to be want of memory.
+    /// The call failed; the fault has to be want of memory.
     fn out_of_memory_if(is_out_of_memory: bool) -> Ended {
         if is_out_of_memory {
             Ended::OutOfMemory
@@ -48,7 +48,7 @@ impl Ended {
         }
     }
 
-    /// Asserts that the whole answer came, or want of memory where something was refused.
+    /// Asserts the whole answer, or want of memory if something was refused.
     fn judge(self, rt: &impl Abort, is_met: bool) {
         let is_right = match self {
             Ended::Whole => true,
@@ -59,7 +59,7 @@ impl Ended {
     }
 }
 
-/// What is refused from its making on, until it is asked whether something was.
+/// Refusals, from its making until it is asked whether something was refused.
 #[derive(Clone, Copy)]
 struct Refusing {
     alloc: Global,
@@ -74,18 +74,19 @@ impl Refusing {
         }
     }
 
-    /// Whether something was refused. No more is from here on.
+    /// Whether something was refused. Ends the refusals.
     fn is_met(self) -> bool {
         self.is_heard && is_refused(self.alloc, REFUSE_NONE)
     }
 }
 
-/// Whether so many bytes are refused.
+/// Whether an allocation of this size is refused.
 fn is_refused(alloc: Global, size: usize) -> bool {
     Vec::<u8>::with_capacity(alloc, size).is_err()
 }
 
-/// The word of a turn: one allocation is refused, then that one and all behind it, then the next one.
+/// The word of a turn. The turns refuse the first allocation, then the first and all later ones,
+/// then the second, and so on.
 fn word_of(turn: usize) -> usize
     requires { turn < 1998 }
 {
@@ -97,8 +98,9 @@ fn word_of(turn: usize) -> usize
     }
 }
 
-/// Makes a call with its first allocation refused, with its first and all behind it, with its second,
-/// and so on until a call meets no refusal; each answer is judged when nothing is refused.
+/// Makes a call with its first allocation refused, then with its first and all later ones, then
+/// with its second, and so on until calls meet no refusal. Judges each answer after the refusals
+/// have ended.
 macro_rules! sweep {
     ($rt:expr, $alloc:expr, $answer:ident = $call:expr, $ended:expr) => {{
         let mut was_met = true;

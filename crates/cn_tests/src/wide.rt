@@ -1,5 +1,5 @@
-//! What outcome sets say of choices for two to four processes, beside the definitions: also of the
-//! type with the most states and operations, of which none changes anything.
+//! Outcome sets of choices for two to four processes against the definitions. One type has the most
+//! states and operations, and none of these changes anything.
 ghost use Rattle.std.specs.Prelude.{◌≤◌, ◌<◌, ◌+◌, length};
 ghost use Rattle.cn_choice.specs.Canonical.{FitsTable};
 
@@ -13,7 +13,7 @@ use std::alloc::Global;
 use std::process::Abort;
 use std::test::Fail;
 
-/// Whether the choice for n processes is a witness, by the orders. The outcome sets and the
+/// Whether the choice for n processes is a witness, by the definition. The outcome sets and the
 /// examination have to say the same.
 fn splits(
     rt: &impl Abort,
@@ -34,8 +34,8 @@ fn splits(
     Ok(splits)
 }
 
-/// How many witnesses there are among some choices for n processes with this start state: for each
-/// size of team A one.
+/// The number of witnesses among some choices for n processes with this start state: one choice for
+/// each size of team A.
 fn witnesses_from(
     rt: &impl Abort,
     alloc: Global,
@@ -61,7 +61,7 @@ fn witnesses_from(
     Ok(found)
 }
 
-/// How many there are for two, three and four processes, with each start state.
+/// The numbers of witnesses for two, three and four processes, over all start states.
 fn witnesses(rt: &impl Abort, alloc: Global, text: &str) -> Result<[u32; 3], Fail> {
     let table = table_of(alloc, text)?;
     let mut found = [0u32; 3];

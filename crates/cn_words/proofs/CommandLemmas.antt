@@ -1,4 +1,4 @@
--- Commands with one argument or one command more.
+-- Commands with one more argument, and programs with one more command.
 use Rattle.std.proofs.Common.{◌≡◌, ◌∙◌, ◌&&◌, Bool, true, false, not, Result, Ok, Err, ap, ap₂, refl, subst}
 use Rattle.std.specs.Prelude.{IfOk}
 use Rattle.std.proofs.lemmas.Result.{IfOk-weaker}
@@ -10,25 +10,25 @@ use Rattle.clap.specs.declared.builder.command.Command.{Command}
 use Rattle.clap.specs.declared.builder.value_parser.ValueParser.{ValueParser}
 use Rattle.cn_words.specs.CommandLine.{AddsArgument, AddsCommand, IsArgument, IsCommand, IsShow, TakesForms, show_words}
 
--- what holds of the value that was made
+-- a fact about the value of a result that is this value
 of_made : {T E : Type 0} (P : T → Type 0) (r : Result T E) (x : T) → IfOk r P → r ≡ Ok x → P x
 of_made P (Ok y) x holds is = subst (λ o. IfOk o P) is holds
 of_made P (Err e) x holds is = cc
 
--- of three tests that hold, the third
+-- the third of three tests, if they hold
 third : (a b g d : Bool) → (a && (not b && (not g && d))) ≡ true → g ≡ false
 third false b g d h = cc
 third true true g d h = cc
 third true false true d h = cc
 third true false false d h = refl
 
--- the words with one argument more, the last
+-- one more argument at the end
 pub argument_more : {E : Type 0} (made new : Result Command E) (a : Arg) (app : App) (rule : Rule) → IfOk made (λ old. app_of old ≡ app)
     → IsArgument rule a → IfOk new (AddsArgument made a) → IfOk new (λ c. app_of c ≡ with_rule app rule)
 argument_more made new a app rule was is adds = IfOk-weaker new _ _ (λ c more.
     more.2.shape is.1 ∙ ap₂ with_rule (of_made (λ old. app_of old ≡ app) made more.0 was more.1) is.0) adds
 
--- the program with one command more, the last, whose words are known
+-- one more command at the end, with known words
 subcommand_more : (old command new : Command) (app : App) (words : Shape) → app_of old ≡ app → IsCommand words command → words.is_plain ≡ true
     → AddsSubcommand old command new → app_of new ≡ with_subcommand app words
 subcommand_more old command new app words has is plain adds =
@@ -42,7 +42,7 @@ command_more program made new app words has is plain adds = IfOk-weaker new _ _ 
     subcommand_more more.0 more.1 c app words (of_made (λ old. app_of old ≡ app) program more.0 has more.2)
     (of_made (IsCommand words) made more.1 is more.3) plain more.4) adds
 
--- the program with show more
+-- show at the end
 pub show_more : {E : Type 0} (program made new : Result Command E) (app : App) → IfOk program (λ old. app_of old ≡ app)
     → IfOk made IsShow → IfOk new (AddsCommand program made)
     → IfOk new (λ c. (forms : ValueParser) × TakesForms forms × (app_of c ≡ with_subcommand app (show_words forms)))
@@ -50,7 +50,7 @@ show_more program made new app has is adds = IfOk-weaker new _ _ (λ c more.
     let show = of_made IsShow made more.1 is more.3 in
     (show.0, show.1, subcommand_more more.0 more.1 c app (show_words show.0) (of_made (λ old. app_of old ≡ app) program more.0 has more.2) show.2 refl more.4)) adds
 
--- the program with one command more behind show
+-- one more command behind show
 pub command_more_for : {E : Type 0} (program made new : Result Command E) (app : ValueParser → App) (words : Shape)
     → IfOk program (λ old. (forms : ValueParser) × TakesForms forms × (app_of old ≡ app forms))
     → IfOk made (IsCommand words) → words.is_plain ≡ true → IfOk new (AddsCommand program made)

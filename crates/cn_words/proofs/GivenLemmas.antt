@@ -1,4 +1,4 @@
--- What clap's getters say, in the words of the command line.
+-- The getters of clap, in the words of the command line.
 use Rattle.std.proofs.Common.{ℕ, ◌≡◌, ◌∙◌, Bool, true, false, List, [], ◌∷◌, Option, Some, None, Result, Ok, Err, ap, ap₂, refl, subst, sym, codes, Vec, Global}
 use Rattle.std.specs.Prelude.{MatchBool, is_some, not, option_and_then, option_map, slice_get, unwrap_or, map}
 use Rattle.std.specs.List.{find}
@@ -17,7 +17,7 @@ use Rattle.cn_words.specs.declared.commands.OpeningWords.{OpeningWords}
 use Rattle.cn_words.specs.declared.commands.TextSource.{TextSource}
 use Rattle.cn_words.specs.GivenCommands.{Finds, HasCertificate, HasFlag, HasForm, HasLimit, HasList, HasNumber, HasOpening, HasTables, IsByte, IsNamed, path_in, path_of}
 
--- two views of a value that may be there make the pair of them
+-- two views of an optional value make their pair
 pub pair_of : {A B C : Type 0} (f : A → B) (g : A → C) (o : Option A) (q : Option (B × C)) → option_map f o ≡ option_map (λ p. p.0) q
     → option_map g o ≡ option_map (λ p. p.1) q → option_map (λ a. (f a, g a)) o ≡ q
 pair_of f g None None e h = refl
@@ -41,7 +41,7 @@ number_read {E} gives o (Some n) only none some = go o refl
     go (Some t) e = (t, e, only t (Ok n) (some t e))
 number_read gives o None only none some = λ n given. let read = some given.0 given.1 in only given.0 (Err read.0) read.1 given.2.0
 
--- no first value is read where there is none
+-- without a value, there is no first value
 no_first : (id : Text) (rows : List Row) → one_of id rows ≡ None → first_of id rows ≡ None
 no_first id rows none = go (find (λ r. bytes_eq r.id id) rows) none
   where
@@ -53,7 +53,7 @@ no_first id rows none = go (find (λ r. bytes_eq r.id id) rows) none
     go None e = refl
     go (Some r) e = of_row _ (slice_get r.values 0) e
 
--- a word for the limit that is no number gives none
+-- a limit that is no number gives none
 pub no_limit : (rows : List Row) (word : Option (Bor Text)) (given : Option ℕ) (none : Bool) → option_map (λ w. w.now) word ≡ first_of (codes "limit") rows
     → is_some word ≡ not none → none ≡ false → ((n : ℕ) → HasNumber (codes "limit") rows n → ⊥) → HasLimit rows given → ⊥
 no_limit rows word (Some n) none found some isnt numbers is = numbers n is
@@ -79,11 +79,11 @@ tables_read f words tables found are =
     same [] = refl
     same (w ∷ ws) = ap (λ rest. path_in w.now ∷ rest) (same ws)
 
--- no tables, where there are no such words
+-- without such words, there are no tables
 pub no_tables : (f : Found) (tables : List TextSource) → None ≡ option_map raw_values (matched_of f (codes "FILE")) → HasTables (rows_of f) tables → ⊥
 no_tables f tables found given = let bad = found ∙ raw_values-rows f (codes "FILE") ∙ given.1 in cc
 
--- what a command of this name wants of its words
+-- what a command of this name requires of its words
 abbrev pub Wants : Text → List Row → Type 0
 Wants name rows =
     MatchBool (bytes_eq name (codes "find")) ((n : Option ℕ) × HasLimit rows n)
@@ -99,7 +99,7 @@ Wants name rows =
     (MatchBool (bytes_eq name (codes "serve")) (((o : OpeningWords) × HasOpening rows o) × ((l : ListSource) × HasList (codes "CALLS") rows l))
     ⊥))))))))))
 
--- a command of this name has it
+-- every command of this name has what it requires
 pub wants : (name : Text) (rows : List Row) (c : Command) → IsNamed name rows c → Wants name rows
 wants name rows (Find limit) h = subst (λ n. Wants n rows) (sym h.0) (limit, h.1)
 wants name rows (Classify limit recoverable tables) h = subst (λ n. Wants n rows) (sym h.0) ((limit, h.1.0), (tables, h.1.2))

@@ -1,4 +1,4 @@
--- What clap answers to the words of a whole command line.
+-- The answer of clap to the words of a whole command line.
 use Rattle.std.proofs.Common.{◌≡◌, ◌∙◌, inl, inr, true, List, Result, Ok, Err, refl, subst, sym}
 use Rattle.std.specs.Prelude.{MatchOption}
 use Rattle.clap.specs.Faults.{fault_of, is_simple_and_free}
@@ -20,14 +20,14 @@ use Rattle.cn_words.specs.declared.commands.Invocation.{Invocation}
 use Rattle.cn_words.specs.declared.replies.Reply.{Reply}
 use Rattle.cn_words.specs.declared.replies.Reply.TheVariants as reply
 
--- clap's words for matches and faults speak of the program
+-- the laws of clap about matches and faults apply to the program
 program_is_simple : (forms : ValueParser) → is_simple (program forms) ≡ true
 program_is_simple forms = refl
 
 program_is_free : (forms : ValueParser) → is_simple_and_free (program forms) ≡ true
 program_is_free forms = refl
 
--- the command that a parse met is that of the words
+-- the parsed command is that of the words
 met_is : (c : ClapCommand) (m : ArgMatches) (words : List Text) (forms : ValueParser) → HasCommands (commands forms) c → HasMatchesOf (app_of c) words m
     → subcommand_rows_of m ≡ subcommand_of (program forms) words
 met_is c m words forms is has = (subst (λ (a : App). HasMatchesOf a words m) is has (program_is_simple forms)).1
@@ -56,7 +56,7 @@ fault_given c m words fault.Words has matches refused = (
   λ command is. refused command (subst (λ o. MatchOption o ⊥ (λ met. IsInvocation met.0 met.1 command)) (sym (met_is c m words has.0 has.2 matches)) is),
 )
 
--- an error that memory did not make is among the faults of the words
+-- an error other than want of memory is among the faults of the words
 among : (c : ClapCommand) (e : Error) (words : List Text) (forms : ValueParser) → FailsBy {T = ArgMatches} (fault_of (program forms) words) (Err e)
     → (kind_of e ≡ OutOfMemory → ⊥) → IsAmong (kind_of e) (fault_of (program forms) words)
 among c e words forms (inl memory) enough = absurd (enough memory)

@@ -1,4 +1,4 @@
--- The word too many: at most one stands between the start and the first end behind that.
+-- The word too many: at most one word stands between the start and the first end behind it.
 use Rattle.std.proofs.Common.{ℕ, ◌≡◌, ◌<◌, ◌≤◌, ◌+◌, ◌∙◌, ◌⊎◌, inl, inr, List, ◌++◌, length, drop, take, Some, sym, ap, subst, arith}
 use Rattle.std.specs.Str.Pattern.{FindsText, LacksTextAt}
 use Rattle.std.proofs.Math.Seq.{drop-append_seam, take-append_seam}
@@ -6,7 +6,7 @@ use Rattle.std.proofs.lemmas.List.{append_cancel_left, length-append, take-appen
 use Rattle.std.proofs.lemmas.Bool.{cases_lt}
 use Rattle.cn_words.specs.WordTooMany.{RefusesWord, word_start, word_end}
 
--- a text with no start refuses no word
+-- a text without the start refuses no word
 pub no_start : (text word : List ℕ) → LacksTextAt word_start text 0 → RefusesWord text word → ⊥
 no_start text word lacks r = lacks _ r.is
 
@@ -17,14 +17,14 @@ ends_at q word rest line e = ap (drop (length word)) e ∙ drop-append_seam word
 is_within : (xs ys line : List ℕ) → line ≡ xs ++ ys → length xs ≤ length line
 is_within xs ys line e = let long : length line ≡ length xs + length ys = ap length e ∙ length-append xs ys in omega arith
 
--- nor does a line with no end behind the start
+-- nor does a line without the end behind the start
 pub no_end : (text line word : List ℕ) → text ≡ word_start ++ line → ((i : ℕ) → i ≤ length line → LacksTextAt word_end line i)
     → RefusesWord text word → ⊥
 no_end text line word is lacks r =
     let e : line ≡ word ++ (word_end ++ r.rest) = append_cancel_left word_start line _ (sym is ∙ r.is) in
     lacks (length word) (is_within word (word_end ++ r.rest) line e) r.rest (ends_at word_end word r.rest line e)
 
--- the word that is refused is what stands before the first end
+-- the refused word is what stands before the first end
 same_word : (q line word rest : List ℕ) (i j : ℕ) → line ≡ word ++ (q ++ rest) → ((k : ℕ) → k < length word → LacksTextAt q (word ++ (q ++ rest)) k)
     → ((k : ℕ) → k < i → LacksTextAt q line k) → drop i line ≡ q ++ drop j line → word ≡ take i line
 same_word q line word rest i j e first before at = low (cases_lt (length word) i)
@@ -40,13 +40,13 @@ same_word q line word rest i j e first before at = low (cases_lt (length word) i
     low (inl less) = absurd (before (length word) less rest (ends_at q word rest line e))
     low (inr ge) = high ge (cases_lt i (length word))
 
--- so it is the word that is found
+-- so it is the word found
 pub is_word_found : (text line word found : List ℕ) (i j : ℕ) → text ≡ word_start ++ line → FindsText word_end line (Some (i, j)) → found ≡ take i line
     → RefusesWord text word → word ≡ found
 is_word_found text line word found i j is finds e r =
     same_word word_end line word r.rest i j (append_cancel_left word_start line _ (sym is ∙ r.is)) r.first finds.0 finds.1.split ∙ sym e
 
--- which is refused
+-- and the text refuses the word found
 pub found_is_refused : (text line found : List ℕ) (i j : ℕ) → text ≡ word_start ++ line → FindsText word_end line (Some (i, j)) → found ≡ take i line
     → length found ≡ i → RefusesWord text found
 found_is_refused text line found i j is finds e long =

@@ -12,11 +12,11 @@ use Rattle.clap.specs.declared.builder.value_parser.ValueParser.TheVariants.{Nam
 
 -- ---- the arguments
 
--- a word that has to stand there
+-- a required word
 abbrev pub required_word : Text → Rule
 required_word id = record (new_rule id) { required = true }
 
--- words, of which one has to stand there at least
+-- words, at least one of which is required
 abbrev pub required_words : Text → Rule
 required_words id = record (required_word id) {
   range = Some (record { start_inclusive = 1; end_inclusive = usize_max });
@@ -36,11 +36,11 @@ limit_option =
 abbrev pub table_option : Rule
 table_option = value_option (codes "table")
 
--- the same file as a word that has to stand there
+-- the same file as a required word
 abbrev pub table_word : Rule
 table_word = record (required_word (codes "table")) { value_names = 1 }
 
--- --as FORM, the form text where it is left out
+-- --as FORM, which is text if it is left out
 abbrev pub form_option : ValueParser → Rule
 form_option forms =
     record (value_option (codes "as")) { defaults = codes "text" ∷ []; parser = Some forms }
@@ -116,13 +116,12 @@ abbrev pub commands : ValueParser → List Shape
 commands forms = find_words ∷ classify_words ∷ lint_words ∷ check_words ∷ explain_words
     ∷ why_words ∷ show_words forms ∷ draw_words ∷ agree_words ∷ replay_words ∷ serve_words ∷ []
 
--- those that read the table of the type from standard input where no word says where it is, which is
--- each one but classify and why
+-- the commands that read the table of the type from standard input if no word says where it is: all but classify and why
 abbrev pub table_readers : List Text
 table_readers = codes "find" ∷ codes "lint" ∷ codes "check" ∷ codes "explain" ∷ codes "show"
     ∷ codes "draw" ∷ codes "agree" ∷ codes "replay" ∷ codes "serve" ∷ []
 
--- the program with these commands in this order, one of which has to be named
+-- the program with these commands in this order; a command is required
 abbrev pub program_with : List Shape → App
 program_with subs = record {
   top = record (new_shape (codes "cnum")) {
@@ -139,7 +138,7 @@ program_with subs = record {
 abbrev pub IsArgument : Rule → Arg → Type 0
 IsArgument rule a = (rule_of a ≡ rule) × (a.global ≡ false)
 
--- the command reads words in this way, and goes on to no other command
+-- the command reads words in this way, and has no commands of its own
 abbrev pub IsCommand : Shape → Command → Type 0
 IsCommand words c = app_of c ≡ record { top = words; subs = [] }
 
@@ -147,11 +146,11 @@ IsCommand words c = app_of c ≡ record { top = words; subs = [] }
 abbrev pub IsShow : Command → Type 0
 IsShow c = (forms : ValueParser) × TakesForms forms × IsCommand (show_words forms) c
 
--- `new` is the command that was made with one argument more, the last
+-- `new` is the command `made`, with one more argument at the end
 abbrev pub AddsArgument : {E : Type 0} → Result Command E → Arg → Command → Type 0
 AddsArgument made argument new = (old : Command) × (made ≡ Ok old) × AddsArg old argument new
 
--- `new` is the program that was made with one command more, the last, which was made too
+-- `new` is the program `program`, with the command `made` at the end
 abbrev pub AddsCommand : {E : Type 0} → Result Command E → Result Command E → Command → Type 0
 AddsCommand program made new = (old : Command) × (command : Command) × (program ≡ Ok old)
     × (made ≡ Ok command) × AddsSubcommand old command new
@@ -160,6 +159,6 @@ AddsCommand program made new = (old : Command) × (command : Command) × (progra
 abbrev pub HasCommands : List Shape → Command → Type 0
 HasCommands subs c = app_of c ≡ program_with subs
 
--- the same of commands that take the forms of a plan
+-- the same for commands that take the forms of a plan
 abbrev pub HasCommandsFor : (ValueParser → List Shape) → Command → Type 0
 HasCommandsFor subs c = (forms : ValueParser) × TakesForms forms × HasCommands (subs forms) c

@@ -1,4 +1,4 @@
--- Which command the words of the command line give, by what clap found in them.
+-- The command that the words of the command line give, by what clap found in them.
 use Rattle.std.specs.Prelude.{◌≡◌, ◌<◌, ◌^◌, ◌++◌, ◌&&◌, ℕ, Bool, true, false, List, Option, Some, None, MatchOption, if◌then◌else◌, codes, map, option_and_then}
 use Rattle.std.specs.Option.{option_map_or}
 use Rattle.std.specs.Str.{bytes_eq}
@@ -20,11 +20,11 @@ use Rattle.cn_words.specs.declared.commands.OpeningWords.{OpeningWords}
 use Rattle.cn_words.specs.declared.commands.TextSource.{TextSource}
 use Rattle.cn_words.specs.declared.commands.TextSource.TheVariants as source
 
--- what was found, argument by argument
+-- what clap found, argument by argument
 abbrev pub rows_in : ArgMatches → List Row
 rows_in m = rows_of (found_of m)
 
--- a value of which P holds, or none where it holds of none
+-- a value of which P holds, or none if there is no such value
 abbrev pub Finds : {T : Type 0} → (T → Type 0) → Option T → Type 0
 Finds {T} P o = MatchOption o ((x : T) → ¬ (P x)) P
 
@@ -43,12 +43,12 @@ IsByte text n = (IsNumeral 10 (without_leading_plus text)
 abbrev pub HasNumber : Text → List Row → ℕ → Type 0
 HasNumber id rows n = (text : Text) × (one_of id rows ≡ Some text) × IsByte text n
 
--- the number of the limit, or none where it was not given
+-- the number of the limit, or none if it was not given
 abbrev pub HasLimit : List Row → Option ℕ → Type 0
 HasLimit rows None = one_of (codes "limit") rows ≡ None
 HasLimit rows (Some n) = HasNumber (codes "limit") rows n
 
--- a flag is set where it was given, and else it is not
+-- a flag is set if it was given, and else it is not
 abbrev pub HasFlag : Text → List Row → Bool → Type 0
 HasFlag id rows is_set = (one_of id rows ≡ Some (codes "true") → is_set ≡ true)
     × (one_of id rows ≡ Some (codes "false") → is_set ≡ false)
@@ -75,11 +75,11 @@ IsList word (list.File path) = word ≡ codes "@" ++ path.now
 abbrev pub HasList : Text → List Row → ListSource → Type 0
 HasList id rows given = (word : Text) × HasWord id rows word × IsList word given
 
--- the name of the file that a word names, where it is no - for standard input
+-- the name of the file that a word names, or none for -, which is standard input
 abbrev pub path_in : Text → Option Text
 path_in word = if bytes_eq word (codes "-") then None else Some word
 
--- a word is - for standard input; what is so where there is none
+-- whether a word is - for standard input; `otherwise` if there is no word
 abbrev pub is_input : Option Text → Bool → Bool
 is_input word otherwise = option_map_or (λ w. bytes_eq w (codes "-")) word otherwise
 
@@ -94,7 +94,7 @@ HasTables rows tables = (words : List Text) × (all_of (codes "FILE") rows ≡ S
 abbrev pub HasCertificate : List Row → TextSource → Type 0
 HasCertificate rows certificate = (word : Text) × HasWord (codes "CERT") rows word × (path_of certificate ≡ path_in word)
 
--- the table is standard input too where no word says where it is
+-- the table is also standard input if no word says where it is
 abbrev pub HasTable : List Row → TextSource → Type 0
 HasTable rows table = path_of table ≡ option_and_then path_in (first_of (codes "table") rows)
 
@@ -147,18 +147,18 @@ HasArguments rows (Serve opening calls) =
 abbrev pub IsNamed : Text → List Row → Command → Type 0
 IsNamed name rows command = (name ≡ name_of command) × HasArguments rows command
 
--- so, its table is what the words say, and standard input is not the certificate too
+-- the same, with the table that the words say, and with standard input not as the certificate too
 pub record IsInvocation (name : Text) (rows : List Row) (invocation : Invocation) : Type 0 where
   pub command : IsNamed name rows invocation.command
   pub table : HasTable rows invocation.table
   pub input : is_input_shared rows ≡ false
 
--- the invocation is the one that the parse met, of the words behind the name of its command
+-- the invocation of the parsed command, by the words behind its name
 abbrev pub IsInvocationOf : ArgMatches → Invocation → Type 0
 IsInvocationOf matches invocation =
     MatchOption (subcommand_rows_of matches) ⊥ (λ met. IsInvocation met.0 met.1 invocation)
 
--- the words are refused where they give no such invocation
+-- the words are refused if they give no such invocation
 abbrev pub RefusesCommand : (Invocation → Type 0) → CommandFault → Type 0
 RefusesCommand IsGiven fault.Words = (invocation : Invocation) → ¬ (IsGiven invocation)
 RefusesCommand IsGiven fault.OutOfMemory = Unit {0}

@@ -25,7 +25,7 @@ abbrev pub HasCommand : App → List Text → Invocation → Type 0
 HasCommand app words invocation =
     MatchOption (subcommand_of app words) ⊥ (λ met. IsInvocation met.0 met.1 invocation)
 
--- the words are taken, and have this command
+-- clap accepts the words, and they have this command
 abbrev pub GivesCommand : List Text → Invocation → Type 0
 GivesCommand words invocation = (forms : ValueParser) × TakesForms forms
     × (fault_of (program forms) words ≡ []) × HasCommand (program forms) words invocation
@@ -33,14 +33,13 @@ GivesCommand words invocation = (forms : ValueParser) × TakesForms forms
 abbrev pub IsHelp : ErrorKind → Type 0
 IsHelp kind = (kind ≡ DisplayHelp) ⊎ (kind ≡ DisplayVersion)
 
--- what is told of an error, if there is memory for it
+-- the reply to an error, if there is memory for it
 abbrev pub IsReplyOf : Error → Reply → Type 0
 IsReplyOf e (reply.Help text) = IsHelp (kind_of e)
 IsReplyOf e (reply.Refusal text) = ¬ (IsHelp (kind_of e)) × ¬ (kind_of e ≡ OutOfMemory)
 IsReplyOf e (reply.Fault why) = why ≡ fault.OutOfMemory
 
--- help and the version are told where the words ask for it, and a refusal where they have another
--- fault, so that one of the two is told of words that are not taken, memory aside
+-- the help or the version if the words ask for it, and a refusal if they have another fault: words that clap refuses get one of the two, memory aside
 abbrev pub GivesReply : List Text → Reply → Type 0
 GivesReply words (reply.Help text) = (forms : ValueParser) × TakesForms forms
     × ((kind : ErrorKind) × IsAmong kind (fault_of (program forms) words) × IsHelp kind)

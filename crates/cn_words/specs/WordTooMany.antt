@@ -1,4 +1,4 @@
--- What clap says of a word too many.
+-- The word too many in a text of clap.
 use Rattle.std.specs.Prelude.{◌≡◌, ℕ, ◌<◌, List, ◌++◌, length, codes, slice_index}
 use Rattle.std.specs.Str.Pattern.{LacksTextAt}
 
@@ -9,7 +9,7 @@ word_start = codes "error: unexpected argument '"
 abbrev pub word_end : List ℕ
 word_end = codes "' found\n"
 
--- the text refuses this word: it stands between the start and the first end behind that
+-- the text refuses this word, which stands between the start and the first end behind it
 pub record RefusesWord (text word : List ℕ) : Type 0 where
   pub rest : List ℕ
   pub is : text ≡ word_start ++ (word ++ (word_end ++ rest))

@@ -9,19 +9,19 @@ use clap::ArgMatches;
 use cn_forms::Form;
 use std::alloc::{AllocError, Global};
 
-/// A list that a word gives.
+/// A list, as a word gives it.
 #[derive(Clone, Copy)]
 pub enum ListSource<'a> {
     /// The list itself.
     Word(&'a str),
-    /// The name of a file that holds it, which stood behind an `@`.
+    /// The name of the file that holds it, which the word has behind an `@`.
     File(&'a str),
 }
 
 /// Where a table or a certificate is read from.
 #[derive(Clone, Copy)]
 pub enum TextSource<'a> {
-    /// Standard input, for which `-` stands.
+    /// Standard input, which the word `-` names.
     StandardInput,
     /// The file of this name.
     File(&'a str),
@@ -34,19 +34,19 @@ pub struct OpeningWords<'a> {
     pub certificate: TextSource<'a>,
     /// The name of the file that holds the table of the object.
     pub object: &'a str,
-    /// The state in which it starts.
+    /// The state in which the object starts.
     pub start: &'a str,
-    /// How many slots its log has.
+    /// How many slots the log has.
     pub capacity: &'a str,
 }
 
-/// A command, with the words for its arguments. Of these the limit, the form and the flags are read
-/// by now; a list, a state or a number of slots is still as it was spelled.
+/// A command, with the words for its arguments. The limit, the form and the flags are read; a list,
+/// a state or a number of slots is as it was spelled.
 #[derive(Drop)]
 pub enum Command<'a> {
     /// Writes the certificate of the type, up to the limit.
     Find {
-        /// The greatest number looked for, where it was given.
+        /// The greatest number looked for, if one was given.
         limit: Option<u8>,
     },
     /// Writes the number of each of these types, up to the limit.
@@ -55,10 +55,10 @@ pub enum Command<'a> {
         limit: u8,
         /// Whether the recoverable number is written too.
         recoverable: bool,
-        /// The tables of the types, one at least.
+        /// The tables of the types, at least one.
         tables: Vec<TextSource<'a>>,
     },
-    /// Writes the table, or all that is wrong with it.
+    /// Writes the table, or every flaw of it.
     Lint,
     /// Draws the states of the type.
     Draw,
@@ -67,16 +67,16 @@ pub enum Command<'a> {
         /// The certificate.
         certificate: TextSource<'a>,
     },
-    /// Tells why the number is what it is.
+    /// Explains the number.
     Explain {
         /// The certificate.
         certificate: TextSource<'a>,
         /// Whether all collisions are told.
         all: bool,
     },
-    /// Finds the certificate of the type, up to the limit, and tells why the number is what it is.
+    /// Finds the certificate of the type, up to the limit, and explains the number.
     Why {
-        /// The greatest number looked for, where it was given.
+        /// The greatest number looked for, if one was given.
         limit: Option<u8>,
         /// Whether all collisions are told.
         all: bool,
@@ -96,7 +96,7 @@ pub enum Command<'a> {
         inputs: ListSource<'a>,
         /// The processes in the order of their steps.
         schedule: ListSource<'a>,
-        /// Whether each step is told.
+        /// Whether each step is written.
         steps: bool,
     },
     /// Serves an object by a list of events.
@@ -115,19 +115,19 @@ pub enum Command<'a> {
     },
 }
 
-/// A command, and where the table is read from that it is for.
+/// A command, and where its table is read from.
 #[derive(Drop)]
 pub struct Invocation<'a> {
-    /// The table; `classify` names its own.
+    /// The table. `classify` names its own.
     pub table: TextSource<'a>,
-    /// What is done.
+    /// The command.
     pub command: Command<'a>,
 }
 
-/// Why no command was made.
+/// Why there is no command.
 #[derive(Clone, Copy)]
 pub enum CommandFault {
-    /// The words give none.
+    /// The words give no command.
     Words,
     /// Memory ran out.
     OutOfMemory,
@@ -142,7 +142,7 @@ impl From<AllocError> for CommandFault {
 }
 
 impl<'a> ListSource<'a> {
-    // The list that a word gives.
+    // The list that a word names.
     fn of(word: &'a str) -> ListSource<'a>
         ensures { IsList word.entry.now result }
     {
@@ -334,7 +334,7 @@ fn serve<'a>(words: &ArgMatches<'a>) -> Option<Command<'a>>
     })
 }
 
-// The command of this name, of the words behind it.
+// The command of this name, by the words behind the name.
 fn command_named<'a>(
     alloc: Global,
     name: &str,
@@ -358,7 +358,7 @@ fn command_named<'a>(
     }
 }
 
-// Where the table is read from: standard input, where no word says.
+// Where the table is read from. Without a word for it, that is standard input.
 fn table<'a>(words: &ArgMatches<'a>) -> TextSource<'a>
     ensures { HasTable (rows_in words.now) result }
 {
@@ -368,7 +368,7 @@ fn table<'a>(words: &ArgMatches<'a>) -> TextSource<'a>
     }
 }
 
-// Whether a word stands for standard input; what is so where there is none.
+// Whether a word stands for standard input; `otherwise` if there is no word.
 fn is_input(word: Option<&str>, otherwise: bool) -> bool
     ensures { result ≡ is_input (option_map (λ w. w.now) word.entry) otherwise }
 {
@@ -385,7 +385,7 @@ fn is_input_shared(words: &ArgMatches<'_>) -> bool
     is_input(word(words, "CERT"), false) && is_input(word(words, "table"), true)
 }
 
-// The command of this name with its table, of the words behind it.
+// The command of this name, with its table, by the words behind the name.
 fn invocation_named<'a>(
     alloc: Global,
     name: &str,
@@ -405,7 +405,7 @@ fn invocation_named<'a>(
     }))
 }
 
-// The name of the command that was met, and the words behind it.
+// The name of the parsed command, and the words behind it.
 fn command_met<'m, 'a>(matches: &'m ArgMatches<'a>) -> Option<(&'a str, &'m ArgMatches<'a>)>
     ensures { option_map (λ met. (met.0.now, rows_in met.1.now)) result
         ≡ subcommand_rows_of matches.now }
@@ -413,13 +413,13 @@ fn command_met<'m, 'a>(matches: &'m ArgMatches<'a>) -> Option<(&'a str, &'m ArgM
     matches.subcommand()
 }
 
-/// The command that a parse met, and where its table is read from.
+/// The command of a parsed command line, and where its table is read from.
 ///
 /// # Errors
 ///
-/// `Words` where it met none of the commands, or a word is missing, the limit is no number of one
-/// byte or the form is none, or standard input would be the table and the certificate;
-/// `OutOfMemory` for want of memory.
+/// `Words` if there is no command, a word is missing, the limit is no number of one byte, the form
+/// is unknown, or standard input would be both the table and the certificate; `OutOfMemory` for
+/// want of memory.
 pub fn invocation_of<'a>(
     alloc: Global,
     matches: &ArgMatches<'a>,

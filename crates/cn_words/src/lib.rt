@@ -1,8 +1,8 @@
 //! The words of the command line of `cnum`, the help on them, and the command that they give.
 //!
-//! [`parse`] makes an [`Invocation`] of a command line, or a [`Reply`] where there is none to run. The
-//! crate `clap` parses the words by what [`command`] says, and [`invocation_of`] reads what it found.
-//! The crate knows nothing of what a command does.
+//! [`parse`] makes an [`Invocation`] of a command line, or a [`Reply`] if there is no command to
+//! run. The crate `clap` parses the words by the grammar of [`command`], and [`invocation_of`]
+//! reads what `clap` found. The crate knows nothing of what a command does.
 //!
 //! ```text
 //! match parse(alloc, &words) {

@@ -1,4 +1,4 @@
-//! The command that a command line gives, or what is told in its place.
+//! The command that a command line gives, or the reply in its place.
 ghost use Rattle.std.specs.Prelude.{◌≡◌, MatchResult, map, string_bytes};
 ghost use Rattle.cn_words.specs.Replies.{GivesCommand, GivesReply, IsReplyOf};
 ghost use Rattle.cn_words.specs.declared.commands.CommandFault.TheVariants as fault;
@@ -10,12 +10,12 @@ use clap::Error;
 use clap::error::ErrorKind;
 use std::alloc::{AllocError, Global};
 
-/// What is told where no command is run.
+/// The reply to words that run no command.
 #[derive(Drop)]
 pub enum Reply {
-    /// The help or the version that the words ask for: a text for standard output.
+    /// The help or the version that the words ask for, for standard output.
     Help(String),
-    /// What is wrong with the words: a text for standard error.
+    /// The error in the words, for standard error.
     Refusal(String),
     /// No command was made.
     Fault(CommandFault),
@@ -29,7 +29,7 @@ impl From<AllocError> for Reply {
     }
 }
 
-// What clap says, with a tip where a word too many may name the file of the table.
+// The text of clap, with a tip if a word too many may name the file of the table.
 fn text_with_tip(alloc: Global, error: &Error, words: &[String]) -> Result<String, AllocError> {
     let text = format!(in alloc; "{error}")?;
     let Some(command) = words.get(1) else {
@@ -44,7 +44,7 @@ fn text_with_tip(alloc: Global, error: &Error, words: &[String]) -> Result<Strin
     Ok(text)
 }
 
-// What is told of what clap answers in place of matches.
+// The reply to an error of clap.
 fn reply_to(alloc: Global, error: &Error, words: &[String]) -> Reply
     ensures { IsReplyOf error.now result }
 {
@@ -58,12 +58,12 @@ fn reply_to(alloc: Global, error: &Error, words: &[String]) -> Reply
     }
 }
 
-/// The command that the words give; the first word is the name of the program.
+/// The command that the words give. The first word is the name of the program.
 ///
 /// # Errors
 ///
-/// The text of the help or the version, where the words ask for it, or the text of what is wrong
-/// with them; `OutOfMemory` for want of memory.
+/// The text of the help or the version if the words ask for it, or the text of the error in the
+/// words; `OutOfMemory` for want of memory.
 pub fn parse<'a>(alloc: Global, words: &'a [String]) -> Result<Invocation<'a>, Reply>
     ensures { MatchResult result (GivesCommand (map string_bytes words.entry.now))
         (GivesReply (map string_bytes words.entry.now)) }

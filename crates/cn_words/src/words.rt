@@ -10,8 +10,8 @@ use clap::builder::ValueParser;
 use clap::{Arg, ArgAction, Command, value_parser};
 use std::alloc::{AllocError, Global};
 
-// The help behind the words: what a command says of itself, the limits of a table and the exit
-// statuses, which hold of every command, and an example.
+// The help behind the words: what a command says of itself, then what holds for every command (the
+// limits of a table and the exit statuses), then an example.
 macro_rules! help {
     ($own:literal, $example:literal) => {
         concat!(
@@ -277,8 +277,7 @@ answers are those of one sequential run, in the order of the entry lines.
 writes answer 0 0 0, entry 0 0 inc 0 1 and events i0:0,s0,s0,s0,s0,s0,s0."
 );
 
-/// The commands that read the table of the type from standard input, where no word says where it
-/// is.
+/// The commands that read the table of the type from standard input if no word says where it is.
 const READ_INPUT: [&str; 9] = [
     "find", "lint", "check", "explain", "show", "draw", "agree", "replay", "serve",
 ];
@@ -289,16 +288,16 @@ fn has_name(names: &[&str], name: &str) -> bool
     names.iter().any(|n| *n == name)
 }
 
-/// Whether the command of this name reads the table of the type from standard input, where no word
-/// says where it is.
+/// Whether the command of this name reads the table of the type from standard input if no word says
+/// where it is.
 pub fn reads_input(command: &str) -> bool
     ensures { result ≡ list_any (λ name. bytes_eq name command.now) table_readers }
 {
     has_name(&READ_INPUT, command)
 }
 
-/// The word too many that clap refuses in this text, if it is one that may be a file's name: one
-/// that begins with a dash is an option.
+/// The word too many that clap refuses in this text. None if it begins with a dash: then it is an
+/// option, and no file's name.
 pub fn word_too_many(text: &str) -> Option<&str>
     ensures { MatchOption result ((word : _) → RefusesWord text.now word → IsOption word)
         (λ w. RefusesWord text.now w.now × ¬ (IsOption w.now)) }
@@ -311,7 +310,7 @@ pub fn word_too_many(text: &str) -> Option<&str>
     Some(word)
 }
 
-/// A word that has to stand there.
+/// A word that is required.
 fn required_word<'a>(alloc: Global, id: &'a str, help: &'a str) -> Arg<'a>
     ensures { IsArgument (required_word id.entry.now) result }
 {
@@ -337,7 +336,7 @@ fn limit<'a>(alloc: Global) -> Arg<'a>
     value_option(alloc, "limit", "N", help).value_parser(value_parser!(u8))
 }
 
-/// The files that `classify` reads.
+/// The files of `classify`.
 fn files<'a>(alloc: Global) -> Arg<'a>
     ensures { IsArgument (required_words (codes "FILE")) result }
 {
@@ -346,7 +345,7 @@ fn files<'a>(alloc: Global) -> Arg<'a>
         .action(ArgAction::Set)
 }
 
-/// The file of the table, where it is not read from standard input.
+/// The file of the table, if standard input is not.
 fn table_option<'a>(alloc: Global) -> Arg<'a>
     ensures { IsArgument table_option result }
 {
@@ -387,10 +386,10 @@ fn bare_command<'a>(alloc: Global, name: &'a str, about: &'a str, after: &'a str
     Command::new(alloc, name).about(about).after_help(after)
 }
 
-// The next functions take what the last one made, so that only they end early for want of memory:
-// each place that may end while a command is alive is dear to prove.
+// The next functions take the result of the last one, so that they alone end early for want of
+// memory: each early end while a command lives is dear to prove.
 
-/// A command with one argument more, the last.
+/// Adds an argument behind the others.
 fn with_argument<'a>(
     command: Result<Command<'a>, AllocError>,
     argument: Arg<'a>,
@@ -400,7 +399,7 @@ fn with_argument<'a>(
     command?.arg(argument)
 }
 
-/// The program with one command more, the last.
+/// Adds a command behind the others.
 fn with_command<'a>(
     program: Result<Command<'a>, AllocError>,
     command: Result<Command<'a>, AllocError>,
@@ -458,7 +457,7 @@ fn check<'a>(alloc: Global) -> Result<Command<'a>, AllocError>
     with_argument(command, table_option(alloc))
 }
 
-/// Whether a command tells the first of what it has to tell, or all.
+/// Whether a command tells all that it has to tell, or the first alone.
 fn all<'a>(alloc: Global) -> Arg<'a>
     ensures { IsArgument (flag (codes "all")) result }
 {
@@ -547,7 +546,7 @@ fn serve<'a>(alloc: Global) -> Result<Command<'a>, AllocError>
     with_argument(command, table_option(alloc))
 }
 
-/// The program with no command yet.
+/// The program without commands.
 fn program<'a>(alloc: Global) -> Command<'a>
     ensures { HasCommands [] result }
 {
@@ -558,7 +557,7 @@ fn program<'a>(alloc: Global) -> Command<'a>
         .subcommand_required(true)
 }
 
-/// All that the program takes: its commands in this order, each with its arguments.
+/// The grammar of the program: its commands in this order, each with its arguments.
 pub fn command<'a>(alloc: Global) -> Result<Command<'a>, AllocError>
     ensures { IfOk result (HasCommandsFor commands) }
 {

@@ -1,4 +1,4 @@
--- What is said of a served object, whoever made the gates.
+-- Facts about a served object, whoever made the gates.
 use Rattle.std.proofs.Common.{inl, inr, ℕ, List, map, Option, Result, Ok, Err}
 use Rattle.cn_hall.specs.Seats.{SeatState}
 use Rattle.cn_hall.specs.declared.call.Go.{Go}
@@ -16,19 +16,19 @@ use Rattle.cn_app.specs.declared.report.Outcome.{Outcome}
 use Rattle.cn_app.specs.declared.report.Report.{Report}
 use Rattle.cn_app.specs.declared.streams.output.Output.{Output}
 
--- what follows of each value and of each fault follows of a result
+-- a fact that follows for each value and for each fault follows for a result
 by_result : {X : Type 0} (P Q : Result X AppFault → Type 0) → ((x : X) → P (Ok x) → Q (Ok x)) → ((e : AppFault) → P (Err e) → Q (Err e))
     → (r : Result X AppFault) → P r → Q r
 by_result P Q value fault (Ok x) h = value x h
 by_result P Q value fault (Err e) h = fault e h
 
--- less may be said of the step behind a first one
+-- a weaker fact about the step behind a first one
 behind : {X Y : Type 0} (first : Result X AppFault → Type 0) (next less : X → Result Y AppFault → Type 0)
     → ((x : X) (r : Result Y AppFault) → next x r → less x r) → (r : Result Y AppFault) → Then first next r → Then first less r
 behind first next less follows r (inl fault) = inl fault
 behind first next less follows r (inr (x, is, after)) = inr (x, is, follows x r after)
 
--- and of the work that a command reports
+-- and about the work that a command reports
 reports_less : {W : Type 0} (contents : W → Option (List ℕ)) (work less : Result Report AppFault → Type 0)
     → ((q : Result Report AppFault) → work q → less q) → (u v : Output W) (r : Result Outcome AppFault)
     → Reports contents work u v r → Reports contents less u v r
@@ -72,7 +72,7 @@ module _ {G : Type 0} (asks : G → SeatState → ℕ → G → Type 0) (says : 
       }))
       (λ e fault. fault)))) q h
 
-  -- what is reported of a served object is so, whoever made the gates
+  -- the report of a served object, whoever made the gates
   pub reports_any_gates : {R C O W : Type 0} (contents : W → Option (List ℕ)) (given : OpeningArguments R C O) (calls : ListText) (u v : Output W)
       (r : Result Outcome AppFault) → Reports contents (HasServeReport (EachHasOneGate asks says made) given calls) u v r
       → Reports contents (HasServeReport (EachHasOneGate asks says (λ _ _. Unit {0})) given calls) u v r

@@ -1,4 +1,4 @@
--- Tables that are named one behind the other.
+-- Several tables, each with its name.
 use Rattle.std.proofs.Common.{◌≡◌, ℕ, ◌+◌, ◌<◌, List, [], ◌∷◌, ◌++◌, length, get_or, take, Option, ap, ap₂, sym, ◌∙◌}
 use Rattle.std.specs.Borrow.{Bor}
 use Rattle.std.proofs.lemmas.List.{map-append, map_more}
@@ -14,7 +14,7 @@ use Rattle.cnum.specs.declared.lazy_file.LazyFile.{LazyFile}
 use Rattle.cnum.specs.declared.text_reader.TextReader.{TextReader}
 use Rattle.cnum.specs.declared.text_reader.TextReader.TheVariants.{File, Standard}
 
--- a table of the next source comes behind those of the sources before
+-- the table of the next source stands behind those of the sources before
 pub one_more : {R : Type 0} (left : R → Option (List ℕ)) (bytes : TextSource → Option (List ℕ)) (sources : List TextSource)
     (tables : List (NamedTable R)) (i : ℕ) (none : TextSource) (table : NamedTable R) → i < length sources
     → AreNamed left bytes (take i sources) tables → table.name.now ≡ name_of (get_or sources i none)

@@ -1,4 +1,4 @@
--- With which status the program ends.
+-- The exit statuses of the program.
 use Rattle.std.specs.Prelude.{ℕ, Option, Some, None, Result, Ok, Err}
 use Rattle.cn_app.specs.FaultText.{plain_of, status_of}
 use Rattle.cn_app.specs.declared.fault.AppFault.{AppFault}
@@ -6,14 +6,14 @@ use Rattle.cn_app.specs.declared.fault.AppFault.TheVariants.{Table}
 use Rattle.cn_app.specs.declared.report.Outcome.{Outcome}
 use Rattle.cn_app.specs.declared.report.Outcome.TheVariants.{Cut, Refused, Whole}
 
--- after a command of one table: 1 where some call has no reply, and the status of a table that lint refuses is that of its fault
+-- after a command of one table: 1 if some call has no reply; the status of the fault of a table that lint refuses
 abbrev pub command_status : Result Outcome AppFault → ℕ
 command_status (Ok Whole) = 0
 command_status (Ok Cut) = 1
 command_status (Ok (Refused fault)) = status_of (plain_of (Table fault))
 command_status (Err e) = status_of e
 
--- after several tables: that of the first fault
+-- after several tables: the status of the first fault
 abbrev pub classify_status : Result (Option AppFault) AppFault → ℕ
 classify_status (Ok None) = 0
 classify_status (Ok (Some e)) = status_of e

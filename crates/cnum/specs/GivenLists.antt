@@ -1,4 +1,4 @@
--- The lists that the command line gives, as a word or in a file.
+-- The lists that the command line gives, as words or in files.
 use Rattle.std.specs.Prelude.{◌≡◌, ℕ, List, Option, Result, Ok, Err, String, string_bytes}
 use Rattle.std.specs.Global.{Global}
 use Rattle.cn_words.specs.declared.commands.ListSource.{ListSource}
@@ -22,7 +22,7 @@ HasText (Word word) (text.File t) = ⊥
 HasText (File held) (text.Word t) = ⊥
 HasText (File held) (text.File t) = t.now ≡ string_bytes held
 
--- an argument was read from a text with these bytes, and the reading ends so
+-- an argument was read from a text with these bytes, with this result
 pub record IsRead {L : Type 0} (left : L → Option (List ℕ)) (known : Option (List ℕ)) (argument : Argument) (r : Result (String Global) AppFault) : Type 0 where
   pub before : Text L
   pub after : Text L
@@ -30,7 +30,7 @@ pub record IsRead {L : Type 0} (left : L → Option (List ℕ)) (known : Option 
   pub read : HasRead (from_source.Argument argument) left before after
   pub gives : GivesArgument argument after r
 
--- reading a list from its source ends so: a word is the list itself; a file of this name gives its text, or has a fault
+-- the result of reading a list from its source: a word is the list itself; the file of this name gives its text, or has a fault
 abbrev pub GivesList : {L : Type 0} → (L → Option (List ℕ)) → (List ℕ → Option (List ℕ)) → ListSource → Argument → Result GivenList AppFault → Type 0
 GivesList left files (source.Word word) argument r = r ≡ Ok (Word word)
 GivesList left files (source.File path) argument (Ok (Word word)) = ⊥

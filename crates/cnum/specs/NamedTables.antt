@@ -1,4 +1,4 @@
--- The tables that the command line names, and what becomes of them.
+-- The tables that the command line names, and their classification.
 use Rattle.std.specs.Prelude.{◌≡◌, codes, ℕ, List, map, Option, Result, Ok, Err}
 use Rattle.cn_words.specs.declared.commands.TextSource.{TextSource}
 use Rattle.cn_words.specs.declared.commands.TextSource.TheVariants.{File, StandardInput}
@@ -15,7 +15,7 @@ abbrev pub name_of : TextSource → List ℕ
 name_of StandardInput = codes "-"
 name_of (File path) = path.now
 
--- the bytes of a table, by those of standard input and of each file, where they are known
+-- the bytes of a table, by those of standard input and of each file, if these are known
 abbrev pub bytes_of : Option (List ℕ) → (List ℕ → Option (List ℕ)) → TextSource → Option (List ℕ)
 bytes_of stdin files StandardInput = stdin
 bytes_of stdin files (File path) = files path.now
@@ -27,8 +27,8 @@ pub record AreNamed {R : Type 0} (left : R → Option (List ℕ)) (bytes : TextS
   pub bytes_left : map (λ t. left t.text.reader) tables ≡ map bytes sources
   pub unread : AreUnread tables
 
--- classifying the tables of these sources ends so: they were classified in order, for the numbers asked for, with this first fault; or memory ran out before, and
--- nothing was written or told
+-- the result of classifying the tables of these sources: they were classified in order, for the numbers asked for, with this first fault; or memory ran out
+-- before, and nothing was written or told
 abbrev pub ClassifiesSources : {R W D : Type 0} → (R → Option (List ℕ)) → (W → Option (List ℕ)) → (D → Option (List ℕ) → AppFault → D → Type 0)
     → (TextSource → Option (List ℕ)) → List TextSource → AskedNumbers → Output W → D → Output W → D → Result (Option AppFault) AppFault → Type 0
 ClassifiesSources {R} left contents tells bytes sources asked u d v e (Ok first) =

@@ -18,10 +18,10 @@ use Rattle.cnum.specs.declared.faults.Faults.{Faults}
 use Rattle.cnum.specs.declared.lazy_file.LazyFile.{LazyFile}
 use Rattle.cnum.specs.declared.pipe_writer.PipeWriter.{PipeWriter}
 
--- by the bytes that standard input and files have left, those that the writer holds, and those of the file of each name, where they are known
+-- in terms of the bytes that standard input and files have left, those that the writer holds, and those of the file of each name, if they are known
 module _ {S F D W : Type 0} (remaining : S → Option (List ℕ)) (left : LazyFile D F → Option (List ℕ)) (contents : W → Option (List ℕ))
     (files : List ℕ → Option (List ℕ)) where
-  -- a command of one table was run, and the exit status is that of its end
+  -- a command of one table was run, and the exit status is that of its result
   abbrev pub RunsOne : S → TextSource → Command → Output W → Output W → ℕ → Type 0
   RunsOne stdin table command u v status = (end : Result Outcome AppFault) × Runs remaining left contents files stdin table command u v end
       × (status ≡ command_status end)
@@ -32,13 +32,14 @@ module _ {S F D W : Type 0} (remaining : S → Option (List ℕ)) (left : LazyFi
       × ClassifiesSources (left_of remaining left) contents (λ _ _ _ _. Unit {0}) (bytes_of (remaining stdin) files) sources asked u before v after first
       × (status ≡ classify_status first)
 
-  -- `classify` classifies the tables that its words name, and every other command is one of one table
+  -- `classify` classifies the tables that its words name, and every other command takes one table
   abbrev pub Does : S → TextSource → Command → Output W → Output W → ℕ → Type 0
   Does stdin table command u v status = ((limit : ℕ) × (recoverable : Bool) × (tables : Vec TextSource Global) × (command ≡ Classify limit recoverable tables)
       × ClassifiesAll stdin (record { limit = limit; recoverable = recoverable }) tables.items u v status)
-      ⊎ (((limit : ℕ) (recoverable : Bool) (tables : Vec TextSource Global) → command ≢ Classify limit recoverable tables) × RunsOne stdin table command u v status)
+      ⊎ (((limit : ℕ) (recoverable : Bool) (tables : Vec TextSource Global) → command ≢ Classify limit recoverable tables)
+      × RunsOne stdin table command u v status)
 
--- by the same: the command was done with these streams, of which nothing was used
+-- in the same terms: the command was done with these streams, of which nothing was used before
 abbrev pub Obeys : {S F D W : Type 0} → (S → Option (List ℕ)) → (LazyFile D F → Option (List ℕ)) → (W → Option (List ℕ)) → (List ℕ → Option (List ℕ))
     → S → W → Invocation → ℕ → Type 0
 Obeys {S} {F} {D} {W} remaining left contents files stdin stdout given status =

@@ -1,4 +1,4 @@
--- Which bytes the readers of the program have, where these are known.
+-- The bytes of the readers of the program, if they are known.
 use Rattle.std.specs.Prelude.{◌≡◌, ℕ, List, Option}
 use Rattle.std.specs.Option.{option_map_or}
 use Rattle.cn_words.specs.declared.commands.TextSource.{TextSource}
@@ -9,16 +9,16 @@ use Rattle.cnum.specs.declared.lazy_file.LazyFile.{LazyFile}
 use Rattle.cnum.specs.declared.text_reader.TextReader.{TextReader}
 use Rattle.cnum.specs.declared.text_reader.TextReader.TheVariants.{File, Standard}
 
--- what a file has left: before it is open, all that the file of its name holds
+-- what a file has left: before it is open, all bytes of the file of its name
 abbrev pub left_in : {D F : Type 0} → (D → List ℕ → Option (List ℕ)) → (F → Option (List ℕ)) → LazyFile D F → Option (List ℕ)
 left_in contents remaining file = option_map_or remaining file.file (contents file.disk.now file.path.now)
 
--- what the reader of a text has left, by what standard input and a file have
+-- what the reader of a text has left, by what standard input and a file have left
 abbrev pub left_of : {S D F : Type 0} → (S → Option (List ℕ)) → (LazyFile D F → Option (List ℕ)) → TextReader S D F → Option (List ℕ)
 left_of remaining left (Standard stdin) = remaining stdin
 left_of remaining left (File file) = left file
 
--- the reader is that of a source: standard input itself, or a file that has the bytes of its name
+-- the reader is that of a source: standard input itself, or a file with the bytes of its name
 abbrev pub IsReaderOf : {S D F : Type 0} → (LazyFile D F → Option (List ℕ)) → (List ℕ → Option (List ℕ)) → S → TextSource → TextReader S D F → Type 0
 IsReaderOf left files stdin source.StandardInput reader = reader ≡ Standard stdin
 IsReaderOf left files stdin (source.File path) (Standard other) = ⊥

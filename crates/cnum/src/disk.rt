@@ -1,11 +1,11 @@
-//! What opens files.
+//! Opening files by name.
 use std::fs::File;
 use std::io;
 use std::io::Read;
 use std::rt::Files;
 
-/// What opens files by their names. Every runtime that has files does, and knows of none what it
-/// holds; so what is said of a file is said by its name.
+/// Opens files by their names. Every runtime that has files is a disk, and knows the contents of
+/// none. So contracts name the bytes of a file by its name.
 pub trait Disk {
     ghost use Rattle.std.specs.Prelude.{ℕ, List, Option, IfOk};
     ghost use Rattle.std.specs.Io.KnownBytes.{Keeps};

@@ -8,8 +8,8 @@ use std::alloc::Global;
 use std::io;
 use std::io::Read;
 
-/// A file that is opened at its first read, so that it is not touched where an earlier text is
-/// refused. A fault of opening it is a fault of that read.
+/// A file that is opened at its first read: if an earlier text is refused, the file is not touched.
+/// A fault of the opening is a fault of that read.
 #[derive(Drop)]
 pub struct LazyFile<'a, D: Disk> {
     /// What opens it.
@@ -51,7 +51,7 @@ impl<'a, D: Disk> Read for LazyFile<'a, D> {
     }
 }
 
-/// The text of the file of this name, of which nothing was read.
+/// The text of the file of this name, of which nothing was read yet.
 pub fn file_text<'a, D: Disk>(disk: &'a D, alloc: Global, path: &'a str) -> Text<LazyFile<'a, D>>
     ensures { IsTextOf (left_in D.contents D.Reader.remaining)
         (D.contents disk.now path.now) result }

@@ -22,7 +22,7 @@ pub fn is_broken_pipe<T>(written: &io::Result<T>) -> bool {
 }
 
 impl<W: Write> PipeWriter<W> {
-    /// This writer, none of whose writes failed yet.
+    /// This writer, before its first write.
     pub fn new(writer: W) -> PipeWriter<W>
         ensures { result.writer ≡ writer }
     {

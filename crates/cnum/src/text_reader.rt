@@ -4,7 +4,7 @@ use crate::lazy_file::LazyFile;
 use std::io;
 use std::io::Read;
 
-/// What reads a text that is named: standard input by the name `-`, else a file of the name.
+/// The reader of a named text: standard input for the name `-`, else the file of the name.
 #[derive(Drop)]
 pub enum TextReader<'a, S, D: Disk> {
     Standard(S),

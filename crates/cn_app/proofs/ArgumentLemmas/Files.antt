@@ -11,7 +11,7 @@ use Rattle.cn_app.specs.declared.fault.AppFault.TheVariants as fault
 use Rattle.cn_app.specs.declared.fault.Argument.{Argument}
 use Rattle.cn_app.specs.declared.fault.Source.TheVariants as source
 
--- what a line comes to, by whether the bytes are too many
+-- what a line gives, by whether there are too many bytes
 abbrev spelled : Argument → Bool → List ℕ → Result (List ℕ) AppFault
 spelled argument long line =
     if long then Err (fault.TooLong (source.Argument argument)) else (if is_utf8 line then Ok line else Err (fault.Argument argument))
@@ -28,7 +28,7 @@ line_read argument long line few valid = rw (few, is_utf8-from_IsUtf8 line valid
 line_refused : (argument : Argument) (long : Bool) (line : List ℕ) → long ≡ false → (IsUtf8 line → ⊥) → spelled argument long line ≡ Err (fault.Argument argument)
 line_refused argument long line few bad = rw (few, no_text line bad) refl
 
--- few enough bytes, and what they are without the line feed at the end
+-- few enough bytes, and the line that they are without the line feed at the end
 module _ (argument : Argument) (bytes line : List ℕ) (few : length bytes ≤ MOST_ARGUMENT_BYTES) (line_is : line ≡ without_line_feed bytes) where
   pub argument_read : (text : List ℕ) → IsUtf8 line → text ≡ line → argument_in argument bytes ≡ Ok text
   argument_read text valid same =

@@ -12,7 +12,7 @@ use Rattle.cn_app.specs.Arguments.Lists.{number_up_to}
 digits_write : IsNumeralModel (λ ds. list_all is_ascii_digit ds ≡ true) (digits_value 10)
 digits_write = numerals_by_value _ (search rules)
 
--- the number where the text is a number, and it is small enough
+-- the number, if the text is a number that is small enough
 abbrev kept : ℕ → Bool → ℕ → Option ℕ
 kept greatest is_number n = option_and_then (λ m. if nat_le m greatest then Some m else None) (if is_number then Some n else None)
 
@@ -26,7 +26,7 @@ empty_is_none greatest text digits empty = rw (digits, empty) refl
 pub small_is_some : (greatest : ℕ) (text : List ℕ) → list_all is_ascii_digit text ≡ true → 0 < length text → length text ≤ 20 → digits_value 10 text ≤ greatest → number_up_to greatest text ≡ Some (digits_value 10 text)
 small_is_some greatest text digits some few small = rw (digits, le-leb 1 (length text) some, le-leb (length text) 20 few, le-leb (digits_value 10 text) greatest small) refl
 
--- a number that `parse` reads, or refuses, in digits alone
+-- `parse` on digits alone: the number that it reads, or its refusal
 pub parsed : {E : Type 0} (k greatest : ℕ) (text : List ℕ) (r : Result ℕ E) → greatest + 1 ≡ 2 ^ k → ParsesUnsigned k 10 text r → list_all is_ascii_digit text ≡ true → length text ≤ 20
     → result_ok r ≡ number_up_to greatest text
 parsed {E} k greatest text (Ok n) top read digits few =

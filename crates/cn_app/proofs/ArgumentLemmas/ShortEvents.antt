@@ -35,7 +35,7 @@ short_step byte n is = rw is refl
 pub short_invoke : (p o n m : ℕ) → p ≢ 58 → number_up_to 255 (p ∷ []) ≡ Some n → number_up_to 255 (o ∷ []) ≡ Some m → event_of (105 ∷ p ∷ 58 ∷ o ∷ []) ≡ Some (Invoke n m)
 short_invoke p o n m no_colon first second = rw (ne_eqb p 58 no_colon) (rw (first, second) refl)
 
--- the same of a text, by its length and its bytes
+-- the same for a text, by its length and its bytes
 pub spells_step : (text : List ℕ) (byte n : ℕ) → length text ≡ 2 → get_or text 0 0 ≡ 115 → get_or text 1 0 ≡ byte → number_up_to 255 (byte ∷ []) ≡ Some n
     → event_of text ≡ Some (Step n)
 spells_step [] byte n two letter process is = absurd (omega arith)
@@ -103,7 +103,7 @@ one_piece_more list text rest is one =
     let split : pieces (text ++ 44 ∷ rest) ≡ text ∷ pieces rest = slice_split_at is_comma text 44 rest (λ k d less. ne_eqb _ 44 (one k d less)) refl in
     ap (λ l. length (pieces l)) is ∙ ap length split ∙ omega arith
 
--- an event that no comma follows is the last
+-- an event with no comma behind it is the last
 pub last_piece : (text : List ℕ) → All (λ byte. byte ≢ 44) text → pieces text ≡ text ∷ []
 last_piece text one = slice_split_none is_comma text (λ k d less. ne_eqb _ 44 (one k d less))
 
@@ -111,12 +111,12 @@ pub last_event : (front : List Event) (text : List ℕ) (e : Event) → event_of
     → with_front front (all_some (map event_of (pieces text))) ≡ Some (front ++ e ∷ [])
 last_event front text e spelled one = ap (λ l. with_front front (all_some (map event_of l))) (last_piece text one) ∙ rw spelled refl
 
--- the word for the empty list spells no event, however many there may be
+-- the word for the empty list spells no event, under every limit
 no_event_of_none : (few : Bool) (events : List Event) → (if few then all_some (map event_of (pieces (codes "none"))) else None) ≡ Some events → ⊥
 no_event_of_none true events e = cc e
 no_event_of_none false events e = cc e
 
--- the events that the pieces spell, of which there are not too many, are those of the list: the word for none spells no event
+-- pieces that are not too many spell the events of the list: the word for the empty list spells no event
 by_word : (most : ℕ) (word : Bool) (list : List ℕ) (events : List Event) → bytes_eq list (codes "none") ≡ word → items_of most event_of (pieces list) ≡ Some events → list_up_to most event_of list ≡ Some events
 by_word most true list events is spelled =
     let none : list ≡ codes "none" = (bytes_eq-Decides list (codes "none")).0 is in

@@ -1,4 +1,4 @@
--- What is said of lists of calls is said of the same lists in a `Vec`.
+-- Facts about lists of calls hold for the same lists in a `Vec`.
 use Rattle.std.proofs.Common.{◌≡◌, ℕ, List, Vec, Global, Result, map, subst}
 use Rattle.cn_log.specs.Opening.{Log, Opening}
 use Rattle.cn_app.specs.Commands.Serve.{IsServeReport}

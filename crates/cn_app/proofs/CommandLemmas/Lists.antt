@@ -1,4 +1,4 @@
--- What is said of lists is said of the same lists in a `Vec`.
+-- Facts about lists hold for the same lists in a `Vec`.
 use Rattle.std.proofs.Common.{◌≡◌, ℕ, Bool, List, Result, subst}
 use Rattle.cn_app.specs.Commands.Agree.{IsAgreeReport}
 use Rattle.cn_app.specs.declared.fault.AppFault.{AppFault}

@@ -1,4 +1,4 @@
--- What a command reports.
+-- The reports of commands.
 use Rattle.std.proofs.Common.{◌≡◌, inl, inr, ℕ, List, Option, Result, refl, sym, subst}
 use Rattle.cn_app.specs.Streams.Writing.{IsSilent, Reports}
 use Rattle.cn_app.specs.declared.fault.AppFault.{AppFault}
@@ -10,7 +10,7 @@ use Rattle.cn_app.specs.declared.streams.output.Output.{Output}
 pub silent : {W : Type 0} (output : Output W) → IsSilent output output
 silent output = record { writer = refl; bytes = refl; progress = refl }
 
--- what is reported of the result of a work is a report of that work
+-- to report the result of a work is to report that work
 pub reported : {W : Type 0} (contents : W → Option (List ℕ)) (work : Result Report AppFault → Type 0) (old new : Output W)
     (done : Result Report AppFault) (r : Result Outcome AppFault) → work done → Reports contents (λ q. q ≡ done) old new r
     → Reports contents work old new r

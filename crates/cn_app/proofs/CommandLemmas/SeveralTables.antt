@@ -32,13 +32,13 @@ not_own e fault r this that own write = let w : fault ≡ Write = cc in let t : 
 
 module _ {R W D : Type 0} (remaining : R → Option (List ℕ)) (contents : W → Option (List ℕ)) (tells : D → Option (List ℕ) → AppFault → D → Type 0) (asked : AskedNumbers)
     (tables : List (NamedTable R)) (u : Output W) (c : D) where
-  -- some tables came to be these; with what becomes of the rest it is known what becomes of all
+  -- some tables came to be these: the rest then determines what becomes of all
   abbrev pub Leads : Option AppFault → List (NamedTable R) → List (NamedTable R) → Output W → D → Type 0
   Leads so_far before rest v d = (first : Option AppFault) (after : List (NamedTable R)) (w : Output W) (e : D)
       → AreClassified remaining contents tells asked rest after v d first w e
       → AreClassified remaining contents tells asked tables (before ++ after) u c (option_or so_far first) w e
 
-  -- one more came to be this: that is known of the tables behind it
+  -- one more table came to be this: the same for the tables behind it
   behind : (before after : List (NamedTable R)) (new : NamedTable R) (first : Option AppFault) (w : Output W) (e : D)
       → AreClassified remaining contents tells asked tables (before ++ new ∷ after) u c first w e
       → AreClassified remaining contents tells asked tables ((before ++ new ∷ []) ++ after) u c first w e
@@ -54,7 +54,7 @@ module _ {R W D : Type 0} (remaining : R → Option (List ℕ)) (contents : W �
         (subst (λ (l : List (NamedTable R)). AreClassified remaining contents tells asked l (new ∷ after) v d first x e) (sym next)
         (HasLine (subst (λ (q : Result Outcome AppFault). HasClassified remaining contents asked old new q v w) is step) h)))
 
-    -- its fault is told
+    -- the fault of the next table is told
     pub leads_by_fault : (e : D) (r : Result Outcome AppFault) (fault : AppFault) (later : Option AppFault) → r ≡ Err fault → HasClassified remaining contents asked old new r v w
         → is_of_every_table fault ≡ false → tells d (Some old.name.now) fault e → later ≡ option_or so_far (Some fault) → Leads later (before ++ new ∷ []) more w e
     leads_by_fault e r fault later is step own told later_is = λ first after x f h.
@@ -64,7 +64,7 @@ module _ {R W D : Type 0} (remaining : R → Option (List ℕ)) (contents : W �
         (subst (λ (l : List (NamedTable R)). AreClassified remaining contents tells asked l (new ∷ after) v d (Some fault) x f) (sym next)
         (HasFault (subst (λ (q : Result Outcome AppFault). HasClassified remaining contents asked old new q v w) is step) own told h))))
 
-    -- its fault would be that of every table
+    -- the fault of the next table is one of every table
     pub ends_all : (e : D) (r : Result Outcome AppFault) (fault : AppFault) (later : Option AppFault) → r ≡ Err fault → HasClassified remaining contents asked old new r v w
         → is_of_every_table fault ≡ true → tells d None fault e → later ≡ option_or so_far (Some fault)
         → AreClassified remaining contents tells asked tables (before ++ new ∷ more) u c later w e
@@ -88,7 +88,7 @@ module _ {R W D : Type 0} (remaining : R → Option (List ℕ)) (contents : W �
       (subst (λ (o : Option AppFault). AreClassified remaining contents tells asked tables (before ++ []) u c o v d) (or_none so_far)
       (leads None [] v d (subst (λ (l : List (NamedTable R)). AreClassified remaining contents tells asked l [] v d None v d) (sym none) NoneLeft)))
 
--- the writer has not failed, where what was reported is not that it did
+-- the writer has not failed, unless the report says so
 module _ {W : Type 0} (contents : W → Option (List ℕ)) (work : Result Report AppFault → Type 0) (u v : Output W) where
   pub writable_after_line : (r : Result Outcome AppFault) (outcome : Outcome) → r ≡ Ok outcome → Reports contents work u v r → IsWritable v
   writable_after_line (Ok o) outcome is (inl (e, _, not, _)) = absurd (no_fault o e (Ok o) refl not)
@@ -101,7 +101,7 @@ module _ {W : Type 0} (contents : W → Option (List ℕ)) (work : Result Report
   writable_after_fault (Err e) fault is own (inr (_, _, inl (write, _))) before = absurd (not_own e fault (Err e) refl is own write)
   writable_after_fault (Err e) fault is own (inr (_, _, inr (_, silent))) before = λ failed. before (sym silent.progress ∙ failed)
 
--- the tables from a place on are as they were
+-- the tables from place i on are as they were
 module _ {R : Type 0} (now first : List (NamedTable R)) (i : ℕ) (d : NamedTable R) (less : i < length now) (same : drop i now ≡ drop i first) where
   there : i < length first
   there = omega (arith, less, ap length same, length-drop i now, length-drop i first)
@@ -109,18 +109,18 @@ module _ {R : Type 0} (now first : List (NamedTable R)) (i : ℕ) (d : NamedTabl
   same_table : get_or now i d ≡ get_or first i d
   same_table = ap (λ (l : List (NamedTable R)). get_or l 0 d) (sym (drop_more now i d less) ∙ same ∙ drop_more first i d there)
 
-  -- so the one there is unread, as all were
+  -- so the table at place i is unread, as all were
   pub still_unread : AreUnread first → IsUnread (get_or now i d).text
   still_unread unread =
       subst (λ (table : NamedTable R). IsUnread table.text) (sym same_table)
       (unread i d there)
 
-  -- and those behind it are as they were
+  -- and the tables behind it are as they were
   pub still_behind : (new : NamedTable R) → drop (i + 1) (set now i new) ≡ drop (i + 1) first
   still_behind new =
       drop-set-lt (i + 1) now i new (omega arith) ∙ sym (drop-drop 1 i now) ∙ ap (drop 1) same ∙ drop-drop 1 i first
 
--- what is written at a place stands between the others
+-- a value that is written at a place stands between the others
 pub placed : {X : Type 0} (xs : List X) (i : ℕ) (y : X) → i < length xs → set xs i y ≡ take i xs ++ y ∷ drop (i + 1) xs
 placed {X} xs i y less =
     sym (take-append-drop i (set xs i y)) ∙ ap (λ (l : List X). l ++ drop i (set xs i y)) (take-set xs i y) ∙ ap (λ (l : List X). take i xs ++ l) (drop-set xs i y less)

@@ -14,7 +14,7 @@ use Rattle.cn_log.specs.Opening.{IsOpening, Opening, setting_of}
 use Rattle.cn_log.specs.declared.event.Event.{Event}
 use Rattle.cn_app.specs.Headline.{ServesObjects}
 
--- the live choices of the type are for as many processes as is said
+-- the live choices of the type for n processes are those of the definition
 abbrev pub AreListed : Type 0
 AreListed = (t : TypeTable) (n : ℕ) (c : Choice) → Contains (live_choices t n) c ↔ (IsCanonical c × IsRawChoice t n (raw_choice_of c) × IsLive t (raw_choice_of c))
 
@@ -30,7 +30,7 @@ size_of listed t n w first =
     let fits = ((listed t n w).0 (Contains-between (live_choices t n) first.before first.after w (sym first.listed))).1 in
     sym fits.one_operation_each ∙ length-append w.a w.b
 
--- a witness that was found is for as many processes as the number says
+-- a witness that was found has as many processes as the number says
 pub number_of_witness : AreListed → (t : TypeTable) (limit : ℕ) (f : Finding) (w : Choice) → IsFindingFor t limit f → f.witness ≡ Some w → f.number ≡ Some (length w.a + length w.b)
 number_of_witness listed t limit f w found is = by_number f.number found.witness
   where

@@ -1,4 +1,4 @@
--- What a command writes is one text.
+-- The output of a command is one text.
 use Rattle.std.proofs.Common.{◌≡◌, ℕ, List, ◌++◌, codes, Option, Some, ap, sym, ◌∙◌}
 use Rattle.cn_table.specs.TypeTable.{TypeTable}
 use Rattle.cn_choice.specs.Canonical.{Choice}

@@ -34,7 +34,7 @@ module _ {R : Type 0} (L : Setting R) where
       let called = linearized.called k e (slice_get-get_or (entries L events) k d less) in
       (may_come_at events called.0 (Invoke e.process e.operation.0) may called.1.invoke).operation
 
--- the fault of an event behind the first of a list, in whatever list it stands so, is that of the first event of the list that cannot come
+-- the fault of an event behind the first k of a list is that of the first event of the list that cannot come
 pub first_in_list : {R : Type 0} (L : Setting R) (events : List Event) (k : ℕ) (d : Event) (s : List Event) (fault : ReplayFault) → s ≡ take k events → k < length events
     → ((rest : List Event) → IsFirstEventFault L (s ++ slice_index_or events k d ∷ rest) fault) → IsFirstEventFault L events fault
 first_in_list L events k d s fault is less first =

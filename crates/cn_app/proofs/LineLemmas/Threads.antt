@@ -1,4 +1,4 @@
--- What threads leave, as what is written of it.
+-- From what threads leave to its lines.
 use Rattle.std.proofs.Common.{◌≡◌, ◌<◌, ℕ, List, Option, Some, None, Vec, Global, length, map, option_map, slice_get, slice_index_or, refl, sym, subst, ◌∙◌}
 use Rattle.std.proofs.lemmas.Option.{slice_get-get_or, slice_get-map}
 use Rattle.cn_table.proofs.Lists.{there_is}
@@ -8,7 +8,7 @@ use Rattle.cn_app.specs.Lines.Threads.{EachHasResponses, RepliesHaveResponses}
 use Rattle.cn_app.specs.Threads.Serving.{HasServed}
 use Rattle.cn_app.specs.declared.threads.workers.ProcessHistory.{ProcessHistory}
 
--- the place of a list of calls is that of what it was made of
+-- the list at a place is that of the value at this place
 at_place : {V : Type 0} (items : V → List ℕ) (calls : List V) (p : ℕ) (c : List ℕ) → slice_get (map items calls) p ≡ Some c → (v : V) × (slice_get calls p ≡ Some v) × (items v ≡ c)
 at_place {V} items calls p c there = by_option (slice_get calls p) refl (sym (slice_get-map items calls p) ∙ there)
   where
@@ -16,7 +16,7 @@ at_place {V} items calls p c there = by_option (slice_get calls p) refl (sym (sl
     by_option None is h = absurd cc
     by_option (Some v) is h = (v, is, cc)
 
--- what each process of a list of calls has made
+-- what each process of the lists of calls made
 pub each_served : (core : Log) (calls : List (Vec ℕ Global)) (worked : List ProcessHistory)
     → ((p : ℕ) (c : Vec ℕ Global) (w : ProcessHistory) → slice_get calls p ≡ Some c → slice_get worked p ≡ Some w → HasServed core p c.items w.replies.items w.end)
     → (p : ℕ) (c : List ℕ) (w : ProcessHistory) → slice_get (map (λ list. list.items) calls) p ≡ Some c → slice_get worked p ≡ Some w → HasServed core p c w.replies.items w.end
@@ -24,7 +24,7 @@ each_served core calls worked served p c w there done =
     let at = at_place (λ (list : Vec ℕ Global). list.items) calls p c there in
     subst (λ (x : List ℕ). HasServed core p x w.replies.items w.end) at.2 (served p at.0 w at.1 done)
 
--- the responses of the replies that the processes have are the object's
+-- the responses of the replies are the object's
 pub each_has_responses : (object : TypeTable) (calls : List (Vec ℕ Global)) (core : Log) (worked : List ProcessHistory) → core.opening.object ≡ object → length worked ≡ length calls
     → ((p : ℕ) (c : Vec ℕ Global) (w : ProcessHistory) → slice_get calls p ≡ Some c → slice_get worked p ≡ Some w → HasServed core p c.items w.replies.items w.end)
     → EachHasResponses object worked

@@ -3,7 +3,7 @@ use Rattle.std.proofs.Common.{◌≡◌, ◌≤◌, ◌∙◌, ℕ, false, Optio
 use Rattle.std.specs.Prelude.{nat_lt}
 use Rattle.std.proofs.lemmas.Bool.{le-ltb}
 
--- a number that is not below the limit, by either of its names
+-- a number that is not below the limit, by either name
 same_number : (m n : ℕ) → Some m ≡ Some n → m ≡ n
 same_number m n e = cc
 

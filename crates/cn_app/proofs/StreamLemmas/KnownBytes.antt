@@ -1,4 +1,4 @@
--- What a reader has given of bytes that are known.
+-- Readers with known bytes.
 use Rattle.std.proofs.Common.{◌≡◌, inl, inr, ℕ, ◌<◌, List, ◌++◌, length, Option, Some, None, Result, Ok, Err, arith, refl, ap, subst, ◌∙◌}
 use Rattle.std.specs.Io.KnownBytes.{Consumes, IsAtEnd}
 use Rattle.std.proofs.lemmas.Bool.{lt-ltb}
@@ -9,7 +9,7 @@ use Rattle.cn_app.specs.declared.fault.AppFault.{AppFault}
 use Rattle.cn_app.specs.declared.fault.Source.{Source}
 use Rattle.cn_app.specs.declared.streams.text.Text.{Text}
 
--- of known bytes, those that were given are a front, and all where none are left
+-- the bytes given are a front of the known bytes, and all of them if none are left
 front : (known bytes : List ℕ) (new : Option (List ℕ)) → Consumes (Some known) new bytes → (rest : List ℕ) × (known ≡ bytes ++ rest)
 front known bytes None h = absurd h
 front known bytes (Some rest) h = (rest, h)
@@ -19,14 +19,14 @@ all_where_ended known bytes None h ended = absurd h
 all_where_ended known bytes (Some rest) h ended = h ∙ ap (λ z. bytes ++ z) ended ∙ append-nil bytes
 
 module _ {R X F : Type 0} (source : Source) (fault_of : F → AppFault) (reads : List ℕ → Result X F) (remaining : R → Option (List ℕ)) where
-  -- more known bytes than a text may have are too many, as the front of them is
+  -- if there are too many bytes in the front, there are too many in all
   read_as_long : (known bytes : List ℕ) (new : Option (List ℕ)) → Consumes (Some known) new bytes
       → most_of source < length bytes → value_in source fault_of reads known ≡ value_in source fault_of reads bytes
   read_as_long known bytes new consumed long =
       let p = front known bytes new consumed in
       rw (lt-ltb (most_of source) (length bytes) long, lt-ltb (most_of source) (length known) (omega (arith, long, length-append bytes p.0, ap length p.1))) refl
 
-  -- what is known of the text does not change with more bytes
+  -- more bytes do not change what is known of the text
   read_as_all : (old new : Text R) (known : List ℕ) → remaining old.reader ≡ Some known → HasRead source remaining old new → IsKnown source new
       → value_in source fault_of reads known ≡ value_in source fault_of reads new.bytes.items
   read_as_all old new known had read is =

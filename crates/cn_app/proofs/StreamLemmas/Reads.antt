@@ -9,7 +9,7 @@ use Rattle.cn_app.specs.declared.streams.progress.Progress.{Progress}
 use Rattle.cn_app.specs.declared.streams.text.Text.{Text}
 
 module _ {R : Type 0} (source : Source) (remaining : R → Option (List ℕ)) (first old new : Text R) where
-  -- what was read before and what is read now was read from the first
+  -- the bytes read before and the bytes read now are bytes read from the start
   pub read_more : Consumes (remaining first.reader) (remaining old.reader) old.bytes.items → (bytes : List ℕ) → new.bytes.items ≡ old.bytes.items ++ bytes
       → Consumes (remaining old.reader) (remaining new.reader) bytes → length old.bytes.items + length bytes ≤ most_of source + 1
       → (new.progress ≡ Done → IsAtEnd (remaining new.reader)) → HasRead source remaining first new
@@ -20,7 +20,7 @@ module _ {R : Type 0} (source : Source) (remaining : R → Option (List ℕ)) (f
     ended = ended;
   }
 
--- a read that failed was not the last one
+-- a read that failed is not the last one
 pub not_done : {P Q : Type 0} (progress : Progress) → (P × (progress ≡ Open)) ⊎ (Q × (progress ≡ Failed)) → progress ≡ Done → ⊥
 not_done progress (inl (_, is)) done = let e : Open ≡ Done = sym is ∙ done in cc
 not_done progress (inr (_, is)) done = let e : Failed ≡ Done = sym is ∙ done in cc

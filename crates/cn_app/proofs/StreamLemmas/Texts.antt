@@ -1,4 +1,4 @@
--- What a text that was read spells.
+-- What a read text spells.
 use Rattle.std.proofs.Common.{◌≡◌, inl, inr, ℕ, List, length, Result, Ok, Err, refl}
 use Rattle.std.proofs.lemmas.Bool.{le-ltb, lt-ltb}
 use Rattle.cn_app.specs.FaultText.{plain_of}

@@ -18,6 +18,6 @@ module _ {R : Type 0} (source : Source) (remaining : R → Option (List ℕ)) wh
     ended = λ done. absurd (not_done (sym unread.idle ∙ done));
   }
 
-  -- a text that is as it was has given what it has
+  -- a text that is as it was has given the bytes that it has
   pub untouched : (old new : Text R) → IsUnread old → new ≡ old → HasRead source remaining old new
   untouched old new unread same = subst (λ (t : Text R). HasRead source remaining old t) (sym same) (as_it_was old unread)

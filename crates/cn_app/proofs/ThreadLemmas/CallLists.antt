@@ -1,4 +1,4 @@
--- Which calls of a process stand among events.
+-- The calls of a process among events.
 use Rattle.std.proofs.Common.{◌≡◌, ℕ, ◌+◌, ◌==◌, Bool, true, false, List, [], ◌∷◌, ◌++◌, if◌then◌else◌, refl, sym, ap, ◌∙◌, append-nil}
 use Rattle.std.proofs.lemmas.Bool.{ne_eqb, eq-eqb}
 use Rattle.cn_log.specs.Callers.{HasNoEventOf, call_of, calls_from}
@@ -11,7 +11,7 @@ use Rattle.cn_hall.specs.Rule.{Carries}
 use Rattle.cn_hall.specs.Calls.{MakesCall, NoCall}
 use Rattle.cn_app.specs.Threads.Serving.{operations_called}
 
--- the operations of the calls, which need no numbers
+-- the operations of the calls, without the numbers of the calls
 abbrev called : ℕ → List Event → List ℕ
 called p [] = []
 called p (Invoke q operation ∷ events) = if q == p then operation ∷ called p events else called p events

@@ -1,4 +1,4 @@
--- From a hall that was opened to the log that was closed.
+-- From an open hall to the closed log.
 use Rattle.std.proofs.Common.{◌≡◌, ℕ, ◌<◌, List, [], Some, Vec, All, length, get_or, refl, sym, ◌∙◌, subst, arith}
 use Rattle.std.proofs.lemmas.Option.{get_or_from_slice_get, slice_get-get_or, slice_get_within}
 use Rattle.std.specs.Global.{Global}
@@ -23,7 +23,7 @@ all_at P xs h k d less = h k (get_or xs k d) (slice_get-get_or xs k d less)
 at_place : {A : Type 0} (P : A → Type 0) (xs : List A) → All P xs → (k : ℕ) (x : A) → slice_get xs k ≡ Some x → P x
 at_place P xs h k x at = subst P (get_or_from_slice_get xs k x x at) (h k x (slice_get_within xs k x at))
 
--- place p of the seats holds that of process p, over a core with a list of calls for each
+-- place p of the seats holds that of process p, over a core with a list of calls for each process
 module _ (hall : HallId) (core : Log) (calls : List (Vec ℕ Global)) (before : List SeatState) (count : length before ≡ length calls) (opened : (p : ℕ) → p < length calls → slice_get before p ≡ Some (seat_state hall p core)) where
   seat_at : (p : ℕ) (s : SeatState) → slice_get before p ≡ Some s → s ≡ seat_state hall p core
   seat_at p s at = let same : Some s ≡ Some (seat_state hall p core) = sym at ∙ opened p (omega (arith, count, slice_get_within before p s at)) in cc
@@ -32,7 +32,7 @@ module _ (hall : HallId) (core : Log) (calls : List (Vec ℕ Global)) (before : 
   may_all_work empty fit p c s got at =
       subst (λ (u : SeatState). MayWork hall c.items u) (sym (seat_at p s at)) ((refl, refl), empty, at_place (λ (d : Vec ℕ Global). All (λ o. o < length core.opening.object.operations) d.items) calls fit p c got)
 
-  -- all have been at work
+  -- all seats have made their calls
   module _ (after : List SeatState) (worked : List ProcessHistory) (also : length after ≡ length before) (more : length worked ≡ length before) (all : HaveAllWorked calls before after worked) where
     worked_at : (p : ℕ) (c : Vec ℕ Global) (t : SeatState) (w : ProcessHistory) → slice_get calls p ≡ Some c → slice_get after p ≡ Some t → slice_get worked p ≡ Some w → HasWorked c.items (seat_state hall p core) t w.replies.items w.end
     worked_at p c t w got at_t at_w = all p c (seat_state hall p core) t w got (opened p (slice_get_within calls p c got)) at_t at_w
@@ -47,7 +47,7 @@ module _ (hall : HallId) (core : Log) (calls : List (Vec ℕ Global)) (before : 
     pub left_of : All (IsSeatOf hall) after
     left_of = all_at (IsSeatOf hall) after (λ p t at. let h = worked_there p t at in (h.2.same.0, h.2.same.3))
 
-    -- the log carries all their cores
+    -- the log carries the cores of all seats
     module _ (closed : Log) (carried : All (λ (t : SeatState). Carries t.process t.core closed) after) where
       pub same_opening : 0 < length calls → closed.opening ≡ core.opening
       same_opening some =
@@ -63,7 +63,7 @@ module _ (hall : HallId) (core : Log) (calls : List (Vec ℕ Global)) (before : 
           has_served_at closed c.items (seat_state hall p core) t.0 w.replies.items w.end h (at_place (λ (u : SeatState). Carries u.process u.core closed) after carried p t.0 t.1) p h.same.1
           (at_place (λ (u : SeatState). BeginsWith (batches (setting closed) closed.schedule) (slots_seen u)) after begins p t.0 t.1) (at_place (λ (u : SeatState). BeginsWith (replies_in closed u.process) (own u)) after answers p t.0 t.1)
 
-      -- and each process has had the gate at its place
+      -- and each process had the gate at its place
       pub one_gate_each : {G : Type 0} (asks : G → SeatState → ℕ → G → Type 0) (says : G → Go) (made : ℕ → G → Type 0) (gates : List G) → length gates ≡ length before → AllGatesWereAsked asks says before gates after worked
           → ((p : ℕ) (g : G) → slice_get gates p ≡ Some g → made p g) → core.schedule ≡ [] → processes_of closed.opening.plan ≡ length calls → EachHasOneGate asks says made closed worked
       one_gate_each asks says made gates many all made_for empty processes p less =

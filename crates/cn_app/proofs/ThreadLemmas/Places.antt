@@ -1,4 +1,4 @@
--- What stands at the places of lists that grow or shrink at the end.
+-- Places of lists that grow or shrink at the end.
 use Rattle.std.proofs.Common.{◌≡◌, ◌⊎◌, inl, inr, ℕ, ◌<◌, List, [], ◌∷◌, ◌++◌, Some, Vec, length, get_or, refl, sym, ap, ◌∙◌, subst, arith}
 use Rattle.std.proofs.lemmas.Option.{slice_get_read, slice_get_within}
 use Rattle.std.specs.Global.{Global}
@@ -9,7 +9,7 @@ use Rattle.cn_hall.specs.declared.call.Go.{Go}
 use Rattle.cn_app.specs.Threads.Workers.{AllGatesWereAsked, GateWasAsked, HasRoom, HasWorked, HaveAllWorked, HaveRoom, MayAllWork, MayWork}
 use Rattle.cn_app.specs.declared.threads.workers.ProcessHistory.{ProcessHistory}
 
--- the list at an index that is the length of another
+-- a list at the index that is the length of another
 pub read_at : {A : Type 0} (cs : List A) (i j : ℕ) (x : A) → i ≡ j → j < length cs → x ≡ get_or cs i x → slice_get cs j ≡ Some x
 read_at cs i j x e less is = subst (λ k. slice_get cs k ≡ Some x) e (slice_get_read cs (length cs) i x refl (omega (arith, e, less)) is)
 
@@ -43,7 +43,7 @@ module _ (calls : List (Vec ℕ Global)) where
         by_place (inr a) (inr b) (inr d) =
             subst (λ (u : SeatState × SeatState × ProcessHistory). HasWorked c.items u.0 u.1 u.2.replies.items u.2.end) (λ i. (a.1 i, b.1 i, d.1 i)) (last c (ap (slice_get calls) (sym a.0) ∙ got))
 
-  -- and room for the replies to one list of calls more
+  -- and room for the replies to one more list of calls
   pub room_pushed : (rooms : List ProcessHistory) (w : ProcessHistory) (d : Vec ℕ Global) → HaveRoom calls rooms → slice_get calls (length rooms) ≡ Some d → HasRoom d.items w → HaveRoom calls (rooms ++ w ∷ [])
   room_pushed rooms w d room there has p c v got at = by_place (get_push_cases rooms w p v at)
     where
@@ -51,7 +51,7 @@ module _ (calls : List (Vec ℕ Global)) where
       by_place (inl h) = room p c v got h
       by_place (inr h) = let same : Some d ≡ Some c = sym there ∙ ap (slice_get calls) (sym h.0) ∙ got in let is : d ≡ c = cc in subst (λ (z : Vec ℕ Global × ProcessHistory). HasRoom z.0.items z.1) (λ i. (is i, h.1 i)) has
 
--- the gate of one seat more was asked
+-- the gate of one more seat was asked
 module _ {G : Type 0} (asks : G → SeatState → ℕ → G → Type 0) (says : G → Go) (before after : List SeatState) (gates : List G) (worked : List ProcessHistory) (s t : SeatState) (g : G) (w : ProcessHistory)
     (count : length after ≡ length before) (also : length gates ≡ length before) (more : length worked ≡ length before) where
   pub one_more_asked : AllGatesWereAsked asks says before gates after worked → GateWasAsked asks says s g t w.end

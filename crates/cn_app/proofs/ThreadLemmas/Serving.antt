@@ -1,4 +1,4 @@
--- From seats at work to the log that they leave.
+-- From seats that made calls to the log.
 use Rattle.std.proofs.Common.{◌≡◌, ℕ, zero, suc, ◌≤◌, ◌<◌, List, [], ◌∷◌, ◌++◌, Option, Some, None, All, length, sym, ap, ◌∙◌, append-nil, length-append, subst, arith}
 use Rattle.cn_log.specs.Callers.{BeginsWith}
 use Rattle.cn_log.specs.Log.{Setting, batches, fixed_from, state_of, up_to_open}
@@ -14,7 +14,7 @@ use Rattle.cn_app.specs.declared.threads.workers.End.{End}
 use Rattle.cn_app.specs.declared.threads.workers.End.TheVariants.{Whole, Full, Stopped}
 use Rattle.cn_app.proofs.ThreadLemmas.CallLists.{invoked_carried}
 
--- no more slots are fixed than there are
+-- at most as many slots are fixed as there are
 fixed_within : {R : Type 0} (L : Setting R) (slots k : ℕ) (round : ℕ → R) → length (fixed_from L slots k round) ≤ slots
 fixed_within L zero k round = omega arith
 fixed_within L (suc slots) k round = by_slot (L.consensus.fixed (round k)) (fixed_from L slots (suc k) round) (fixed_within L slots (suc k) round)
@@ -26,7 +26,7 @@ fixed_within L (suc slots) k round = by_slot (L.consensus.fixed (round k)) (fixe
 batches_within : (core : Log) → length (batches (setting core) core.schedule) ≤ core.opening.capacity
 batches_within core = fixed_within (setting core) core.opening.capacity 0 (state_of (setting core) core.schedule).round
 
--- a list that begins with one as long is that one
+-- a list that begins with one of its length is that one
 whole_front : {A : Type 0} (list front : List A) → BeginsWith list front → length list ≤ length front → list ≡ front
 whole_front {A} list front begins h = by_rest begins.0 begins.1
   where
@@ -34,7 +34,7 @@ whole_front {A} list front begins h = by_rest begins.0 begins.1
     by_rest [] e = e ∙ append-nil front
     by_rest (x ∷ rest) e = absurd (omega (arith, h, ap length e, length-append front (x ∷ rest)))
 
--- what a seat at work has left stands in a log that carries its core
+-- what a seat leaves holds in a log that carries its core
 module _ (core : Log) (calls : List ℕ) (s t : SeatState) (replies : List Reply) (end : End) (worked : HasWorked calls s t replies end) (carried : Carries t.process t.core core) where
   same_calls : operations_called t.process core.schedule ≡ operations_called t.process t.core.schedule
   same_calls = invoked_carried t.process t.core core carried

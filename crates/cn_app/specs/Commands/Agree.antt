@@ -1,4 +1,4 @@
--- What `agree` writes, by the plan, the inputs and the schedule, and whether the steps are told.
+-- What `agree` writes: a function of the plan, the inputs, the schedule and whether the steps are asked for.
 use Rattle.std.specs.Prelude.{◌≡◌, ◌⊎◌, ◌++◌, ℕ, Bool, if◌then◌else◌, List, [], None, Result, Ok, Err, IsSome, IsSomeAnd, string_bytes}
 use Rattle.cn_proto.specs.Plan.{Plan, processes_of, protocol_of}
 use Rattle.cn_agree.specs.Actions.{records_of}
@@ -19,31 +19,31 @@ use Rattle.cn_app.specs.declared.streams.text.Text.{Text}
 use Rattle.cn_app.specs.declared.fault.AppFault.{AppFault}
 use Rattle.cn_app.specs.declared.fault.AppFault.TheVariants.{OutOfMemory, Schedule}
 
--- where they are asked for, the lines of the steps of the schedule
+-- the lines of the steps of the schedule, if they are asked for
 abbrev pub lines_of_steps : Plan → List ℕ → List ℕ → Bool → List ℕ
 lines_of_steps plan inputs schedule steps = if steps then step_lines plan.table (records_of plan inputs schedule) else []
 
--- the inputs and the schedule have no fault, what the schedule decides is consensus, and these are its lines, behind those of the steps
+-- the inputs and the schedule have no fault, the decisions are consensus, and the lines are those of the steps and then those of the decisions
 pub record IsAgreed (plan : Plan) (inputs schedule : List ℕ) (steps : Bool) (lines : List ℕ) : Type 0 where
   pub run : schedule_fault (processes_of plan) inputs schedule ≡ None
   pub consensus : IsConsensus (protocol_of plan) (processes_of plan) inputs schedule (decisions_after plan inputs schedule)
   pub written : lines ≡ lines_of_steps plan inputs schedule steps ++ decision_lines 0 (decisions_after plan inputs schedule)
 
--- running a plan ends so: with the lines of its decisions; or this is the first fault of the inputs and the schedule
+-- the result of running a plan: the lines of its decisions, or the first fault of the inputs and the schedule
 abbrev pub IsRunReport : Plan → List ℕ → List ℕ → Bool → Result Report AppFault → Type 0
 IsRunReport plan inputs schedule steps (Ok report) = IsAgreed plan inputs schedule steps (string_bytes report.text) × (report.outcome ≡ Whole)
 IsRunReport plan inputs schedule steps (Err e) = (e ≡ OutOfMemory)
     ⊎ IsSomeAnd (schedule_fault (processes_of plan) inputs schedule) (λ fault. e ≡ plain_of (Schedule fault))
 
--- with the plan of the certificate's witness
+-- the same for the plan of the certificate's witness
 abbrev pub IsAgreeReport : Checked → List ℕ → List ℕ → Bool → Result Report AppFault → Type 0
 IsAgreeReport checked inputs schedule steps r = Then (GivesPlan checked) (λ plan. IsRunReport plan inputs schedule steps) r
 
--- what `agree` has to say of two texts and two lists: the lists are read first
+-- the result of `agree` for two texts and two lists: the lists are read first
 abbrev pub HasAgreeReport : {R C : Type 0} → Text R → Text C → ListText → ListText → Bool → Result Report AppFault → Type 0
 HasAgreeReport table certificate inputs schedule steps r = Then (GivesLists inputs schedule)
     (λ lists. Then (GivesChecked table certificate) (λ checked. IsAgreeReport checked lists.inputs.items lists.schedule.items steps)) r
 
--- the words spell the inputs and a schedule
+-- the words spell inputs and a schedule
 abbrev pub SpellLists : ListText → ListText → Type 0
 SpellLists inputs schedule = IsSome (inputs_of inputs) × IsSome (schedule_of schedule)

@@ -1,4 +1,4 @@
--- What `check` writes, by the table and the certificate that it reads.
+-- What `check` writes: a function of the table and the certificate that it reads.
 use Rattle.std.specs.Prelude.{◌≡◌, codes, Result, Ok, Err, string_bytes}
 use Rattle.cn_choice.specs.Discerning.{IsNumberUpTo}
 use Rattle.cn_app.specs.Steps.{Then}
@@ -14,11 +14,11 @@ use Rattle.cn_app.specs.declared.fault.AppFault.TheVariants.{OutOfMemory}
 abbrev pub HasItsNumber : Checked → Type 0
 HasItsNumber checked = IsNumberUpTo checked.table checked.certificate.limit checked.certificate.number
 
--- what is to be said of a certificate that is accepted, unless memory ran out: its number is right, and so the text is `ok`
+-- the report on an accepted certificate: its number is right, and the text is `ok`; the only fault is want of memory
 abbrev pub IsCheckReport : Checked → Result Report AppFault → Type 0
 IsCheckReport checked (Ok report) = HasItsNumber checked × (string_bytes report.text ≡ codes "ok\n") × (report.outcome ≡ Whole)
 IsCheckReport checked (Err e) = e ≡ OutOfMemory
 
--- what `check` has to say of two texts
+-- the result of `check` for two texts
 abbrev pub HasCheckReport : {R C : Type 0} → Text R → Text C → Result Report AppFault → Type 0
 HasCheckReport table certificate r = Then (GivesChecked table certificate) IsCheckReport r

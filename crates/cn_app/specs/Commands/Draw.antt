@@ -1,4 +1,4 @@
--- What `draw` writes, by the table that it reads.
+-- What `draw` writes: a function of the table that it reads.
 use Rattle.std.specs.Prelude.{◌≡◌, Result, Ok, Err, string_bytes}
 use Rattle.cn_table.specs.TypeTable.{TypeTable}
 use Rattle.cn_forms.specs.Diagram.{diagram}
@@ -10,11 +10,11 @@ use Rattle.cn_app.specs.declared.streams.text.Text.{Text}
 use Rattle.cn_app.specs.declared.fault.AppFault.{AppFault}
 use Rattle.cn_app.specs.declared.fault.AppFault.TheVariants.{OutOfMemory}
 
--- drawing a table ends so: with its picture, unless memory ran out
+-- the result of drawing a table: its picture, unless memory ran out
 abbrev pub IsDrawReport : TypeTable → Result Report AppFault → Type 0
 IsDrawReport t (Ok report) = (string_bytes report.text ≡ diagram t) × (report.outcome ≡ Whole)
 IsDrawReport t (Err e) = e ≡ OutOfMemory
 
--- what `draw` has to say of a text
+-- the result of `draw` for a text
 abbrev pub HasDrawReport : {R : Type 0} → Text R → Result Report AppFault → Type 0
 HasDrawReport text r = Then (GivesTable text) IsDrawReport r

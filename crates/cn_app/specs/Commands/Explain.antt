@@ -1,4 +1,4 @@
--- What `explain` writes, by the table and the certificate that it reads.
+-- What `explain` writes: a function of the table and the certificate that it reads.
 use Rattle.std.specs.Prelude.{◌≡◌, Bool, Result, Ok, Err, string_bytes}
 use Rattle.cn_forms.specs.Explained.{explain_text}
 use Rattle.cn_app.specs.Commands.Check.{HasItsNumber}
@@ -11,12 +11,12 @@ use Rattle.cn_app.specs.declared.streams.text.Text.{Text}
 use Rattle.cn_app.specs.declared.fault.AppFault.{AppFault}
 use Rattle.cn_app.specs.declared.fault.AppFault.TheVariants.{OutOfMemory}
 
--- explaining a certificate ends so, unless memory ran out: its number is right, and the text tells why
+-- the result of explaining a certificate: its number is right, and the text tells why; the only fault is want of memory
 abbrev pub IsExplainReport : Checked → Bool → Result Report AppFault → Type 0
 IsExplainReport checked all (Ok report) = HasItsNumber checked
     × (string_bytes report.text ≡ explain_text checked.table checked.certificate all) × (report.outcome ≡ Whole)
 IsExplainReport checked all (Err e) = e ≡ OutOfMemory
 
--- what `explain` has to say of two texts
+-- the result of `explain` for two texts
 abbrev pub HasExplainReport : {R C : Type 0} → Text R → Text C → Bool → Result Report AppFault → Type 0
 HasExplainReport table certificate all r = Then (GivesChecked table certificate) (λ checked. IsExplainReport checked all) r

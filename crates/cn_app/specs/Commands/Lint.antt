@@ -1,4 +1,4 @@
--- What `lint` writes, by the bytes that it reads.
+-- What `lint` writes: a function of the bytes that it reads.
 use Rattle.std.specs.Prelude.{◌≡◌, ◌≤◌, ℕ, List, ◌++◌, codes, flat_map, length, IsOk, Err, Ok, Result, MatchResult, string_bytes}
 use Rattle.cn_table.specs.Faults.{reading}
 use Rattle.cn_forms.specs.Grid.{IsGrid}
@@ -17,7 +17,7 @@ use Rattle.cn_app.specs.declared.fault.Source.TheVariants.{Table}
 abbrev pub flaw_lines : List Flaw → List ℕ
 flaw_lines flaws = flat_map (λ f. f.text ++ codes "\n") flaws
 
--- the lines of the flaws of bytes that spell no table; those that are no TOML have one, at some place in them
+-- the lines of the flaws of bytes that spell no table; bytes that are no TOML have one flaw, at some place in them
 abbrev pub HasFlawLines : List ℕ → List ℕ → Type 0
 HasFlawLines bytes text = (place : ℕ) × (place ≤ length bytes) × (text ≡ flaw_lines (flaws_at place bytes))
 
@@ -31,11 +31,11 @@ Tells Whole bytes = IsOk (reading bytes)
 Tells (Refused fault) bytes = reading bytes ≡ Err fault
 Tells Cut bytes = ⊥
 
--- going over bytes ends so, unless memory ran out
+-- the result of `lint` for bytes, unless memory ran out
 abbrev pub IsLintReport : List ℕ → Result Report AppFault → Type 0
 IsLintReport bytes (Ok report) = IsLinted bytes (string_bytes report.text) × Tells report.outcome bytes
 IsLintReport bytes (Err e) = e ≡ OutOfMemory
 
--- what `lint` has to say of a text
+-- the result of `lint` for a text
 abbrev pub HasLintReport : {R : Type 0} → Text R → Result Report AppFault → Type 0
 HasLintReport text r = Then (EndsText Table text) (λ _. IsLintReport text.bytes.items) r

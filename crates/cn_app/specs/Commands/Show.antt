@@ -1,4 +1,4 @@
--- What `show` writes, by the table and the certificate that it reads.
+-- What `show` writes: a function of the table and the certificate that it reads, and of the form.
 use Rattle.std.specs.Prelude.{◌≡◌, Result, Ok, Err, string_bytes}
 use Rattle.cn_proto.specs.Plan.{Plan}
 use Rattle.cn_forms.specs.PlanForms.{form_text}
@@ -13,15 +13,15 @@ use Rattle.cn_app.specs.declared.streams.text.Text.{Text}
 use Rattle.cn_app.specs.declared.fault.AppFault.{AppFault}
 use Rattle.cn_app.specs.declared.fault.AppFault.TheVariants.{OutOfMemory}
 
--- writing a plan in a form ends so, unless memory ran out
+-- the result of writing a plan in a form, unless memory ran out
 abbrev pub IsFormReport : Plan → Form → Result Report AppFault → Type 0
 IsFormReport plan form (Ok report) = (string_bytes report.text ≡ form_text form plan) × (report.outcome ≡ Whole)
 IsFormReport plan form (Err e) = e ≡ OutOfMemory
 
--- with the plan of the certificate's witness
+-- the same for the plan of the certificate's witness
 abbrev pub IsShowReport : Checked → Form → Result Report AppFault → Type 0
 IsShowReport checked form r = Then (GivesPlan checked) (λ plan. IsFormReport plan form) r
 
--- what `show` has to say of two texts
+-- the result of `show` for two texts
 abbrev pub HasShowReport : {R C : Type 0} → Text R → Text C → Form → Result Report AppFault → Type 0
 HasShowReport table certificate form r = Then (GivesChecked table certificate) (λ checked. IsShowReport checked form) r

@@ -1,4 +1,4 @@
--- The lines of a service: of the calls of each process, of the entries of the log, and of its events.
+-- The lines of a service: the calls of each process, the entries of the log, and the events.
 use Rattle.std.specs.Prelude.{ℕ, ◌+◌, List, ◌++◌, codes, [], ◌∷◌, ◌<◌, All, length}
 use Rattle.std.specs.Fmt.{decimal}
 use Rattle.cn_table.specs.TypeTable.{TypeTable}
@@ -33,12 +33,12 @@ abbrev pub history_lines : TypeTable → ℕ → List ProcessHistory → List �
 history_lines object p [] = []
 history_lines object p (w ∷ ws) = call_lines object p w.replies.items w.end ++ history_lines object (p + 1) ws
 
--- the lines of a service: process by process of their calls, then of the entries of the log, and last of its events
+-- the lines of a service: the calls, process by process, then the entries of the log, and last the events
 abbrev pub service_lines : TypeTable → ℕ → List ProcessHistory → Log → List ℕ
 service_lines object start worked core = history_lines object 0 worked
     ++ entry_lines object start (entries (setting core) core.schedule) (entry_slots (setting core) core.schedule) ++ events_line core.schedule
 
--- each reply's response is one of the object's
+-- the response of each reply is one of the object's
 abbrev pub RepliesHaveResponses : TypeTable → List Reply → Type 0
 RepliesHaveResponses object replies = All (λ r. r.response.0 < length object.responses) replies
 

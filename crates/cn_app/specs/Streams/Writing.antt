@@ -1,4 +1,4 @@
--- What writing an output says of its bytes, whether or not the writer's are known.
+-- What a written output says of its bytes, whether or not those of the writer are known.
 use Rattle.std.specs.Prelude.{◌≡◌, ◌≢◌, [], ◌⊎◌, ◌++◌, List, ℕ, Option, Result, Ok, Err, string_bytes}
 use Rattle.std.specs.Io.KnownBytes.{Appends}
 use Rattle.cn_app.specs.declared.streams.output.Output.{Output}
@@ -23,23 +23,23 @@ pub record IsSilent {W : Type 0} (old new : Output W) : Type 0 where
   pub bytes : new.bytes.items ≡ old.bytes.items
   pub progress : new.progress ≡ old.progress
 
--- a text was handed to the writer, and it took it all
+-- the writer was given a text, and took all of it
 pub record HasTaken {W : Type 0} (contents : W → Option (List ℕ)) (text : List ℕ) (old new : Output W) : Type 0 where
   pub bytes : new.bytes.items ≡ old.bytes.items ++ text
   pub taken : Appends (contents old.writer) (contents new.writer) text
   pub progress : new.progress ≡ Done
 
--- a text was handed to the writer, and it failed
+-- the writer was given a text, and failed
 pub record HasFailed {W : Type 0} (text : List ℕ) (old new : Output W) : Type 0 where
   pub bytes : new.bytes.items ≡ old.bytes.items ++ text
   pub progress : new.progress ≡ Failed
 
--- writing a report ends so: with its outcome once the writer took its text; or the writer failed, or memory ran out before
+-- the result of writing a report: its outcome once the writer took the text; or the writer failed, or memory ran out before
 abbrev pub HandsOver : {W : Type 0} → (W → Option (List ℕ)) → Report → Output W → Output W → Result Outcome AppFault → Type 0
 HandsOver contents report old new (Ok outcome) = (outcome ≡ report.outcome) × HasTaken contents (string_bytes report.text) old new
 HandsOver contents report old new (Err e) = ((e ≡ Write) × HasFailed (string_bytes report.text) old new) ⊎ ((e ≡ OutOfMemory) × IsSilent old new)
 
--- a command whose work ends so ends like this: with the fault of the work, and silent; or as the writing of its report does
+-- the result of a command with this work: the fault of the work, and the output is silent; or that of writing the report
 abbrev pub Reports : {W : Type 0} → (W → Option (List ℕ)) → (Result Report AppFault → Type 0) → Output W → Output W → Result Outcome AppFault → Type 0
 Reports contents work old new r = ((e : AppFault) × work (Err e) × (r ≡ Err e) × IsSilent old new)
     ⊎ ((report : Report) × work (Ok report) × HandsOver contents report old new r)

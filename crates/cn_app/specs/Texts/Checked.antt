@@ -1,4 +1,4 @@
--- A table and a certificate, and the check of the one against the other.
+-- A table and a certificate, and the check of the certificate against the table.
 use Rattle.std.specs.Prelude.{ℕ, List, Option, Result, Ok, Err, ◌≡◌, ◌⊎◌}
 use Rattle.cn_table.specs.TypeTable.{TypeTable}
 use Rattle.cn_cert.specs.Certificate.{Certificate}
@@ -14,20 +14,20 @@ use Rattle.cn_app.specs.declared.fault.AppFault.TheVariants.{Check}
 use Rattle.cn_app.specs.declared.fault.Source.TheVariants as source
 use Rattle.cn_app.specs.declared.streams.text.Text.{Text}
 
--- the certificate is one that the check accepts for the table
+-- the check accepts the certificate for the table
 abbrev pub IsChecked : Checked → Type 0
 IsChecked checked = IsAccepted checked.table checked.certificate
 
--- the check of a certificate against a table ends so: it accepts the certificate, and both are kept; or this is its first fault
+-- the result of the check of a certificate against a table: it accepts the certificate, and both are kept; or this is the first fault
 abbrev pub GivesCheck : TypeTable → Certificate → Result Checked AppFault → Type 0
 GivesCheck t c (Ok checked) = IsAccepted t c × (checked.table ≡ t) × (checked.certificate ≡ c)
 GivesCheck t c (Err e) = (fault : CheckFault) × IsFirstFault t c fault × (e ≡ Check fault)
 
--- a table is read, then a certificate, and then the one is checked against the other
+-- a table is read, then a certificate, and then the certificate is checked against the table
 abbrev pub GivesChecked : {R C : Type 0} → Text R → Text C → Result Checked AppFault → Type 0
 GivesChecked table certificate r = Then (GivesTable table) (λ t. Then (GivesCertificate certificate) (λ c. GivesCheck t c)) r
 
--- what became of a text t and then of a text c: the second is as it was, where the first spells no table
+-- what became of a text t and then of a text c: if the first spells no table, the second is as it was
 pub record HaveReadBoth {R C : Type 0} (remaining : R → Option (List ℕ)) (left : C → Option (List ℕ)) (t u : Text R) (c d : Text C) : Type 0 where
   pub table : HasRead source.Table remaining t u
   pub certificate : HasRead source.Certificate left c d

@@ -1,4 +1,4 @@
--- The texts that a command reads, and what they give it.
+-- The texts that a command reads, and what they spell.
 use Rattle.std.specs.Prelude.{ℕ, List, length, Result, Ok, Err, nat_lt, if◌then◌else◌}
 use Rattle.std.specs.Result.{result_map_both}
 use Rattle.cn_table.specs.TypeTable.{TypeTable}
@@ -13,7 +13,7 @@ use Rattle.cn_app.specs.declared.fault.Source.{Source}
 use Rattle.cn_app.specs.declared.fault.Source.TheVariants as source
 use Rattle.cn_app.specs.declared.streams.text.Text.{Text}
 
--- what a text of at most so many bytes spells, or its first fault: that it is too long, or one of its own
+-- what a text of limited length spells, or its first fault: it is too long, or has a fault of its own
 abbrev pub value_in : {X F : Type 0} → Source → (F → AppFault) → (List ℕ → Result X F) → List ℕ → Result X AppFault
 value_in source fault_of reads bytes = if nat_lt (most_of source) (length bytes) then Err (fault.TooLong source)
     else result_map_both (λ x. x) (λ f. plain_of (fault_of f)) (reads bytes)
@@ -30,7 +30,7 @@ certificate_in bytes = value_in source.Certificate fault.Certificate certificate
 abbrev pub object_in : List ℕ → Result TypeTable AppFault
 object_in bytes = value_in source.Object fault.Object table.reading bytes
 
--- reading a table ends so, by what its text is then; so for a certificate and for an object
+-- the result of reading a table, by what its text is then; likewise of a certificate and of an object
 abbrev pub GivesTable : {R : Type 0} → Text R → Result TypeTable AppFault → Type 0
 GivesTable text r = Gives source.Table table_in text r
 
@@ -40,7 +40,7 @@ GivesCertificate text r = Gives source.Certificate certificate_in text r
 abbrev pub GivesObject : {R : Type 0} → Text R → Result TypeTable AppFault → Type 0
 GivesObject text r = Gives source.Object object_in text r
 
--- the text is whole, and spells a table; so for a certificate
+-- the text is whole and spells a table; likewise a certificate
 abbrev pub SpellsTable : {R : Type 0} → Text R → Type 0
 SpellsTable text = (t : TypeTable) × GivesTable text (Ok t)
 

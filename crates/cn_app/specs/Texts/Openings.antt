@@ -16,27 +16,27 @@ use Rattle.cn_app.specs.declared.fault.AppFault.TheVariants.{Argument}
 use Rattle.cn_app.specs.declared.fault.Argument.TheVariants.{Start}
 use Rattle.cn_app.specs.declared.fault.Source.TheVariants as source
 
--- opening a log of so many slots for an object ends so: the object starts in the state of this name; or it has none
+-- the result of opening a log of so many slots for an object: the object starts in the state of this name, or has none
 abbrev pub GivesStart : Plan → TypeTable → List ℕ → ℕ → Result Opening AppFault → Type 0
 GivesStart plan object start slots (Ok opening) = IsSomeAnd (number_of object.states start) (λ q. opening ≡ opening_of plan object q slots)
 GivesStart plan object start slots (Err e) = (e ≡ Argument Start) × (number_of object.states start ≡ None)
 
--- with a certificate that is checked first, and then the plan of its witness
+-- the same with the plan of the witness of a certificate, which is checked first
 abbrev pub OpensWith : TypeTable → Certificate → TypeTable → List ℕ → ℕ → Result Opening AppFault → Type 0
 OpensWith t c object start slots r = Then (GivesCheck t c) (λ checked. Then (GivesPlan checked) (λ plan. GivesStart plan object start slots)) r
 
--- a table is read, then a certificate, then an object, and then a log of so many slots is opened with them
+-- a table is read, then a certificate, then an object; then a log of so many slots is opened with them
 abbrev pub GivesOpening : {R C O : Type 0} → OpeningArguments R C O → ℕ → Result Opening AppFault → Type 0
 GivesOpening given slots r = Then (GivesTable given.table) (λ t. Then (GivesCertificate given.certificate)
     (λ c. Then (GivesObject given.object) (λ o. OpensWith t c o given.start.now slots))) r
 
--- none of the texts has given anything yet
+-- no text has given anything yet
 pub record AreUnread {R C O : Type 0} (given : OpeningArguments R C O) : Type 0 where
   pub table : IsUnread given.table
   pub certificate : IsUnread given.certificate
   pub object : IsUnread given.object
 
--- what became of the texts: one is as it was, where the one before it does not spell what it should; and the rest is as it was
+-- what became of the texts: if one does not spell what it should, the next is as it was; the other fields are as they were
 pub record HaveReadAll {R C O : Type 0} (remaining : R → Option (List ℕ)) (left : C → Option (List ℕ)) (behind : O → Option (List ℕ))
     (old new : OpeningArguments R C O) : Type 0 where
   pub table : HasRead source.Table remaining old.table new.table

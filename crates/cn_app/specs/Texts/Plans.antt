@@ -7,13 +7,13 @@ use Rattle.cn_app.specs.declared.readers.checked.Checked.{Checked}
 use Rattle.cn_app.specs.declared.fault.AppFault.{AppFault}
 use Rattle.cn_app.specs.declared.fault.AppFault.TheVariants.{NoWitness, OutOfMemory}
 
--- the plan for the table of the certificate's witness
+-- the plan of the certificate's witness for the table
 pub record IsPlanOf (t : TypeTable) (c : Certificate) (plan : Plan) : Type 0 where
   pub is_plan : IsPlan plan
   pub table : plan.table ≡ t
   pub witness : c.witness ≡ Some plan.choice
 
--- making the plan of a certificate ends so: with its plan; or it has no witness, or memory ran out
+-- the result of making the plan of a certificate: its plan; or it has no witness, or memory ran out
 abbrev pub GivesPlan : Checked → Result Plan AppFault → Type 0
 GivesPlan checked (Ok plan) = IsPlanOf checked.table checked.certificate plan
 GivesPlan checked (Err e) = (e ≡ OutOfMemory) ⊎ ((e ≡ NoWitness) × (checked.certificate.witness ≡ None))

@@ -1,4 +1,4 @@
--- What threads leave in which each process makes its calls, one after the other.
+-- What the threads leave once each process has made its calls, one after the other.
 use Rattle.std.specs.Prelude.{ℕ, List, [], ◌≡◌, ◌+◌, ◌<◌, length, All}
 use Rattle.cn_log.specs.Callers.{calls_by, BeginsWith}
 use Rattle.cn_log.specs.Log.{operations_of, batches}
@@ -13,19 +13,19 @@ use Rattle.cn_app.specs.declared.threads.workers.End.TheVariants.{Whole, Full, S
 abbrev pub operations_called : ℕ → List Event → List ℕ
 operations_called p events = operations_of (calls_by p events)
 
--- for each entry of process p in the log, in order, its slot, and what one sequential run answers there
+-- for each entry of process p in the log, in order: its slot, and the response of one sequential run there
 abbrev pub replies_in : Log → ℕ → List Reply
 replies_in core p = replies_from (setting core) p [] (batches (setting core) core.schedule)
 
--- how the calls of process p have ended: each was made and has its reply; or some call has none, where every slot is fixed and the replies are those of all
--- entries of the process; or one call more was made than there are replies
+-- how the calls of process p ended: each was made and has its reply; or some call has none, every slot is fixed, and the replies are those of all entries of
+-- the process; or the process made one call more than there are replies
 abbrev pub EndsIn : Log → ℕ → List ℕ → List Reply → End → Type 0
 EndsIn core p calls replies Whole = (operations_called p core.schedule ≡ calls) × (length replies ≡ length calls)
 EndsIn core p calls replies Full = (length (batches (setting core) core.schedule) ≡ core.opening.capacity) × (replies ≡ replies_in core p)
     × (length replies < length calls)
 EndsIn core p calls replies Stopped = length (operations_called p core.schedule) ≡ length replies + 1
 
--- process p has made the first of these calls, in order; the replies are those of its first entries in the log; and its calls have ended so
+-- process p made the first of these calls, in order; the replies are those of its first entries in the log; and its calls ended so
 pub record HasServed (core : Log) (p : ℕ) (calls : List ℕ) (replies : List Reply) (end : End) : Type 0 where
   pub made : BeginsWith calls (operations_called p core.schedule)
   pub replied : BeginsWith (replies_in core p) replies

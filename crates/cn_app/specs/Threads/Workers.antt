@@ -1,4 +1,4 @@
--- What the thread of one process has in hand, and what it hands back.
+-- What the thread of a process starts with, and what it hands back.
 use Rattle.std.specs.Prelude.{◌≡◌, ℕ, ◌<◌, List, [], All, length, ◌≤◌, vec_capacity, ◌+◌, Some, Vec, slice_get, Result, Ok, Err}
 use Rattle.std.specs.Global.{Global}
 use Rattle.cn_proto.specs.Plan.{processes_of}
@@ -24,22 +24,22 @@ abbrev pub end_by : CallFault → End
 end_by fault.LogFull = Full
 end_by fault.Stopped = Stopped
 
--- what the gate of a process has said last where its calls ended so
+-- what the gate of a process said last, by how its calls ended
 abbrev pub go_at : End → Go
 go_at Whole = On
 go_at Full = On
 go_at Stopped = Stop
 
--- the seat is one of the hall, in whose core nothing has happened, and these are operations of its object
+-- the seat is one of the hall, nothing has happened in its core, and these are operations of its object
 abbrev pub MayWork : HallId → List ℕ → SeatState → Type 0
 MayWork hall calls s = IsSeatOf hall s × (s.core.schedule ≡ []) × All (λ o. o < length s.core.opening.object.operations) calls
 
--- there is no reply yet, and room for one to each call
+-- there is no reply yet, and room for a reply to each call
 abbrev pub HasRoom : List ℕ → ProcessHistory → Type 0
 HasRoom calls w = (w.replies.items ≡ []) × (length calls ≤ vec_capacity w.replies)
 
--- how a seat is left by calls that have ended so: each was made and has its reply; or some call has none, and the seat has seen every slot; or one call more
--- was made than there are replies
+-- how calls that ended so leave a seat: each was made and has its reply; or some call has none, and the seat has seen every slot; or the process made one call
+-- more than there are replies
 abbrev pub EndsAt : List ℕ → SeatState → List Reply → End → Type 0
 EndsAt calls t replies Whole = (operations_called t.process t.core.schedule ≡ calls) × (length replies ≡ length calls)
 EndsAt calls t replies Full = (length (slots_seen t) ≡ t.core.opening.capacity) × (length replies < length calls)
@@ -68,13 +68,13 @@ HaveAllWorked calls before after worked =
     → slice_get worked p ≡ Some w
     → HasWorked c.items s t w.replies.items w.end
 
--- what a seat comes to by a call of this operation, by the answer: it was made and has this reply, or it failed so
+-- where a call of this operation leads a seat, by its answer: it was made and has this reply, or it failed so
 abbrev pub ComesBy : ℕ → Result Reply CallFault → SeatState → SeatState → Type 0
 ComesBy operation (Ok r) t u = MakesCall t.process operation t.core u.core × IsReply (next_call t operation) u r
 ComesBy operation (Err e) t u = CallFails operation e t u
 
--- a call of this operation with a gate and this answer leads from one seat and gate to another: before each step the gate was asked, as `call` does, and said
--- On, but Stop at last where the call was stopped
+-- a call of this operation with a gate and this answer leads from one seat and gate to another: the gate was asked before each step, as `call` does; it said
+-- Stop last if the call was stopped, and else On
 pub record IsCallWithGate {G : Type 0} (asks : G → SeatState → ℕ → G → Type 0) (says : G → Go) (operation : ℕ) (answer : Result Reply CallFault) (t : SeatState)
     (h : G) (u : SeatState) (k : G) : Type 0 where
   pub same : IsSameSeat t u
@@ -82,8 +82,7 @@ pub record IsCallWithGate {G : Type 0} (asks : G → SeatState → ℕ → G →
   pub asked : IsAsked asks says (next_call t operation) t u.core (asked_times answer (steps_since t.process t.core u.core)) h k
   pub said : says k ≡ go_after answer
 
--- what a seat and a gate come to by calls that are made one after the other until one has no reply, and how the calls have ended. Nothing else is done with the
--- gate
+-- where calls lead a seat and a gate, made one after the other until one has no reply, and how the calls ended; nothing else is done with the gate
 pub data HasAsked {G : Type 0} (asks : G → SeatState → ℕ → G → Type 0) (says : G → Go) (s : SeatState) (g : G) : SeatState → G → End → Type 0 where
   NoCall : HasAsked asks says s g s g Whole
   Replied : {t u : SeatState} {h k : G} (operation : ℕ) (reply : Reply) → HasAsked asks says s g t h Whole
@@ -93,11 +92,11 @@ pub data HasAsked {G : Type 0} (asks : G → SeatState → ℕ → G → Type 0)
       → IsCallWithGate asks says operation (Err fault) t h u k
       → HasAsked asks says s g u k (end_by fault)
 
--- the same of a gate that the thread of the seat has had: at last it has said Stop where a call was stopped, and else On
+-- the same for a gate of the seat's thread: it said Stop last if a call was stopped, and else On
 abbrev pub GateWasAsked : {G : Type 0} → (G → SeatState → ℕ → G → Type 0) → (G → Go) → SeatState → G → SeatState → End → Type 0
 GateWasAsked {G} asks says s g t end = (last : G) × HasAsked asks says s g t last end × (says last ≡ go_at end)
 
--- the gate at each place was asked in the calls of the seat at its place, which ended as those at its place
+-- the calls of the seat at each place asked the gate at its place, and ended as those at its place
 abbrev pub AllGatesWereAsked : {G : Type 0} → (G → SeatState → ℕ → G → Type 0) → (G → Go) → List SeatState → List G → List SeatState → List ProcessHistory
     → Type 0
 AllGatesWereAsked {G} asks says before gates after worked =
@@ -105,7 +104,7 @@ AllGatesWereAsked {G} asks says before gates after worked =
     → slice_get worked p ≡ Some w
     → GateWasAsked asks says s g t w.end
 
--- what process p did in the log, from the first event on, it did in calls with one gate that was made for it, and they ended so
+-- all that process p did in the log is in calls with one gate, which was made for it, and the calls ended so
 pub record HasOneGate {G : Type 0} (asks : G → SeatState → ℕ → G → Type 0) (says : G → Go) (made : ℕ → G → Type 0) (core : Log) (p : ℕ) (end : End)
     : Type 0 where
   pub gate : G
@@ -117,7 +116,7 @@ pub record HasOneGate {G : Type 0} (asks : G → SeatState → ℕ → G → Typ
   pub carried : Carries p after.core core
   pub asked : GateWasAsked asks says before gate after end
 
--- each process of the log's plan has one gate, and place p of the list holds how the calls of process p ended
+-- each process of the log's plan has one gate; place p of the list has how the calls of process p ended
 abbrev pub EachHasOneGate : {G : Type 0} → (G → SeatState → ℕ → G → Type 0) → (G → Go) → (ℕ → G → Type 0) → Log → List ProcessHistory → Type 0
 EachHasOneGate asks says made core worked =
     (p : ℕ) → p < processes_of core.opening.plan → (w : ProcessHistory) × (slice_get worked p ≡ Some w) × HasOneGate asks says made core p w.end

@@ -1,4 +1,5 @@
-//! The commands that read a type table and a certificate, and check the one against the other.
+//! The commands that read a type table and a certificate, and check the certificate against the
+//! table.
 ghost use Rattle.std.specs.Prelude.{◌⊎◌};
 ghost use Rattle.cn_app.specs.Commands.Agree.{HasAgreeReport, SpellLists};
 ghost use Rattle.cn_app.specs.Commands.Check.{HasCheckReport};
@@ -20,8 +21,8 @@ use cn_forms::Form;
 use std::alloc::Global;
 use std::io::{Read, Write};
 
-/// Reads a type table and a certificate, and writes `ok` and a line feed where the check accepts
-/// the certificate for the table.
+/// Reads a type table and a certificate, checks the certificate against the table, and writes `ok`
+/// and a line feed if the check accepts it.
 ///
 /// # Errors
 ///
@@ -45,8 +46,8 @@ pub fn check<R: Read, C: Read, W: Write>(
     output.report(check_report(alloc, &checked))
 }
 
-/// Reads a type table and a certificate, checks the one against the other, and writes for people
-/// why the number is what it is ([`explain_report`]).
+/// Reads a type table and a certificate, checks the certificate against the table, and writes an
+/// explanation of the number for people ([`explain_report`]).
 ///
 /// # Errors
 ///
@@ -70,8 +71,8 @@ pub fn explain<R: Read, C: Read, W: Write>(
     output.report(explain_report(alloc, &checked, all))
 }
 
-/// Reads a type table and a certificate, checks the one against the other, and writes the plan of
-/// the certificate's witness in a form ([`show_report`]).
+/// Reads a type table and a certificate, checks the certificate against the table, and writes the
+/// plan of the certificate's witness in a form ([`show_report`]).
 ///
 /// # Errors
 ///
@@ -95,20 +96,19 @@ pub fn show<R: Read, C: Read, W: Write>(
     output.report(show_report(alloc, &checked, form))
 }
 
-/// Reads a type table and a certificate, checks the one against the other, runs the plan of the
-/// certificate's witness by a schedule, and writes for each process a line with what it has decided,
-/// or that it has not, and where the `steps` are asked for, before these a line for each of them
-/// ([`agree_report`]).
+/// Reads a type table and a certificate, checks the certificate against the table, and runs the
+/// plan of the certificate's witness under a schedule ([`agree_report`]). Writes a line for each
+/// process: its decision, or that it has none. With `steps`, a line for each step comes first.
 ///
-/// `inputs` are the numbers that the processes begin with, and `schedule` the processes in the order
-/// of their steps, written as for [`read_inputs`](crate::read_inputs) and
+/// `inputs` are the numbers that the processes begin with. `schedule` has the processes in the
+/// order of their steps. Both are written as for [`read_inputs`](crate::read_inputs) and
 /// [`read_schedule`](crate::read_schedule).
 ///
 /// # Errors
 ///
-/// The first of these: `inputs`, then `schedule`, is not spelled as it should be or has too many
-/// items, and then no text is touched; those of [`read_checked`]; those of [`agree_report`]; the
-/// writer fails. Want of memory can stand in place of any answer.
+/// The first of these: `inputs`, then `schedule`, is misspelled or has too many items, and no text
+/// is touched; those of [`read_checked`]; those of [`agree_report`]; the writer fails. Want of
+/// memory can stand in place of any answer.
 pub fn agree<R: Read, C: Read, W: Write>(
     alloc: Global,
     table: &mut Text<R>,

@@ -23,7 +23,7 @@ use std::io::{Read, Write};
 use std::thread::Threads;
 
 /// Reads a type table and writes the certificate of its consensus number up to the limit
-/// ([`find_report`]), which is [`limit_for`] the table where none is given.
+/// ([`find_report`]). Without a `limit` it takes [`limit_for`] the table.
 ///
 /// # Errors
 ///
@@ -47,8 +47,8 @@ pub fn find<T: Threads + Sync, R: Read, W: Write>(
     output.report(find_report(rt, alloc, &table, limit))
 }
 
-/// Reads a type table and writes for people why its consensus number up to the limit is what it is
-/// ([`why_report`]). The limit is [`limit_for`] the table where none is given.
+/// Reads a type table and writes an explanation for people of its consensus number up to the limit
+/// ([`why_report`]). Without a `limit` it takes [`limit_for`] the table.
 ///
 /// # Errors
 ///
@@ -73,12 +73,11 @@ pub fn why<T: Threads + Sync, R: Read, W: Write>(
     output.report(why_report(rt, alloc, table, limit, all))
 }
 
-/// Reads a type table and writes a line with the numbers that are asked for
-/// ([`numbers_report`]).
+/// Reads a type table and writes a line with the numbers asked for ([`numbers_report`]).
 ///
 /// # Errors
 ///
-/// The first of these: that of [`check_limit`], and then the text is not touched; those of
+/// The first of these: that of [`check_limit`], and the text is not touched; those of
 /// [`read_table`]; the writer fails.
 pub fn classify<T: Threads + Sync, R: Read, W: Write>(
     rt: &T,
@@ -100,8 +99,8 @@ pub fn classify<T: Threads + Sync, R: Read, W: Write>(
     output.report(numbers_report(rt, alloc, &table, asked))
 }
 
-/// Reads a type table and writes what is to be said of it ([`lint_report`]). A refused table is no
-/// error: its flaws are written, and the outcome has its fault.
+/// Reads a type table and writes its grid, or its flaws if it is refused ([`lint_report`]). A
+/// refused table is no error: the outcome has its fault.
 ///
 /// # Errors
 ///

@@ -1,5 +1,4 @@
-//! The lines of a service: of the calls of each process, of the entries of the log, and of
-//! its events.
+//! The lines of a service: the calls of each process, the entries of the log, and the events.
 ghost use Rattle.std.specs.Prelude.{◌≡◌, ◌≤◌, ◌<◌, ◌++◌, length, string_bytes, IfOk, OnOk};
 ghost use Rattle.cn_app.specs.Lines.Threads.{call_lines, end_line, reply_lines, history_lines, EachHasResponses, RepliesHaveResponses, service_lines};
 
@@ -34,7 +33,7 @@ fn reply_lines(
     Ok(lines)
 }
 
-/// The line of the call that has no reply goes behind the lines, if there is one.
+/// Appends the line of the call that has no reply, if there is one.
 fn put_end_line(lines: &mut String, object: &Table, process: u8, end: End) -> Result<(), AllocError>
     ensures { OnOk result (string_bytes lines.new ≡ string_bytes lines.old
         ++ end_line object.now process end) }
@@ -83,8 +82,7 @@ pub(crate) fn history_lines(
     Ok(lines)
 }
 
-/// The lines of a service: of the calls of each process, of the entries of the log, and of
-/// its events.
+/// The lines of a service: the calls of each process, the entries of the log, and the events.
 pub(crate) fn service_lines(
     alloc: Global,
     object: &Table,

@@ -38,7 +38,7 @@ impl Checked {
     ///
     /// # Errors
     ///
-    /// `NoWitness` where it has none, or `OutOfMemory`.
+    /// `NoWitness` if the certificate has none, or `OutOfMemory`.
     pub fn plan(&self, alloc: Global) -> Result<Plan, AppFault>
         requires { IsChecked self.now }
         ensures { GivesPlan self.now result }
@@ -49,18 +49,18 @@ impl Checked {
         match Plan::from_witness(alloc, &self.table, witness) {
             Ok(plan) => Ok(plan),
             Err(PlanFault::OutOfMemory) => Err(AppFault::OutOfMemory),
-            // The check has found that no outcome sets meet.
+            // The witness of an accepted certificate has no outcome sets that meet.
             Err(PlanFault::Meets(_)) => unreachable!(),
         }
     }
 }
 
-/// Reads a table, then a certificate, and checks the one against the other.
+/// Reads a table, then a certificate, and checks the certificate against the table.
 ///
 /// # Errors
 ///
 /// The first of these: those of [`read_table`], those of [`read_certificate`], those of
-/// [`Checked::new`]. The certificate is not touched where the table is refused.
+/// [`Checked::new`]. If the table is refused, the certificate is not touched.
 pub fn read_checked<R: Read, C: Read>(
     alloc: Global,
     table: &mut Text<R>,

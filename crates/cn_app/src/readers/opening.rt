@@ -1,4 +1,4 @@
-//! What the commands need that serve an object: the opening of a log.
+//! The opening of a log, for the commands that serve an object.
 ghost use Rattle.std.specs.Prelude.{◌≤◌};
 ghost use Rattle.cn_log.specs.declared.limits.TheConstants.{MOST_SLOTS};
 ghost use Rattle.cn_app.specs.Texts.Openings.{AreUnread, GivesOpening, GivesStart, HaveReadAll, OpensWith};
@@ -29,7 +29,7 @@ pub struct OpeningArguments<'a, R, C, O> {
     pub capacity: &'a str,
 }
 
-/// Opens a log of so many slots with this plan, for an object that starts in the state of this name.
+/// Opens a log of so many slots with this plan. The object starts in the state of this name.
 fn start_with(plan: Plan, object: Table, start: &str, slots: u16) -> Result<Opening, AppFault>
     requires some { 1 ≤ slots }
     requires few { slots ≤ MOST_SLOTS }
@@ -41,7 +41,7 @@ fn start_with(plan: Plan, object: Table, start: &str, slots: u16) -> Result<Open
     Ok(Opening::new(plan, object, state, slots))
 }
 
-/// The same with the plan of the witness of a certificate, which is checked first.
+/// Checks the certificate, makes the plan of its witness, and opens a log with it.
 fn open_with(
     alloc: Global,
     table: Table,
@@ -59,14 +59,14 @@ fn open_with(
     start_with(plan, object, start, slots)
 }
 
-/// Reads a table, then a certificate, then an object, checks the certificate against the table,
-/// makes the plan of its witness, and finds the start state: the opening of a log of so many slots.
+/// Reads a table, a certificate and an object, in this order, and opens a log of so many slots. The
+/// plan of the log is that of the certificate's witness; the certificate is checked first.
 ///
 /// # Errors
 ///
 /// The first of these: those of [`read_table`], of [`read_certificate`], of [`read_object`], of
-/// [`Checked::new`], of [`Checked::plan`]; the object has no state of the name `start`. A text is not
-/// touched where an earlier one is refused.
+/// [`Checked::new`], of [`Checked::plan`]; the object has no state of the name `start`. If a text
+/// is refused, the later ones are not touched.
 pub fn read_opening<R: Read, C: Read, O: Read>(
     alloc: Global,
     given: &mut OpeningArguments<'_, R, C, O>,

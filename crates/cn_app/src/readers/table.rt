@@ -24,8 +24,8 @@ pub fn read_table<R: Read>(alloc: Global, text: &mut Text<R>) -> Result<Table, A
     Ok(cn_table::read_table(alloc, &text.bytes)?)
 }
 
-/// Reads a certificate: at most [`MOST_CERTIFICATE_BYTES`](crate::MOST_CERTIFICATE_BYTES). It is not
-/// checked.
+/// Reads a certificate: at most [`MOST_CERTIFICATE_BYTES`](crate::MOST_CERTIFICATE_BYTES). It is
+/// not checked.
 ///
 /// # Errors
 ///
@@ -44,7 +44,7 @@ pub fn read_certificate<R: Read>(alloc: Global, text: &mut Text<R>) -> Result<Ce
 ///
 /// # Errors
 ///
-/// Those of [`read_table`], told of the object.
+/// Those of [`read_table`], as faults of the object.
 pub fn read_object<R: Read>(alloc: Global, text: &mut Text<R>) -> Result<Table, AppFault>
     requires { IsUnread text.old }
     ensures read { HasRead Source.Object R.remaining text.old text.new }

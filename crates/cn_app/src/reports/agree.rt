@@ -1,4 +1,4 @@
-//! What `agree` has to say.
+//! The report of `agree`.
 ghost use Rattle.std.specs.Prelude.{false, true};
 ghost use Rattle.cn_app.specs.Commands.Agree.{IsAgreeReport, IsRunReport};
 ghost use Rattle.cn_app.specs.Texts.Checked.{IsChecked};
@@ -11,7 +11,7 @@ use cn_lines::{decision_lines, step_lines};
 use cn_proto::Plan;
 use std::alloc::Global;
 
-/// Runs a plan by a schedule: a line for each process.
+/// Runs a plan under a schedule: a line for each process.
 fn run_report(
     alloc: Global,
     plan: &Plan,
@@ -24,7 +24,7 @@ fn run_report(
     Ok(Report::whole(decision_lines(alloc, &run.decisions)?))
 }
 
-/// The same, behind a line for each step of the schedule.
+/// A line for each step of the schedule, and then those lines.
 fn steps_report(
     alloc: Global,
     plan: &Plan,
@@ -39,17 +39,17 @@ fn steps_report(
     Ok(Report::whole(lines))
 }
 
-/// Runs the plan of the certificate's witness by a schedule: for each process a line with what it
-/// has decided, or that it has not; where the `steps` are asked for, behind a line for each of them.
+/// Runs the plan of the certificate's witness under a schedule. The report has a line for each
+/// process: its decision, or that it has none. With `steps`, a line for each step comes first.
 ///
-/// Whatever the schedule, the decisions are equal, they are the input of a process that it names,
-/// and a process has decided exactly when it is named at least four times for each place of its
-/// path.
+/// Under every schedule, all processes that decide choose the same value: the input of a process in
+/// the schedule. A process decides exactly if the schedule names it at least four times for each
+/// place of its path.
 ///
 /// # Errors
 ///
-/// The first of these: those of [`Checked::plan`]; there are not as many inputs as processes, or the
-/// schedule names a process that there is not. Want of memory can stand in place of any answer.
+/// The first of these: those of [`Checked::plan`]; the inputs are not as many as the processes, or
+/// the schedule names an unknown process. Want of memory can stand in place of any answer.
 pub fn agree_report(
     alloc: Global,
     checked: &Checked,

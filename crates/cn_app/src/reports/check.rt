@@ -1,4 +1,4 @@
-//! What `check` has to say.
+//! The report of `check`.
 ghost use Rattle.cn_app.specs.Commands.Check.{IsCheckReport};
 ghost use Rattle.cn_app.specs.Texts.Checked.{IsChecked};
 
@@ -8,7 +8,7 @@ use crate::report::Report;
 use cn_check::laws::accepted_is_right;
 use std::alloc::Global;
 
-/// `ok` and a line feed, for a certificate that is accepted.
+/// `ok` and a line feed, for an accepted certificate.
 ///
 /// # Errors
 ///

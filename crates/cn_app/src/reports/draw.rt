@@ -1,4 +1,4 @@
-//! What `draw` has to say.
+//! The report of `draw`.
 ghost use Rattle.cn_app.specs.Commands.Draw.{IsDrawReport};
 
 use crate::fault::AppFault;
@@ -7,8 +7,8 @@ use cn_forms::diagram_of;
 use cn_table::Table;
 use std::alloc::Global;
 
-/// A picture of the table for Graphviz: the states, and an arrow from one to another where some
-/// operation leads there, with a line `OPERATION/RESPONSE` for each such operation.
+/// A picture of the table for Graphviz: the states, and the arrows between them. An arrow has a
+/// line `OPERATION/RESPONSE` for each operation that leads along it.
 ///
 /// # Errors
 ///

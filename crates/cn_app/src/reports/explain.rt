@@ -1,4 +1,4 @@
-//! What `explain` has to say.
+//! The report of `explain`.
 ghost use Rattle.cn_app.specs.Commands.Explain.{IsExplainReport};
 ghost use Rattle.cn_app.specs.Texts.Checked.{IsChecked};
 
@@ -9,11 +9,13 @@ use cn_check::laws::accepted_is_right;
 use cn_forms::explanation_of;
 use std::alloc::Global;
 
-/// For people, why the number is what it is: the table; by what each process of the witness can tell
-/// which team was first; and for each choice that the certificate refutes two runs by which a
-/// process cannot.
+/// An explanation of the number for people:
 ///
-/// Of these choices the first 12 are told, where not `all` are asked for.
+/// - the table;
+/// - for each process of the witness, how it can tell which team was first;
+/// - for each choice that the certificate refutes, two runs that some process cannot tell apart.
+///
+/// Without `all`, it tells the first 12 of these choices.
 ///
 /// # Errors
 ///

@@ -1,4 +1,4 @@
-//! What `find` has to say.
+//! The report of `find`.
 ghost use Rattle.cn_app.specs.Commands.Find.{GivesFound, IsFindReport, IsLimitFor};
 
 use crate::fault::AppFault;
@@ -9,7 +9,7 @@ use cn_table::Table;
 use std::alloc::Global;
 use std::thread::Threads;
 
-/// The limit that is given, or else the greatest up to which [`find_report`] searches for this table.
+/// The given limit, or else the greatest that [`find_report`] accepts for this table.
 pub fn limit_for(table: &Table, given: Option<u8>) -> u8
     ensures { IsLimitFor table.now given result }
 {

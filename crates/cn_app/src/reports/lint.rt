@@ -1,4 +1,4 @@
-//! What `lint` has to say.
+//! The report of `lint`.
 ghost use Rattle.std.specs.Prelude.{◌≡◌, ◌≤◌, ◌<◌, ◌^◌, IfOk, length, map, string_bytes};
 ghost use Rattle.cn_flaws.specs.Flaws.{flaw_view};
 ghost use Rattle.cn_app.specs.Commands.Lint.{flaw_lines, HasFlawLines, IsLintReport};
@@ -31,11 +31,11 @@ fn flaw_lines(alloc: Global, bytes: &[u8]) -> Result<String, AllocError>
     lines_of(alloc, &flaws)
 }
 
-/// What is to be said of the bytes of a type table: of a table its grid
-/// ([`grid_of`](cn_forms::grid_of)), else a line for each of its flaws
-/// ([`flaws`](cn_flaws::flaws)). The outcome has the fault of the table, if it is refused.
+/// The output of `lint`: the grid of a table ([`grid_of`](cn_forms::grid_of)), or a line for each
+/// flaw of bytes that spell none ([`flaws`](cn_flaws::flaws)). If the bytes are refused, the
+/// outcome has their fault.
 ///
-/// Of bytes that are not UTF-8 nothing is said.
+/// The output is empty for bytes that are not UTF-8.
 ///
 /// # Errors
 ///

@@ -1,4 +1,4 @@
-//! What `replay` has to say.
+//! The report of `replay`.
 ghost use Rattle.std.specs.Prelude.{◌≡◌};
 ghost use Rattle.std.specs.List.{list_any};
 ghost use Rattle.cn_app.specs.Answers.{is_full};
@@ -25,11 +25,11 @@ fn has_full(ends: &[CallEnd]) -> bool
     ends.iter().any(|end| is_full(*end))
 }
 
-/// Serves the object of this opening by the events: a line for each call that is answered or that
-/// finds no slot, in the order of the events, and then a line for each entry of the log.
+/// Runs the events on a log of this opening. The report has a line for each call that is answered
+/// or finds no slot, in the order of the events, and then a line for each entry of the log.
 ///
-/// Whatever the events are, the answers are those of one sequential run of the calls, in the order
-/// of the log. `Cut` tells that some call found no slot.
+/// For all events, the answers are those of one sequential run of the calls, in log order. `Cut`
+/// tells that some call found no slot.
 ///
 /// # Errors
 ///

@@ -1,4 +1,4 @@
-//! What `serve` has to say.
+//! The report of `serve`.
 ghost use Rattle.std.specs.Prelude.{◌≡◌, ℕ, map};
 ghost use Rattle.std.specs.List.{list_any};
 ghost use Rattle.cn_hall.specs.declared.call.Go.TheVariants.{On};
@@ -25,27 +25,28 @@ fn is_cut(end: End) -> bool
     !matches!(end, End::Whole)
 }
 
-/// Whether those of some process do.
+/// Whether some process has such an end.
 fn has_cut(worked: &[ProcessHistory]) -> bool
     ensures { result ≡ list_any (λ w. is_cut w.end) worked.now }
 {
     worked.iter().any(|one| is_cut(one.end))
 }
 
-/// Serves the object of this opening by threads: one for each process makes the calls of its list,
-/// one after the other, until one has no reply. Tells for each process, from 0 on, a line for each
-/// of its calls, then a line for each entry of the log, and last a line with the events.
+/// Serves the object of this opening with a thread for each process. The thread makes the calls of
+/// the process's list, one after the other, until one has no reply. The report has a line for each
+/// call of each process, from 0 on, then a line for each entry of the log, and last a line with the
+/// events.
 ///
-/// The gate that `make_gate` makes for a process is asked before each step of its calls, and says
-/// whether they go on; a gate has said On before it is asked. However the threads run, what is told
-/// is of one log, whose answers are those of one sequential run of the calls. `Cut` tells that some
+/// `make_gate` makes a gate for each process. Before each step of the process's calls the gate says
+/// whether they go on. It says On before it is asked. However the threads run, the report is that
+/// of one log, and its answers are those of one sequential run of the calls. `Cut` tells that some
 /// call found no slot or was stopped.
 ///
 /// # Errors
 ///
 /// `calls` has not one list for each process, or a number that is no operation of the object; a
-/// thread could not be started, and then those that run have finished. Want of memory can stand in
-/// place of any answer.
+/// thread could not be started, and those that run have finished. Want of memory can stand in place
+/// of any answer.
 pub fn serve_report<T: Threads + Wait + Sync, G: Gate + Send + Drop, F: Fn(u8) -> G>(
     rt: &T,
     alloc: Global,

@@ -1,4 +1,4 @@
-//! What `show` has to say.
+//! The report of `show`.
 ghost use Rattle.cn_app.specs.Commands.Show.{IsShowReport};
 ghost use Rattle.cn_app.specs.Texts.Checked.{IsChecked};
 

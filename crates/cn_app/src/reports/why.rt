@@ -1,4 +1,4 @@
-//! What `why` has to say.
+//! The report of `why`.
 ghost use Rattle.cn_app.specs.Commands.Why.{IsWhyReport};
 
 use crate::fault::AppFault;
@@ -11,9 +11,8 @@ use cn_table::Table;
 use std::alloc::Global;
 use std::thread::Threads;
 
-/// For people, why the table's consensus number up to the limit is what it is: what
-/// [`explain_report`] tells of the certificate of which [`find_report`](crate::reports::find_report)
-/// has the text.
+/// An explanation for people of the table's consensus number up to the limit: the text of
+/// [`explain_report`] for the certificate that [`find_report`](crate::reports::find_report) writes.
 ///
 /// # Errors
 ///

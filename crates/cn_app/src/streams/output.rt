@@ -1,4 +1,4 @@
-//! Writing what a command built.
+//! A writer, with the bytes that a command hands to it.
 ghost use Rattle.std.specs.Prelude.{◌≡◌};
 ghost use Rattle.cn_app.specs.Streams.Writing.{HandsOver, IsUnwritten, IsWritable, Reports};
 
@@ -15,7 +15,7 @@ pub struct Output<W> {
     writer: W,
     /// All bytes that were handed to the writer, in order.
     pub bytes: Vec<u8>,
-    // `Open` until bytes were handed over, `Done` where the writer took them all.
+    // `Open` until bytes are handed over, `Done` once the writer took them all.
     progress: Progress,
 }
 
@@ -32,7 +32,7 @@ impl<W: Write> Output<W> {
         }
     }
 
-    /// How far the output was written: `Open` until bytes were handed over, `Done` where the writer
+    /// How far the output is written: `Open` until bytes are handed over, `Done` once the writer
     /// took them all.
     pub fn progress(&self) -> Progress
         ensures { result ≡ self.now.progress }
@@ -40,19 +40,19 @@ impl<W: Write> Output<W> {
         self.progress
     }
 
-    /// The writer, with what it was handed.
+    /// The writer, with the bytes that it took.
     pub fn into_writer(self) -> W
         ensures { result ≡ self.writer }
     {
         self.writer
     }
 
-    /// Hands the text of a report to the writer, at once, and keeps it; the answer is how the
-    /// report says that the command ends.
+    /// Hands the text of a report to the writer at once, and keeps it. Answers the outcome of the
+    /// report.
     ///
     /// # Errors
     ///
-    /// `OutOfMemory`, and then nothing is handed over, or `Write` where the writer failed.
+    /// `OutOfMemory`, and nothing is handed over, or `Write` if the writer failed.
     pub fn write(&mut self, report: Report) -> Result<Outcome, AppFault>
         requires { IsWritable self.old }
         ensures { HandsOver W.contents report self.old self.new result }
@@ -72,8 +72,8 @@ impl<W: Write> Output<W> {
         }
     }
 
-    /// Hands over the report of a command's work, as [`write`](Output::write) does, or answers the
-    /// fault of the work, and then nothing is handed over.
+    /// Hands over the report of a command's work, as [`write`](Output::write) does. If the work
+    /// failed, answers its fault and hands over nothing.
     pub(crate) fn report(&mut self, work: Result<Report, AppFault>) -> Result<Outcome, AppFault>
         requires { IsWritable self.old }
         ensures { Reports W.contents (λ r. r ≡ work) self.old self.new result }

@@ -1,6 +1,6 @@
-//! How far a stream was used.
+//! How far a stream is used.
 
-/// How far a text was read, or an output written.
+/// How far a text is read, or an output written.
 #[derive(Clone, Copy, Debug, PartialEq, Eq)]
 pub enum Progress {
     /// Not to its end, or not at all.

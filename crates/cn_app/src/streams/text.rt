@@ -1,4 +1,4 @@
-//! Reading a text whole, up to its limit.
+//! A reader, with the bytes that it gave, up to a limit.
 ghost use Rattle.std.specs.Prelude.{◌≡◌, ◌⊎◌, ◌<◌, ◌≤◌, ◌++◌, length, IfErr, OnOk, List, ℕ};
 ghost use Rattle.std.specs.Io.KnownBytes.{Consumes, IsAtEnd};
 ghost use Rattle.cn_app.specs.Streams.Reading.{EndsText, HasRead, IsUnread};
@@ -8,10 +8,10 @@ use crate::streams::progress::Progress;
 use std::alloc::Global;
 use std::io::Read;
 
-/// How many bytes are asked for at once.
+/// The most bytes of one read.
 const CHUNK: usize = 1024;
 
-/// A reader, the bytes that it has given, and how far it was read.
+/// A reader, the bytes that it has given, and how far it is read.
 #[derive(Drop)]
 pub struct Text<R> {
     // Where the bytes come from; read here and nowhere else.
@@ -35,7 +35,7 @@ impl<R: Read> Text<R> {
         }
     }
 
-    /// How far the reader was read: `Done` once it said that there is no more.
+    /// How far the reader is read: `Done` once it said that there is no more.
     pub fn progress(&self) -> Progress
         ensures { result ≡ self.now.progress }
     {
@@ -49,7 +49,7 @@ impl<R: Read> Text<R> {
         self.reader
     }
 
-    // One read of at most `most` bytes, put behind what was read before.
+    // Reads at most `most` bytes, once, and appends them.
     fn read_some(&mut self, source: Source, most: usize) -> Result<(), AppFault>
         requires some { 0 < most }
         requires unfinished { self.old.progress ≡ Progress.Open }
@@ -78,8 +78,8 @@ impl<R: Read> Text<R> {
         Ok(())
     }
 
-    /// Reads all there is, in at most as many reads as the text of this source may have bytes, and
-    /// one more, of at most as many bytes together. Any fault of the reader ends the reading.
+    /// Reads to the end, or to one byte more than the text of this source may have, in at most as
+    /// many reads. Any fault of the reader ends the reading.
     pub(crate) fn fill(&mut self, source: Source) -> Result<(), AppFault>
         requires { IsUnread self.old }
         ensures read { HasRead source R.remaining self.old self.new }

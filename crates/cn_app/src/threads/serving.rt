@@ -1,4 +1,4 @@
-//! Calls of all processes, each made in a thread of its own.
+//! The calls of all processes, with a thread for each process.
 ghost use Rattle.std.specs.Prelude.{◌≡◌, ◌<◌, [], ℕ, All, IfOk, Some, length, slice_get};
 ghost use Rattle.cn_proto.specs.Plan.{processes_of};
 ghost use Rattle.cn_hall.specs.declared.call.Go.TheVariants.{On};
@@ -66,13 +66,13 @@ fn make_gates<G: Gate + Drop, F: Fn(u8) -> G>(
     Ok(gates)
 }
 
-/// Makes the calls of each process, one after the other, in a thread of its own, over a core in
-/// which nothing has happened. `calls` has a list for each process, of operations of the object.
-/// Returns once every thread has ended. The gate that was made for a process is asked in its calls.
+/// Makes the calls of each process, one after the other, in a thread of its own, on a core in which
+/// nothing has happened. `calls` has a list for each process, of operations of the object. The
+/// calls of a process ask the gate that was made for it. Returns once every thread has ended.
 ///
 /// # Errors
 ///
-/// `Thread` where a thread could not be started: those that run finish first. `OutOfMemory` only
+/// `Thread` if a thread could not be started: those that run finish first. `OutOfMemory` only
 /// before the first thread starts: no call takes memory.
 pub(crate) fn serve_calls<R: Threads + Wait + Sync, G: Gate + Send + Drop, F: Fn(u8) -> G>(
     rt: &R,

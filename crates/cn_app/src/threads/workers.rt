@@ -23,7 +23,7 @@ pub(crate) enum End {
 }
 
 impl End {
-    /// How the calls end with one that has no reply.
+    /// The end of calls whose last one has no reply.
     fn by(fault: CallFault) -> End
         ensures { result ≡ end_by fault }
     {
@@ -72,7 +72,7 @@ fn answer<R: Wait, G: Gate + Drop>(
     (seat, ProcessHistory { replies, end })
 }
 
-/// What the thread of a seat owes.
+/// What the thread of a seat promises.
 #[derive(Drop)]
 struct AnswerOf<G> {
     seat: Snapshot<Seat>,
@@ -88,9 +88,9 @@ impl<G: Gate> Promise<(Seat, ProcessHistory)> for AnswerOf<G> {
         × GateWasAsked G.asks G.says p.seat.value p.gate.value r.0 r.1.end };
 }
 
-/// Makes the calls of all seats, each in a thread of a scope, and joins them. Each thread takes
-/// its seat, its gate and its room for replies from the ends of the vectors; none is answered where
-/// a thread could not be started.
+/// Makes the calls of all seats, with a thread of a scope for each seat, and joins the threads.
+/// Each thread takes its seat, its gate and its room for replies from the ends of the vectors.
+/// Answers `None` if a thread could not be started.
 pub(crate) fn answer_each<R: Threads + Wait + Sync, G: Gate + Send + Drop>(
     rt: &R,
     hall: &Hall,

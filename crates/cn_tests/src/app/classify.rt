@@ -1,4 +1,4 @@
-//! Several tables, the second of which cannot be read to its end, and a writer with so much room.
+//! Several tables, the second of which cannot be read to its end, and a writer with limited room.
 ghost use Rattle.cn_app.specs.Streams.Reading.{IsUnread};
 
 use super::streams::{Drip, Page};
@@ -10,7 +10,7 @@ use std::alloc::Global;
 use std::process::Abort;
 use std::thread::Threads;
 
-/// Keeps what it is told: whether it was of one table, and the fault.
+/// Keeps each fault that it is told, and whether the name of a table came with it.
 #[derive(Drop)]
 struct Kept {
     told: Vec<(bool, AppFault)>,
@@ -24,7 +24,7 @@ impl Tell for Kept {
     }
 }
 
-/// A table of this text, whose reader fails once it gave so many bytes.
+/// A table of this text. Its reader fails after `left` bytes.
 fn table_of(alloc: Global, text: &'static str, left: usize) -> NamedTable<'static, Drip<'static>>
     ensures { IsUnread result.text }
 {
@@ -35,7 +35,7 @@ fn table_of(alloc: Global, text: &'static str, left: usize) -> NamedTable<'stati
     }
 }
 
-/// Whether these faults are told where the writer has so much room, and this is the answer.
+/// Whether these faults are told, and the first is answered, if the writer has this room.
 #[tactic(auto, using(crate::proofs::Unread::three_unread))]
 fn is_told<T: Threads + Sync>(
     rt: &T,

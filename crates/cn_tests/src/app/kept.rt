@@ -7,8 +7,8 @@ use std::alloc::Global;
 use std::process::Abort;
 use std::thread::Threads;
 
-/// How many bytes a text and an output of `find` keep, and how they stand, where the reader fails
-/// after so many bytes and the writer has so much room. None where they keep any others.
+/// How many bytes the text and the output of `find` keep, and the progress of both, if the reader
+/// fails after `left` bytes and the writer has this room. None if they keep wrong bytes.
 fn kept<T: Threads + Sync>(
     rt: &T,
     alloc: Global,

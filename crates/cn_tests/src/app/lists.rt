@@ -1,9 +1,9 @@
-//! A list of as many items as one may have, which is more than the words of a program may be long.
+//! A list with the most items, which is longer than the words of a program may be.
 use cn_app::{AppFault, Argument, ListText, read_schedule};
 use std::alloc::Global;
 use std::process::Abort;
 
-/// How many steps a schedule of so many items has.
+/// How many steps a schedule of this many items has.
 fn steps_of(alloc: Global, items: usize) -> Result<usize, AppFault> {
     let text = "0,".repeat(alloc, items)?;
     match text.as_str().strip_suffix(",") {

@@ -1,4 +1,4 @@
-//! Each command over a caller's readers, which give a byte at a time, and writer.
+//! Each command with a caller's writer, and readers that give a byte at a time.
 ghost use Rattle.cn_app.specs.Streams.Writing.{IsWritable};
 ghost use Rattle.cn_app.specs.Texts.Openings.{AreUnread};
 
@@ -15,10 +15,10 @@ use std::process::Abort;
 use std::sync::Wait;
 use std::thread::Threads;
 
-/// Process 1 puts the calls of both in the first slot.
+/// Process 1 puts the calls of both processes in the first slot.
 pub(crate) const HELPED: &str = "i0:0,i1:0,s1,s1,s1,s1,s1,s1,s0,s0,s0,s0,s0,s0";
 
-/// What `show` says of the plan of test-and-set.
+/// The output of `show` for the plan of test-and-set.
 pub(crate) fn test_and_set_shown() -> &'static str {
     r#"type test_and_set processes 2 nodes 1 start zero
 role 0 A tas judges zero/one
@@ -27,7 +27,7 @@ process 0: node 0 A role 0
 process 1: node 0 B role 1"#
 }
 
-/// What `serve` says of two calls of process 0.
+/// The output of `serve` for two calls of process 0.
 fn test_and_set_served() -> &'static str {
     r#"answer 0 0 0
 answer 0 1 1
@@ -36,7 +36,7 @@ entry 1 0 inc 1 2
 events i0:0,s0,s0,s0,s0,s0,s0,i0:0,s0,s0,s0,s0,s0,s0"#
 }
 
-/// What `agree` says of the steps, where process 1 comes first and process 0 runs alone after it.
+/// The output of `agree` with the steps: process 1 comes first, and process 0 runs alone after it.
 fn test_and_set_steps() -> &'static str {
     r#"1: writes 20 to B of node 0
 1: applies tas at node 0: zero
@@ -48,7 +48,7 @@ fn test_and_set_steps() -> &'static str {
 1: undecided"#
 }
 
-/// What `lint` says of test-and-set.
+/// The output of `lint` for test-and-set.
 fn test_and_set_grid() -> &'static str {
     r#"test_and_set
          zero        one
@@ -65,7 +65,7 @@ fn test_and_set_picture() -> &'static str {
 }"#
 }
 
-/// A worked example: a command, and the lines that it writes where nothing fails.
+/// A worked example: a command, and the lines that it writes if nothing fails.
 #[derive(Drop)]
 pub(crate) struct Example {
     pub command: Command<'static>,
@@ -82,7 +82,7 @@ fn opening() -> OpeningWords<'static> {
     }
 }
 
-/// The examples. Their texts are given, whatever the names of files; `classify` names none.
+/// The examples. `run_command` gives them their texts, whatever files they name.
 pub(crate) fn all_examples(alloc: Global) -> [Example; 11] {
     let (certificate, form) = (TextSource::File("CERT"), Form::Text);
     let (inputs, schedule) = (ListSource::Word("10,20"), ListSource::Word("1,1,0,0,0,0"));
@@ -139,7 +139,7 @@ pub(crate) fn all_examples(alloc: Global) -> [Example; 11] {
 /// How a command ended, and the page on which it wrote.
 pub(crate) type Ran = (Result<Outcome, AppFault>, Page);
 
-/// A reader that gives the text a byte at a time: to its end, or 40 bytes where it is to fail.
+/// A reader that gives the text a byte at a time: to its end, or 40 bytes if it fails.
 fn reader_of(text: &'static str, fails: bool) -> Drip<'static> {
     Drip {
         bytes: text.as_bytes(),
@@ -147,10 +147,10 @@ fn reader_of(text: &'static str, fails: bool) -> Drip<'static> {
     }
 }
 
-/// What the commands read of test-and-set, its certificate and the counter.
+/// The texts that the commands read: test-and-set, its certificate and the counter.
 type Given = OpeningArguments<'static, Drip<'static>, Drip<'static>, Drip<'static>>;
 
-/// The same, where one reader is to fail.
+/// These texts, with at most one reader that fails.
 fn given_of(alloc: Global, failing: Option<Source>) -> Given
     ensures { AreUnread result }
 {
@@ -174,7 +174,7 @@ fn list_text(list: ListSource<'static>) -> ListText<'static> {
     }
 }
 
-/// Does a command with what it is given to read.
+/// Runs a command on the given texts.
 fn run_command<T: Threads + Wait + Sync>(
     rt: &T,
     alloc: Global,
@@ -226,7 +226,7 @@ impl Example {
         Example { command, lines }
     }
 
-    /// Does the command, where one reader is to fail and the writer has so much room.
+    /// Runs the command with at most one reader that fails, and with a writer of this room.
     pub(crate) fn run<T: Threads + Wait + Sync>(
         &self,
         rt: &T,
@@ -240,7 +240,7 @@ impl Example {
         (ended, output.into_writer())
     }
 
-    /// Whether the command reads this.
+    /// Whether the command reads this text.
     fn reads(&self, source: Source) -> bool {
         match self.command {
             Command::Find { .. }
@@ -257,8 +257,7 @@ impl Example {
     }
 }
 
-/// Whether the command tells of each reader that fails once it gave 40 bytes, but for those that it
-/// does not read.
+/// Whether the command reports each reader that fails after 40 bytes, if it reads it.
 fn tells_readers<R: Threads + Wait + Sync>(rt: &R, alloc: Global, example: &Example) -> bool {
     for source in [Source::Table, Source::Certificate, Source::Object] {
         let (ended, page) = example.run(rt, alloc, Some(source), 512);
@@ -274,7 +273,7 @@ fn tells_readers<R: Threads + Wait + Sync>(rt: &R, alloc: Global, example: &Exam
     true
 }
 
-/// Whether it tells of a writer that takes one byte and then fails.
+/// Whether the command reports a writer that takes one byte and then fails.
 fn tells_a_writer<R: Threads + Wait + Sync>(rt: &R, alloc: Global, example: &Example) -> bool {
     let (ended, page) = example.run(rt, alloc, None, 1);
     ended == Err(AppFault::Write) && page.written.len() == 1

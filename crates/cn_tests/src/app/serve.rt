@@ -1,4 +1,4 @@
-//! Threads that make calls, with gates that stop them or hold them until others have come.
+//! Threads that make calls, with gates that stop them or hold them until other calls have come.
 ghost use Rattle.std.specs.Prelude.{◌≡◌, ℕ};
 ghost use Rattle.cn_hall.specs.declared.call.Go.TheVariants.{On};
 
@@ -14,10 +14,11 @@ use std::sync::Wait;
 use std::sync::atomic::AtomicU32;
 use std::thread::Threads;
 
-/// How `serve` ends, and what it writes.
+/// The result of `serve`, and its output.
 type Served = (Result<Outcome, AppFault>, Vec<u8>);
 
-/// These calls of a type and its certificate to the counter, from its first state, in four slots.
+/// Serves the counter to these calls, from its first state and with four slots, by a type and its
+/// certificate.
 fn served<T, G, F>(rt: &T, alloc: Global, texts: (&str, &str), calls: &str, make_gate: F) -> Served
 where
     T: Threads + Wait + Sync,
@@ -39,7 +40,7 @@ where
     (ended, output.into_writer())
 }
 
-/// Two processes, the second of which is stopped before its third step.
+/// Serves two processes. A gate stops the second before its third step.
 fn stopped<T: Threads + Wait + Sync>(rt: &T, alloc: Global, calls: &str) -> Served {
     served(
         rt,
@@ -65,8 +66,9 @@ fn each_process_has_the_gate_made_for_it(rt: HostRuntime) {
     }
 }
 
-/// How processes end that hold. Each is counted before one of its steps and holds before one, until
-/// so many are counted: these steps of process 0, and of the others.
+/// Serves processes with gates that hold them. A gate counts its process before one step, and holds
+/// it before one step until this number of processes is counted. `steps` has the two steps of
+/// process 0, and those of the others.
 fn held<T: Threads + Wait + Sync>(
     rt: &T,
     alloc: Global,
@@ -93,7 +95,7 @@ fn held<T: Threads + Wait + Sync>(
     )
 }
 
-/// Whether the first slot has so many entries, and no other slot has one.
+/// Whether the first slot has this many entries, and no other slot has one.
 fn are_in_one_slot(written: &[u8], entries: usize) -> bool {
     let Ok(text) = str::from_utf8(written) else {
         return false;
@@ -109,7 +111,8 @@ fn are_in_one_slot(written: &[u8], entries: usize) -> bool {
     found == entries
 }
 
-/// Each finds the calls of all, which go into one slot: none takes a step until all are in a call.
+/// No process takes a step until all are in a call. So each finds all calls, and one slot takes
+/// them.
 #[test]
 fn all_processes_are_in_a_call_at_once(rt: HostRuntime) {
     let sticky = sticky_bit();

@@ -3,7 +3,7 @@ use arrayvec::ArrayVec;
 use std::io;
 use std::io::{ErrorKind, Read, Write};
 
-/// A reader that gives one byte at a time, and fails once it gave so many.
+/// A reader that gives one byte at a time, and fails after `left` bytes.
 #[derive(Drop)]
 pub(super) struct Drip<'a> {
     pub bytes: &'a [u8],
@@ -27,7 +27,7 @@ impl<'a> Read for Drip<'a> {
     }
 }
 
-/// A writer on a page, which wants no memory: it takes so many bytes, and then fails.
+/// A writer on a page, which wants no memory. It takes `room` bytes, and then fails.
 #[derive(Drop)]
 pub(crate) struct Page {
     pub written: ArrayVec<u8, 512>,
@@ -42,7 +42,7 @@ impl Page {
         }
     }
 
-    /// Whether these lines were written, and a line feed.
+    /// Whether exactly these lines and a line feed were written.
     pub(crate) fn has(&self, lines: &str) -> bool {
         match self.written.as_slice().split_last() {
             Some((last, before)) => *last == b'\n' && before == lines.as_bytes(),

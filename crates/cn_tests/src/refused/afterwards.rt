@@ -1,4 +1,4 @@
-//! What wants no memory once a log is made or a hall is open: every allocation is refused, and none
+//! A log that is made and a hall that is open want no memory: every allocation is refused, and none
 //! is asked for.
 use super::protocol::{helped, is_helped};
 use super::*;
@@ -11,7 +11,7 @@ use cn_log::{Event, LogCore};
 use cn_table::State;
 use std::cmp::Ordering;
 
-/// Whether each of the events could come.
+/// Whether the core takes each of the events.
 fn takes_all(core: &mut LogCore, events: &[Event]) -> bool {
     for event in events {
         if core.take(*event).is_err() {

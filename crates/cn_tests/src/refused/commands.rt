@@ -8,7 +8,7 @@ use cn_words::Command;
 use std::sync::Wait;
 use std::thread::Threads;
 
-/// How the reading of a list ended that says whether it is the one that is spelled.
+/// How the reading of a list ended. The result says whether the list is the one that is spelled.
 fn list_ended(list: Result<bool, AppFault>) -> Ended {
     match list {
         Ok(is_whole) => Ended::whole_if(is_whole),
@@ -65,7 +65,7 @@ fn calls(rt: HostRuntime) {
     sweep!(&rt, alloc, list = are_calls(alloc), list_ended(list));
 }
 
-/// How a command ended. Where a thread could not be started for want of memory, `serve` says so.
+/// How a command ended. `serve` may say that a thread could not be started, for want of memory.
 fn run_ended(example: &Example, run: Ran) -> Ended {
     let (outcome, page) = run;
     match outcome {

@@ -13,7 +13,7 @@ use cn_search::{FindFault, Finding, find, number};
 use cn_table::{State, Table, TableFault, read_table};
 use std::alloc::AllocError;
 
-/// How a call ended that gives the table of test-and-set.
+/// The end of a call that answers the table of test-and-set.
 fn read_ended(read: Result<Table, TableFault>) -> Ended {
     match read {
         Ok(table) => Ended::whole_if(has_parts(&table)),
@@ -118,7 +118,7 @@ fn splits(rt: HostRuntime) -> Result<(), Fail> {
     Ok(())
 }
 
-/// Whether the certificate of the finding is the one that is spelled.
+/// Whether the certificate of the finding is the expected one.
 fn is_certified(alloc: Global, table: &Table, finding: Finding) -> bool {
     let Ok(certificate) = Certificate::of_finding(alloc, table, finding) else {
         return false;
@@ -182,7 +182,7 @@ fn recoverable_numbers(rt: HostRuntime) -> Result<(), Fail> {
     Ok(())
 }
 
-/// The finding that comes back is the one whose certificate is made in the end.
+/// The certificate is made in the end, from the finding that came back.
 #[test]
 fn a_finding_comes_back(rt: HostRuntime) -> Result<(), Fail> {
     let alloc = rt.alloc();

@@ -19,7 +19,7 @@ fn is_shown(alloc: Global, plan: &Plan) -> Result<bool, AllocError> {
     Ok(text.as_str().strip_suffix("\n") == Some(test_and_set_shown()))
 }
 
-/// How a call ended that gives the plan of test-and-set.
+/// The end of a call that answers the plan of test-and-set.
 fn plan_ended(alloc: Global, made: Result<Plan, PlanFault>) -> Ended {
     match made {
         Ok(plan) => Ended::whole_if(is_shown(alloc, &plan) == Ok(true)),
@@ -87,7 +87,7 @@ const STEPS: [u8; 6] = [1, 1, 0, 0, 0, 0];
 /// The inputs of both processes.
 const INPUTS: [u64; 2] = [10, 20];
 
-/// What a round has fixed after these steps.
+/// The value that a round has fixed after these steps.
 fn fixed(rt: &impl Abort, alloc: Global, plan: &Plan) -> Result<Option<u64>, AllocError> {
     Ok(agree::replay(rt, alloc, plan, &INPUTS, &STEPS)?.fixed_value())
 }
@@ -150,7 +150,7 @@ fn steps(rt: HostRuntime) -> Result<(), Fail> {
     Ok(())
 }
 
-/// Both make a call, and process 1 puts both into the first slot.
+/// Both processes make a call, and process 1 puts both calls into the first slot.
 pub(super) fn helped(alloc: Global) -> Result<Vec<Event>, AllocError> {
     let parts = [
         (Event::Invoke(0, 0), 1),

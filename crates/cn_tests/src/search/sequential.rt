@@ -1,4 +1,4 @@
-//! The search choice by choice, in one thread and with nothing left out, to compare with.
+//! A search to compare with: choice by choice, in one thread, with nothing left out.
 ghost use Rattle.std.specs.Prelude.{◌≤◌};
 
 use cn_choice::{Choice, Choices, Collision};
@@ -9,7 +9,7 @@ use std::alloc::Global;
 use std::process::Abort;
 use std::test::Fail;
 
-/// The recorded collision of a choice, and none of a witness.
+/// The recorded collision of a choice, or none for a witness.
 fn recorded_collision(rt: &impl Abort, table: &Table, choice: &Choice) -> Option<Collision> {
     let n = choice.a.len() + choice.b.len();
     assert!(rt; 2 <= n && n <= 8 && choice.is_for(table, n as u8));

@@ -42,7 +42,7 @@ returns-clause-ends c =
     let ends = c.loop-event.ends.items in
     sym (append-nil ends) ∙ ap (λ (l : List Event). ends ++ ends_after (setting_of c.args.opening) (take k es) l) (sym (drop_all k es c.loop-event-test.false)) ∙ c.loop-event.invariant.ends
 
--- what holds of the events of a log, by the names of its opening and of all events
+-- a fact about the events of a log, by other names of its opening and of all events
 of_all_events : (P : Opening → List Event → Type 0) (o p : Opening) (es fs : List Event) → o ≡ p → es ≡ fs → P o es → P p fs
 of_all_events P o p es fs opening all h = subst (λ (q : Opening). P q fs) opening (subst (λ (l : List Event). P o l) all h)
 

@@ -3,7 +3,7 @@ use Rattle.cn_table.specs.DraftView.{row_view}
 use Rattle.cn_flaws.specs.Flaws.{flaws_view, each, row_lengths}
 use Rattle.cn_flaws.proofs.draft_flaws.push_all_lengths.Given as goal
 
--- what is found so far, and what is left
+-- the flaws so far and those of the rest are all flaws
 abbrev pub invariant-loop-i : goal.invariant-loop-i
 invariant-loop-i l =
     flaws_view l.flaws ++ each (row_lengths l.states) l.i (map row_view (drop l.i l.rows))

@@ -2,7 +2,7 @@ use Rattle.std.proofs.Common.{◌≡◌, ◌++◌, drop, map, string_bytes}
 use Rattle.cn_flaws.specs.Flaws.{flaws_view, each, repeat_at}
 use Rattle.cn_flaws.proofs.draft_flaws.push_repeats.Given as goal
 
--- what is found so far, and what is left
+-- the flaws so far and those of the rest are all flaws
 abbrev pub invariant-loop-i : goal.invariant-loop-i
 invariant-loop-i l =
     let find = repeat_at l.what (map (λ s. string_bytes s) l.names) in

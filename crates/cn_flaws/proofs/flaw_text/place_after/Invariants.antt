@@ -2,7 +2,7 @@ use Rattle.std.proofs.Common.{◌≡◌, ◌≤◌, ◌+◌, drop}
 use Rattle.cn_flaws.specs.FlawText.{place_after}
 use Rattle.cn_flaws.proofs.flaw_text.place_after.Given as goal
 
--- what is left goes on from here
+-- the rest of the bytes goes on from this line and column
 abbrev pub invariant-loop-b : goal.invariant-loop-b
 invariant-loop-b l = record {
   rest : place_after l.line l.column (drop l.b-index l.before) ≡ place_after 1 1 l.before;

@@ -6,7 +6,7 @@ use Rattle.std.proofs.lemmas.List.{length-map}
 use Rattle.std.proofs.lemmas.List.Folds.{list_all-map}
 use Rattle.cn_app.proofs.arguments.calls.calls_fit.Goals as goal
 
--- where there are as many lists as processes, the rest is whether each number is known
+-- if there are as many lists as processes, it remains whether each number is known
 fitting : {V : Type 0} (items : V → List ℕ) (calls : List V) (processes operations number : ℕ) (known : Bool) → length calls ≡ processes → number ≡ operations
     → known ≡ list_all (λ list. list_all (λ operation. nat_lt operation number) (items list)) calls
     → known ≡ ((length (map items calls) == processes) && list_all (λ list. list_all (λ operation. nat_lt operation operations) list) (map items calls))

@@ -4,7 +4,6 @@ use Rattle.cn_log.specs.Opening.{Opening}
 use Rattle.cn_app.proofs.ThreadLemmas.ClosedLogs.{left_of, may_all_work, one_gate_each, same_opening, serve_all}
 use Rattle.cn_app.proofs.threads.serving.serve_calls.Goals as goal
 
--- src/serving.rt:113:33
 pub answer_each-requires-clause-seats : goal.answer_each-requires-clause-seats
 answer_each-requires-clause-seats g c κs within =
     let seats = c.in-Ok.seats.items in
@@ -13,14 +12,12 @@ answer_each-requires-clause-seats g c κs within =
       omega (arith, count),
     )
 
--- src/serving.rt:116:9
 pub close-core-requires-clause-of : goal.close-core-requires-clause-of
 close-core-requires-clause-of g c =
     let count : length c.in-Ok.seats.items ≡ length c.args.calls.now = c.in-Ok.ensures.count ∙ sym c.requires.processes in
     left_of c.in-Ok.hall c.args.core c.args.calls.now c.in-Ok.seats.items count (λ p less. c.in-Ok.ensures.seats p (omega (arith, less, c.requires.processes))) c.in-Some.seats.items c.in-Some.worked.items c.in-Some.ensures.seats.0
     c.in-Some.ensures.rooms.0 c.in-Some.ensures.worked
 
--- src/serving.rt:88:1
 pub returns-clause-opening : goal.returns-clause-opening
 returns-clause-opening g c =
     let count : length c.in-Ok.seats.items ≡ length c.args.calls.now = c.in-Ok.ensures.count ∙ sym c.requires.processes in
@@ -28,14 +25,12 @@ returns-clause-opening g c =
     c.in-Some.ensures.seats.0 c.in-Some.ensures.rooms.0 c.in-Some.ensures.worked c.close-core.result c.close-core.ensures.carries
     (omega (arith, c.processes.ensures.range.0, c.processes.ensures.number, c.requires.processes))
 
--- src/serving.rt:88:1
 pub returns-clause-served : goal.returns-clause-served
 returns-clause-served g c =
     let count : length c.in-Ok.seats.items ≡ length c.args.calls.now = c.in-Ok.ensures.count ∙ sym c.requires.processes in
     serve_all c.in-Ok.hall c.args.core c.args.calls.now c.in-Ok.seats.items count (λ p less. c.in-Ok.ensures.seats p (omega (arith, less, c.requires.processes))) c.in-Some.seats.items c.in-Some.worked.items c.in-Some.ensures.seats.0
     c.in-Some.ensures.rooms.0 c.in-Some.ensures.worked c.close-core.result c.close-core.ensures.carries c.close-core.ensures.slots c.close-core.ensures.answers
 
--- src/serving.rt:88:1
 pub returns-clause-gates : goal.returns-clause-gates
 returns-clause-gates g c =
     let count : length c.in-Ok.seats.items ≡ length c.args.calls.now = c.in-Ok.ensures.count ∙ sym c.requires.processes in

@@ -8,7 +8,6 @@ use Rattle.cn_app.specs.declared.threads.workers.ProcessHistory.{ProcessHistory}
 use Rattle.cn_app.proofs.ThreadLemmas.Places.{may_all_front, may_last, one_more_asked, one_more_worked, read_at, room_front, room_last}
 use Rattle.cn_app.proofs.threads.workers.+answer_each+fn-answer_each-scope.Goals as goal
 
--- src/workers.rt:118:9
 pub scoped-both-requires : goal.scoped-both-requires
 scoped-both-requires g t c =
     let seats = c.pop.new.self.items in
@@ -48,7 +47,6 @@ scoped-both-requires g t c =
       );
     }
 
--- src/workers.rt:93:1
 pub returns-clause-worked : goal.returns-clause-worked
 returns-clause-worked g t c =
     let h = c.in_ok-seats.ensures in
@@ -62,7 +60,6 @@ returns-clause-worked g t c =
     (λ d got. let same : Some c.index-calls-len.result ≡ Some d = sym mine ∙ got in let is : c.index-calls-len.result ≡ d = cc in
     subst (λ (v : Vec ℕ Global). HasWorked v.items c.in-Some.seat c.in_ok-seats.seat c.in_ok-seats.last.replies.items c.in_ok-seats.last.end) is h.1.1.1.1.1.0))
 
--- src/workers.rt:93:1
 pub returns-clause-asked : goal.returns-clause-asked
 returns-clause-asked g t c =
     let h = c.in_ok-seats.ensures in

@@ -8,7 +8,6 @@ use Rattle.cn_app.specs.declared.threads.workers.End.{End}
 use Rattle.cn_app.proofs.ThreadLemmas.Seats.{begins_left, ends_left, go_ended, one_more}
 use Rattle.cn_app.proofs.threads.workers.answer.Goals as goal
 
--- src/workers.rt:69:17
 pub returns-in-Err-clause-worked : goal.returns-in-Err-clause-worked
 returns-in-Err-clause-worked g c =
     let i = c.loop-operation.invariant in
@@ -23,7 +22,6 @@ returns-in-Err-clause-worked g c =
           (ends_left c.args.operations.now c.loop-operation.operation-index _ more c.loop-operation.seat c.call.new.seat h.same i.made c.loop-operation-test.true c.loop-operation.replies.items i.count c.in-Err.fault h.fault);
     }
 
--- src/workers.rt:64:5
 pub loop-operation-preserved : goal.loop-operation-preserved
 loop-operation-preserved g c =
     let i = c.loop-operation.invariant in
@@ -42,7 +40,6 @@ loop-operation-preserved g c =
       room = search rules;
     }
 
--- src/workers.rt:48:1
 pub returns-in-Err-clause-asked : goal.returns-in-Err-clause-asked
 returns-in-Err-clause-asked g c =
     let i = c.loop-operation.invariant in
@@ -65,7 +62,6 @@ returns-clause-worked g c =
       ended = (all, omega (arith, i.count, c.loop-operation-test.false, c.loop-operation.auto.operation-index-end));
     }
 
--- src/workers.rt:62:5
 pub loop-operation-init : goal.loop-operation-init
 loop-operation-init g c = record {
   same = search rules;
