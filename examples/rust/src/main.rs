@@ -19,15 +19,15 @@ struct Node {
 }
 
 /// A role: its operation, and the pairs of response and state that say that team A was first.
-struct Role(fn(&AtomicU8) -> u8, [(u8, u8); 2]);
+struct Role(fn(&AtomicU8) -> u8, &'static [(u8, u8)]);
 
 // The plan.
 const START: u8 = 0b001;
 const NODES: usize = 2;
 const ROLES: [Role; 3] = [
-    Role(or110, [(0b001, 0b100), (0b001, 0b111)]),
-    Role(and100, [(0b100, 0b100), (0b111, 0b100)]),
-    Role(and100, [(0b100, 0b100), (0b111, 0b100)]),
+    Role(or110, &[(0b001, 0b100), (0b001, 0b111)]),
+    Role(and100, &[(0b100, 0b100), (0b111, 0b100)]),
+    Role(and100, &[(0b100, 0b100), (0b111, 0b100)]),
 ];
 /// For each process its places from the lowest node to the root: the node, and its team and role there.
 const PATHS: [&[(usize, usize, usize)]; 3] = [
