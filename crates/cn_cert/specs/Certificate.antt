@@ -13,7 +13,7 @@ pub record Certificate : Type 0 where
   pub witness : Option Choice
   pub collisions : List Collision
 
--- the versions of the format: a certificate of version 1 refutes all canonical choices for one process more than its number, one of version 2 the live ones
+-- the versions of the format: for one process more than its number, a certificate of version 1 refutes every canonical choice, one of version 2 the live ones
 abbrev pub is_version : ℕ → Bool
 is_version version = version == 1 || version == 2
 

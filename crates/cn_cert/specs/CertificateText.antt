@@ -7,13 +7,15 @@ use Rattle.cn_choice.specs.Canonical.{Choice}
 use Rattle.cn_choice.specs.Collisions.{Collision}
 use Rattle.cn_cert.specs.Certificate.{Certificate}
 
--- an unsigned integer; an array of them; one, or null
+-- an unsigned integer
 abbrev pub number_data : ℕ → Data
 number_data n = number (unsigned n)
 
+-- an array of unsigned integers
 abbrev pub numbers_data : List ℕ → Data
 numbers_data ns = array (items_of (map number_data ns))
 
+-- an unsigned integer, or null
 abbrev pub number_or_null : Option ℕ → Data
 number_or_null None = null
 number_or_null (Some n) = number_data n
@@ -49,7 +51,7 @@ certificate_data c =
 abbrev pub certificate_text : Certificate → List ℕ
 certificate_text c = compact_text (certificate_data c)
 
--- the text of a number and two lists in an array: of a state with its teams, or of a process with its orders
+-- the text of a number and two lists inside an array: a state with its teams, or a process with its orders
 abbrev pub triple_text : ℕ → List ℕ → List ℕ → List ℕ
 triple_text n a b = compact_text (number_data n) ++ codes "," ++ compact_text (numbers_data a) ++ codes "," ++ compact_text (numbers_data b)
 

@@ -1,4 +1,4 @@
--- What a JSON value says where it has the shape of a certificate, before any number or name is looked at.
+-- The draft of a certificate: what a JSON value of the right shape says, whatever its numbers and its name.
 use Rattle.std.specs.Prelude.{codes, ◌==◌, List, Option, Some, None, option_and_then, if◌then◌else◌}
 use Rattle.serde_json.specs.Data.{Data, Members}
 use Rattle.serde_json.specs.Find.{as_str, as_object}

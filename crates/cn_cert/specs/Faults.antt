@@ -9,7 +9,7 @@ use Rattle.cn_cert.specs.Ranges.{is_in_range}
 use Rattle.cn_cert.specs.declared.fault.CertFault.{CertFault}
 use Rattle.cn_cert.specs.declared.fault.CertFault.TheVariants.{NotJson, WrongShape, Version, Range, OutOfMemory}
 
--- the bytes spell a JSON value of which this holds; one with the shape of a certificate of which this holds
+-- the bytes spell a JSON value, or the draft of a certificate, that passes the test
 abbrev pub in_document : (Data → Bool) → List ℕ → Bool
 in_document test bytes = option_map_or test (document_of bytes) false
 
@@ -24,7 +24,7 @@ holds bytes Version = in_draft (λ c. not (is_version c.version)) bytes
 holds bytes Range = in_draft (λ c. not (is_in_range c)) bytes
 holds bytes OutOfMemory = false
 
--- in the order of their numbers
+-- the faults in the order of their numbers
 abbrev pub faults : List CertFault
 faults = NotJson ∷ WrongShape ∷ Version ∷ Range ∷ []
 

@@ -10,14 +10,14 @@ use Rattle.cn_choice.specs.Collisions.{Collision}
 use Rattle.cn_cert.specs.Certificate.{Certificate}
 use Rattle.cn_choice.specs.declared.limits.TheConstants.{MOST_PROCESSES}
 
--- limits and numbers
+-- the range of limits and numbers
 abbrev pub is_byte : ℕ → Bool
 is_byte n = nat_le n 255
 
 abbrev pub is_number_in_range : Option ℕ → Bool
 is_number_in_range n = option_map_or is_byte n true
 
--- lists of operations, and of processes, of which there may be as many: at most MOST_PROCESSES, each below it
+-- the range of lists of operations and of processes: at most MOST_PROCESSES items, each below MOST_PROCESSES
 abbrev pub is_short : List ℕ → Bool
 is_short ns = nat_le (length ns) MOST_PROCESSES && list_all (λ n. nat_le n (MOST_PROCESSES - 1)) ns
 
@@ -30,18 +30,18 @@ is_witness_in_range w = option_map_or is_choice_in_range w true
 abbrev pub is_collision_in_range : Collision → Bool
 is_collision_in_range x = is_choice_in_range x.choice && (nat_le x.process (MOST_PROCESSES - 1) && (is_short x.alpha && is_short x.beta))
 
--- everything is within its range, and the type is called by a name
+-- every number and list is within its range, and the name of the type is a name
 abbrev pub is_in_range : Certificate → Bool
 is_in_range c =
     is_byte c.limit && (is_number_in_range c.number && (is_witness_in_range c.witness
     && (list_all is_collision_in_range c.collisions && is_name c.type_name)))
 
--- the same, but for the collisions
+-- the same without the collisions
 abbrev pub is_head_in_range : Certificate → Bool
 is_head_in_range c =
     is_byte c.limit && (is_number_in_range c.number && (is_witness_in_range c.witness && is_name c.type_name))
 
--- the thing, where it passes the test
+-- the thing, if it passes the test
 abbrev pub within : {X : Type 0} → (X → Bool) → X → Option X
 within test x = if test x then Some x else None
 

@@ -1,4 +1,4 @@
--- What reading bytes as a certificate comes to.
+-- The result of reading bytes as a certificate.
 use Rattle.std.specs.Prelude.{ℕ, List, Option, Result, Ok, Err, option_and_then, if◌then◌else◌}
 use Rattle.std.specs.Option.{option_map_or, ok_or}
 use Rattle.cn_cert.specs.Certificate.{Certificate, is_version}
@@ -13,11 +13,11 @@ use Rattle.cn_cert.specs.declared.fault.CertFault.TheVariants.{WrongShape, Versi
 abbrev pub draft_spelled : List ℕ → Option Certificate
 draft_spelled bytes = option_and_then draft_of (document_of bytes)
 
--- the first fault that the bytes have, else the certificate that they spell
--- (bytes without a fault spell one, so the `WrongShape` here is never met)
+-- the first fault of the bytes, or else the certificate that they spell
+-- (bytes without a fault spell a certificate, so this `WrongShape` never occurs)
 abbrev pub reading : List ℕ → Result Certificate CertFault
 reading bytes = option_map_or Err (fault_of bytes) (ok_or (draft_spelled bytes) WrongShape)
 
--- the certificate of a draft, else its first fault
+-- the first fault of a draft, or else its certificate
 abbrev pub draft_reading : Certificate → Result Certificate CertFault
 draft_reading c = if is_version c.version then (if is_in_range c then Ok c else Err Range) else Err Version

@@ -1,4 +1,4 @@
--- What stands at the front of the tokens of a text, with the tokens behind it.
+-- Values, items and members at the front of the tokens of a text, with the tokens behind them.
 use Rattle.std.specs.Prelude.{◌≡◌, ◌<◌, ◌-◌, map, bytes_eq, ℕ, List, length, Bool}
 use Rattle.std.specs.Prelude.{true, false, Option, Some, None, option_map, option_and_then, codes, if◌then◌else◌}
 use Rattle.json.specs.Json.{after_end_array, items, members, value}
@@ -14,25 +14,27 @@ use Rattle.cn_cert.specs.Document.{list_of}
 use Rattle.cn_cert.specs.Values.{natural_of, naturals_of, nullable, at_key}
 use Rattle.cn_cert.specs.Draft.{choice_of, collisions_of}
 
--- a value that nests at most so deep; the items of an array, and the members of an object, that was opened
+-- a value that nests at most `depth` deep
 abbrev pub data_at : ℕ → List Token → Option (Data × List Token)
 data_at depth ts = converted of_json (value depth ts)
 
+-- the items of an array that was opened
 abbrev pub items_at : ℕ → List Token → Option (Items × List Token)
 items_at depth ts = converted of_items (items (value depth) (length ts) ts)
 
+-- the members of an object that was opened, behind those that were found
 abbrev pub members_at : ℕ → Members → List Token → Option (Members × List Token)
 members_at depth found ts = converted (λ ms. of_members ms found) (members (value depth) (length ts) ts)
 
--- what is told of it, and the tokens behind it
+-- f of the value at the front, and the tokens behind it
 abbrev pub with_value : {A B : Type 0} → (A → B) → Option (A × List Token) → Option (B × List Token)
 with_value f there = option_map (λ p. (f p.0, p.1)) there
 
--- nothing is told of it
+-- f that keeps nothing of the value
 abbrev pub nothing : {A : Type 0} → A → Unit {0}
 nothing _ = tt
 
--- the items of an array that is still open, or none behind its end
+-- the items that are left of an array: none, if its end was taken
 abbrev pub rest_at : Bool → ℕ → List Token → Option (Items × List Token)
 rest_at true depth ts = items_at depth ts
 rest_at false depth ts = Some (no_items, ts)
@@ -49,7 +51,7 @@ later_items (item d ds) = ds
 abbrev pub next_item : {X : Type 0} → (Data → Option X) → Items → Option X × Items
 next_item kind ds = (first_item kind ds, later_items ds)
 
--- a state and two lists
+-- the choice of a state and two lists, if all three are there
 abbrev pub choice_parts : Option ℕ → Option (List ℕ) → Option (List ℕ) → Option Choice
 choice_parts state a b = do
   s ← state
@@ -72,15 +74,15 @@ abbrev pub only_if : {X : Type 0} → Bool → Option X → Option X
 only_if true o = o
 only_if false o = None
 
--- such a thing and nothing behind it
+-- the thing that the items spell, if no item is left behind it
 abbrev pub sole_thing : {X : Type 0} → (Items → Option X × Items) → Items → Option X
 sole_thing parts ds = only_if (is_over (parts ds).1) (parts ds).0
 
--- what an array is by its items
+-- the thing that the items of an array spell
 abbrev pub in_array : {X : Type 0} → (Items → Option X) → Data → Option X
 in_array by_items d = option_and_then by_items (as_array d)
 
--- a collision has two such parts: a choice, and a process with two orders
+-- a collision consists of two such parts: a choice, and a process with two orders
 abbrev pub collision_parts : Option Choice → Option Choice → Option Collision
 collision_parts choice orders = do
   c ← choice
@@ -93,28 +95,28 @@ next_collision ds =
     let orders = next_choice choice.1 in
     (collision_parts choice.0 orders.0, orders.1)
 
--- all of the items, where each is of a kind
+-- all items, if each is of the kind
 abbrev pub all_items : {X : Type 0} → (Data → Option X) → Items → Option (List X)
 all_items kind ds = all_some (map kind (list_of ds))
 
--- an item is next in an array with more, and nothing was taken
+-- the array has another item, and no token was taken
 abbrev pub IsNext : Bool → List Token → List Token → Type 0
 IsNext more old new = (more ≡ true) × (after_end_array old ≡ None) × (new ≡ old)
 
--- or no item is, and nothing is left of the array
+-- the array has no other item, and its end was taken
 abbrev pub IsLast : Bool → List Token → List Token → Type 0
 IsLast more old new = (depth : ℕ) → rest_at more depth old ≡ Some (no_items, new)
 
--- from the front of what is left of an array this was taken, and that is left
+-- the thing was taken from the items that are left of an array, and the new tokens hold the items behind it
 abbrev pub TakesThing : {X : Type 0} → (Items → Option X × Items) → ℕ → Option X → Bool → List Token → Bool → List Token → Type 0
 TakesThing parts depth o more old more_after new = with_value parts (rest_at more depth old) ≡ with_value (λ ds. (o, ds)) (rest_at more_after depth new)
 
--- an array was opened, or another value passed over
+-- an array was opened, or a value of another kind was passed over
 abbrev pub OpensArray : Bool → ℕ → List Token → List Token → Type 0
 OpensArray true depth old new = (0 < depth) × (data_at depth old ≡ with_value array (items_at (depth - 1) new))
 OpensArray false depth old new = with_value as_array (data_at depth old) ≡ Some (None, new)
 
--- what stands at the six keys
+-- the values at the six keys, each if it is of its kind
 pub record MemberSlots : Type 0 where
   pub collisions : Option (List Collision)
   pub limit : Option ℕ
@@ -133,7 +135,7 @@ slots_of ms = record {
   witness = at_key (codes "witness") (nullable choice_of) ms;
 }
 
--- the same with one more member
+-- the values at the six keys after one more member
 abbrev pub with_member : List ℕ → MemberSlots → Data → MemberSlots
 with_member key s d = record {
   collisions = if bytes_eq key (codes "collisions") then collisions_of d else s.collisions;
@@ -144,7 +146,7 @@ with_member key s d = record {
   witness = if bytes_eq key (codes "witness") then nullable choice_of d else s.witness;
 }
 
--- the certificate, where something stands at each key
+-- the certificate, if each key has a value of its kind
 abbrev pub draft_parts : MemberSlots → Option Certificate
 draft_parts s = do
   collisions ← s.collisions
@@ -155,7 +157,7 @@ draft_parts s = do
   witness ← s.witness
   Some (record { version = version; type_name = type_name; limit = limit; number = number; witness = witness; collisions = collisions })
 
--- the same keys, with nothing at them
+-- the same keys, each with null
 abbrev pub keys_of : Members → Members
 keys_of no_members = no_members
 keys_of (member k d ms) = member k null (keys_of ms)

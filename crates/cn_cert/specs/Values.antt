@@ -1,4 +1,4 @@
--- The kinds of values that stand in a certificate.
+-- The kinds of values in a certificate.
 use Rattle.std.specs.Prelude.{ℕ, List, length, ◌==◌, Option, Some, None, map, is_some, option_map, option_and_then, if◌then◌else◌, slice_get}
 use Rattle.serde_json.specs.Data.{Data, Members}
 use Rattle.serde_json.specs.Find.{get_member, as_null, as_number, as_u64, as_array}
@@ -9,27 +9,31 @@ use Rattle.cn_cert.specs.Document.{list_of}
 abbrev pub natural_of : Data → Option ℕ
 natural_of d = option_and_then as_u64 (as_number d)
 
--- the items of an array; of one of just so many
+-- the items of an array
 abbrev pub items_of : Data → Option (List Data)
 items_of d = option_map list_of (as_array d)
 
+-- a list of exactly this length
 abbrev pub exactly : ℕ → List Data → Option (List Data)
 exactly len items = if length items == len then Some items else None
 
+-- the items of an array of exactly this length
 abbrev pub items_of_len : ℕ → Data → Option (List Data)
 items_of_len len d = option_and_then (exactly len) (items_of d)
 
--- an array of values of a kind; of unsigned integers
+-- an array of values of a kind
 abbrev pub each_of : {X : Type 0} → (Data → Option X) → Data → Option (List X)
 each_of kind d = option_and_then (λ items. all_some (map kind items)) (items_of d)
 
+-- an array of unsigned integers
 abbrev pub naturals_of : Data → Option (List ℕ)
 naturals_of d = each_of natural_of d
 
--- the same, at a place of an array
+-- an unsigned integer at a place of an array
 abbrev pub natural_at : ℕ → List Data → Option ℕ
 natural_at i items = option_and_then natural_of (slice_get items i)
 
+-- an array of unsigned integers at a place of an array
 abbrev pub naturals_at : ℕ → List Data → Option (List ℕ)
 naturals_at i items = option_and_then naturals_of (slice_get items i)
 

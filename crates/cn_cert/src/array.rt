@@ -1,4 +1,4 @@
-//! Arrays, an item after another.
+//! Arrays, item by item.
 ghost use Rattle.std.specs.Prelude.{◌≡◌, ◌∷◌, true, IfOk, IfErr, Some, None, option_map};
 ghost use Rattle.std.specs.Bool.{MatchBool};
 ghost use Rattle.json.specs.Reads.{token_of};
@@ -32,7 +32,7 @@ fn opens(reader: &mut Reader<'_>, depth: usize, token: Token<'_>) -> Result<bool
     Ok(false)
 }
 
-/// The items of an array that was opened.
+/// Reads the items of an array that was opened; none if one of them is of another kind.
 fn items<T: Kind>(
     alloc: Global,
     reader: &mut Reader<'_>,
@@ -56,7 +56,7 @@ fn items<T: Kind>(
     Ok(Some(values))
 }
 
-/// The array of values of a kind that a value is.
+/// Reads an array of values of a kind; none if the next value is anything else.
 pub(crate) fn list<T: Kind>(
     alloc: Global,
     reader: &mut Reader<'_>,
@@ -75,7 +75,7 @@ pub(crate) fn list<T: Kind>(
     }
 }
 
-/// Whether an item follows in the array, which has no more at its end.
+/// Whether the array has another item. At its end `more` becomes false.
 #[inline(always)]
 fn has_next(reader: &mut Reader<'_>, more: &mut bool) -> bool
     ensures value { result ≡ more.new }
@@ -125,7 +125,7 @@ fn next_naturals(
     }
 }
 
-/// Goes to the end of the array, and says whether no item stood before it.
+/// Goes to the end of the array, and says whether no item was left.
 fn is_over(reader: &mut Reader<'_>, depth: usize, more: &mut bool) -> Result<bool, CertFault>
     ensures ok { IfOk result (λ over. with_value is_over (rest_at more.old depth reader.old)
         ≡ Some (over, reader.new)) }
@@ -140,7 +140,7 @@ fn is_over(reader: &mut Reader<'_>, depth: usize, more: &mut bool) -> Result<boo
     }
 }
 
-/// What an array is by a fixed number of items: a choice by three, a collision by six.
+/// A thing that a fixed number of items spells: a choice three, a collision six.
 trait Parts: Sized + Drop {
     ghost use Rattle.std.specs.Prelude.{◌≡◌, Option, IfOk, IfErr};
     ghost use Rattle.serde_json.specs.Data.{Items};
@@ -149,7 +149,7 @@ trait Parts: Sized + Drop {
 
     ghost parts: { Items → Option Self × Items };
 
-    /// The next items as one such thing.
+    /// Reads the next items as one such thing.
     fn next(
         alloc: Global,
         reader: &mut Reader<'_>,
@@ -162,7 +162,7 @@ trait Parts: Sized + Drop {
             (with_value parts (rest_at more.old depth reader.old))) };
 }
 
-/// The rest of an array as one such thing, with nothing behind it.
+/// Reads the rest of an array as one such thing; none if an item is left behind it.
 fn rest_as<T: Parts>(
     alloc: Global,
     reader: &mut Reader<'_>,
@@ -182,7 +182,7 @@ fn rest_as<T: Parts>(
     }
 }
 
-/// The array that a value is as one such thing; the first token of the value was taken.
+/// Reads the array that begins with this token, which was taken, as one such thing.
 fn array_as<T: Parts>(
     alloc: Global,
     reader: &mut Reader<'_>,

@@ -10,7 +10,7 @@ use std::marker::Model;
 
 const NEWEST_VERSION: u8 = 2;
 
-/// What a certificate says of a type: its number up to a limit, and what shows that number.
+/// A certificate of a type: its number up to a limit, and the evidence for that number.
 ///
 /// Nothing here is checked: a certificate that was read from a text can say anything.
 #[derive(Drop)]
@@ -25,9 +25,10 @@ pub struct Certificate {
     pub number: Option<u8>,
     /// A witness for that number.
     pub witness: Option<Choice>,
-    /// A collision of each canonical choice for one process more than the number, of the live ones
-    /// alone in version 2, in the order of the choices; for two processes where there is no number;
-    /// nothing where the number is the limit.
+    /// A collision of each choice for one process more than the number, in the order of the
+    /// choices: of the canonical ones in version 1, of the live ones among them in version 2.
+    /// Without a number the choices are for two processes. The list is empty if the number is the
+    /// limit.
     pub collisions: Vec<Collision>,
 }
 
@@ -52,7 +53,7 @@ impl Certificate {
     ///
     /// # Errors
     ///
-    /// The finding comes back where memory runs out, and only there.
+    /// The finding comes back if memory runs out, and only then.
     pub fn of_finding(
         alloc: Global,
         table: &Table,

@@ -1,4 +1,4 @@
-//! From bytes to what they say as a certificate.
+//! From bytes to the draft of a certificate.
 ghost use Rattle.std.specs.Prelude.{◌≡◌, Some, Err, IfOk, IfErr, IsUtf8, option_map};
 ghost use Rattle.serde_json.specs.Read.{read};
 ghost use Rattle.cn_cert.specs.Document.{document_of};
@@ -11,7 +11,7 @@ use crate::object::draft;
 use json::{Reader, Scratch};
 use std::alloc::Global;
 
-/// So deep arrays and objects nest at most.
+/// The greatest depth to which arrays and objects nest.
 const MOST_DEPTH: usize = 127;
 
 fn draft_of_text(alloc: Global, text: &str) -> Result<Option<Draft>, CertFault>
@@ -29,7 +29,7 @@ fn draft_of_text(alloc: Global, text: &str) -> Result<Option<Draft>, CertFault>
     Ok(draft)
 }
 
-/// What the JSON value that the bytes spell says, where it has the shape of a certificate.
+/// The draft of the JSON value that the bytes spell, if the value has the shape of a certificate.
 pub(crate) fn read_draft(alloc: Global, bytes: &[u8]) -> Result<Option<Draft>, CertFault>
     ensures ok { IfOk result (λ o. option_map draft_of (document_of bytes.now) ≡ Some o) }
     ensures err { IfErr result (λ e. Refuses e (document_of bytes.now)) }

@@ -1,7 +1,7 @@
-//! What a text says, before any number is looked at.
+//! Drafts: what a text says, before any check of its numbers.
 use std::marker::Model;
 
-/// A choice before any number is looked at.
+/// A choice before any check of its numbers.
 #[derive(Drop)]
 pub(crate) struct DraftChoice {
     pub state: u64,
@@ -17,7 +17,7 @@ impl Model for DraftChoice {
     ghost view = { λ c. record { state = c.state; a = c.a.items; b = c.b.items } };
 }
 
-/// A collision before any number is looked at.
+/// A collision before any check of its numbers.
 #[derive(Drop)]
 pub(crate) struct DraftCollision {
     pub choice: DraftChoice,
@@ -39,7 +39,7 @@ impl Model for DraftCollision {
     } };
 }
 
-/// A certificate before its version, any number or its name is looked at.
+/// A certificate before any check of its version, its numbers and its name.
 #[derive(Drop)]
 pub(crate) struct Draft {
     pub version: u64,

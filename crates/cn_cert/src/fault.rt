@@ -20,8 +20,8 @@ pub enum CertFault {
     /// The version is neither 1 nor 2.
     Version = 3,
     /// The limit or the number is above 255, a state not below
-    /// [`MOST_STATES`](cn_table::MOST_STATES), an operation or a process above 7, a list longer than
-    /// 8, or the type is called by a text that is [no name](cn_table::is_name).
+    /// [`MOST_STATES`](cn_table::MOST_STATES), an operation or a process above 7, a list longer
+    /// than 8, or the type is called by a text that is [no name](cn_table::is_name).
     Range = 4,
     /// There was not enough memory.
     OutOfMemory = 5,

@@ -1,6 +1,6 @@
-//! Texts in the form in which certificates are written, by short code that only guesses.
+//! A fast way for texts in the form in which certificates are written.
 //!
-//! What a text says is guessed from its digits, and the guess stands where its own text is that text.
+//! Short code guesses the certificate from the digits. The guess stands if it has that text.
 ghost use Rattle.std.specs.Prelude.{◌≡◌, ◌<◌, ◌≤◌, ◌⊎◌, ◌++◌, ◌∷◌, [], IfSome, OnOk, IsTrue, IsUtf8, None, Ok, length, take, true, string_bytes};
 ghost use Rattle.std.specs.List.{list_all};
 ghost use Rattle.cn_table.specs.Names.{is_name};
@@ -21,14 +21,14 @@ use cn_table::{LONGEST_NAME, State, is_name};
 use std::alloc::{AllocError, Global};
 use std::marker::{Brand, PhantomData};
 
-/// The bytes of a text that are still to come.
+/// The bytes of a text that are left.
 #[derive(Drop)]
 struct Bytes<'a> {
     text: &'a [u8],
     at: usize,
 }
 
-/// The digit that a byte is, if it is at most so great.
+/// The digit that a byte spells, if it is at most this one.
 #[inline(always)]
 fn digit(byte: u8, greatest: u8) -> Option<u8>
     ensures { IfSome result (λ n. n ≤ greatest) }
@@ -86,7 +86,7 @@ impl<'a> Bytes<'a> {
         None
     }
 
-    /// The number of a state, and the comma behind it.
+    /// Takes the number of a state, and the comma behind it.
     fn state(&mut self) -> Option<u8>
         ensures { IfSome result (λ n. n < MOST_STATES) }
     {
@@ -110,7 +110,7 @@ impl<'a> Bytes<'a> {
         Some(Choice { state, a, b })
     }
 
-    /// A collision, of which the first bracket was passed.
+    /// Takes a collision whose first bracket was taken.
     fn collision(&mut self) -> Option<Collision>
         ensures { IfSome result (λ c. is_collision_in_range c ≡ true) }
     {
@@ -130,7 +130,7 @@ impl<'a> Bytes<'a> {
         })
     }
 
-    /// The collisions of an array, of which the first bracket was passed.
+    /// Takes the collisions of an array whose first bracket was taken.
     fn collisions(&mut self, alloc: Global) -> Option<Vec<Collision>>
         ensures { IfSome result (λ v. list_all is_collision_in_range v.items ≡ true) }
     {
@@ -161,7 +161,7 @@ impl<'a> Bytes<'a> {
         Some(Some(digit(byte, 9)?))
     }
 
-    /// A name, and the quote behind it.
+    /// Takes a name, and the quote behind it.
     fn name(&mut self, alloc: Global) -> Option<String>
         ensures { IfSome result (λ s. is_name (string_bytes s) ≡ true) }
     {
@@ -231,22 +231,22 @@ fn without_line_feed(bytes: &[u8]) -> &[u8]
     }
 }
 
-/// The bytes that a text is compared with. They stand in the type of the comparison, since who pushes
-/// to it tells nothing of its fields.
+/// The bytes with which a text is compared. The type of the comparison has them, since code that
+/// pushes to a sink says nothing of its fields.
 trait Original {
     ghost use Rattle.std.specs.Prelude.{ℕ, List};
 
     ghost bytes: { List ℕ };
 }
 
-// Each call picks its own.
+// Each call picks its own bytes.
 impl Original for Brand {
     ghost use Rattle.std.specs.Prelude.{[]};
 
     ghost bytes = { [] };
 }
 
-/// Bytes that a text is compared with as it is made, and how many of them agreed so far.
+/// Bytes with which a text is compared while it is made, and how many of them agree so far.
 #[derive(Drop)]
 struct Comparison<'a, O: Original> {
     bytes: &'a [u8],
@@ -256,7 +256,7 @@ struct Comparison<'a, O: Original> {
     ghost within: { agreed ≤ length bytes.now },
 }
 
-/// The text differs from the bytes, or memory ran out in making it.
+/// The text differs from the bytes, or memory ran out while it was made.
 #[derive(Drop)]
 struct Different;
 
@@ -300,8 +300,8 @@ impl<'a, O: Original> Sink for Comparison<'a, O> {
     }
 }
 
-/// Whether this is the text of the certificate; a name that is none of a table's takes memory, which
-/// may be short for a yes.
+/// Whether this is the text of the certificate. The answer can be no for want of memory, if the
+/// name has something to escape.
 fn is_text_of<O: Original>(alloc: Global, certificate: &Certificate, bytes: &[u8]) -> bool
     requires { bytes.now ≡ O.bytes }
     ensures { IsTrue result → bytes.now ≡ certificate_text certificate.now }
@@ -315,7 +315,7 @@ fn is_text_of<O: Original>(alloc: Global, certificate: &Certificate, bytes: &[u8
         && comparison.agreed == bytes.len()
 }
 
-/// The certificate whose text this is, perhaps with a line feed behind it, where the guess is right.
+/// The certificate of this text, which can have a line feed at its end; none if the guess is wrong.
 pub(crate) fn guessed_certificate(alloc: Global, bytes: &[u8]) -> Option<Certificate>
     ensures certificate { IfSome result (λ c. reading bytes.now ≡ Ok c) }
     ensures told { ¬ IsUtf8 bytes.now → result ≡ None }

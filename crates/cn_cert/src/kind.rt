@@ -1,4 +1,4 @@
-//! Values of a kind, by their tokens.
+//! Kinds of values, read from their tokens.
 ghost use Rattle.std.specs.Prelude.{◌≡◌, ◌∷◌, IfOk, IfErr, Some};
 ghost use Rattle.json.specs.Reads.{token_of};
 ghost use Rattle.cn_cert.specs.Reads.{Refuses};
@@ -21,7 +21,7 @@ pub(crate) trait Kind: Sized + Drop {
 
     ghost kind: { Data → Option Self };
 
-    /// What the value is, of which the first token was taken, where it is of the kind.
+    /// Reads the value that begins with this token, which was taken; none if it is of another kind.
     fn of(
         alloc: Global,
         reader: &mut Reader<'_>,
@@ -53,7 +53,7 @@ impl Kind for u64 {
     }
 }
 
-/// The next value, where it is of the kind.
+/// Reads the next value; none if it is of another kind.
 pub(crate) fn next<T: Kind>(
     alloc: Global,
     reader: &mut Reader<'_>,
@@ -67,7 +67,7 @@ pub(crate) fn next<T: Kind>(
     T::of(alloc, reader, depth, token)
 }
 
-/// The next value, where it is of the kind, or none for null.
+/// Reads the next value, which can be null; none if it is neither null nor of the kind.
 pub(crate) fn next_or_null<T: Kind>(
     alloc: Global,
     reader: &mut Reader<'_>,

@@ -13,18 +13,19 @@ ghost use Rattle.cn_cert.specs.Reading.{reading};
 
 use cn_choice::laws;
 
-/// A certificate of version 1 or 2 whose parts are in their ranges is read back from its text.
+/// The text of a certificate of version 1 or 2 is read back as that certificate, if its parts are
+/// in their ranges.
 pub fn written_is_read_back()
     ensures { (c : Certificate) → is_version c.version ≡ true → is_in_range c ≡ true
         → reading (certificate_text c) ≡ Ok c }
 {}
 
-/// What a search finds for a table is in the ranges.
+/// The parts of a finding for a table are in their ranges.
 pub fn finding_is_in_range()
     ensures { (t : TypeTable) (limit : ℕ) (f : Finding) → IsTypeTable t → limit ≤ GREATEST_LIMIT
         → IsFindingFor t limit f → is_in_range (certificate_of t.name f) ≡ true }
 {
-    // The choices that were searched are choices of the table, and its processes are few.
+    // The choices of the search are choices of the table, for few processes.
     laws::live_list();
     laws::short_orders();
     laws::process_of_pair();

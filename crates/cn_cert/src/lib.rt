@@ -1,7 +1,7 @@
 //! Certificates: the finding of a search with the name of its type, as a value and as a JSON text.
 //!
 //! [`Certificate::of_finding`] makes a certificate, [`write_certificate`] gives its one text, and
-//! [`read_certificate`] reads it back, or says by a [`CertFault`] what is wrong with a text.
+//! [`read_certificate`] reads it back. A [`CertFault`] says what is wrong with a text.
 //!
 //! ```text
 //! let finding = find(rt, alloc, &table, 3)?;
@@ -10,7 +10,7 @@
 //! }
 //! ```
 //!
-//! A certificate that was read can say anything: `cn_check` says whether it is right.
+//! A certificate that was read can say anything. `cn_check` tells whether it is right.
 #![tactic(auto)]
 
 mod array;

@@ -1,4 +1,4 @@
-//! The numbers of a text.
+//! Numbers in a text.
 ghost use Rattle.std.specs.Prelude.{codes, ◌≡◌, ◌==◌, ◌<◌, length, option_map, slice_index, IfSome, IsTrue, Some, true, false};
 ghost use Rattle.serde_json.specs.Data.{unsigned};
 ghost use Rattle.serde_json.specs.Find.{as_u64};
@@ -10,7 +10,7 @@ use crate::fault::CertFault;
 use fast_float::Numeral;
 use serde_json::Number;
 
-/// A number that is no unsigned integer: it has to be one that a float can come near.
+/// Reads a number that is no unsigned integer: JSON allows it only if a float comes near it.
 fn float(is_negative: bool, numeral: &Numeral<'_>) -> Result<Option<u64>, CertFault>
     ensures { Reads CertFault.NotJson (λ o. o) result
         (option_map as_u64 (float_of is_negative numeral.now)) }
@@ -50,7 +50,7 @@ fn has_minus(bytes: &[u8]) -> bool
     !bytes.is_empty() && bytes[0] == b'-'
 }
 
-/// The number of a text of one digit, as most are.
+/// The number of a text of one digit, which most are.
 #[inline(always)]
 fn digit(bytes: &[u8]) -> Option<u64>
     ensures { IfSome result (λ n. number_of bytes.now ≡ Some (unsigned n)) }
@@ -72,7 +72,7 @@ fn any(bytes: &[u8]) -> Result<Option<u64>, CertFault>
     }
 }
 
-/// The unsigned integer that a number is, if it is one.
+/// Reads an unsigned integer; none if the number is another one.
 #[inline(always)]
 pub(crate) fn natural(text: &str) -> Result<Option<u64>, CertFault>
     ensures { Reads CertFault.NotJson (λ o. o) result (option_map as_u64 (number_of text.now)) }

@@ -1,4 +1,4 @@
-//! The object of a certificate, a member after another.
+//! The object of a certificate, member by member.
 ghost use Rattle.std.specs.Prelude.{◌≡◌, ◌==◌, IfOk, IfErr, Some, None, option_map, string_bytes};
 ghost use Rattle.serde_json.specs.Data.{no_members, object};
 ghost use Rattle.serde_json.specs.Find.{as_str};
@@ -18,7 +18,7 @@ use serde_json::{Map, Value};
 use std::alloc::Global;
 use std::marker::Model;
 
-/// What stands at the six keys, as far as it is of the kind that belongs there.
+/// The values at the six keys, each if it is of its kind.
 #[derive(Drop)]
 struct MemberSlots {
     collisions: Option<Vec<DraftCollision>>,
@@ -79,7 +79,7 @@ fn draft_of_slots(slots: MemberSlots) -> Option<Draft>
     })
 }
 
-/// The text that a value is.
+/// Reads a text; none if the next value is anything else.
 fn text(alloc: Global, reader: &mut Reader<'_>, depth: usize) -> Result<Option<String>, CertFault>
     ensures ok { IfOk result (λ o. with_value as_str (data_at depth reader.old)
         ≡ Some (option_map string_bytes o, reader.new)) }
@@ -124,14 +124,14 @@ fn read_member(
     Ok(())
 }
 
-/// Whether an object has just so many keys.
+/// Whether an object has exactly this number of keys.
 fn has_len(map: &Map<String, Value>, len: usize) -> bool
     ensures { result ≡ (members_len (members_view map.now.entries) == len) }
 {
     map.len() == len
 }
 
-/// The rest of an object as a certificate. Of two equal keys the last one counts.
+/// Reads the rest of an object as a certificate. Of two equal keys the last one counts.
 fn draft_members(
     alloc: Global,
     reader: &mut Reader<'_>,
@@ -156,7 +156,7 @@ fn draft_members(
     }
 }
 
-/// What a value says, where it has the shape of a certificate.
+/// Reads the next value as a certificate; none if it has another shape.
 pub(crate) fn draft(
     alloc: Global,
     reader: &mut Reader<'_>,

@@ -1,4 +1,4 @@
-//! From a draft to a certificate: numbers within their ranges, and a name.
+//! From a draft to a certificate: ranges of numbers and lists, and the name.
 ghost use Rattle.std.specs.Prelude.{◌≡◌, Err, true, false};
 ghost use Rattle.cn_cert.specs.Certificate.{is_version};
 ghost use Rattle.cn_cert.specs.Ranges.{within, is_byte, is_short, is_choice_in_range};
@@ -15,7 +15,7 @@ use std::alloc::Global;
 
 const GREATEST_STATE: u64 = MOST_STATES as u64 - 1;
 
-/// The greatest number of an operation or of a process: there may be as many of both.
+/// The greatest number of an operation, and of a process: both have the same bound.
 pub(crate) const GREATEST_NUMBER: u8 = MOST_PROCESSES as u8 - 1;
 
 fn byte(n: u64) -> Result<u8, CertFault>
@@ -104,8 +104,8 @@ fn collisions(alloc: Global, drafts: &[DraftCollision]) -> Result<Vec<Collision>
     Ok(out)
 }
 
-/// The certificate of a draft, where everything is within its range. Everything but the collisions
-/// is looked at before memory is taken.
+/// The certificate of a draft, if everything is within its range. The function takes memory only
+/// for the collisions, after it has looked at everything else.
 #[tactic(auto, using(crate::proofs::RangeLemmas::each_within))]
 pub(crate) fn certificate(alloc: Global, draft: Draft) -> Result<Certificate, CertFault>
     requires { is_version draft.version ≡ true }

@@ -13,15 +13,15 @@ use crate::guess::guessed_certificate;
 use crate::ranges;
 use std::alloc::Global;
 
-/// Whether there is such a version of the format.
+/// Whether the format has such a version.
 fn is_version(version: u64) -> bool
     ensures { result ≡ is_version version }
 {
     version == 1 || version == 2
 }
 
-/// The certificate of a draft, or the first fault that the draft has. A fault of anything but its
-/// collisions is told before memory is taken.
+/// The certificate of a draft, or the first fault of the draft. The function takes memory only for
+/// the collisions, after it has looked at everything else.
 fn certificate_of(alloc: Global, draft: Draft) -> Result<Certificate, CertFault>
     ensures certificate { IfOk result (λ c. draft_reading draft ≡ Ok c) }
     ensures fault { IfErr result (λ e. (e ≡ OutOfMemory) ⊎ (draft_reading draft ≡ Err e)) }
@@ -37,15 +37,16 @@ fn certificate_of(alloc: Global, draft: Draft) -> Result<Certificate, CertFault>
 /// Reads a certificate from the bytes of a JSON text.
 ///
 /// The text is an object with the keys `collisions`, `limit`, `number`, `type`, `version` and
-/// `witness` and no other. Version and limit are unsigned integers, the number is one or null, and
-/// the type is a text. The witness is null or an array of a state, the operations of team A and
-/// those of team B; a collision is an array of these three, a process and two lists of processes.
-/// White space and the order of the keys do not matter; of two equal keys the last one counts.
+/// `witness`, and no other. Version and limit are unsigned integers; the number is an unsigned
+/// integer or null; the type is a text. The witness is null, or an array of a state, the operations
+/// of team A and those of team B. A collision is an array of these three, a process and two lists
+/// of processes. White space and the order of the keys do not matter. Of two equal keys the last
+/// one counts.
 ///
 /// # Errors
 ///
-/// The first of the faults 1 to 4 of [`CertFault`] that the bytes have, or `OutOfMemory`; bytes
-/// that are not UTF-8 are refused before memory is taken.
+/// The first of the faults 1 to 4 of [`CertFault`] that the bytes have, or `OutOfMemory`. Bytes
+/// that are not UTF-8 are refused before any memory is taken.
 #[tactic(auto, using(crate::proofs::Readings::reading_by_draft))]
 pub fn read_certificate(alloc: Global, bytes: &[u8]) -> Result<Certificate, CertFault>
     ensures certificate { IfOk result (λ c. reading bytes.now ≡ Ok c) }

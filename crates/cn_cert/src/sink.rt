@@ -1,14 +1,14 @@
-//! What a text is written to.
+//! Sinks, to which texts are written.
 ghost use Rattle.std.specs.Prelude.{string_bytes};
 
 use std::alloc::AllocError;
 
-/// What takes a text piece by piece: a string keeps it, a comparison looks whether it is the text
-/// that is wanted.
+/// A sink takes a text piece by piece. A string keeps it; a comparison looks whether it is the
+/// wanted text.
 pub(crate) trait Sink {
     ghost use Rattle.std.specs.Prelude.{◌≡◌, ◌<◌, ◌++◌, ◌∷◌, [], ℕ, List, OnOk};
 
-    /// Why a piece is not taken.
+    /// Why the sink refuses a piece.
     type Error: From<AllocError> + Drop;
 
     /// The text so far.

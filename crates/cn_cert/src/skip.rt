@@ -1,4 +1,4 @@
-//! Passing over values that say nothing.
+//! Values that are passed over.
 ghost use Rattle.std.specs.Prelude.{◌≡◌, ◌∷◌, MatchResult, IfOk, IfErr, Some, None, [], option_map};
 ghost use Rattle.json.specs.Json.{read_key};
 ghost use Rattle.json.specs.Reads.{token_of};
@@ -18,7 +18,7 @@ pub(crate) fn first<'a>(reader: &mut Reader<'a>) -> Result<Token<'a>, CertFault>
     reader.next().ok_or(CertFault::NotJson)
 }
 
-/// The next key of an object, or none at its end.
+/// The next key of an object; none at its end.
 pub(crate) fn key<'a>(reader: &mut Reader<'a>) -> Result<Option<&'a str>, CertFault>
     ensures { MatchResult result
         (λ k. read_key reader.old ≡ Some (option_map (λ s. s.now) k, reader.new))

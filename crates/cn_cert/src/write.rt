@@ -54,7 +54,7 @@ fn push_number_or_null<S: Sink>(out: &mut S, number: Option<u8>) -> Result<(), S
     }
 }
 
-/// A number and two lists: a state with its teams, or a process with its orders.
+/// Writes a number and two lists: a state with its teams, or a process with its orders.
 fn push_triple<S: Sink>(out: &mut S, n: u8, a: &[u8], b: &[u8]) -> Result<(), S::Error>
     ensures { OnOk result (S.text out.new
         ≡ S.text out.old ++ triple_text n a.now b.now) }
@@ -123,8 +123,8 @@ fn push_collisions<S: Sink>(out: &mut S, list: &[Collision]) -> Result<(), S::Er
     out.push(b']')
 }
 
-/// The name in quotes, with what JSON escapes. A name of a table has nothing to escape; the text of
-/// another one takes memory of its own.
+/// Writes the name in quotes, escaped as in JSON. A name of a table has nothing to escape; any
+/// other name takes memory for its text.
 fn push_name<S: Sink>(alloc: Global, out: &mut S, name: &str) -> Result<(), S::Error>
     ensures { OnOk result (S.text out.new
         ≡ S.text out.old ++ compact_text (string name.now)) }
@@ -138,7 +138,7 @@ fn push_name<S: Sink>(alloc: Global, out: &mut S, name: &str) -> Result<(), S::E
     out.push_str(text.as_str())
 }
 
-/// The members behind the collisions, and the end of the object.
+/// Writes the members behind the collisions, and the end of the object.
 fn push_rest<S: Sink>(alloc: Global, out: &mut S, certificate: &Certificate) -> Result<(), S::Error>
     ensures { OnOk result (S.text out.new
         ≡ S.text out.old ++ members_text true (other_members certificate.now)) }
@@ -156,7 +156,7 @@ fn push_rest<S: Sink>(alloc: Global, out: &mut S, certificate: &Certificate) -> 
     out.push(b'}')
 }
 
-/// The text of a certificate, as [`write_certificate`] says.
+/// Writes the text of a certificate, as [`write_certificate`] describes it.
 pub(crate) fn push_certificate<S: Sink>(
     alloc: Global,
     out: &mut S,
@@ -170,14 +170,15 @@ pub(crate) fn push_certificate<S: Sink>(
 }
 
 /// The one text of a certificate: compact JSON, its keys in the order of their bytes, its numbers
-/// in decimal. It ends without a line feed.
+/// in decimal. It has no line feed at its end.
 ///
 /// # Errors
 ///
 /// `OutOfMemory`, and nothing else.
 pub fn write_certificate(alloc: Global, certificate: &Certificate) -> Result<String, CertFault>
     ensures text { IfOk result (λ s. string_bytes s ≡ certificate_text certificate.now) }
-    // A certificate of version 1 or 2 whose parts are in their ranges is read back from its text.
+    // By this law the text of a certificate of version 1 or 2 is read back, if its parts are in
+    // range.
     ensures read_back { IfOk result (λ s. is_version certificate.now.version ≡ true
         → is_in_range certificate.now ≡ true → reading (string_bytes s) ≡ Ok certificate.now) }
     ensures memory { IsOkUnless result CertFault.OutOfMemory }

@@ -1,4 +1,4 @@
--- What a certificate of a table has to meet.
+-- The conditions on a certificate of a table.
 use Rattle.std.specs.Prelude.{◌≡◌, ℕ, ◌≤◌, Option, Some, None, IfSome}
 use Rattle.cn_table.specs.TypeTable.{TypeTable}
 use Rattle.cn_choice.specs.RawChoices.{IsRawChoice}
@@ -6,13 +6,13 @@ use Rattle.cn_choice.specs.Canonical.{Choice, raw_choice_of}
 use Rattle.cn_choice.specs.Collisions.{Collision, IsCollision}
 use Rattle.cn_check.specs.Versions.{greatest_limit}
 
--- the limit is from 2 to the greatest one of the version, and the number, if there is one, from 2 to the limit
+-- the limit is from 2 to the greatest limit of the version; a number is from 2 to the limit
 pub record IsInRange (version limit : ℕ) (number : Option ℕ) : Type 0 where
   pub some : 2 ≤ limit
   pub few : limit ≤ greatest_limit version
   pub number_in_limit : IfSome number (λ n. (2 ≤ n) × (n ≤ limit))
 
--- a choice of the table for as many processes as the number; where there is no number, no choice
+-- a certificate with a number has a choice of the table for that many processes, one without a number has none
 abbrev pub HasWitnessFor : TypeTable → Option ℕ → Option Choice → Type 0
 HasWitnessFor t None None = Unit {0}
 HasWitnessFor t None (Some w) = ⊥

@@ -28,7 +28,8 @@ IsEvidenceFault t version limit number entries (NotNext i) = (number ≢ Some li
     × IsFirstEntryFault t (choices_to_refute_in version t limit number) entries (NotNext i)
 IsEvidenceFault t version limit number entries (NotACollision i) = (number ≢ Some limit)
     × IsFirstEntryFault t (choices_to_refute_in version t limit number) entries (NotACollision i)
-IsEvidenceFault t version limit number entries TooFew = (number ≢ Some limit) × IsFirstEntryFault t (choices_to_refute_in version t limit number) entries TooFew
+IsEvidenceFault t version limit number entries TooFew = (number ≢ Some limit)
+    × IsFirstEntryFault t (choices_to_refute_in version t limit number) entries TooFew
 IsEvidenceFault t version limit number entries OtherType = ⊥
 IsEvidenceFault t version limit number entries BadNumber = ⊥
 IsEvidenceFault t version limit number entries WitnessShape = ⊥

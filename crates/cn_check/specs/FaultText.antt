@@ -1,4 +1,4 @@
--- The text of a fault: its number and its name, and the process or the place of the entry.
+-- The text of a fault: its number, its name, and the number of the process or of the entry.
 use Rattle.std.specs.Prelude.{ℕ, List, Option, Some, None, codes}
 use Rattle.cn_table.specs.FaultText.{numbered_text}
 use Rattle.cn_check.specs.declared.fault.CheckFault.{CheckFault}

@@ -1,4 +1,4 @@
--- What can be wrong with a certificate, and in which order it is looked for.
+-- The faults of a certificate, and the order in which the check looks for them.
 use Rattle.std.specs.Prelude.{◌≡◌, ◌≢◌, ℕ, ◌+◌, ◌*◌, ◌<◌, ◌⊎◌, [], length, Some, IsSomeAnd, slice_get}
 use Rattle.cn_table.specs.TypeTable.{TypeTable}
 use Rattle.cn_choice.specs.Discerning.{OutcomeSetsMeet}
@@ -9,7 +9,7 @@ use Rattle.cn_check.specs.Versions.{choices_to_refute_in}
 use Rattle.cn_check.specs.declared.fault.CheckFault.{CheckFault}
 use Rattle.cn_check.specs.declared.fault.CheckFault.TheVariants.{OtherType, BadNumber, WitnessShape, WitnessMeets, Unexpected, NotNext, NotACollision, TooFew}
 
--- entry i of the certificate is of another choice than the one that has to be refuted in its place, or there is none
+-- entry i of the certificate is not of the choice that it must refute, or there is no choice for it to refute
 abbrev pub IsNotNext : TypeTable → Certificate → ℕ → Type 0
 IsNotNext t c i = IsSomeAnd (slice_get c.collisions i) (λ entry. slice_get (choices_to_refute_in c.version t c.limit c.number) i ≢ Some entry.choice)
 
@@ -17,7 +17,7 @@ IsNotNext t c i = IsSomeAnd (slice_get c.collisions i) (λ entry. slice_get (cho
 abbrev pub IsNoCollision : TypeTable → Certificate → ℕ → Type 0
 IsNoCollision t c i = IsSomeAnd (slice_get c.collisions i) (λ entry. ¬ HoldsCollision t entry)
 
--- the certificate has the fault, as one of the table
+-- the certificate has the fault, as a certificate of the table
 abbrev pub HasFault : TypeTable → Certificate → CheckFault → Type 0
 HasFault t c OtherType = c.type_name ≢ t.name
 HasFault t c BadNumber = ¬ IsInRange c.version c.limit c.number
@@ -28,8 +28,8 @@ HasFault t c (NotNext i) = IsNotNext t c i
 HasFault t c (NotACollision i) = IsNoCollision t c i
 HasFault t c TooFew = length c.collisions < length (choices_to_refute_in c.version t c.limit c.number)
 
--- when a fault is looked for: the round, and the turn within the round; the entries are gone through in one round, and each is tried for its choice, then for
--- its collision
+-- when the check looks for a fault: the round, and the turn within the round; one round goes through the entries, and looks at the choice of each, then at its
+-- collision
 abbrev pub turn : CheckFault → ℕ × ℕ
 turn OtherType = (1, 0)
 turn BadNumber = (2, 0)
@@ -40,11 +40,11 @@ turn (NotNext i) = (6, 2 * i)
 turn (NotACollision i) = (6, 2 * i + 1)
 turn TooFew = (7, 0)
 
--- the first fault is looked for before the second
+-- the check looks for the first fault before the second
 abbrev pub ComesSooner : CheckFault → CheckFault → Type 0
 ComesSooner e f = ((turn e).0 < (turn f).0) ⊎ (((turn e).0 ≡ (turn f).0) × ((turn e).1 < (turn f).1))
 
--- the fault is one of the certificate, and no fault that is looked for before it is
+-- the certificate has the fault, and none for which the check looks sooner
 pub record IsFirstFault (t : TypeTable) (c : Certificate) (e : CheckFault) : Type 0 where
   pub holds : HasFault t c e
   pub first : (f : CheckFault) → ComesSooner f e → ¬ HasFault t c f

@@ -1,4 +1,4 @@
--- How far the choices have been gone through.
+-- How far the check has gone through the choices.
 use Rattle.std.specs.Prelude.{◌≡◌, ℕ, ◌<◌, ◌==◌, ◌||◌, ◌&&◌, Bool, List, ◌++◌, length, drop, Some, IsSomeAnd, slice_get}
 use Rattle.std.specs.List.{filter}
 use Rattle.cn_table.specs.TypeTable.{TypeTable}
@@ -9,19 +9,19 @@ use Rattle.cn_check.specs.Conditions.{HoldsCollision}
 use Rattle.cn_check.specs.declared.fault.CheckFault.{CheckFault}
 use Rattle.cn_check.specs.declared.fault.CheckFault.TheVariants.{OtherType, BadNumber, WitnessShape, WitnessMeets, Unexpected, NotNext, NotACollision, TooFew}
 
--- whether the operations count in the version: in version 1 all do, in version 2 those that all lead away from the state
+-- the operations count in the version: in version 1 always, in version 2 if they all lead away from the state
 abbrev pub all_count : ℕ → TypeTable → ℕ → List ℕ → Bool
 all_count version t state operations = version == 1 || all_move t state operations
 
--- those of the choices whose operations count
+-- the choices whose operations count
 abbrev pub counting : ℕ → TypeTable → List Choice → List Choice
 counting version t choices = filter (λ c. all_count version t c.state c.a && all_count version t c.state c.b) choices
 
--- the choices begin with these at the place
+-- from the place on the choices begin with these
 abbrev pub ComeNext : List Choice → ℕ → List Choice → Type 0
 ComeNext choices place next = (later : List Choice) × (drop place choices ≡ next ++ later)
 
--- where the choices begin with all of these at the start, they begin at the place with those that are left, and then go on alike
+-- if from the start on the choices are `all` and some later ones, then from the place on they are `left` and the same later ones
 abbrev pub HasComeTo : List Choice → ℕ → List Choice → ℕ → List Choice → Type 0
 HasComeTo choices start all place left = (later : List Choice) → drop start choices ≡ all ++ later → drop place choices ≡ left ++ later
 
@@ -31,7 +31,8 @@ IsOfChoice choices i entry = slice_get choices i ≡ Some entry.choice
 
 -- the first `place` choices are refuted by the entries in their places
 abbrev pub AreRefuted : TypeTable → List Choice → List Collision → ℕ → Type 0
-AreRefuted t choices entries place = (i : ℕ) → i < place → IsSomeAnd (slice_get entries i) (λ entry. IsOfChoice choices i entry × HoldsCollision t entry)
+AreRefuted t choices entries place =
+    (i : ℕ) → i < place → IsSomeAnd (slice_get entries i) (λ entry. IsOfChoice choices i entry × HoldsCollision t entry)
 
 -- the first fault of the entries as a refutation of the choices
 abbrev pub IsFirstEntryFault : TypeTable → List Choice → List Collision → CheckFault → Type 0

@@ -1,4 +1,4 @@
--- Runs that go on from a point: some processes have moved, and the object is in a state.
+-- Runs that go on from a point: a set of processes that have moved, and a state of the object.
 use Rattle.std.specs.Prelude.{◌≡◌, ℕ, ◌^◌, ◌<◌, ◌⊎◌, List, length, nat_eq, Some, bit_or}
 use Rattle.std.specs.Int.{bit_at}
 use Rattle.std.specs.List.{AllByRecursion, IsDistinct}
@@ -8,15 +8,15 @@ use Rattle.cn_choice.specs.RawChoices.{RawChoice}
 use Rattle.cn_choice.specs.OutcomeSets.{operations_of, response_of}
 use Rattle.cn_choice.specs.Moves.{move_of}
 
--- the number is in the set: sets of small numbers are the bits of a number
+-- the number is in the set; the bits of a number are a set of small numbers
 abbrev pub IsIn : ℕ → ℕ → Type 0
 IsIn set k = bit_at set k ≡ 1
 
--- the processes that have moved, with one more
+-- the set of the processes that have moved, with one more
 abbrev pub with_mover : ℕ → ℕ → ℕ
 with_mover used p = bit_or used (2 ^ p)
 
--- moves of some of n processes that have not moved yet, of none twice
+-- the moves of some of n processes: none of them has moved before, and none moves twice
 pub record AreMoves (n used : ℕ) (moves : List ℕ) : Type 0 where
   pub known : AllByRecursion (λ p. p < n) moves
   pub distinct : IsDistinct nat_eq moves
@@ -32,7 +32,7 @@ ShowsFrom t c used state j r q =
     (moves : List ℕ) × AreMoves (length c.operations) used moves × (response_of j moves (responses_along t state (operations_of c moves)) ≡ Some r)
     × (state_after t state (operations_of c moves) ≡ q)
 
--- the same, where process p moves first: it is process j, or the moves after it show the pair
+-- the same by moves that begin with process p: p is j and gets r, or the moves after it show the pair
 abbrev pub ShowsBy : TypeTable → RawChoice → ℕ → ℕ → ℕ → ℕ → ℕ → ℕ → Type 0
 ShowsBy t c used state p j r q =
     let move = move_of t c p state in

@@ -8,8 +8,8 @@ use Rattle.cn_cert.specs.Certificate.{Certificate}
 use Rattle.cn_check.specs.Conditions.{IsInRange, HasWitnessFor, Refutes}
 use Rattle.cn_check.specs.Versions.{choices_to_refute_in}
 
--- the certificate is of this type; its version, its limit and its number are right; it has a witness for the number, if there is one; and it refutes each
--- choice that has to be refuted in its version, in their order, and nothing else
+-- the certificate is of this type; its version, its limit and its number are in range; it has a witness for its number, if it has one;
+-- and its entries refute the choices that it must refute, one for each, in the order of the choices
 pub record IsAccepted (t : TypeTable) (c : Certificate) : Type 0 where
   pub type_name : c.type_name ≡ t.name
   pub in_range : IsInRange c.version c.limit c.number

@@ -1,4 +1,4 @@
-//! What a choice is: its processes, and whether it is one of a table.
+//! The processes of a choice, and whether it is one of a table.
 ghost use Rattle.std.specs.Prelude.{◌≡◌, ◌<◌, ◌≤◌, ◌+◌, ◌↔◌, length, slice_get, slice_index, All, IsTrue, Some};
 ghost use Rattle.cn_choice.specs.Canonical.{FitsTable, raw_choice_of};
 ghost use Rattle.cn_choice.specs.RawChoices.{IsRawChoice};
@@ -26,7 +26,7 @@ fn is_of_table(choice: &Choice, table: &Table) -> bool
         && choice.state.0 < table.states()
 }
 
-/// Whether both teams have someone, and together they are n.
+/// Whether both teams have a process, and n processes together.
 fn has_processes(choice: &Choice, n: u8) -> bool
     ensures { IsTrue result
         ↔ ((1 ≤ length choice.now.a) × (1 ≤ length choice.now.b)

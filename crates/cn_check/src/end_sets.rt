@@ -7,10 +7,10 @@ use cn_choice::MOST_PROCESSES;
 use cn_table::MOST_STATES;
 use std::marker::Model;
 
-/// For each set of processes that have moved a set for each state.
+/// One set for each state, for each set of processes that have moved.
 const POINTS: usize = MOST_STATES << MOST_PROCESSES;
 
-/// A set of states for each point: for the processes that have moved, and a state.
+/// A set of states for each point: a point is a set of processes that have moved, and a state.
 #[derive(Drop)]
 pub(crate) struct EndSets {
     sets: [u16; POINTS],

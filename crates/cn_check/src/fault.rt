@@ -4,31 +4,31 @@ ghost use Rattle.std.specs.Prelude.{◌≡◌};
 use std::error::Error;
 use std::fmt;
 
-/// Why a certificate is refused. Of several that hold, the one that is looked for first is
-/// answered: they are looked for in the order in which they stand here, but that the entries are
-/// gone through one after the other, and each is tried for `NotNext`, then for `NotACollision`.
+/// Why a certificate is refused. Of several faults the check answers the one for which it looks
+/// first. It looks in the order of this list, except that it goes through the entries one by one,
+/// and looks at each for `NotNext`, then for `NotACollision`.
 #[derive(Clone, Copy, Debug, PartialEq, Eq)]
 pub enum CheckFault {
-    /// The certificate is of a type of another name.
+    /// The certificate is for a type of another name.
     OtherType,
-    /// The limit is below 2 or above the greatest one of the certificate's version, which is 6 in
-    /// version 1 and 8 in version 2; or the number is below 2 or above the limit; or there is no such
-    /// version.
+    /// The limit is below 2, or above the greatest limit of the certificate's version, which is 6
+    /// in version 1 and 8 in version 2; or the number is below 2 or above the limit; or no such
+    /// version exists.
     BadNumber,
-    /// There is a number without a witness, or a witness without a number, or the witness is no
-    /// choice of the table for as many processes as the number.
+    /// The certificate has a number without a witness, or a witness without a number, or the
+    /// witness is no choice of the table for as many processes as the number.
     WitnessShape,
-    /// The witness is none: the outcome sets of this process meet, and of no process before it.
+    /// The choice is no witness: this is the first process whose outcome sets meet.
     WitnessMeets(u8),
-    /// The number is the limit, and there are entries.
+    /// The number is the limit, and yet there are entries.
     Unexpected,
-    /// The entry at this place, counted from 0, is of another choice than the one that has to be
-    /// refuted there, or there is none.
+    /// The entry at this place, counted from 0, is not of the choice that it must refute, or there
+    /// is no choice for it to refute.
     NotNext(u64),
-    /// What the entry at this place holds is no collision of its choice.
+    /// The entry at this place holds no collision of its choice.
     NotACollision(u64),
-    /// The entries end before the choices do that have to be refuted: the canonical ones in version
-    /// 1, those of them that are live in version 2.
+    /// The entries end before the choices that they must refute: the canonical ones in version 1,
+    /// the live ones among them in version 2.
     TooFew,
 }
 
@@ -67,7 +67,7 @@ impl CheckFault {
         }
     }
 
-    /// The index that the fault carries: of the process whose outcome sets meet, or of the entry.
+    /// The number that the fault carries: of the process whose outcome sets meet, or of the entry.
     pub fn index(&self) -> Option<u64>
         ensures { result ≡ check_fault_index self.now }
     {

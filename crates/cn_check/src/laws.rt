@@ -1,4 +1,4 @@
-//! That there is one verdict on a certificate, and that it is right.
+//! The laws that a certificate has one verdict, and that the verdict is right.
 //!
 //! A law is a function that does nothing: its contract is the law.
 ghost use Rattle.std.specs.Prelude.{◌≡◌, None, length};
@@ -14,7 +14,7 @@ ghost use Rattle.cn_check.specs.declared.fault.CheckFault.{CheckFault};
 
 use cn_choice::laws;
 
-/// A certificate that is accepted has no fault, and of any other no two faults are the first.
+/// A certificate that is accepted has no fault, and any other has only one first fault.
 pub fn one_verdict()
     ensures accepted { (t : TypeTable) (c : Certificate) (e : CheckFault) → IsAccepted t c
         → ¬ HasFault t c e }
@@ -22,8 +22,8 @@ pub fn one_verdict()
         → IsFirstFault t c f → e ≡ f }
 {}
 
-/// A certificate that is accepted has the number of the type up to its limit, and the certificate of
-/// each finding is accepted.
+/// A certificate that is accepted has the number of the type up to its limit, and the certificate
+/// of each finding is accepted.
 pub fn accepted_is_right()
     ensures number { (t : TypeTable) (c : Certificate) → IsAccepted t c
         → IsNumberUpTo t c.limit c.number }
@@ -31,8 +31,8 @@ pub fn accepted_is_right()
         → find_fault (length t.states) (length t.operations) f.limit ≡ None
         → IsAccepted t (certificate_of t.name f) }
 {
-    // What refutes a choice shows that it is no witness; where none of the choices is, of either
-    // version, no choice is, for as many processes or for more.
+    // An entry that refutes a choice shows that the choice is no witness. If none of the choices
+    // that count is a witness, no choice is one, for as many processes or for more.
     laws::collision_or_witness();
     laws::canonical_choices_decide();
     laws::live_choices_decide();

@@ -1,9 +1,9 @@
-//! The checker of certificates, which finds for itself whether what a certificate says holds.
+//! The checker of certificates: it finds out by itself whether a certificate is right.
 //!
-//! [`check`] goes through the evidence by code of its own: with the search it shares the definitions
-//! and their laws, and the steps of the table. It is never refused for want of memory. Where it
-//! answers `Ok`, the number is that of the type, whoever made the certificate; otherwise a
-//! [`CheckFault`] says what is wrong.
+//! [`check`] goes through the evidence with code of its own. It shares with the search only the
+//! definitions, their laws, and the steps of the table. It allocates nothing, so it never fails for
+//! want of memory. If it answers `Ok`, the number is that of the type, whoever made the
+//! certificate; otherwise a [`CheckFault`] says what is wrong.
 //!
 //! ```text
 //! let table = read_table(alloc, table_bytes)?;

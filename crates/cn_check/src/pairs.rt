@@ -1,4 +1,4 @@
-//! The pairs of its response and the last state that each process can get.
+//! The pairs of a response and the last state that each process can get.
 ghost use Rattle.std.specs.Prelude.{◌≡◌, ◌<◌, ◌⊎◌, ◌↔◌, ℕ, IsTrue};
 ghost use Rattle.cn_choice.specs.declared.limits.TheConstants.{MOST_PROCESSES};
 ghost use Rattle.cn_check.specs.Runs.{IsIn};
@@ -13,8 +13,8 @@ use std::marker::Model;
 /// For each process a set for each response.
 const SETS: usize = MOST_PROCESSES * MOST_RESPONSES;
 
-/// A set of pairs of a response and a state for each process: by process and response the set of the
-/// states.
+/// A set of pairs of a response and a state for each process: for each process and response the set
+/// of the states.
 #[derive(Drop)]
 pub(crate) struct Pairs {
     states: [u16; SETS],
@@ -32,14 +32,14 @@ impl Model for Pairs {
 }
 
 impl Pairs {
-    /// No process has a pair.
+    /// The sets in which no process has a pair.
     pub fn new() -> Pairs
         ensures { (j r q : ℕ) → ¬ HasPair result j r q }
     {
         Pairs { states: [0; SETS] }
     }
 
-    /// Adds the pairs of this response and each of these states to those of the process.
+    /// Adds the pairs of this response with each of these states to those of the process.
     pub fn add(&mut self, process: u8, response: u8, states: u16)
         requires process { process < MOST_PROCESSES }
         requires response { response < MOST_RESPONSES }
@@ -51,7 +51,7 @@ impl Pairs {
         self.states[place] = union(self.states[place], states);
     }
 
-    /// Whether the process has some pair in both.
+    /// Whether the process has some pair in both sets.
     pub fn meets(&self, other: &Pairs, process: u8) -> bool
         requires { process < MOST_PROCESSES }
         ensures { IsTrue result ↔ HasPairInBoth self.now other.now process }

@@ -1,5 +1,4 @@
-//! Whether the entries of a certificate refute the choices that count in its version, one after the
-//! other.
+//! Whether the entries of a certificate refute the choices that count in its version, one by one.
 ghost use Rattle.std.specs.Prelude.{◌≡◌, ◌<◌, ◌≤◌, ◌+◌, ◌↔◌, [], ℕ, length, slice_get, All, IfErr, IfOk, IsTrue, OnOk, Some, true};
 ghost use Rattle.std.specs.List.{AllZip};
 ghost use Rattle.cn_choice.specs.declared.limits.TheConstants.{MOST_PROCESSES};
@@ -17,7 +16,7 @@ use cn_choice::laws::{canonical_list, live_list};
 use cn_choice::{Choice, Collision, Team};
 use cn_table::{Operation, State, Table};
 
-/// Whether both are there and are one pair.
+/// Whether both are there and are the same pair.
 fn are_one_pair(alpha: Option<(u8, u8)>, beta: Option<(u8, u8)>) -> bool
     ensures { IsTrue result ↔ ((pair : ℕ × ℕ) × (alpha ≡ Some pair) × (beta ≡ Some pair)) }
 {
@@ -45,8 +44,8 @@ fn is_choice(choice: &Choice, state: State, a: &[u8], b: &[u8]) -> bool
     choice.state == state && choice.a.as_slice() == a && choice.b.as_slice() == b
 }
 
-/// Checks the entry at the place against the choice that has to be refuted there, and answers the
-/// next place.
+/// Checks the entry at the place against the choice that it must refute, and answers the next
+/// place.
 fn check_entry(
     table: &Table,
     version: u8,
@@ -83,7 +82,7 @@ fn check_entry(
     Ok(place + 1)
 }
 
-/// Whether each of the operations, applied in the state, leads to another.
+/// Whether each of the operations leads from the state to another one.
 fn all_move(table: &Table, state: State, operations: &[u8]) -> bool
     requires state { state.0 < length table.now.states }
     requires known { All (λ operation. operation < length table.now.operations) operations.now }
@@ -92,8 +91,8 @@ fn all_move(table: &Table, state: State, operations: &[u8]) -> bool
     operations.iter().all(|operation| table.apply(Operation(*operation), state).1 != state)
 }
 
-/// Whether the operations count in the version: in version 1 all do, in version 2 those that all
-/// lead away from the state.
+/// Whether the operations count in the version: in version 1 always, in version 2 if they all lead
+/// away from the state.
 fn all_count(table: &Table, version: u8, state: State, operations: &[u8]) -> bool
     requires state { state.0 < length table.now.states }
     requires known { All (λ operation. operation < length table.now.operations) operations.now }

@@ -3,7 +3,7 @@ ghost use Rattle.std.specs.Prelude.{◌≡◌, ◌<◌, ◌⊎◌, ◌↔◌, �
 ghost use Rattle.cn_choice.specs.declared.limits.TheConstants.{MOST_PROCESSES};
 ghost use Rattle.cn_check.specs.Runs.{IsIn, with_mover};
 
-/// Whether the process is one of those that have moved.
+/// Whether the process has moved.
 pub(crate) fn has_moved(used: u8, process: u8) -> bool
     requires { process < MOST_PROCESSES }
     ensures { IsTrue result ↔ IsIn used process }
@@ -11,7 +11,7 @@ pub(crate) fn has_moved(used: u8, process: u8) -> bool
     used >> process & 1 == 1
 }
 
-/// The processes that have moved, and one more.
+/// The set of the processes that have moved, with one more.
 pub(crate) fn with_moved(used: u8, process: u8) -> u8
     requires { process < MOST_PROCESSES }
     ensures with { result ≡ with_mover used process }
@@ -28,7 +28,7 @@ pub(crate) fn only(number: u8) -> u16
     1 << number
 }
 
-/// What is in one set or in the other.
+/// The union of the sets.
 pub(crate) fn union(set: u16, other: u16) -> u16
     ensures { (q : ℕ) → IsIn result q ↔ (IsIn set q ⊎ IsIn other q) }
 {

@@ -1,4 +1,4 @@
-//! What an order shows to a process.
+//! The pair that an order shows to a process.
 ghost use Rattle.std.specs.Prelude.{◌≡◌, ◌<◌, ◌≤◌, ◌+◌, ◌↔◌, ℕ, length, All, IfSome, IsTrue, Some};
 ghost use Rattle.cn_choice.specs.declared.limits.TheConstants.{MOST_PROCESSES};
 ghost use Rattle.cn_choice.specs.Canonical.{FitsTable, raw_choice_of};
@@ -13,8 +13,8 @@ use cn_choice::laws::pair_along_order;
 use cn_choice::{Choice, Team};
 use cn_table::Table;
 
-/// Whether the process is one of n, at most [`MOST_PROCESSES`](cn_choice::MOST_PROCESSES), and has not
-/// moved.
+/// Whether the process has not moved and is one of n; n is at most
+/// [`MOST_PROCESSES`](cn_choice::MOST_PROCESSES).
 fn may_move(used: u8, process: u8, n: u8) -> bool
     requires { n ≤ MOST_PROCESSES }
     ensures { IsTrue result ↔ ((process < n) × (¬ IsIn used process)) }
@@ -22,7 +22,7 @@ fn may_move(used: u8, process: u8, n: u8) -> bool
     process < n && !has_moved(used, process)
 }
 
-/// Whether the list is an order of some of n processes, at most
+/// Whether the list is an order of some of n processes; n is at most
 /// [`MOST_PROCESSES`](cn_choice::MOST_PROCESSES).
 fn is_order(list: &[u8], n: u8) -> bool
     requires { n ≤ MOST_PROCESSES }
@@ -49,7 +49,7 @@ fn begins_in(choice: &Choice, team: Team, order: &[u8]) -> bool
     }
 }
 
-/// The response of the process and the last state, where the processes move in this order.
+/// The response of the process and the last state, after the processes have moved in this order.
 fn pair_of(table: &Table, choice: &Choice, order: &[u8], process: u8) -> Option<(u8, u8)>
     requires fits { FitsTable table.now choice.now }
     requires known { All (λ p. p < length choice.now.a + length choice.now.b) order.now }
@@ -57,7 +57,7 @@ fn pair_of(table: &Table, choice: &Choice, order: &[u8], process: u8) -> Option<
     ensures range { IfSome result (λ pair. (pair.0 < length table.now.responses)
         × (pair.1 < length table.now.states)) }
 {
-    // What a process sees is found by going along the order once.
+    // One walk along the order finds what the process sees.
     pair_along_order();
     let mut state = choice.state;
     let mut own_response = None;
@@ -74,8 +74,8 @@ fn pair_of(table: &Table, choice: &Choice, order: &[u8], process: u8) -> Option<
     }
 }
 
-/// The pair that the list shows to the process, if it is an order of processes of the choice that
-/// begins in the team and has the process.
+/// The pair that the list shows to the process, if the list is an order of the choice's processes,
+/// begins in the team and contains the process.
 pub(crate) fn shown_pair(
     table: &Table,
     choice: &Choice,

@@ -1,4 +1,4 @@
-//! Lists of operations that never fall, one after another in lexicographic order.
+//! Lists of operations that never fall, in lexicographic order.
 ghost use Rattle.std.specs.Prelude.{◌≡◌, ◌<◌, ◌≤◌, ◌+◌, ◌-◌, ◌∷◌, ◌++◌, [], ℕ, false, length, replicate, take, get_or, All, IsTrue};
 ghost use Rattle.cn_choice.specs.declared.limits.TheConstants.{MOST_PROCESSES};
 ghost use Rattle.cn_choice.specs.Canonical.{second_lists};
@@ -7,7 +7,7 @@ ghost use Rattle.cn_choice.specs.Rising.{rising_after};
 use arrayvec::ArrayVec;
 use cn_choice::MOST_PROCESSES;
 
-/// So many zeros: the first list of this length.
+/// The first list of this length: zeros.
 pub(crate) fn zeros(count: usize) -> ArrayVec<u8, MOST_PROCESSES>
     requires { count ≤ MOST_PROCESSES }
     ensures { result.items ≡ replicate count 0 }
@@ -19,7 +19,7 @@ pub(crate) fn zeros(count: usize) -> ArrayVec<u8, MOST_PROCESSES>
     list
 }
 
-/// The first list of team B that goes with this one of team A, where they are n together.
+/// The first list of team B that goes with this list of team A, for n processes.
 pub(crate) fn first_beside(a: &[u8], n: u8) -> ArrayVec<u8, MOST_PROCESSES>
     requires half { length a.now + length a.now ≤ n }
     requires few { n ≤ MOST_PROCESSES }
@@ -51,7 +51,7 @@ fn raise_from(list: &mut [u8], place: usize)
 }
 
 /// Turns the list into the next one of its length that never falls, with numbers below the limit,
-/// and answers whether there is one; the last one stays as it is.
+/// and answers whether there is one. The last list stays unchanged.
 pub(crate) fn step(list: &mut [u8], limit: u8) -> bool
     requires { 1 ≤ limit }
     ensures more { IsTrue result

@@ -23,14 +23,14 @@ use cn_cert::Certificate;
 use cn_choice::{Choice, Collision};
 use cn_table::Table;
 
-/// Whether the certificate is of a type of the table's name.
+/// Whether the certificate is for a type of the table's name.
 fn is_of_type(certificate: &Certificate, table: &Table) -> bool
     ensures { IsTrue result ↔ (certificate.now.type_name ≡ table.now.name) }
 {
     certificate.type_name.as_str() == table.name()
 }
 
-/// The greatest limit of a certificate of the version; 0 where there is no such version.
+/// The greatest limit of a certificate of the version; 0 if no such version exists.
 fn greatest_limit(version: u8) -> u8
     ensures { result ≡ greatest_limit version }
 {
@@ -41,8 +41,8 @@ fn greatest_limit(version: u8) -> u8
     }
 }
 
-/// Whether the limit is from 2 to the greatest one of the version, and the number, if there is one,
-/// from 2 to the limit.
+/// Whether the limit is from 2 to the greatest limit of the version, and the number, if there is
+/// one, from 2 to the limit.
 fn is_in_range(version: u8, limit: u8, number: Option<u8>) -> bool
     ensures { IsTrue result ↔ IsInRange version limit number }
 {
@@ -53,8 +53,8 @@ fn is_in_range(version: u8, limit: u8, number: Option<u8>) -> bool
     }
 }
 
-/// Checks that the witness, which need not be canonical, is a witness of the table for the number,
-/// and that there is none where there is no number.
+/// Checks that the witness is one of the table for the number, and that there is none without a
+/// number. The witness need not be canonical.
 fn check_witness(
     table: &Table,
     number: Option<u8>,
@@ -79,9 +79,8 @@ fn check_witness(
     }
 }
 
-/// Checks that the entries refute what has to be refuted: the choices that count in the version, for
-/// one process more than the number, for two where there is no number, and none where the number is
-/// the limit.
+/// Checks that the entries refute the choices that count in the version, for one process more than
+/// the number, or for two without a number. If the number is the limit, there must be no entries.
 fn check_evidence(
     table: &Table,
     version: u8,
@@ -105,8 +104,8 @@ fn check_evidence(
 
 /// Checks a certificate against the table of its type.
 ///
-/// `Ok` says that the certificate is of this type and that its number is the type's up to its
-/// limit. Each certificate of a finding of this table is accepted. Want of memory is no answer.
+/// `Ok` says that the certificate is for this type and that its number is the type's up to its
+/// limit. Each certificate of a finding of this table is accepted. The check allocates nothing.
 ///
 /// # Errors
 ///

@@ -15,7 +15,7 @@ use cn_choice::laws::{pair_along_order, process_of_pair};
 use cn_choice::{Choice, Team};
 use cn_table::{State, Table};
 
-/// The response to a process when it moves in this state, and the state after it.
+/// The response to a process that moves in this state, and the state after the move.
 fn move_of(table: &Table, choice: &Choice, process: u8, state: State) -> (u8, State)
     requires fits { FitsTable table.now choice.now }
     requires process { process < length choice.now.a + length choice.now.b }
@@ -32,8 +32,8 @@ fn move_of(table: &Table, choice: &Choice, process: u8, state: State) -> (u8, St
 }
 
 /// The states in which the runs from a point can end: these processes have moved, and the object is
-/// in this state. What the runs show is added to the pairs, and the set is kept for the point. A point
-/// with a set that is not empty was visited: what the runs from it show is among the pairs.
+/// in this state. The walk adds what the runs show to the pairs, and keeps the set for the point. A
+/// point whose set is not empty was visited: the pairs have what the runs from it show.
 fn walk(
     end_sets: &mut EndSets,
     pairs: &mut Pairs,
@@ -84,7 +84,7 @@ fn outcome_sets(table: &Table, choice: &Choice, team: Team) -> Pairs
     ensures { (j r q : ℕ)
         → HasPair result j r q ↔ InOutcomeSet table.now (raw_choice_of choice.now) team j (r, q) }
 {
-    // What a process sees is found by going along the order once.
+    // One walk along an order finds what a process sees.
     pair_along_order();
     let mut end_sets = EndSets::new();
     let mut pairs = Pairs::new();
@@ -99,7 +99,7 @@ fn outcome_sets(table: &Table, choice: &Choice, team: Team) -> Pairs
     pairs
 }
 
-/// The least process whose outcome sets meet; none where the choice is a witness.
+/// The least process whose outcome sets meet; none if the choice is a witness.
 pub(crate) fn first_meeting(table: &Table, choice: &Choice) -> Option<u8>
     requires { FitsTable table.now choice.now }
     ensures none { IfNone result (IsWitness table.now (raw_choice_of choice.now)) }
@@ -107,7 +107,7 @@ pub(crate) fn first_meeting(table: &Table, choice: &Choice) -> Option<u8>
     ensures least { IfSome result (λ j. (i : ℕ) → i < j
         → ¬ OutcomeSetsMeet table.now (raw_choice_of choice.now) i) }
 {
-    // Who is no process of the choice has no pair in an outcome set.
+    // A number that is no process of the choice has no pair in an outcome set.
     process_of_pair();
     let after_a = outcome_sets(table, choice, Team::A);
     let after_b = outcome_sets(table, choice, Team::B);

@@ -1,13 +1,13 @@
--- The lines of what processes have decided.
+-- The lines of the decisions of processes.
 use Rattle.std.specs.Prelude.{ℕ, ◌+◌, List, ◌++◌, codes, Option, Some, None, [], ◌∷◌}
 use Rattle.std.specs.Fmt.{decimal}
 
--- what process p has decided, or that it has not
+-- the decision of process p, or that it is undecided
 abbrev pub decision_line : ℕ → Option ℕ → List ℕ
 decision_line p None = decimal p ++ codes ": undecided\n"
 decision_line p (Some v) = decimal p ++ codes ": " ++ decimal v ++ codes "\n"
 
--- a line for each decision, the processes numbered from p on
+-- a line for each process, from process p on
 abbrev pub decision_lines : ℕ → List (Option ℕ) → List ℕ
 decision_lines p [] = []
 decision_lines p (d ∷ ds) = decision_line p d ++ decision_lines (p + 1) ds

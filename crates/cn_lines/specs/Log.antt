@@ -1,4 +1,4 @@
--- The lines of a log: of the calls that ended, and of its entries.
+-- The lines of a log: its calls that ended, and its entries.
 use Rattle.std.specs.Prelude.{ℕ, List, [], ◌++◌, codes, ◌∷◌, All}
 use Rattle.std.specs.Fmt.{decimal}
 use Rattle.cn_table.specs.TypeTable.{TypeTable, operation_names, transition}
@@ -22,13 +22,13 @@ answer_lines object (end ∷ ends) = answer_line object end ++ answer_lines obje
 abbrev pub HaveResponses : TypeTable → List CallEnd → Type 0
 HaveResponses object ends = All (EndsWithResponse object) ends
 
--- the line of an entry: its slot, process and operation, and what the object answers there, with the state after it
+-- the line of an entry: its slot, process and operation, the response of the object, and the state after it
 abbrev pub entry_line : TypeTable → ℕ → Entry → ℕ × ℕ → List ℕ
 entry_line object slot e given =
     codes "entry " ++ decimal slot ++ codes " " ++ decimal e.process ++ codes " " ++ name_at (operation_names object) e.operation.0
     ++ codes " " ++ name_at object.responses given.0 ++ codes " " ++ name_at object.states given.1 ++ codes "\n"
 
--- the lines of entries, each with its slot, where the object is in this state before them
+-- the lines of entries, each with its slot; the object is in this state before the first
 abbrev pub entry_lines : TypeTable → ℕ → List Entry → List ℕ → List ℕ
 entry_lines object state [] slots = []
 entry_lines object state (e ∷ es) [] = []

@@ -8,7 +8,7 @@ use Rattle.cn_agree.specs.declared.next_action.Action.{Action}
 use Rattle.cn_agree.specs.declared.next_action.Action.TheVariants.{Write, Apply, Read, Take, Decide}
 use Rattle.cn_agree.specs.declared.next_action.StepRecord.{StepRecord}
 
--- what an action does, in words
+-- an action in words
 abbrev pub action_text : TypeTable → Action ℕ → List ℕ
 action_text t (Write node team value) = codes "writes " ++ decimal value ++ codes " to " ++ team_name team ++ codes " of node " ++ decimal node
 action_text t (Apply node operation response) = codes "applies " ++ name_at (operation_names t) operation.0 ++ codes " at node " ++ decimal node
@@ -17,7 +17,7 @@ action_text t (Read node state team) = codes "reads " ++ name_at t.states state.
 action_text t (Take node team value) = codes "takes " ++ decimal value ++ codes " from " ++ team_name team ++ codes " of node " ++ decimal node
 action_text t (Decide value) = codes "decides " ++ decimal value
 
--- the same of a step, which has no action where its process has decided
+-- a step in words; a process that has decided takes no action
 abbrev pub step_text : TypeTable → Option (Action ℕ) → List ℕ
 step_text t None = codes "has decided"
 step_text t (Some action) = action_text t action
@@ -25,7 +25,7 @@ step_text t (Some action) = action_text t action
 abbrev pub step_line : TypeTable → StepRecord ℕ → List ℕ
 step_line t r = decimal r.process ++ codes ": " ++ step_text t r.action ++ codes "\n"
 
--- a line for each step, in order
+-- the lines of steps, in their order
 abbrev pub step_lines : TypeTable → List (StepRecord ℕ) → List ℕ
 step_lines t [] = []
 step_lines t (r ∷ rs) = step_line t r ++ step_lines t rs

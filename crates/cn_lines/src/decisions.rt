@@ -1,10 +1,10 @@
-//! The lines of what processes have decided.
+//! The lines of the decisions of processes.
 ghost use Rattle.std.specs.Prelude.{◌≡◌, Some, None, IfOk, string_bytes};
 ghost use Rattle.cn_lines.specs.Decisions.{decision_line, decision_lines};
 
 use std::alloc::{AllocError, Global};
 
-/// What a process has decided, or that it has not.
+/// The decision of a process, or that it is undecided.
 fn decision_line(alloc: Global, process: usize, decision: Option<u64>) -> Result<String, AllocError>
     ensures { IfOk result (λ line. string_bytes line ≡ decision_line process decision) }
 {
@@ -14,7 +14,7 @@ fn decision_line(alloc: Global, process: usize, decision: Option<u64>) -> Result
     }
 }
 
-/// A line for each process, from process 0 on: `P: V`, V being the value that it has decided, or
+/// A line for each process, from process 0 on: `P: V` if process P has decided value V, or
 /// `P: undecided`. Each line ends with a line feed.
 ///
 /// # Errors

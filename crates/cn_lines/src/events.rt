@@ -6,7 +6,7 @@ use crate::number::put_number;
 use cn_log::Event;
 use std::alloc::{AllocError, Global};
 
-/// The text of an event, as events are read, goes behind the text.
+/// Appends the text of an event, in the form in which lists of events are read.
 fn put_event(text: &mut String, event: Event) -> Result<(), AllocError>
     ensures { OnOk result (string_bytes text.new ≡ string_bytes text.old ++ event_text event) }
 {
@@ -24,7 +24,7 @@ fn put_event(text: &mut String, event: Event) -> Result<(), AllocError>
     }
 }
 
-/// The text of events, as a list of them is read.
+/// The text of events, in the form in which lists of them are read.
 fn events_text(alloc: Global, events: &[Event]) -> Result<String, AllocError>
     ensures { IfOk result (λ text. string_bytes text ≡ events_text events.now) }
 {
@@ -40,9 +40,10 @@ fn events_text(alloc: Global, events: &[Event]) -> Result<String, AllocError>
     Ok(text)
 }
 
-/// The line of the events of a log, in order: `events LIST`, LIST being what a list of them is read
-/// from: `iP:O` for a call of operation O by process P and `sP` for a step of P, by number, with a
-/// comma between two, and `none` where there are none. It ends with a line feed.
+/// The line of the events of a log, in order: `events LIST`. The list has `iP:O` for a call of
+/// operation O by process P, and `sP` for a step of P, by number, with a comma between two; it is
+/// `none` if there are no events. Lists of events are read in the same form. The line ends with a
+/// line feed.
 ///
 /// # Errors
 ///

@@ -1,9 +1,9 @@
-//! The lines that tell what processes have decided, and what has happened in a log.
+//! The lines of the decisions of processes, and of what happened in a log.
 //!
-//! [`decision_lines`] has a line for each process of a round, and [`step_lines`] one for each step of
-//! a schedule. [`answer_lines`] has one for each call that ended, [`entry_lines`] one for each entry
-//! of a log, and [`events_line`] tells its events as a list of them is read. [`put_answer_line`] and
-//! [`put_number`] put a line or a number behind a text that is being made.
+//! [`decision_lines`] answers a line for each process of a round, and [`step_lines`] one for each
+//! step of a schedule. [`answer_lines`] answers a line for each call that ended, [`entry_lines`]
+//! one for each entry of a log, and [`events_line`] the events of a log in the form in which lists
+//! of them are read. [`put_answer_line`] and [`put_number`] append a line or a number to a text.
 //!
 //! ```text
 //! let core = replay(core, &events)?;

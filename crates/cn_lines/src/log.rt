@@ -1,4 +1,4 @@
-//! The lines of a log: of the calls that ended, and of its entries.
+//! The lines of a log: its calls that ended, and its entries.
 ghost use Rattle.std.specs.Prelude.{◌≡◌, ◌<◌, ◌++◌, codes, length, string_bytes, All, IfOk, OnOk};
 ghost use Rattle.cn_log.specs.CallEnds.{EndsWithResponse};
 ghost use Rattle.cn_log.specs.Linearized.{entry_slots};
@@ -11,7 +11,7 @@ use cn_log::{CallEnd, Entry, LogCore};
 use cn_table::{Response, State, Table};
 use std::alloc::{AllocError, Global};
 
-/// A space and the word go behind the lines.
+/// Appends a space and the word.
 fn put_word(lines: &mut String, word: &str) -> Result<(), AllocError>
     ensures { OnOk result (string_bytes lines.new
         ≡ string_bytes lines.old ++ codes " " ++ word.now) }
@@ -20,13 +20,13 @@ fn put_word(lines: &mut String, word: &str) -> Result<(), AllocError>
     lines.push_str(word)
 }
 
-/// The line of a call that ended goes behind the lines: `answer P K R`, with its process, its slot
-/// and the name of its response, which is one of the object's; or `full P`, where it found no slot.
-/// The line ends with a line feed.
+/// Appends the line of a call that ended: `answer P K R`, with its process, its slot and the name
+/// of its response, which is one of the object's; or `full P`, if it found no slot. The line ends
+/// with a line feed.
 ///
 /// # Errors
 ///
-/// Fails only for want of memory, and may then have put a part of it there.
+/// Fails only for want of memory, and may then have appended a part of the line.
 pub fn put_answer_line(lines: &mut String, object: &Table, end: CallEnd) -> Result<(), AllocError>
     requires { EndsWithResponse object.now end }
     ensures { OnOk result (string_bytes lines.new
@@ -52,8 +52,8 @@ pub fn put_answer_line(lines: &mut String, object: &Table, end: CallEnd) -> Resu
     lines.push_str("\n")
 }
 
-/// The lines of calls that ended, in order, as [`put_answer_line`] has each. Every response is one of
-/// the object's.
+/// The lines of calls that ended, in order, each as [`put_answer_line`] appends it. Every response
+/// is one of the object's.
 ///
 /// # Errors
 ///
@@ -69,8 +69,7 @@ pub fn answer_lines(alloc: Global, object: &Table, ends: &[CallEnd]) -> Result<S
     Ok(lines)
 }
 
-/// The line of an entry in a slot, with what the object answers there and its state afterwards, goes
-/// behind the lines.
+/// Appends the line of an entry in a slot, with the response of the object and the state after it.
 fn put_entry_line(
     lines: &mut String,
     object: &Table,
@@ -95,9 +94,9 @@ fn put_entry_line(
 }
 
 /// The lines of the entries of a log, in order: one sequential run of the object from the start
-/// state, which is one of its states, as each entry's operation is one of its operations. A line is
-/// `entry K P O R S`, with the slot, the process, and the names of the operation, of the response
-/// that the object gives there and of its state afterwards, and ends with a line feed.
+/// state. The start state is one of the object's states, and each entry's operation is one of its
+/// operations. A line is `entry K P O R S`: the slot, the process, and the names of the operation,
+/// of the object's response, and of its state afterwards. It ends with a line feed.
 ///
 /// # Errors
 ///

@@ -1,14 +1,14 @@
-//! Numbers as they stand in lines.
+//! Numbers in lines.
 ghost use Rattle.std.specs.Prelude.{◌≡◌, ◌++◌, string_bytes, OnOk};
 ghost use Rattle.std.specs.Fmt.{decimal};
 
 use std::alloc::AllocError;
 
-/// The number goes behind the text, in decimal digits with no zero before them.
+/// Appends the number in decimal digits, with no zero before them.
 ///
 /// # Errors
 ///
-/// Fails only for want of memory, and may then have put a part of it there.
+/// Fails only for want of memory, and may then have appended a part of the number.
 pub fn put_number(text: &mut String, number: u16) -> Result<(), AllocError>
     ensures { OnOk result (string_bytes text.new ≡ string_bytes text.old ++ decimal number) }
 {

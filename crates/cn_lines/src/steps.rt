@@ -7,7 +7,7 @@ use cn_agree::{Action, StepRecord};
 use cn_table::Table;
 use std::alloc::{AllocError, Global};
 
-/// What an action does goes behind the lines, in words.
+/// Appends an action in words.
 fn put_action(lines: &mut String, table: &Table, action: Action<u64>) -> Result<(), AllocError>
     requires { IsOfTable table.now action }
     ensures { OnOk result (string_bytes lines.new
@@ -40,7 +40,7 @@ fn put_action(lines: &mut String, table: &Table, action: Action<u64>) -> Result<
     }
 }
 
-/// The same of the action that a step has, or that the process has decided.
+/// Appends the action of a step in words, or that the process has decided.
 fn put_step(
     lines: &mut String,
     table: &Table,
@@ -56,7 +56,7 @@ fn put_step(
     }
 }
 
-/// The line of a step goes behind the lines.
+/// Appends the line of a step.
 fn put_step_line(lines: &mut String, table: &Table, step: StepRecord<u64>) -> Result<(), AllocError>
     requires { IfSome step.action (IsOfTable table.now) }
     ensures { OnOk result (string_bytes lines.new
@@ -68,13 +68,17 @@ fn put_step_line(lines: &mut String, table: &Table, step: StepRecord<u64>) -> Re
     lines.push_str("\n")
 }
 
-/// A line for each step of a schedule, in order, with what the process that it names does there,
-/// whose operations, responses and states are those of the table: `P: writes V to T of node N`, its
-/// value to the register of its team; `P: applies O at node N: R`, its operation with the response;
-/// `P: reads S at node N: team T`, the state of the object, and the team that it judges by it to
-/// have come first; `P: takes V from T of node N`, the value in the register of a team, with which
-/// it goes on; `P: decides V`, the value that it reads so at the last node of its path; and
-/// `P: has decided` of a process that has decided before. Each line ends with a line feed.
+/// A line for each step of a schedule, in order. The operations, responses and states of the steps
+/// are those of the table. Each line ends with a line feed. The lines are:
+///
+/// - `P: writes V to T of node N`: process P writes its value V into the register of its team T;
+/// - `P: applies O at node N: R`: it applies its operation, and gets the response;
+/// - `P: reads S at node N: team T`: it reads the state of the object, and judges that team T was
+///   first;
+/// - `P: takes V from T of node N`: it takes the value of this team's register, and goes on with
+///   it;
+/// - `P: decides V`: it takes the value at the last node of its path, and decides it;
+/// - `P: has decided`: it has decided before, and does nothing.
 ///
 /// # Errors
 ///
