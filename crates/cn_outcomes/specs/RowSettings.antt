@@ -7,7 +7,7 @@ use Rattle.cn_outcomes.specs.Twins.{AreLinks, IsPacked}
 use Rattle.cn_outcomes.specs.declared.limits.TheConstants.{SUBSETS}
 use Rattle.cn_outcomes.specs.declared.row_setting.RowSetting.{RowSetting}
 
--- the choice is one of the table, for at most the most processes, and the links are between its processes
+-- the choice is one of the table, for at most MOST_PROCESSES processes, and the links are between its processes
 pub record IsRowSetting (s : RowSetting) : Type 0 where
   pub few : length s.choice.now.operations ≤ MOST_PROCESSES
   pub fits : IsRawChoice s.table.now (length s.choice.now.operations) s.choice.now

@@ -10,7 +10,7 @@ use Rattle.cn_outcomes.specs.Twins.{AreLinks}
 use Rattle.cn_outcomes.specs.declared.subject.Subject.{Subject}
 use Rattle.cn_outcomes.specs.declared.tails.Target.{Target}
 
--- the raw choice is that of the choice; it is one of the table, for at most the most processes; the images are those of the table
+-- the raw choice is that of the choice; it is one of the table, for at most MOST_PROCESSES processes; the images are those of the table
 pub record IsSubject (s : Subject) : Type 0 where
   pub few : length s.choice.now.a + length s.choice.now.b ≤ MOST_PROCESSES
   pub same : s.raw.now ≡ raw_choice_of s.choice.now

@@ -38,7 +38,7 @@ FindsState t c team p rest state = ((rest ≡ 0) × (slice_get c.marks p ≡ Som
 abbrev pub Below : ℕ → ℕ → Type 0
 Below bound set = (q : ℕ) → IsBitSet set q → q < bound
 
--- each subset below the end that has a row has these states in it, which are below the bound
+-- for each subset below the end with a row, the row is the set of these states, which are below the bound
 pub record AreRowsOf (has_row : ℕ → Type 0) (states : ℕ → ℕ → Type 0) (bound end : ℕ) (rows : List ℕ) : Type 0 where
   pub same : (subset : ℕ) → subset < end → has_row subset → (q : ℕ) → IsBitSet (slice_index rows subset) q ↔ states subset q
   pub known : (subset : ℕ) → subset < end → has_row subset → Below bound (slice_index rows subset)
