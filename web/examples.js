@@ -212,12 +212,12 @@ Cnum.examples = [
    },
    {
     "path": "catalogue/assign_2",
-    "about": "2: assignment to m registers has 2m-2, for m from 2 on (Herlihy 1991). After both have moved, the common register is that of the later one. Of three, two do the same operation: if they are in two teams, their order is not to be seen; if in one, the second of them hides whether the first had moved before the third.",
+    "about": "2: assignment to m registers has 2m-2, for m from 2 on (Herlihy 1991). After both have moved, the common register is that of the later one. Of three, two do the same operation. If they are in two teams, nobody sees their order. If they are in one team, the second of them hides whether the first had moved before the third.",
     "text": "# Three registers; each of two operations writes its own and the common one at once.\n# Assignment to 2 registers: Herlihy 1991.\nname = \"assign_2\"\nstates = [\"00n\", \"100\", \"011\", \"111\", \"110\"]\nresponses = [\"ok\"]\n[[operation]]\nname = \"assign_p\"\nresponse = [\"ok\", \"ok\", \"ok\", \"ok\", \"ok\"]\nnext = [\"100\", \"100\", \"110\", \"110\", \"110\"]\n[[operation]]\nname = \"assign_q\"\nresponse = [\"ok\", \"ok\", \"ok\", \"ok\", \"ok\"]\nnext = [\"011\", \"111\", \"011\", \"111\", \"111\"]\n"
    },
    {
     "path": "catalogue/memory_swap_3",
-    "about": "Infinite for a memory that has a cell for each process (Herlihy 1991). Here three bits are all there is. From 001 two can tell by where the 1 went. For three, one operation at least changes nothing (two bits are equal), or two processes do the same: in one team the second undoes the first, in two teams their order is not to be seen. With more cells: memory_swap_own.",
+    "about": "Infinite for a memory that has a cell for each process (Herlihy 1991). Here three bits are all there is. From 001 two can tell by where the 1 went. For three, one operation at least changes nothing (two bits are equal), or two processes do the same. In one team the second undoes the first. In two teams nobody sees their order. With more cells: memory_swap_own.",
     "text": "# Three bits of a memory, of which two change places.\n# Memory-to-memory swap: Herlihy 1991.\nname = \"memory_swap_3\"\nstates = [\"m000\", \"m001\", \"m010\", \"m011\", \"m100\", \"m101\", \"m110\", \"m111\"]\nresponses = [\"ok\"]\n[[operation]]\nname = \"swap_0_1\"\nresponse = [\"ok\", \"ok\", \"ok\", \"ok\", \"ok\", \"ok\", \"ok\", \"ok\"]\nnext = [\"m000\", \"m001\", \"m100\", \"m101\", \"m010\", \"m011\", \"m110\", \"m111\"]\n[[operation]]\nname = \"swap_1_2\"\nresponse = [\"ok\", \"ok\", \"ok\", \"ok\", \"ok\", \"ok\", \"ok\", \"ok\"]\nnext = [\"m000\", \"m010\", \"m001\", \"m011\", \"m100\", \"m110\", \"m101\", \"m111\"]\n[[operation]]\nname = \"swap_0_2\"\nresponse = [\"ok\", \"ok\", \"ok\", \"ok\", \"ok\", \"ok\", \"ok\", \"ok\"]\nnext = [\"m000\", \"m100\", \"m010\", \"m110\", \"m001\", \"m101\", \"m011\", \"m111\"]\n"
    },
    {
