@@ -16,7 +16,7 @@ comma (suc k) = codes ","
 abbrev pub operation_name_of : Plan → ℕ → List ℕ
 operation_name_of plan role = name_at (operation_names plan.table) (slice_index (raw_choice_of plan.choice).operations role)
 
--- how many places the path of a process has
+-- the number of places on the path of a process
 abbrev pub places_of : Plan → ℕ → ℕ
 places_of plan p = length ((protocol_of plan).path p)
 

@@ -1,4 +1,4 @@
--- A table as a picture for Graphviz: its states, and what leads from one to another. Every name stands in quotes, as in the picture of a plan.
+-- A table as a picture for Graphviz: its states, and the operations that lead from one to another. Quotes enclose every name, as in the picture of a plan.
 use Rattle.std.specs.Prelude.{ℕ, List, [], ◌++◌, length, codes, flat_map, ◌==◌, if◌then◌else◌}
 use Rattle.std.specs.List.{range_with_len}
 use Rattle.cn_table.specs.TypeTable.{TypeTable, operation_names, transition}
@@ -7,7 +7,7 @@ use Rattle.cn_table.specs.Names.{name_at}
 abbrev pub state_dot : TypeTable → ℕ → List ℕ
 state_dot t state = codes "  \"" ++ name_at t.states state ++ codes "\";\n"
 
--- an operation with the response that it gives in the first state, as a line, where it leads to the second
+-- a line with an operation and its response in the first state, if it leads to the second
 abbrev pub line_dot : TypeTable → ℕ → ℕ → ℕ → List ℕ
 line_dot t from next operation =
     if (transition t operation from).1 == next
@@ -18,7 +18,7 @@ line_dot t from next operation =
 abbrev pub label_dot : TypeTable → ℕ → ℕ → List ℕ
 label_dot t from next = flat_map (line_dot t from next) (range_with_len 0 (length t.operations))
 
--- an arrow between two states, where some operation leads from one to the other
+-- an arrow between two states, if some operation leads from the first to the second
 abbrev pub arrow_dot : TypeTable → ℕ → ℕ → List ℕ
 arrow_dot t from next =
     if length (label_dot t from next) == 0

@@ -1,5 +1,5 @@
--- A plan as a picture for Graphviz: the tournament, with each process below its lowest node. Every name stands in quotes, so that one which is a word of the
--- language is none here; a name has no letter that quotes escape.
+-- A plan as a picture for Graphviz: the tournament, with each process below its lowest node. Quotes enclose every name, so that a name can be a word of the
+-- language; they escape no letter of a name.
 use Rattle.std.specs.Prelude.{ℕ, zero, suc, List, ◌++◌, codes, decimal, flat_map}
 use Rattle.std.specs.List.{range_with_len}
 use Rattle.cn_proto.specs.Plan.{Plan, processes_of, nodes_of}
@@ -19,20 +19,20 @@ head_dot plan = head_lines plan.table.name (name_at plan.table.states plan.choic
 abbrev pub node_dot : ℕ → List ℕ
 node_dot node = codes "  node_" ++ decimal node ++ codes " [label=\"node " ++ decimal node ++ codes "\"];\n"
 
--- where process p comes from when it goes to place i of its path
+-- the origin of process p on its way to place i of its path
 abbrev pub origin_dot : Plan → ℕ → ℕ → List ℕ
 origin_dot plan p zero = codes "process_" ++ decimal p
 origin_dot plan p (suc i) = codes "node_" ++ decimal (place_at plan p i).node
 
--- an arrow to a node, and whose it is
+-- an arrow to a node, and the process that goes there
 unfoldable pub edge_head : ℕ → ℕ → List ℕ
 edge_head node p = codes " -> node_" ++ decimal node ++ codes " [label=\"process " ++ decimal p ++ codes ": "
 
--- the team, the role and the operation that an arrow tells
+-- the team, the role and the operation on an arrow
 unfoldable pub edge_end : List ℕ → ℕ → List ℕ → List ℕ
 edge_end team role operation = team ++ codes " role " ++ decimal role ++ codes " " ++ operation ++ codes "\"];\n"
 
--- how process p comes to a place: its team there, its role and the operation of the role
+-- the arrow on which process p comes to a place: its team there, its role, and the operation of the role
 abbrev pub arrival_dot : Plan → ℕ → Place → List ℕ
 arrival_dot plan p place = edge_head place.node p ++ edge_end (team_name place.team) place.role (operation_name_of plan place.role)
 

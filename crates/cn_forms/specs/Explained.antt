@@ -20,7 +20,7 @@ use Rattle.cn_forms.specs.declared.limits.TheConstants.{MOST_TOLD}
 
 -- ---- the head line
 
--- the number in words: 1 where there is none up to the limit, and that it is at least so much where it is the limit
+-- the number in words: 1 if there is none up to the limit, "at least" the limit if it is the limit
 abbrev pub number_told : ℕ → Option ℕ → List ℕ
 number_told limit None = codes "1"
 number_told limit (Some n) = if nat_lt n limit then decimal n else (codes "at least " ++ decimal n ++ codes " (the limit)")
@@ -30,11 +30,11 @@ number_line t limit number = t.name ++ codes ": consensus number " ++ number_tol
 
 -- ---- processes and runs
 
--- how many of the operations, from the first on, are this one
+-- the number of operations, from the first on, that are this one
 abbrev pub alike : List ℕ → ℕ → ℕ
 alike operations own = unwrap_or (position (λ other. not (other == own)) operations) (length operations)
 
--- so many processes from p on
+-- this number of processes, from p on
 abbrev pub processes : ℕ → ℕ → List ℕ
 processes p count =
     codes "p" ++ decimal p ++ (if nat_le count 1 then [] else ((if count == 2 then codes " and p" else codes " to p") ++ decimal (p + (count - 1))))
@@ -42,30 +42,30 @@ processes p count =
 abbrev pub does : ℕ → List ℕ
 does count = if nat_le count 1 then codes " does " else codes " do "
 
--- process p and those behind it, before the end, that do the same one after the other; their team; and their operation
+-- process p and the processes right behind it, before the end, with the same operation; the words for their team; and the operation
 abbrev pub like_members : TypeTable → RawChoice → List ℕ → ℕ → ℕ → List ℕ
 like_members t c team end p =
     let own = slice_index c.operations p in let count = alike (take (end - p) (drop p c.operations)) own in
     processes p count ++ (team ++ (does count ++ name_at (operation_names t) own))
 
--- process p does the same as the one before it, which is not before the first
+-- process p is behind the first process, and has the same operation as the one right before it
 abbrev pub goes_along : RawChoice → ℕ → ℕ → Bool
 goes_along c first p = nat_lt first p && (slice_index c.operations (p - 1) == slice_index c.operations p)
 
--- with a comma before all but the first; one that goes along is told with those before it
+-- process p with those that go along, and a comma before all but the first; nothing for a process that itself goes along
 abbrev pub member : TypeTable → RawChoice → List ℕ → ℕ → ℕ → ℕ → List ℕ
 member t c team first end p = if goes_along c first p then [] else ((if p == first then [] else codes ", ") ++ like_members t c team end p)
 
--- so many processes from the first on
+-- this number of processes, from the first on
 unfoldable pub members : TypeTable → RawChoice → List ℕ → ℕ → ℕ → List ℕ
 members t c team first count = flat_map (member t c team first (first + count)) (range_with_len first count)
 
--- who does what in a choice: the processes of team A, and those of team B, with what is told of each team
+-- the operations of a choice: those of team A's processes, and of team B's, with words for each team
 unfoldable pub both_teams : TypeTable → Choice → List ℕ → List ℕ → List ℕ → List ℕ
 both_teams t c a_team between b_team =
     members t (raw_choice_of c) a_team 0 (length c.a) ++ between ++ members t (raw_choice_of c) b_team (length c.a) (length c.b)
 
--- the step of process p in a state: its operation, the response and the next state
+-- the step of process p in a state: its operation, the response, and the next state
 abbrev pub step_text : TypeTable → RawChoice → ℕ → ℕ → List ℕ
 step_text t c state p =
     let operation = slice_index c.operations p in let given = transition t operation state in
@@ -77,7 +77,7 @@ abbrev pub steps_text : TypeTable → RawChoice → ℕ → List ℕ → List �
 steps_text t c state [] = []
 steps_text t c state (p ∷ ps) = step_text t c state p ++ steps_text t c (transition t (slice_index c.operations p) state).1 ps
 
--- what process j sees, if it takes part
+-- what process j sees, if it takes part in the run
 abbrev pub sight : TypeTable → ℕ → Option (ℕ × ℕ) → List ℕ
 sight t j None = []
 sight t j (Some pair) = codes "     p" ++ decimal j ++ codes " " ++ pair_words t pair
@@ -102,7 +102,7 @@ witness_line t n w = witness_start t n w ++ movers t w ++ codes ".\n"
 unfoldable pub apart_line : List ℕ
 apart_line = codes "  No process has a pair on both sides, so each can tell which team was first.\n"
 
--- the witness, and what each of its processes gets and reads
+-- the witness, and the pairs that each of its processes can get
 abbrev pub witness_text : TypeTable → ℕ → Choice → List ℕ
 witness_text t n w =
     folded (witness_line t n w) ++ flat_map (seen_rows t w) (range_with_len 0 (length w.a + length w.b)) ++ apart_line
@@ -128,7 +128,7 @@ way_number number = codes "  " ++ decimal number ++ codes ". "
 unfoldable pub cannot_tell : ℕ → List ℕ
 cannot_tell j = codes "        p" ++ decimal j ++ codes " cannot tell:\n"
 
--- a choice, and a process of it
+-- a numbered choice, and a process of it that cannot tell
 unfoldable pub way_line : TypeTable → ℕ → Choice → ℕ → List ℕ
 way_line t number c j = way_number number ++ choice_text t c ++ cannot_tell j
 
@@ -146,43 +146,43 @@ abbrev pub ways : TypeTable → ℕ → List Collision → List ℕ
 ways t before [] = []
 ways t before (e ∷ es) = way t (before + 1) e ++ ways t (before + 1) es
 
--- the entries that are told: all of them, or the first MOST_TOLD
+-- the entries in the text: all of them, or the first MOST_TOLD
 abbrev pub entries_told : Bool → List Collision → List Collision
 entries_told all entries = if all then entries else take MOST_TOLD entries
 
--- how many more there are
+-- the number of entries that are not in the text
 abbrev pub more_line : ℕ → List ℕ
 more_line more = if more == 0 then [] else (codes "  and " ++ decimal more ++ codes " more (--all tells them)\n")
 
--- the entries that are told, and how many more there are
+-- the ways of the entries in the text, and the number of the other entries
 abbrev pub told_ways : TypeTable → List Collision → Bool → List ℕ
 told_ways t entries all = ways t 0 (entries_told all entries) ++ more_line (length entries - length (entries_told all entries))
 
--- how many ways there are, and that in each of them some process cannot tell
+-- the number of ways, in each of which some process cannot tell
 abbrev pub ways_words : ℕ → List ℕ
 ways_words count =
     if count == 0 then codes "no way to choose a start state, operations and teams is left.\n"
     else (if count == 1 then codes "1 way to choose a start state, operations and teams; in it a process cannot tell.\n"
     else (decimal count ++ codes " ways to choose a start state, operations and teams; in each a process cannot tell.\n"))
 
--- which ways are left out in a certificate of this version
+-- the ways that a certificate of this version leaves out
 abbrev pub left_out : ℕ → List ℕ
 left_out version =
     if version == 1 then []
     else codes "  Ways in which an operation leaves the start state unchanged cannot work, and are left out.\n"
 
--- which ways count as one
+-- the ways that count as one
 unfoldable pub same_ways : List ℕ
 same_ways = codes "  Ways that differ only in the numbers of the processes or the names of the teams count as one.\n"
 
 unfoldable pub theorem_line : ℕ → List ℕ
 theorem_line n = codes "That no other protocol does it for " ++ decimal n ++ codes " is Ruppert's theorem (2000), which is not proved here.\n"
 
--- what is not told
+-- the notes: what the text leaves out, and what is not proved
 abbrev pub notes : ℕ → ℕ → List ℕ
 notes version n = same_ways ++ left_out version ++ theorem_line n
 
--- that n processes cannot do it by this object
+-- why the number is not n: the ways, and the notes
 abbrev pub refutation : TypeTable → ℕ → List Collision → Bool → ℕ → List ℕ
 refutation t version entries all n =
     codes "Why not " ++ decimal n ++ codes ": " ++ ways_words (length entries) ++ told_ways t entries all ++ notes version n

@@ -1,4 +1,4 @@
--- Lines that go on in the next line where they would be too wide.
+-- Lines that are folded: a line that is too wide goes on in the next line.
 use Rattle.std.specs.Prelude.{ℕ, ◌+◌, ◌-◌, ◌==◌, List, [], ◌∷◌, ◌++◌, codes, length, Bool, ◌&&◌, flat_map, if◌then◌else◌, nat_le, nat_lt}
 use Rattle.std.specs.List.{slice_split}
 use Rattle.std.specs.Str.Lines.{lines}
@@ -6,11 +6,11 @@ use Rattle.cn_forms.specs.Grid.{spaces}
 use Rattle.cn_table.specs.Texts.{code_of}
 use Rattle.cn_forms.specs.declared.limits.TheConstants.{MARGIN, WIDEST_LINE}
 
--- how much has to end in the line: the word, or all words from it on, of so many columns, where more than two spaces stand before it and it does not begin the line
+-- the columns that must fit into the line: those of the word, or, behind a gap of more than two spaces inside a line, the `rest` of all words from it on
 abbrev pub kept_together : ℕ → ℕ → ℕ → List ℕ → ℕ
 kept_together left gap rest word = if nat_lt left WIDEST_LINE && nat_lt 2 gap then rest else length word
 
--- it ends within what is left of the line
+-- these columns, with the spaces before them, fit into the columns that are left of the line
 abbrev pub fits : ℕ → ℕ → ℕ → List ℕ → Bool
 fits left gap rest word = nat_le (gap + kept_together left gap rest word) left
 
@@ -18,11 +18,12 @@ fits left gap rest word = nat_le (gap + kept_together left gap rest word) left
 abbrev pub placed : ℕ → ℕ → ℕ → List ℕ → List ℕ
 placed left gap rest word = (if fits left gap rest word then spaces gap else codes "\n" ++ spaces MARGIN) ++ word
 
--- what is left of its line behind the word
+-- the columns that are left of its line behind the word
 abbrev pub left_behind : ℕ → ℕ → ℕ → List ℕ → ℕ
 left_behind left gap rest word = if fits left gap rest word then left - gap - length word else WIDEST_LINE - MARGIN - length word
 
--- the words, with a space between two, where so much is left of the line, so many spaces stand before the first, and the words take so many columns; where there are more spaces between two, the words between these are empty
+-- the words, with a space between two; `left` columns are left of the line, `gap` spaces stand before the first word, and the words take `rest` columns
+-- (more spaces between two words have empty words between them)
 abbrev pub laid : ℕ → ℕ → ℕ → List (List ℕ) → List ℕ
 laid left gap rest [] = []
 laid left gap rest (word ∷ words) =

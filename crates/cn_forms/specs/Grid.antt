@@ -7,7 +7,7 @@ use Rattle.cn_table.specs.TypeTable.{TypeTable, operation_names, transition}
 use Rattle.cn_table.specs.Reach.{changes_nothing, AreReached}
 use Rattle.cn_table.specs.Texts.{code_of}
 
--- how long the longest of the texts is
+-- the length of the longest text
 abbrev pub widest : List (List ℕ) → ℕ
 widest [] = 0
 widest (t ∷ ts) = max (length t) (widest ts)
@@ -15,25 +15,25 @@ widest (t ∷ ts) = max (length t) (widest ts)
 abbrev pub spaces : ℕ → List ℕ
 spaces n = replicate n (code_of (codes " "))
 
--- what a text lacks of a width
+-- the spaces that fill a text up to a width
 abbrev pub padding : ℕ → List ℕ → List ℕ
 padding width text = spaces (width - length text)
 
--- the spaces that a response and a state lack of the widest of both
+-- the spaces that fill a response and a state up to the widest of both
 abbrev pub pair_padding : TypeTable → List ℕ → List ℕ → List ℕ
 pair_padding t response state = padding (widest t.responses) response ++ padding (widest t.states) state
 
--- what stands in the column of a state: its name at the head, and in the row of an operation the response and the next state
+-- the cell in the column of a state: at the head its name, in the row of an operation the response and the next state
 abbrev pub cell : TypeTable → Option ℕ → ℕ → List ℕ
 cell t None q = name_at t.states q
 cell t (Some o) q = name_at t.responses (transition t o q).0 ++ codes ">" ++ name_at t.states (transition t o q).1
 
--- the spaces up to the next column: three more than the widest response and state would leave
+-- the spaces up to the next column: three more than fill the cell up to the widest response and state
 abbrev pub cell_gap : TypeTable → Option ℕ → ℕ → List ℕ
 cell_gap t None q = pair_padding t [] (name_at t.states q) ++ codes "    "
 cell_gap t (Some o) q = pair_padding t (name_at t.responses (transition t o q).0) (name_at t.states (transition t o q).1) ++ codes "   "
 
--- with no spaces at the end of the line
+-- a cell and the spaces behind it; the last cell of a line has none
 abbrev pub column : TypeTable → Option ℕ → ℕ → List ℕ
 column t row q = cell t row q ++ (if nat_lt (q + 1) (length t.states) then cell_gap t row q else [])
 
@@ -43,7 +43,7 @@ columns t row = flat_map (column t row) (range_with_len 0 (length t.states))
 abbrev pub head_line : TypeTable → List ℕ
 head_line t = spaces (widest (operation_names t)) ++ codes "      " ++ columns t None ++ codes "\n"
 
--- what the cells say, behind the first row
+-- the meaning of a cell, behind the first row
 abbrev pub legend : ℕ → List ℕ
 legend o = if o == 0 then codes "            (response > next state)" else []
 
@@ -56,7 +56,7 @@ operation_line t o =
 unfoldable pub cells_text : TypeTable → List ℕ
 cells_text t = head_line t ++ flat_map (operation_line t) (range_with_len 0 (length t.operations))
 
--- a line for a state to which nothing leads from the first
+-- a line for a state to which no operations lead from the first state
 abbrev pub state_mark : TypeTable → ℕ → Bool → List ℕ
 state_mark t q is_reached =
     if is_reached then [] else codes "state " ++ (name_at t.states q ++ (codes ": cannot be reached from " ++ (name_at t.states 0 ++ codes "\n")))

@@ -1,4 +1,4 @@
--- A plan as JSON: one object, compact, its keys in the order of their bytes, and a line feed. A name has no letter that JSON escapes.
+-- A plan as JSON: one compact object, its keys in the order of their bytes, and a line feed. JSON escapes no letter of a name.
 use Rattle.std.specs.Prelude.{ℕ, List, [], ◌++◌, length, map, codes, decimal, slice_index_or, flat_map}
 use Rattle.std.specs.List.{range_with_len}
 use Rattle.cn_table.specs.TypeTable.{TypeTable}
@@ -14,7 +14,7 @@ abbrev pub place_json : Place → List ℕ
 place_json place =
     codes "{\"node\":" ++ decimal place.node ++ codes ",\"role\":" ++ decimal place.role ++ codes ",\"team\":\"" ++ team_name place.team ++ codes "\"}"
 
--- the places of a process, from its lowest node to the root, in an array
+-- the places of a process, from its lowest node to the root, as an array
 abbrev pub path_json : Plan → ℕ → List ℕ
 path_json plan p = comma p ++ codes "[" ++ joined_texts (codes ",") (map place_json ((protocol_of plan).path p)) ++ codes "]"
 
@@ -33,14 +33,14 @@ role_head = codes "{\"judges\":["
 abbrev pub judged_json : Plan → ℕ → List ℕ
 judged_json plan role = role_head ++ joined_texts (codes ",") (map (pair_json plan.table) (slice_index_or plan.judged_pairs role []))
 
--- what stands behind the pairs of a role: its operation and its team
+-- the text behind the pairs of a role: its operation and its team
 unfoldable pub role_end : List ℕ → List ℕ → List ℕ
 role_end operation team = codes "],\"operation\":\"" ++ operation ++ codes "\",\"team\":\"" ++ team ++ codes "\"}"
 
 abbrev pub end_json : Plan → ℕ → List ℕ
 end_json plan role = role_end (operation_name_of plan role) (team_name (team_of (length plan.choice.a) role))
 
--- what a role judges, its operation and its team
+-- a role: the pairs that it judges to be team A's, its operation and its team
 abbrev pub role_json : Plan → ℕ → List ℕ
 role_json plan role = comma role ++ judged_json plan role ++ end_json plan role
 
@@ -50,12 +50,12 @@ each_path_json plan = flat_map (path_json plan) (range_with_len 0 (processes_of 
 abbrev pub each_role_json : Plan → List ℕ
 each_role_json plan = flat_map (role_json plan) (range_with_len 0 (processes_of plan))
 
--- how many nodes there are, and the path of each process
+-- the number of nodes, and the path of each process
 abbrev pub paths_json : Plan → List ℕ
 paths_json plan =
     codes "{\"nodes\":" ++ decimal (nodes_of plan) ++ codes ",\"paths\":[" ++ each_path_json plan ++ codes "]"
 
--- how many processes there are, and each role
+-- the number of processes, and each role
 abbrev pub roles_json : Plan → List ℕ
 roles_json plan =
     codes ",\"processes\":" ++ decimal (processes_of plan) ++ codes ",\"roles\":[" ++ each_role_json plan ++ codes "]"

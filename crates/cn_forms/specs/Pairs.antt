@@ -1,5 +1,5 @@
 -- The pairs that the processes of a choice can get, by the team that moves first.
-use Rattle.std.specs.Prelude.{ℕ, ◌+◌, nat_le, List, [], ◌∷◌, ◌++◌, length, codes, Bool, false, ◌&&◌, ◌==◌, max, Option, Some, None, if◌then◌else◌, flat_map, slice_get}
+use Rattle.std.specs.Prelude.{ℕ, ◌+◌, ◌<◌, nat_le, List, [], ◌∷◌, ◌++◌, length, codes, Bool, false, ◌&&◌, ◌==◌, max, Option, Some, None, if◌then◌else◌, flat_map, slice_get}
 use Rattle.std.specs.List.{list_any, range_with_len}
 use Rattle.std.specs.Fmt.{decimal}
 use Rattle.cn_forms.specs.Grid.{pair_padding, widest}
@@ -14,20 +14,24 @@ use Rattle.cn_forms.specs.declared.limits.TheConstants.{MOST_BESIDE}
 
 -- ---- which pairs
 
--- what is seen is the pair of r and q
+-- the pair has a response and a state of the table
+abbrev pub IsPairOf : TypeTable → ℕ × ℕ → Type 0
+IsPairOf t pair = (pair.0 < length t.responses) × (pair.1 < length t.states)
+
+-- what a process sees is the pair of r and q
 abbrev pub is_pair : ℕ → ℕ → Option (ℕ × ℕ) → Bool
 is_pair r q None = false
 is_pair r q (Some pair) = pair.0 == r && pair.1 == q
 
--- whether process j sees the pair of r and q in some order that begins in the team
+-- process j sees the pair of r and q in some order that begins in the team
 unfoldable pub sees : TypeTable → Choice → Team → ℕ → ℕ → ℕ → Bool
 sees t c team j r q = list_any (λ order. is_pair r q (pair_of t (raw_choice_of c) order.items j)) (orders_of c team j)
 
--- the pair, where it passes the test
+-- the pair, if it passes the test
 abbrev pub pair_if : (ℕ → ℕ → Bool) → ℕ → ℕ → List (ℕ × ℕ)
 pair_if test r q = if test r q then (r, q) ∷ [] else []
 
--- of the pairs of r and one of so many states those that pass the test, in order
+-- the pairs of r and a state that pass the test, in the order of the states
 abbrev pub pairs_if : (ℕ → ℕ → Bool) → ℕ → ℕ → List (ℕ × ℕ)
 pairs_if test states r = flat_map (pair_if test r) (range_with_len 0 states)
 
@@ -45,19 +49,19 @@ abbrev pub left_part : TypeTable → Option (ℕ × ℕ) → List ℕ
 left_part t None = []
 left_part t (Some pair) = pair_words t pair
 
--- the spaces behind it, as many as the widest response and state would leave it
+-- the spaces behind it: they fill it up to the width of the widest response and state
 abbrev pub left_gap : TypeTable → Option (ℕ × ℕ) → List ℕ
 left_gap t None = pair_padding t [] [] ++ codes "            "
 left_gap t (Some pair) = pair_padding t (name_at t.responses pair.0) (name_at t.states pair.1)
 
--- what stands before the pairs of a row: words in the first row of a process, and below them spaces
+-- the text before the pairs of a row: words in the first row of a process, spaces in the others
 abbrev pub before_left : ℕ → ℕ → List ℕ
 before_left j k = if k == 0 then (codes "  p" ++ decimal j ++ codes "   A first: ") else codes "                "
 
 abbrev pub before_right : ℕ → List ℕ
 before_right k = if k == 0 then codes "    B first: " else codes "             "
 
--- the pair on the side of team B, if there is one, and what stands before it
+-- the pair on the side of team B, if there is one, and the text before it
 abbrev pub right_part : TypeTable → ℕ → Option (ℕ × ℕ) → Option (ℕ × ℕ) → List ℕ
 right_part t k a None = []
 right_part t k a (Some pair) = left_gap t a ++ before_right k ++ pair_words t pair
@@ -74,7 +78,7 @@ rows a b = max (length a) (length b)
 abbrev pub rows_beside : TypeTable → ℕ → List (ℕ × ℕ) → List (ℕ × ℕ) → List ℕ
 rows_beside t j a b = flat_map (λ k. pair_row t j k (slice_get a k) (slice_get b k)) (range_with_len 0 (rows a b))
 
--- what stands before pair k of a side that has lines of its own
+-- the text before pair k of a side that has lines of its own
 abbrev pub before_pair : ℕ → Team → ℕ → List ℕ
 before_pair j A k = before_left j k
 before_pair j B k = if k == 0 then codes "       B first: " else codes "                "
@@ -86,14 +90,14 @@ pair_line t j team k pair = before_pair j team k ++ left_part t pair ++ codes "\
 abbrev pub side_lines : TypeTable → ℕ → Team → List (ℕ × ℕ) → List ℕ
 side_lines t j team pairs = flat_map (λ k. pair_line t j team k (slice_get pairs k)) (range_with_len 0 (length pairs))
 
--- two of the widest pairs of the table have room in a line
+-- a line has room for two of the widest pairs of the table
 abbrev pub has_room : TypeTable → Bool
 has_room t = nat_le (widest t.responses + widest t.states) MOST_BESIDE
 
--- the two sides, one below the other where they have no room side by side
+-- the two sides: side by side if a line has room for them, else one below the other
 abbrev pub pair_rows : TypeTable → ℕ → List (ℕ × ℕ) → List (ℕ × ℕ) → List ℕ
 pair_rows t j a b = if has_room t then rows_beside t j a b else side_lines t j A a ++ side_lines t j B b
 
--- all that process j can get, on the left where team A is first, and on the right where B is
+-- all pairs that process j can get: team A is first on the left, team B on the right
 abbrev pub seen_rows : TypeTable → Choice → ℕ → List ℕ
 seen_rows t c j = pair_rows t j (seen_pairs t c A j) (seen_pairs t c B j)

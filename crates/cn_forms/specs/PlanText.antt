@@ -1,4 +1,4 @@
--- The text of a plan: a line on the whole, a line for each role, and a line for each process.
+-- The text of a plan: a line for the whole plan, a line for each role, and a line for each process.
 use Rattle.std.specs.Prelude.{ℕ, List, [], ◌++◌, length, map, codes, decimal, slice_index_or, flat_map}
 use Rattle.std.specs.List.{range_with_len}
 use Rattle.cn_table.specs.Names.{name_at}
@@ -17,7 +17,7 @@ pair_text t pair = name_at t.responses pair.0 ++ codes "/" ++ name_at t.states p
 abbrev pub place_text : Place → List ℕ
 place_text place = codes "node " ++ decimal place.node ++ codes " " ++ team_name place.team ++ codes " role " ++ decimal place.role
 
--- the type, how many processes and nodes there are, and the state in which each object starts
+-- the type, the numbers of processes and nodes, and the state in which each object starts
 abbrev pub type_line : Plan → List ℕ
 type_line p =
     codes "type " ++ p.table.name ++ codes " processes " ++ decimal (processes_of p) ++ codes " nodes " ++ decimal (nodes_of p)

@@ -6,9 +6,9 @@ ghost use Rattle.cn_forms.specs.Diagram.{arrow_dot, arrows_dot, diagram, label_d
 use cn_table::{Operation, State, Table};
 use std::alloc::{AllocError, Global};
 
-/// The picture of a table for Graphviz: a `digraph` with its states, and an arrow from one to another
-/// where some operation leads there, with a line `OPERATION/RESPONSE` for each such operation; all in
-/// the order of the table. Each line of it ends with a line feed.
+/// The picture of a table for Graphviz: a `digraph` with its states. An arrow goes from a state to
+/// each state to which some operation leads, and has a line `OPERATION/RESPONSE` for each such
+/// operation. All is in the order of the table. Each line of the text ends with a line feed.
 ///
 /// # Errors
 ///
@@ -71,7 +71,7 @@ fn push_arrows(
     Ok(())
 }
 
-/// An arrow between two states, where some operation leads from one to the other.
+/// An arrow between two states, if some operation leads from the first to the second.
 fn push_arrow(
     alloc: Global,
     text: &mut String,
@@ -92,7 +92,7 @@ fn push_arrow(
     write!(text, "  \"{from}\" -> \"{next}\" [label=\"{label}\"];\n")
 }
 
-/// A line for each operation that leads from one state to the other.
+/// A line for each operation that leads from the first state to the second.
 fn label_of(alloc: Global, table: &Table, from: State, next: State) -> Result<String, AllocError>
     requires { from.0 < length table.now.states }
     ensures { IfOk result (λ label. string_bytes label ≡ label_dot table.now from.0 next.0) }

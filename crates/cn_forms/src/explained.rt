@@ -1,5 +1,5 @@
-//! The explanation of a certificate: the number, the table, why the number is so much, and why it is
-//! no more.
+//! The explanation of a certificate: the number, the table, why the number is so much, and why it
+//! is no more.
 ghost use Rattle.std.specs.Prelude.{◌≡◌, ◌+◌, ◌-◌, ◌++◌, length, string_bytes, flat_map, All, IfOk, IfSome, OnOk};
 ghost use Rattle.std.specs.List.{range_with_len};
 ghost use Rattle.cn_choice.specs.Canonical.{FitsTable};
@@ -66,7 +66,7 @@ fn push_head(
     push_folded(alloc, text, line.as_str())
 }
 
-/// What each process of a witness can get.
+/// The pairs that each process of a witness can get.
 fn push_all_pair_rows(
     alloc: Global,
     text: &mut String,
@@ -85,7 +85,7 @@ fn push_all_pair_rows(
     Ok(())
 }
 
-/// Who does what in the witness.
+/// The operations of the witness, by team.
 #[tactic(auto, unfolding(crate::specs::Explained::movers))]
 fn push_movers(text: &mut String, table: &Table, witness: &Choice) -> Result<(), AllocError>
     requires { FitsTable table.now witness.now }
@@ -133,24 +133,7 @@ fn push_apart_line(text: &mut String) -> Result<(), AllocError>
     text.push_str("  No process has a pair on both sides, so each can tell which team was first.\n")
 }
 
-/// The line of the witness, in as many lines as it needs.
-fn push_witness_lines(
-    alloc: Global,
-    text: &mut String,
-    table: &Table,
-    number: u8,
-    witness: &Choice,
-) -> Result<(), AllocError>
-    requires { FitsTable table.now witness.now }
-    ensures { OnOk result (string_bytes text.new
-        ≡ string_bytes text.old ++ folded (witness_line table.now number witness.now)) }
-{
-    let mut line = String::new(alloc);
-    push_witness_line(&mut line, table, number, witness)?;
-    push_folded(alloc, text, line.as_str())
-}
-
-/// The witness, and what each of its processes gets and reads.
+/// The witness, and the pairs that each of its processes can get.
 fn push_witness(
     alloc: Global,
     text: &mut String,
@@ -162,7 +145,9 @@ fn push_witness(
     ensures { OnOk result (string_bytes text.new
         ≡ string_bytes text.old ++ witness_text table.now number witness.now) }
 {
-    push_witness_lines(alloc, text, table, number, witness)?;
+    let mut line = String::new(alloc);
+    push_witness_line(&mut line, table, number, witness)?;
+    push_folded(alloc, text, line.as_str())?;
     push_all_pair_rows(alloc, text, table, witness)?;
     push_apart_line(text)
 }
@@ -195,7 +180,7 @@ fn entries_told(entries: &[Collision], all: bool) -> &[Collision]
     }
 }
 
-/// How many ways there are.
+/// The number of ways.
 fn push_count(text: &mut String, count: usize) -> Result<(), AllocError>
     ensures { OnOk result (string_bytes text.new ≡ string_bytes text.old ++ ways_words count) }
 {
@@ -220,7 +205,7 @@ fn push_more(text: &mut String, more: usize) -> Result<(), AllocError>
     write!(text, "  and {more} more (--all tells them)\n")
 }
 
-/// The entries that are told, and how many more there are.
+/// The ways of the entries in the text, and the number of the other entries.
 fn push_entries(
     text: &mut String,
     table: &Table,
@@ -236,7 +221,7 @@ fn push_entries(
     push_more(text, entries.len() - first_entries.len())
 }
 
-/// Which ways are left out.
+/// The ways that a certificate of this version leaves out.
 fn push_left_out(text: &mut String, version: u8) -> Result<(), AllocError>
     ensures { OnOk result (string_bytes text.new ≡ string_bytes text.old ++ left_out version) }
 {
@@ -248,7 +233,7 @@ fn push_left_out(text: &mut String, version: u8) -> Result<(), AllocError>
     )
 }
 
-/// Which ways count as one.
+/// The ways that count as one.
 #[tactic(auto, unfolding(crate::specs::Explained::same_ways))]
 fn push_same_ways(text: &mut String) -> Result<(), AllocError>
     ensures { OnOk result (string_bytes text.new ≡ string_bytes text.old ++ same_ways) }
@@ -268,7 +253,7 @@ fn push_theorem(text: &mut String, n: u8) -> Result<(), AllocError>
     )
 }
 
-/// What is not told.
+/// The notes: what the text leaves out, and what is not proved.
 fn push_notes(text: &mut String, version: u8, n: u8) -> Result<(), AllocError>
     ensures { OnOk result (string_bytes text.new ≡ string_bytes text.old ++ notes version n) }
 {
@@ -277,7 +262,7 @@ fn push_notes(text: &mut String, version: u8, n: u8) -> Result<(), AllocError>
     push_theorem(text, n)
 }
 
-/// That n processes cannot do it by this object.
+/// Why the number is not n: the ways, and the notes.
 fn push_refutation(
     text: &mut String,
     table: &Table,
@@ -337,13 +322,13 @@ fn push_reasons(
     push_folded(alloc, text, reasons.as_str())
 }
 
-/// The text that tells people why the number of a certificate is what it is: the number; the cells
-/// of the table; by what each process of the witness can tell which team was first; and for the
-/// choices that the certificate refutes two runs each by which a process cannot. Of these the first
-/// [`MOST_TOLD`] are told, or, where `all` are asked for, every one. Each line ends with a line feed.
+/// The text that tells people why the number of a certificate is what it is. It has the number; the
+/// cells of the table; the pairs by which each process of the witness tells which team was first;
+/// and, for each choice that the certificate refutes, two runs by which a process cannot tell. It
+/// has the first [`MOST_TOLD`] of these choices, or, with `all`, every one. Each line ends with a
+/// line feed.
 ///
-/// The certificate is one of the table's that [`check`](cn_check::check) accepts, so that its number
-/// is right.
+/// [`check`](cn_check::check) accepts the certificate for the table, so its number is right.
 ///
 /// # Errors
 ///
@@ -358,7 +343,7 @@ pub fn explanation_of(
     requires { IsAccepted table.now certificate.now }
     ensures { IfOk result (λ text. string_bytes text ≡ explain_text table.now certificate.now all) }
 {
-    // So each entry is of a choice of the table.
+    // By these laws each entry is of a choice of the table.
     canonical_list();
     live_list();
     let (limit, number) = (certificate.limit, certificate.number);

@@ -10,10 +10,10 @@ use std::alloc::{AllocError, Global};
 
 /// The table as a text for people: a line with the name, and the cells; then a line for each state
 /// to which no operations lead from the first, and for each operation that changes nothing. Each
-/// line of it ends with a line feed.
+/// line ends with a line feed.
 ///
-/// The cells are a line with the states, and one for each operation with what it does in each
-/// state, the response and the next state.
+/// The cells are a line with the states, and a line for each operation with its response and the
+/// next state in each state.
 ///
 /// # Errors
 ///
@@ -47,8 +47,8 @@ fn push_title(text: &mut String, table: &Table) -> Result<(), AllocError>
     write!(text, "{}\n", table.name())
 }
 
-/// The cells of the grid: a line with the states, and one for each operation with what it does in
-/// each state, the response and the next state.
+/// The cells of the grid: a line with the states, and a line for each operation with its response
+/// and the next state in each state.
 #[tactic(auto, unfolding(crate::specs::Grid::cells_text))]
 pub(crate) fn push_cells(text: &mut String, table: &Table) -> Result<(), AllocError>
     ensures { OnOk result (string_bytes text.new ≡ string_bytes text.old ++ cells_text table.now) }
@@ -122,7 +122,7 @@ fn push_column(
     Ok(())
 }
 
-/// What stands in the column of a state, at the head or in the row of an operation.
+/// The cell in the column of a state, at the head or in the row of an operation.
 fn push_cell(
     text: &mut String,
     table: &Table,
@@ -169,7 +169,7 @@ fn push_gap(
     text.push_str("   ")
 }
 
-/// The spaces that a response and a state lack of the widest of both.
+/// The spaces that fill a response and a state up to the widest of both.
 pub(crate) fn push_pair_padding(
     text: &mut String,
     table: &Table,
@@ -199,7 +199,7 @@ pub(crate) fn push_spaces(text: &mut String, count: usize) -> Result<(), AllocEr
     Ok(())
 }
 
-/// How wide the widest name of a state is.
+/// The width of the widest name of a state.
 pub(crate) fn state_width(table: &Table) -> usize
     ensures { result ≡ widest table.now.states }
 {
@@ -210,7 +210,7 @@ pub(crate) fn state_width(table: &Table) -> usize
     width
 }
 
-/// How wide the widest name of a response is.
+/// The width of the widest name of a response.
 pub(crate) fn response_width(table: &Table) -> usize
     ensures { result ≡ widest table.now.responses }
 {
@@ -221,7 +221,7 @@ pub(crate) fn response_width(table: &Table) -> usize
     width
 }
 
-/// How wide the widest name of an operation is.
+/// The width of the widest name of an operation.
 fn operation_width(table: &Table) -> usize
     ensures { result ≡ widest (operation_names table.now) }
 {

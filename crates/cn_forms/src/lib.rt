@@ -1,10 +1,10 @@
 //! Texts of tables, of plans and of certificates, for people and for other tools.
 //!
-//! A table has a grid, by [`grid_of`], and a picture, by [`diagram_of`]. A plan has a text in each
-//! [`Form`], by [`plan_as`]: lines for people, JSON, a picture for Graphviz, a model in Promela. Of a
-//! certificate that the check accepts, [`explanation_of`] tells people why its number is what it is.
-//! Each text is a function of what it is made of, and by [`laws::told_pairs`] the pairs that an
-//! explanation tells are those of the outcome sets.
+//! [`grid_of`] answers the grid of a table, and [`diagram_of`] its picture. [`plan_as`] answers the
+//! text of a plan in a [`Form`]: lines for people, JSON, a picture for Graphviz, or a model in
+//! Promela. [`explanation_of`] tells people why the number of an accepted certificate is what it
+//! is. Each text is a function of the values that it shows. By [`laws::told_pairs`] the pairs in an
+//! explanation are those of the outcome sets.
 //!
 //! ```text
 //! print!(rt; "{}", grid_of(alloc, &table)?)?;

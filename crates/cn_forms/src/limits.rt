@@ -1,14 +1,15 @@
-//! How much is told, and how wide.
+//! The limits of an explanation: how many ways it tells, and how wide its lines are.
 
-/// How many collisions `explain` tells where not all are asked for.
+/// The greatest number of collisions that `explain` tells, unless it is asked for all.
 pub const MOST_TOLD: usize = 12;
 
-/// How many columns a line of `explain` has at most, but for the lines of the table's cells.
+/// The greatest width of a line of `explain` in columns. The lines of the table's cells can be
+/// wider.
 pub(crate) const WIDEST_LINE: usize = 100;
 
-/// Before how many columns a line goes on in the next one.
+/// The number of spaces before the rest of a line that goes on in the next one.
 pub(crate) const MARGIN: usize = 10;
 
-/// How wide the widest response and the widest state of a table are together where two pairs have
-/// room in a line of [`WIDEST_LINE`] columns.
+/// The greatest width of the widest response and the widest state of a table together with which a
+/// line of [`WIDEST_LINE`] columns has room for two pairs.
 pub(crate) const MOST_BESIDE: usize = 23;

@@ -1,4 +1,4 @@
-//! The forms in which a plan is written.
+//! The forms of a plan's text.
 ghost use Rattle.std.specs.Prelude.{◌≡◌, IfOk, string_bytes};
 ghost use Rattle.cn_forms.specs.PlanForms.{form_text};
 
@@ -15,7 +15,7 @@ use crate::plan_forms::as_text::plan_text;
 use cn_proto::Plan;
 use std::alloc::{AllocError, Global};
 
-/// A form in which a plan is written.
+/// A form of a plan's text.
 #[derive(Clone, Copy, Debug, PartialEq, Eq)]
 pub enum Form {
     /// Lines of text for people.
@@ -24,31 +24,32 @@ pub enum Form {
     Json,
     /// The tournament as a picture for Graphviz.
     Dot,
-    /// A model in Promela, which the model checker spin takes.
+    /// A model in Promela, for the model checker SPIN.
     Promela,
 }
 
 /// The text of a plan in a form; its last byte is a line feed. Each form writes the same plan.
 ///
 /// - [`Form::Text`]: lines that each end with a line feed. The first is
-///   `type T processes n nodes k start S`. Then comes for each role `role j X O judges ..`: its team,
+///   `type T processes n nodes k start S`. Each role has a line `role j X O judges ..`: its team,
 ///   the name of its operation, and the pairs that it judges to be team A's, each as the names
-///   `response/state`, in order of their numbers. Last comes for each process `process p: ..`: its
+///   `response/state`, in order of their numbers. Last, each process has a line `process p: ..`: its
 ///   places from the lowest node to the root, each as `node N X role J`, with a comma and a space
 ///   between two.
 /// - [`Form::Json`]: one compact object, its keys in the order of their bytes: `nodes` and
 ///   `processes`, numbers; `paths`, for each process its places from the lowest node to the root;
 ///   `roles`, for each role the pairs that it judges to be team A's, its operation and its team;
 ///   `start` and `type`, names.
-/// - [`Form::Dot`]: a `digraph` with the nodes, the processes, and for each place of a path an arrow
-///   to its node, which says the process, its team there, its role and the operation of the role.
-/// - [`Form::Promela`]: for each process of the plan a process that takes the four actions at each
+/// - [`Form::Dot`]: a `digraph` with the nodes, the processes, and for each place of a path an
+///   arrow to its node. The arrow names the process, its team there, its role and the role's
+///   operation.
+/// - [`Form::Promela`]: a process for each process of the plan. It takes the four actions at each
 ///   place of its path, one `atomic` each, and may stop before each. It begins with its own number
-///   as the value. Assertions say of each decision that it is the value of a process that has moved,
-///   equals every other decision, and comes with action 4k, k being the places of the path, which is
-///   4(n-1) at most for n processes.
+///   as the value. Assertions say of each decision that it is the value of a process that has
+///   moved, that it equals every other decision, and that it comes with action 4k, where k is the
+///   number of places on the path; 4k is at most 4(n-1) for n processes.
 ///
-/// Names, which are of lower case letters, digits and underscores, need no escapes in any form.
+/// Names consist of lower case letters, digits and underscores, so no form escapes them.
 ///
 /// # Errors
 ///

@@ -1,4 +1,4 @@
-//! Lines that go on in the next line where they would be too wide.
+//! Lines that are folded: a line that is too wide goes on in the next line.
 ghost use Rattle.std.specs.Prelude.{◌≡◌, ◌++◌, ◌==◌, flat_map, map, string_bytes, IfOk, OnOk};
 ghost use Rattle.std.specs.List.{slice_split};
 ghost use Rattle.std.specs.Str.Lines.{lines};
@@ -8,8 +8,8 @@ use crate::grid::push_spaces;
 use crate::limits::{MARGIN, WIDEST_LINE};
 use std::alloc::{AllocError, Global};
 
-/// How much has to end in the line: the word, or, behind a gap of more than two spaces that does not
-/// begin the line, all that is left.
+/// The columns that must fit into the line: those of the word, or, behind a gap of more than two
+/// spaces inside a line, those of all that is left.
 fn kept_together(left: usize, gap: usize, rest: usize, word: &str) -> usize
     ensures { result ≡ kept_together left gap rest word.now }
 {
@@ -27,8 +27,8 @@ fn fits(left: usize, gap: usize, rest: usize, word: &str) -> bool
     needed <= left && gap <= left - needed
 }
 
-/// The word behind so many spaces, or at the margin of the next line. Answers how much is left of
-/// its line behind it.
+/// The word behind a gap of spaces, or at the margin of the next line; answers the columns that are
+/// left of its line.
 fn push_word(
     text: &mut String,
     left: usize,
@@ -51,7 +51,7 @@ fn push_word(
     Ok((WIDEST_LINE - MARGIN).saturating_sub(word.len()))
 }
 
-/// The words of a line of so many columns. Between two spaces stands an empty word.
+/// The words of a line. There is an empty word between two spaces.
 fn push_words(text: &mut String, columns: usize, words: &[&str]) -> Result<(), AllocError>
     ensures { OnOk result (string_bytes text.new ≡ string_bytes text.old
         ++ laid WIDEST_LINE 0 columns (map (λ word. word.now) words.now)) }
@@ -101,7 +101,7 @@ fn push_lines(alloc: Global, text: &mut String, lines: &[&str]) -> Result<(), Al
     Ok(())
 }
 
-/// Puts the lines of a text behind the other, each in as many lines as it needs.
+/// Appends the lines of a text, each in as many lines as it needs.
 #[tactic(auto, unfolding(crate::specs::Folded::folded))]
 pub(crate) fn push_folded(alloc: Global, text: &mut String, wide: &str) -> Result<(), AllocError>
     ensures { OnOk result (string_bytes text.new ≡ string_bytes text.old ++ folded wide.now) }

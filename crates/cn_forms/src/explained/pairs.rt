@@ -2,7 +2,7 @@
 ghost use Rattle.std.specs.Prelude.{◌≡◌, ◌↔◌, ◌+◌, ◌<◌, ◌++◌, ℕ, Bool, length, slice_get, string_bytes, All, IfOk, IfSome, IsTrue, OnOk};
 ghost use Rattle.cn_choice.specs.Canonical.{FitsTable};
 ghost use Rattle.cn_outcomes.specs.PairSets.{Has};
-ghost use Rattle.cn_forms.specs.Pairs.{before_left, before_pair, before_right, has_room, pair_words, pairs_if, left_gap, left_part, pair_line, pair_row, pair_rows, right_part, rows_beside, seen_pairs, seen_rows, side_lines};
+ghost use Rattle.cn_forms.specs.Pairs.{before_left, before_pair, before_right, has_room, pair_words, pairs_if, left_gap, left_part, pair_line, pair_row, right_part, rows_beside, seen_pairs, seen_rows, side_lines, IsPairOf};
 
 use crate::grid::{push_pair_padding, response_width, state_width};
 use crate::laws::told_pairs;
@@ -12,7 +12,7 @@ use cn_outcomes::{OutcomeSet, outcomes};
 use cn_table::{Response, State, Table};
 use std::alloc::{AllocError, Global};
 
-/// The pairs of the set with this response and one of so many states go to the end.
+/// Appends the pairs of the set with this response, in the order of the states.
 fn push_pairs(
     pairs: &mut Vec<(u8, u8)>,
     set: &OutcomeSet,
@@ -30,7 +30,7 @@ fn push_pairs(
     Ok(())
 }
 
-/// The pairs that a process can get where the team is first.
+/// The pairs that a process can get if the team is first.
 fn pairs_of(
     alloc: Global,
     table: &Table,
@@ -42,9 +42,7 @@ fn pairs_of(
     requires process { process < length choice.now.a + length choice.now.b }
     ensures seen { IfOk result (λ pairs. pairs.items
         ≡ seen_pairs table.now choice.now team process) }
-    ensures known { IfOk result (λ pairs. All
-        (λ pair. (pair.0 < length table.now.responses) × (pair.1 < length table.now.states))
-        pairs.items) }
+    ensures known { IfOk result (λ pairs. All (IsPairOf table.now) pairs.items) }
 {
     told_pairs();
     let set = outcomes(table, choice, team, process);
@@ -55,14 +53,13 @@ fn pairs_of(
     Ok(pairs)
 }
 
-/// What a process got and reads.
+/// A pair in words: the response that a process got, and the state that it reads.
 pub(crate) fn push_pair_words(
     text: &mut String,
     table: &Table,
     pair: (u8, u8),
 ) -> Result<(), AllocError>
-    requires response { pair.0 < length table.now.responses }
-    requires state { pair.1 < length table.now.states }
+    requires { IsPairOf table.now pair }
     ensures { OnOk result (string_bytes text.new
         ≡ string_bytes text.old ++ pair_words table.now pair) }
 {
@@ -83,10 +80,9 @@ fn push_before_left(text: &mut String, process: u8, row: usize) -> Result<(), Al
     }
 }
 
-/// The spaces behind the pair on the left, or where there is none.
+/// The spaces behind the pair on the left, or in its place.
 fn push_left_gap(text: &mut String, table: &Table, pair: Option<(u8, u8)>) -> Result<(), AllocError>
-    requires { IfSome pair (λ x. (x.0 < length table.now.responses)
-        × (x.1 < length table.now.states)) }
+    requires { IfSome pair (IsPairOf table.now) }
     ensures { OnOk result (string_bytes text.new
         ≡ string_bytes text.old ++ left_gap table.now pair) }
 {
@@ -115,8 +111,7 @@ fn push_left_part(
     table: &Table,
     pair: Option<(u8, u8)>,
 ) -> Result<(), AllocError>
-    requires { IfSome pair (λ x. (x.0 < length table.now.responses)
-        × (x.1 < length table.now.states)) }
+    requires { IfSome pair (IsPairOf table.now) }
     ensures { OnOk result (string_bytes text.new
         ≡ string_bytes text.old ++ left_part table.now pair) }
 {
@@ -133,10 +128,8 @@ fn push_right_part(
     left: Option<(u8, u8)>,
     right: Option<(u8, u8)>,
 ) -> Result<(), AllocError>
-    requires left { IfSome left (λ x. (x.0 < length table.now.responses)
-        × (x.1 < length table.now.states)) }
-    requires right { IfSome right (λ x. (x.0 < length table.now.responses)
-        × (x.1 < length table.now.states)) }
+    requires left { IfSome left (IsPairOf table.now) }
+    requires right { IfSome right (IsPairOf table.now) }
     ensures { OnOk result (string_bytes text.new
         ≡ string_bytes text.old ++ right_part table.now row left right) }
 {
@@ -148,7 +141,7 @@ fn push_right_part(
     push_pair_words(text, table, pair)
 }
 
-/// A row of a process: a pair of each side, if it has one more.
+/// A row of a process: a pair of each side that has one left.
 fn push_row(
     text: &mut String,
     table: &Table,
@@ -157,10 +150,8 @@ fn push_row(
     left: Option<(u8, u8)>,
     right: Option<(u8, u8)>,
 ) -> Result<(), AllocError>
-    requires left { IfSome left (λ x. (x.0 < length table.now.responses)
-        × (x.1 < length table.now.states)) }
-    requires right { IfSome right (λ x. (x.0 < length table.now.responses)
-        × (x.1 < length table.now.states)) }
+    requires left { IfSome left (IsPairOf table.now) }
+    requires right { IfSome right (IsPairOf table.now) }
     ensures { OnOk result (string_bytes text.new
         ≡ string_bytes text.old ++ pair_row table.now process row left right) }
 {
@@ -176,7 +167,7 @@ fn pair_at(pairs: &[(u8, u8)], place: usize) -> Option<(u8, u8)>
     pairs.get(place).copied()
 }
 
-/// The rows of a process with the sides side by side, as many as the longer side has pairs.
+/// The rows of a process with the sides side by side: as many as the longer side has pairs.
 fn push_rows_beside(
     text: &mut String,
     table: &Table,
@@ -184,10 +175,8 @@ fn push_rows_beside(
     left: &[(u8, u8)],
     right: &[(u8, u8)],
 ) -> Result<(), AllocError>
-    requires left { All (λ x. (x.0 < length table.now.responses) × (x.1 < length table.now.states))
-        left.now }
-    requires right { All (λ x. (x.0 < length table.now.responses) × (x.1 < length table.now.states))
-        right.now }
+    requires left { All (IsPairOf table.now) left.now }
+    requires right { All (IsPairOf table.now) right.now }
     ensures { OnOk result (string_bytes text.new
         ≡ string_bytes text.old ++ rows_beside table.now process left.now right.now) }
 {
@@ -223,8 +212,7 @@ fn push_pair_line(
     place: usize,
     pair: Option<(u8, u8)>,
 ) -> Result<(), AllocError>
-    requires { IfSome pair (λ x. (x.0 < length table.now.responses)
-        × (x.1 < length table.now.states)) }
+    requires { IfSome pair (IsPairOf table.now) }
     ensures { OnOk result (string_bytes text.new
         ≡ string_bytes text.old ++ pair_line table.now process team place pair) }
 {
@@ -241,8 +229,7 @@ fn push_side(
     team: Team,
     pairs: &[(u8, u8)],
 ) -> Result<(), AllocError>
-    requires { All (λ x. (x.0 < length table.now.responses) × (x.1 < length table.now.states))
-        pairs.now }
+    requires { All (IsPairOf table.now) pairs.now }
     ensures { OnOk result (string_bytes text.new
         ≡ string_bytes text.old ++ side_lines table.now process team pairs.now) }
 {
@@ -253,7 +240,7 @@ fn push_side(
     Ok(())
 }
 
-/// Whether two of the widest pairs of the table have room in a line.
+/// Whether a line has room for two of the widest pairs of the table.
 fn has_room(table: &Table) -> bool
     ensures { result ≡ has_room table.now }
 {
@@ -261,29 +248,8 @@ fn has_room(table: &Table) -> bool
     responses <= MOST_BESIDE && state_width(table) <= MOST_BESIDE - responses
 }
 
-/// The rows of a process, with the sides one below the other where they have no room side by side.
-fn push_rows(
-    text: &mut String,
-    table: &Table,
-    process: u8,
-    left: &[(u8, u8)],
-    right: &[(u8, u8)],
-) -> Result<(), AllocError>
-    requires left { All (λ x. (x.0 < length table.now.responses) × (x.1 < length table.now.states))
-        left.now }
-    requires right { All (λ x. (x.0 < length table.now.responses) × (x.1 < length table.now.states))
-        right.now }
-    ensures { OnOk result (string_bytes text.new
-        ≡ string_bytes text.old ++ pair_rows table.now process left.now right.now) }
-{
-    if has_room(table) {
-        return push_rows_beside(text, table, process, left, right);
-    }
-    push_side(text, table, process, Team::A, left)?;
-    push_side(text, table, process, Team::B, right)
-}
-
-/// All that a process can get, by the team that is first.
+/// All pairs that a process can get, by the team that is first: the sides side by side if a line has
+/// room for them, else one below the other.
 pub(crate) fn push_pair_rows(
     alloc: Global,
     text: &mut String,
@@ -298,5 +264,9 @@ pub(crate) fn push_pair_rows(
 {
     let left = pairs_of(alloc, table, choice, Team::A, process)?;
     let right = pairs_of(alloc, table, choice, Team::B, process)?;
-    push_rows(text, table, process, &left, &right)
+    if has_room(table) {
+        return push_rows_beside(text, table, process, &left, &right);
+    }
+    push_side(text, table, process, Team::A, &left)?;
+    push_side(text, table, process, Team::B, &right)
 }

@@ -1,11 +1,12 @@
-//! The ways that a certificate refutes: a choice of each, and the two runs by which a process of it
-//! cannot tell which team was first.
+//! The ways that a certificate refutes: the choice of each, and two runs by which a process cannot
+//! tell which team was first.
 ghost use Rattle.std.specs.Prelude.{◌≡◌, ◌+◌, ◌≤◌, ◌<◌, ◌==◌, ◌++◌, length, not, string_bytes, slice_index, All, IfOk, IfSome, OnOk};
 ghost use Rattle.std.specs.List.{position};
 ghost use Rattle.cn_table.specs.TypeTable.{transition};
 ghost use Rattle.cn_choice.specs.Canonical.{FitsTable};
 ghost use Rattle.cn_choice.specs.RawChoices.{IsRawChoice};
-ghost use Rattle.cn_forms.specs.Explained.{alike, both_teams, cannot_tell, choice_text, does, goes_along, like_members, member, members, processes, run_line, run_lines, sight, step_text, steps_text, way, way_line, way_number, ways, IsRefuted};
+ghost use Rattle.cn_forms.specs.Explained.{alike, both_teams, cannot_tell, choice_text, does, goes_along, member, members, processes, run_line, run_lines, sight, step_text, steps_text, way, way_line, way_number, ways, IsRefuted};
+ghost use Rattle.cn_forms.specs.Pairs.{IsPairOf};
 
 use crate::explained::pairs::push_pair_words;
 use cn_choice::reference::raw_pair;
@@ -20,7 +21,7 @@ fn first_other(operations: &[u8], own: u8) -> Option<usize>
     operations.iter().position(|other| *other != own)
 }
 
-/// How many of the operations, from the first on, are this one.
+/// The number of operations, from the first on, that are this one.
 fn alike(operations: &[u8], own: u8) -> usize
     ensures count { result ≡ alike operations.now own }
     ensures range { result ≤ length operations.now }
@@ -28,7 +29,7 @@ fn alike(operations: &[u8], own: u8) -> usize
     first_other(operations, own).unwrap_or(operations.len())
 }
 
-/// So many processes from this one on.
+/// This number of processes, from this one on.
 fn push_processes(text: &mut String, process: u8, count: usize) -> Result<(), AllocError>
     requires { count ≤ 8 }
     ensures { OnOk result (string_bytes text.new
@@ -48,32 +49,7 @@ fn does(count: usize) -> &'static str
     if count <= 1 { " does " } else { " do " }
 }
 
-/// A process and those behind it, before the end, that do the same one after the other; what is
-/// told of their team; and their operation.
-fn push_like_members(
-    text: &mut String,
-    table: &Table,
-    choice: &RawChoice,
-    team: &str,
-    end: u8,
-    process: u8,
-) -> Result<(), AllocError>
-    requires fits { IsRawChoice table.now (length choice.now.operations) choice.now }
-    requires process { process < end }
-    requires within { end ≤ length choice.now.operations }
-    requires few { length choice.now.operations ≤ 8 }
-    ensures { OnOk result (string_bytes text.new
-        ≡ string_bytes text.old ++ like_members table.now choice.now team.now end process) }
-{
-    let operations = choice.operations.as_slice();
-    let own = operations[process as usize];
-    let count = alike(&operations[process as usize..end as usize], own);
-    let (does, operation) = (does(count), table.operation_name(Operation(own)));
-    push_processes(text, process, count)?;
-    write!(text, "{team}{does}{operation}")
-}
-
-/// Whether a process does the same as the one before it, which is not before the first.
+/// Whether a process behind the first one has the operation of the one right before it.
 fn goes_along(choice: &RawChoice, first: u8, process: u8) -> bool
     requires { process < length choice.now.operations }
     ensures { result ≡ goes_along choice.now first process }
@@ -82,7 +58,8 @@ fn goes_along(choice: &RawChoice, first: u8, process: u8) -> bool
     process > first && operations[process as usize - 1] == operations[process as usize]
 }
 
-/// A process with those that do the same, but for one that goes along with those before it.
+/// A process and the processes right behind it, before the end, with the same operation; the words
+/// for their team; and the operation. A process that goes along with those before it has no text.
 fn push_member(
     text: &mut String,
     table: &Table,
@@ -105,10 +82,15 @@ fn push_member(
     if process != first {
         text.push_str(", ")?;
     }
-    push_like_members(text, table, choice, team, end, process)
+    let operations = choice.operations.as_slice();
+    let own = operations[process as usize];
+    let count = alike(&operations[process as usize..end as usize], own);
+    let (does, operation) = (does(count), table.operation_name(Operation(own)));
+    push_processes(text, process, count)?;
+    write!(text, "{team}{does}{operation}")
 }
 
-/// So many processes from the first on, with what is told of their team, and their operations.
+/// This number of processes, from the first on, with words for their team and their operations.
 #[tactic(auto, unfolding(crate::specs::Explained::members))]
 fn push_members(
     text: &mut String,
@@ -131,7 +113,7 @@ fn push_members(
     Ok(())
 }
 
-/// The step of a process in a state. Answers the next state.
+/// The step of a process in a state; answers the next state.
 fn push_step(
     text: &mut String,
     table: &Table,
@@ -176,15 +158,14 @@ fn push_steps(
     Ok(())
 }
 
-/// What a process sees, if it takes part.
+/// What a process sees, if it takes part in the run.
 fn push_sight(
     text: &mut String,
     table: &Table,
     process: u8,
     pair: Option<(u8, u8)>,
 ) -> Result<(), AllocError>
-    requires { IfSome pair (λ x. (x.0 < length table.now.responses)
-        × (x.1 < length table.now.states)) }
+    requires { IfSome pair (IsPairOf table.now) }
     ensures { OnOk result (string_bytes text.new
         ≡ string_bytes text.old ++ sight table.now process pair) }
 {
@@ -221,8 +202,8 @@ fn push_run(
     text.push_str("\n")
 }
 
-/// Who does what in a choice: the processes of team A, and those of team B, with what is told of
-/// each team.
+/// The operations of a choice: those of team A's processes, and of team B's, with words for each
+/// team.
 #[tactic(auto, unfolding(crate::specs::Explained::both_teams))]
 pub(crate) fn push_both_teams(
     text: &mut String,
@@ -269,7 +250,7 @@ fn push_cannot_tell(text: &mut String, process: u8) -> Result<(), AllocError>
     write!(text, "        p{process} cannot tell:\n")
 }
 
-/// A choice, and a process of it.
+/// A numbered choice, and a process of it that cannot tell.
 #[tactic(auto, unfolding(crate::specs::Explained::way_line))]
 fn push_way_line(
     text: &mut String,

@@ -109,7 +109,7 @@ fn push_edge(text: &mut String, plan: &Plan, process: u8, place: usize) -> Resul
     push_arrival(text, plan, process, here)
 }
 
-/// How a process comes to a place.
+/// The arrow on which a process comes to a place.
 fn push_arrival(text: &mut String, plan: &Plan, process: u8, here: Place) -> Result<(), AllocError>
     requires { here.role < processes_of plan.now }
     ensures { OnOk result (string_bytes text.new
@@ -136,7 +136,7 @@ fn push_edge_end(text: &mut String, team: &str, role: u8, operation: &str) -> Re
     write!(text, "{team} role {role} {operation}\"];\n")
 }
 
-/// Where a process comes from when it goes to a place of its path.
+/// The origin of a process on its way to a place of its path.
 fn push_origin(text: &mut String, plan: &Plan, process: u8, place: usize) -> Result<(), AllocError>
     requires { IsPlace (protocol_of plan.now) (processes_of plan.now) process place }
     ensures { OnOk result (string_bytes text.new

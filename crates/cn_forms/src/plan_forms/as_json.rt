@@ -131,7 +131,7 @@ fn push_end(text: &mut String, plan: &Plan, role: u8) -> Result<(), AllocError>
     push_role_end(text, operation, team)
 }
 
-/// What stands behind the pairs of a role.
+/// The text behind the pairs of a role.
 #[tactic(auto, unfolding(crate::specs::Json::role_end))]
 fn push_role_end(text: &mut String, operation: &str, team: &str) -> Result<(), AllocError>
     ensures { OnOk result (string_bytes text.new

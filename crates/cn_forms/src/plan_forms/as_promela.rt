@@ -1,5 +1,5 @@
-//! A plan as a model in Promela. What a function makes is a whole of that language: a declaration,
-//! a macro, an `inline`, a process, a statement, or an option of an `if`.
+//! A plan as a model in Promela. Each function writes a unit of that language: a declaration, a
+//! macro, an `inline`, a process, a statement, or an option of an `if`.
 ghost use Rattle.std.specs.Prelude.{◌≡◌, ◌<◌, ◌++◌, IfOk, OnOk, flat_map, length, string_bytes};
 ghost use Rattle.std.specs.List.{range_with_len};
 ghost use Rattle.cn_proto.specs.Plan.{processes_of, protocol_of};
@@ -61,7 +61,7 @@ fn push_registers(text: &mut String, nodes: u8) -> Result<(), AllocError>
     )
 }
 
-/// What holds of every process: its actions, and its decision.
+/// The rules for every process: its actions, and its decision.
 fn push_rules(text: &mut String, plan: &Plan) -> Result<(), AllocError>
     ensures { OnOk result (string_bytes text.new ≡ string_bytes text.old
         ++ rules_promela plan.now) }
@@ -85,7 +85,7 @@ fn push_action_macro(text: &mut String) -> Result<(), AllocError>
     text.push_str("#define ACTION(p) if :: goto stopped :: taken[p]++ fi\n\n")
 }
 
-/// How a process decides.
+/// The decision of a process, with its assertions.
 #[tactic(auto, unfolding(crate::specs::Promela::decide_inline))]
 fn push_decide(text: &mut String, processes: u8) -> Result<(), AllocError>
     ensures { OnOk result (string_bytes text.new ≡ string_bytes text.old
@@ -135,7 +135,7 @@ fn push_proctype(text: &mut String, process: u8, body: &str) -> Result<(), Alloc
     write!(text, "\nactive proctype process_{process}() {{\n{body}}}\n")
 }
 
-/// What a process does.
+/// The body of a process.
 fn body_of(alloc: Global, plan: &Plan, process: u8) -> Result<String, AllocError>
     requires { process < processes_of plan.now }
     ensures { IfOk result (λ body. string_bytes body ≡ body_promela plan.now process) }
@@ -154,7 +154,7 @@ fn push_value(text: &mut String, process: u8) -> Result<(), AllocError>
     write!(text, "    byte value = {process}, response, state;\n")
 }
 
-/// Where a process stops.
+/// The label at which a process stops.
 #[tactic(auto, unfolding(crate::specs::Promela::stop_lines))]
 fn push_stop(text: &mut String) -> Result<(), AllocError>
     ensures { OnOk result (string_bytes text.new ≡ string_bytes text.old ++ stop_lines) }
@@ -223,7 +223,7 @@ fn push_stand_line(
     )
 }
 
-/// The action of a process that these statements are.
+/// An action of a process, with its statements.
 #[tactic(auto, unfolding(crate::specs::Promela::action_line))]
 fn push_action(text: &mut String, process: u8, statements: &str) -> Result<(), AllocError>
     ensures { OnOk result (string_bytes text.new ≡ string_bytes text.old
@@ -264,7 +264,7 @@ fn push_rows(text: &mut String, plan: &Plan, here: Place) -> Result<(), AllocErr
     Ok(())
 }
 
-/// What the operation of the role does in a state.
+/// The effect of the operation of the role in a state.
 fn push_row(text: &mut String, plan: &Plan, here: Place, state: State) -> Result<(), AllocError>
     requires role { here.role < processes_of plan.now }
     requires state { state.0 < length plan.now.table.states }
@@ -300,7 +300,7 @@ fn read_of(alloc: Global, node: u8) -> Result<String, AllocError>
     format!(in alloc; "state = object[{node}]")
 }
 
-/// The statements of the fourth action: to take a value, and behind the last place to decide.
+/// The statements of the fourth action: to take a value, and at the last place to decide.
 fn end_of(alloc: Global, plan: &Plan, process: u8, place: usize) -> Result<String, AllocError>
     requires { IsPlace (protocol_of plan.now) (processes_of plan.now) process place }
     ensures { IfOk result (λ text. string_bytes text ≡ end_promela plan.now process place) }
