@@ -55,7 +55,7 @@ abbrev pub AreByFirst : Setting → ℕ → List (Vec (Vec (List ℕ) Global) Gl
 AreByFirst s end rows =
     (f : ℕ) → f < end
     → (by_asked : Vec (Vec (List ℕ) Global) Global) × (slice_get rows f ≡ Some by_asked)
-      × AreByAsked s f (length s.table.now.operations) by_asked.items
+    × AreByAsked s f (length s.table.now.operations) by_asked.items
 
 -- a start state of the table, and all stocks of n of its operations
 pub record IsReady (t : TypeTable) (n : ℕ) (stocks : List Stock) (start : ℕ) : Type 0 where
