@@ -8,7 +8,7 @@ use Rattle.cn_outcomes.specs.PairSets.{Has}
 use Rattle.cn_discern.specs.declared.setting.Setting.{Setting}
 use Rattle.cn_discern.specs.Words.{EndsIn, Shows}
 use Rattle.cn_discern.specs.declared.stocks.Stock.{Stock}
-use Rattle.cn_discern.specs.Stocks.{AreStocks, HaveAll, items_at}
+use Rattle.cn_discern.specs.Stocks.{AreStocks, HaveAll, IsStock, items_at}
 
 pub record IsSetting (s : Setting) : Type 0 where
   pub start : s.start.0 < length s.table.now.states
@@ -29,7 +29,17 @@ IsShownSet s f o stock set = (r q : ℕ) → Has set r q ↔ Shows s.table.now s
 
 -- these sets of the first stocks
 abbrev pub AreShownSets : Setting → ℕ → ℕ → List (List ℕ) → Type 0
-AreShownSets s f o sets = (i : ℕ) (items : List ℕ) → i < length sets → items_at s.stocks.now i ≡ Some items → IsShownSet s f o items (slice_index_or sets i [])
+AreShownSets s f o sets =
+    (i : ℕ) (items : List ℕ) → i < length sets → items_at s.stocks.now i ≡ Some items
+    → IsShownSet s f o items (slice_index_or sets i [])
+
+-- a stock, and what is known of the stocks before it: the states in which words that begin with f end, and the pairs that these words show o
+pub record AreShownBefore (s : Setting) (f o : ℕ) (stock : Stock) (lead : List ℕ) (before : List (List ℕ)) : Type 0 where
+  pub asked : o < length s.table.now.operations
+  pub stock_is : IsStock (length s.table.now.operations) s.stocks.now (length before) stock
+  pub lead_is : AreLeadSets s f lead
+  pub long : length before ≤ length lead
+  pub shown : AreShownSets s f o before
 
 -- these sets of all stocks
 pub record AreAllShown (s : Setting) (f o : ℕ) (sets : List (List ℕ)) : Type 0 where
@@ -42,7 +52,10 @@ AreByAsked s f end rows = (o : ℕ) → o < end → (sets : Vec (List ℕ) Globa
 
 -- and for each f below the end
 abbrev pub AreByFirst : Setting → ℕ → List (Vec (Vec (List ℕ) Global) Global) → Type 0
-AreByFirst s end rows = (f : ℕ) → f < end → (by_asked : Vec (Vec (List ℕ) Global) Global) × (slice_get rows f ≡ Some by_asked) × AreByAsked s f (length s.table.now.operations) by_asked.items
+AreByFirst s end rows =
+    (f : ℕ) → f < end
+    → (by_asked : Vec (Vec (List ℕ) Global) Global) × (slice_get rows f ≡ Some by_asked)
+    × AreByAsked s f (length s.table.now.operations) by_asked.items
 
 -- a start state of the table, and all stocks of n of its operations
 pub record IsReady (t : TypeTable) (n : ℕ) (stocks : List Stock) (start : ℕ) : Type 0 where

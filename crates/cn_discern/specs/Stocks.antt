@@ -47,7 +47,8 @@ HaveAll operations n stocks =
 -- the row has for each operation below the end that is not below one of the stock's the place of the stock with that operation more
 abbrev pub HasChildren : List Stock → ℕ → ℕ → List ℕ → Type 0
 HasChildren stocks place end row =
-    (items : List ℕ) → items_at stocks place ≡ Some items → (x : ℕ) → x < end → UpTo x items → items_at stocks (slice_index row x) ≡ Some (items ++ x ∷ [])
+    (items : List ℕ) → items_at stocks place ≡ Some items → (x : ℕ) → x < end → UpTo x items
+    → items_at stocks (slice_index row x) ≡ Some (items ++ x ∷ [])
 
 -- the rows of the first stocks
 abbrev pub AreChildren : ℕ → List Stock → List (List ℕ) → Type 0

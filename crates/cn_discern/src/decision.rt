@@ -12,6 +12,7 @@ use crate::setting::Setting;
 use crate::shown::shown_by_first;
 use crate::splits::splits;
 use crate::stocks::{Stock, stocks_up_to};
+use crate::threading::Threading;
 use cn_outcomes::OutcomeSet;
 use cn_table::{State, Table};
 use rayon::prelude::*;
@@ -93,13 +94,14 @@ fn all_starts(alloc: Global, table: &Table) -> Result<Vec<u8>, AllocError>
     Ok(starts)
 }
 
-/// For each start state whether some stock of n operations splits from it, from several threads.
+/// For each start state whether some stock of n operations splits from it.
 fn by_start<T: Threads + Sync>(
     rt: &T,
     alloc: Global,
     table: &Table,
     n: u8,
     starts: &[u8],
+    threading: Threading,
 ) -> Result<Vec<bool>, AllocError>
     requires { All (IsStart table.now n) starts.now }
     ensures { IfOk result (λ answers. AllZip
@@ -107,7 +109,7 @@ fn by_start<T: Threads + Sync>(
 {
     starts
         .par_iter()
-        .with_min_len(1)
+        .with_min_len(threading.least_piece())
         .map(
             |start: &u8| -> Result<bool, AllocError>
                 requires { IsStart table.now n start.now }
@@ -130,7 +132,7 @@ fn some_yes(answers: &[bool]) -> bool
 }
 
 /// Whether the type is n-discerning, for n of at least 3: whether some list of n operations splits
-/// from some state ([`laws::splits_decide`]). The start states are looked at in several threads.
+/// from some state ([`laws::splits_decide`]). The threads share the start states.
 ///
 /// # Errors
 ///
@@ -140,6 +142,7 @@ pub fn is_discerning<T: Threads + Sync>(
     alloc: Global,
     table: &Table,
     n: u8,
+    threading: Threading,
 ) -> Result<bool, AllocError>
     requires some { 3 ≤ n }
     requires few { n ≤ MOST_PROCESSES }
@@ -152,6 +155,6 @@ pub fn is_discerning<T: Threads + Sync>(
         return Ok(true);
     }
     let starts = all_starts(alloc, table)?;
-    let answers = by_start(rt, alloc, table, n, starts.as_slice())?;
+    let answers = by_start(rt, alloc, table, n, starts.as_slice(), threading)?;
     Ok(some_yes(answers.as_slice()))
 }

@@ -19,5 +19,7 @@ mod setting;
 mod shown;
 mod splits;
 mod stocks;
+mod threading;
 
 pub use decision::is_discerning;
+pub use threading::Threading;

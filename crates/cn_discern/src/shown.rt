@@ -1,6 +1,6 @@
 //! The pairs that words which begin with an operation show another one, stock by stock.
 ghost use Rattle.std.specs.Prelude.{◌≡◌, ◌<◌, ◌≤◌, ◌↔◌, ◌⊎◌, ℕ, length, IfOk};
-ghost use Rattle.cn_discern.specs.Settings.{AreAllShown, AreByAsked, AreByFirst, AreLeadSets, AreShownSets, IsSetting, IsShownSet};
+ghost use Rattle.cn_discern.specs.Settings.{AreAllShown, AreByAsked, AreByFirst, AreLeadSets, AreShownBefore, IsSetting, IsShownSet};
 ghost use Rattle.cn_discern.specs.LastMoves.{AloneShows, AskedLast};
 ghost use Rattle.cn_discern.specs.Stocks.{IsLinked, IsStock};
 ghost use Rattle.cn_outcomes.specs.PairSets.{Has};
@@ -78,12 +78,8 @@ fn shown_by_last(
     before: &[OutcomeSet],
 ) -> OutcomeSet
     requires setting { IsSetting setting.now }
-    requires asked { question.asked < length setting.now.table.now.operations }
-    requires stock { IsStock (length setting.now.table.now.operations) setting.now.stocks.now
-        (length before.now) stock.now }
-    requires lead { AreLeadSets setting.now question.first lead.now }
-    requires long { length before.now ≤ length lead.now }
-    requires before { AreShownSets setting.now question.first question.asked before.now }
+    requires before { AreShownBefore setting.now question.first question.asked stock.now
+        lead.now before.now }
     ensures { IsShownSet setting.now question.first question.asked stock.now.operations.items
         result }
 {
@@ -108,12 +104,8 @@ fn shown_set(
 ) -> OutcomeSet
     requires setting { IsSetting setting.now }
     requires first { question.first < length setting.now.table.now.operations }
-    requires asked { question.asked < length setting.now.table.now.operations }
-    requires stock { IsStock (length setting.now.table.now.operations) setting.now.stocks.now
-        (length before.now) stock.now }
-    requires lead { AreLeadSets setting.now question.first lead.now }
-    requires long { length before.now ≤ length lead.now }
-    requires before { AreShownSets setting.now question.first question.asked before.now }
+    requires before { AreShownBefore setting.now question.first question.asked stock.now
+        lead.now before.now }
     ensures { IsShownSet setting.now question.first question.asked stock.now.operations.items
         result }
 {

@@ -9,7 +9,9 @@ use Rattle.cn_outcomes.specs.LeftStates.{LeavesIn}
 
 -- two processes are in the team
 abbrev pub HasTwo : RawChoice → Team → Type 0
-HasTwo c team = (i : ℕ) × (j : ℕ) × (i ≢ j) × (i < length c.operations) × (j < length c.operations) × (slice_get c.marks i ≡ Some team) × (slice_get c.marks j ≡ Some team)
+HasTwo c team =
+    (i : ℕ) × (j : ℕ) × (i ≢ j) × (i < length c.operations) × (j < length c.operations)
+    × (slice_get c.marks i ≡ Some team) × (slice_get c.marks j ≡ Some team)
 
 -- no state is left both by an order that begins in A and by one that begins in B; where B has two members, no order that begins in A
 -- leaves the start state; where A has two, none that begins in B does

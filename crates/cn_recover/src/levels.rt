@@ -13,7 +13,7 @@ ghost use Rattle.cn_recover.specs.Recording.{IsRecording, IsRecordingWitness, Is
 
 use crate::{is_recording_witness, laws};
 use cn_choice::{Block, Choice, Choices};
-use cn_search::{FindFault, blocks_for};
+use cn_search::{FindFault, Property, Threading, blocks_for, greatest_number};
 use cn_table::Table;
 use rayon::prelude::*;
 use std::alloc::{AllocError, Global};
@@ -43,13 +43,18 @@ fn some_records_in(table: &Table, block: &Block) -> bool
     false
 }
 
-/// Whether some choice of the batch of blocks is a recording witness, from several threads.
-fn some_records_in_batch<T: Threads + Sync>(rt: &T, table: &Table, blocks: &[Block]) -> bool
+/// Whether some choice of the batch of blocks is a recording witness.
+fn some_records_in_batch<T: Threads + Sync>(
+    rt: &T,
+    table: &Table,
+    blocks: &[Block],
+    threading: Threading,
+) -> bool
     requires { All (IsListedBlock table.now) blocks.now }
     ensures { IsTrue result
         ↔ Any (λ block. SomeRecords table.now (live_in table.now block)) blocks.now }
 {
-    blocks.par_iter().with_min_len(1).any(
+    blocks.par_iter().with_min_len(threading.least_piece()).any(
         rt,
         |block: &Block| -> bool
             requires { IsListedBlock table.now block.now }
@@ -60,7 +65,12 @@ fn some_records_in_batch<T: Threads + Sync>(rt: &T, table: &Table, blocks: &[Blo
 
 /// Whether some choice of the blocks is a recording witness. They are searched batch by batch, each
 /// as long as all before it: so little is searched behind a witness that comes early.
-fn some_records<T: Threads + Sync>(rt: &T, table: &Table, blocks: &[Block]) -> bool
+fn some_records<T: Threads + Sync>(
+    rt: &T,
+    table: &Table,
+    blocks: &[Block],
+    threading: Threading,
+) -> bool
     requires { All (IsListedBlock table.now) blocks.now }
     ensures { IsTrue result
         ↔ Any (λ block. SomeRecords table.now (live_in table.now block)) blocks.now }
@@ -69,7 +79,7 @@ fn some_records<T: Threads + Sync>(rt: &T, table: &Table, blocks: &[Block]) -> b
     while !remaining.is_empty() {
         let searched = blocks.len() - remaining.len();
         let (batch, rest) = remaining.split_at(remaining.len().min(searched + 1));
-        if some_records_in_batch(rt, table, batch) {
+        if some_records_in_batch(rt, table, batch, threading) {
             return true;
         }
         remaining = rest;
@@ -83,6 +93,7 @@ fn is_recording<T: Threads + Sync>(
     alloc: Global,
     table: &Table,
     n: u8,
+    threading: Threading,
 ) -> Result<bool, AllocError>
     requires some { 2 ≤ n }
     requires few { n ≤ MOST_PROCESSES }
@@ -91,30 +102,27 @@ fn is_recording<T: Threads + Sync>(
     cn_choice::laws::block_list();
     laws::live_choices_decide();
     let blocks = blocks_for(alloc, table, n)?;
-    Ok(some_records(rt, table, blocks.as_slice()))
+    Ok(some_records(rt, table, blocks.as_slice(), threading))
 }
 
-/// The recoverable number up to the limit. What is refuted for one process more than the number is
-/// refuted for every greater number of processes, so that the search ends there.
-fn recoverable_up_to<T: Threads + Sync>(
-    rt: &T,
-    alloc: Global,
-    table: &Table,
-    limit: u8,
-) -> Result<Option<u8>, AllocError>
-    requires some { LEAST_LIMIT ≤ limit }
-    requires few { limit ≤ GREATEST_LIMIT }
-    ensures { IfOk result (IsRecoverableNumberUpTo table.now limit) }
-{
-    laws::number_before_failure();
-    let mut number = None;
-    for n in 2..limit + 1 {
-        if !is_recording(rt, alloc, table, n)? {
-            return Ok(number);
-        }
-        number = Some(n);
+/// For how many processes the type is recording.
+#[derive(Drop)]
+struct Recording<'s> {
+    table: &'s Table,
+}
+
+impl<'s> Property for Recording<'s> {
+    ghost holds = { λ r. IsRecording r.table.now };
+
+    fn decide<T: Threads + Sync>(
+        &self,
+        rt: &T,
+        alloc: Global,
+        n: u8,
+        threading: Threading,
+    ) -> Result<bool, AllocError> {
+        is_recording(rt, alloc, self.table, n, threading)
     }
-    Ok(number)
 }
 
 /// The recoverable number of a type up to a limit, from [`LEAST_LIMIT`](cn_search::LEAST_LIMIT) to
@@ -123,8 +131,8 @@ fn recoverable_up_to<T: Threads + Sync>(
 ///
 /// It is at most the number of the type up to the limit
 /// ([`laws::at_most_the_number`](crate::laws::at_most_the_number)). The type may have any number of
-/// choices. The blocks of choices are searched in several threads, and of each number of processes
-/// little behind the first recording witness.
+/// choices. The blocks of choices are searched in several threads, or in one where these get too little
+/// memory, and of each number of processes little behind the first recording witness.
 ///
 /// # Errors
 ///
@@ -143,5 +151,6 @@ pub fn recoverable_number<T: Threads + Sync>(
     if let Some(fault) = FindFault::of_limit(limit) {
         return Err(fault);
     }
-    Ok(recoverable_up_to(rt, alloc, table, limit)?)
+    laws::monotonicity();
+    Ok(greatest_number(rt, alloc, &Recording { table }, limit)?)
 }

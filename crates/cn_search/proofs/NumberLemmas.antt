@@ -22,6 +22,11 @@ module _ (P : ℕ → Type 0) (limit : ℕ) (Greatest : Option ℕ → Type 0) (
   greatest_refuted n None two within fails = none (subst (λ (k : ℕ). ¬ P k) two fails)
   greatest_refuted n (Some m) (next, two, is) within fails = found m two (omega (arith, next, within)) is (λ _. subst (λ (k : ℕ). ¬ P k) next fails)
 
+  -- each number up to the limit was tried
+  pub greatest_passed : (n : ℕ) (number : Option ℕ) → HasTried P n number → 2 ≤ limit → n ≡ limit + 1 → Greatest number
+  greatest_passed n None two least end = absurd (omega (arith, two, least, end))
+  greatest_passed n (Some m) (next, two, is) least end = found m two (omega (arith, next, end)) is (λ less. absurd (omega (arith, next, end, less)))
+
   -- the greatest number up to a lower limit, below that
   pub greatest_of_lower : (lower : ℕ) (Lower : Option ℕ → Type 0) → (Lower None → (m : ℕ) → 2 ≤ m → m ≤ lower → ¬ P m)
       → ((n : ℕ) → Lower (Some n) → (2 ≤ n) × (n ≤ lower) × P n × ((m : ℕ) → n < m → m ≤ lower → ¬ P m))

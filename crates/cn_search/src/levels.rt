@@ -8,8 +8,10 @@ ghost use Rattle.cn_search.specs.declared.fault.FindFault.{FindFault};
 ghost use Rattle.cn_search.specs.declared.fault.FindFault.TheVariants.{OutOfMemory};
 
 use crate::FindFault;
+use crate::property::{Property, greatest_number};
 use crate::search::{blocks_for, first_witness};
 use cn_choice::{count, laws};
+use cn_discern::Threading;
 use cn_table::Table;
 use std::alloc::{AllocError, Global};
 use std::thread::Threads;
@@ -24,41 +26,37 @@ const FEW_CHOICES: u64 = 30_000;
 /// So many blocks of choices are looked at first, where there are more choices.
 const EARLY_BLOCKS: usize = 64;
 
-/// Whether the type is n-discerning, by the choices of teams.
+/// How many of the blocks are looked at: so many, or all.
+fn count_of_blocks(most: Option<usize>, blocks: usize) -> usize
+    ensures inside { result ≤ blocks }
+    ensures all { most ≡ None → result ≡ blocks }
+{
+    match most {
+        Some(most) => most.min(blocks),
+        None => blocks,
+    }
+}
+
+/// Whether one of the first blocks of choices for n processes has a witness, so that the type is
+/// n-discerning. If all blocks are looked at, it is n-discerning nowhere else.
 fn has_witness<T: Threads + Sync>(
     rt: &T,
     alloc: Global,
     table: &Table,
     n: u8,
+    most: Option<usize>,
+    threading: Threading,
 ) -> Result<bool, AllocError>
     requires some { 2 ≤ n }
     requires few { n ≤ MOST_PROCESSES }
-    ensures { IfOk result (λ yes. IsTrue yes ↔ IsDiscerning table.now n) }
+    ensures found { IfOk result (λ yes. IsTrue yes → IsDiscerning table.now n) }
+    ensures all { most ≡ None → IfOk result (λ yes. IsDiscerning table.now n → IsTrue yes) }
 {
     laws::block_list();
     laws::live_choices_decide();
     let blocks = blocks_for(alloc, table, n)?;
-    let witness = first_witness(rt, alloc, table, blocks.as_slice())?;
-    Ok(witness.is_some())
-}
-
-/// Whether one of the first choices of teams is a witness for n processes, so that the type is
-/// n-discerning.
-fn has_early_witness<T: Threads + Sync>(
-    rt: &T,
-    alloc: Global,
-    table: &Table,
-    n: u8,
-) -> Result<bool, AllocError>
-    requires some { 2 ≤ n }
-    requires few { n ≤ MOST_PROCESSES }
-    ensures { IfOk result (λ yes. IsTrue yes → IsDiscerning table.now n) }
-{
-    laws::block_list();
-    laws::live_choices_decide();
-    let blocks = blocks_for(alloc, table, n)?;
-    let (first, _rest) = blocks.split_at(blocks.len().min(EARLY_BLOCKS));
-    let witness = first_witness(rt, alloc, table, first)?;
+    let (first, _rest) = blocks.split_at(count_of_blocks(most, blocks.len()));
+    let witness = first_witness(rt, alloc, table, first, threading)?;
     Ok(witness.is_some())
 }
 
@@ -69,6 +67,7 @@ fn is_discerning<T: Threads + Sync>(
     alloc: Global,
     table: &Table,
     n: u8,
+    threading: Threading,
 ) -> Result<bool, AllocError>
     requires some { 2 ≤ n }
     requires few { n ≤ MOST_PROCESSES }
@@ -76,35 +75,32 @@ fn is_discerning<T: Threads + Sync>(
 {
     let choices = count(table.states(), table.operations(), n);
     if n < LEAST_WITHOUT_TEAMS || choices <= FEW_CHOICES {
-        return has_witness(rt, alloc, table, n);
+        return has_witness(rt, alloc, table, n, None, threading);
     }
-    if has_early_witness(rt, alloc, table, n)? {
+    if has_witness(rt, alloc, table, n, Some(EARLY_BLOCKS), threading)? {
         return Ok(true);
     }
-    cn_discern::is_discerning(rt, alloc, table, n)
+    cn_discern::is_discerning(rt, alloc, table, n, threading)
 }
 
-/// The number up to the limit. What is refuted for one process more than the number is refuted for
-/// every greater number of processes, so that the search ends there.
-pub(crate) fn number_up_to<T: Threads + Sync>(
-    rt: &T,
-    alloc: Global,
-    table: &Table,
-    limit: u8,
-) -> Result<Option<u8>, AllocError>
-    requires some { LEAST_LIMIT ≤ limit }
-    requires few { limit ≤ GREATEST_LIMIT }
-    ensures { IfOk result (IsNumberUpTo table.now limit) }
-{
-    laws::number_before_failure();
-    let mut number = None;
-    for n in 2..limit + 1 {
-        if !is_discerning(rt, alloc, table, n)? {
-            return Ok(number);
-        }
-        number = Some(n);
+/// For how many processes the type is discerning.
+#[derive(Drop)]
+pub(crate) struct Discerning<'s> {
+    pub table: &'s Table,
+}
+
+impl<'s> Property for Discerning<'s> {
+    ghost holds = { λ d. IsDiscerning d.table.now };
+
+    fn decide<T: Threads + Sync>(
+        &self,
+        rt: &T,
+        alloc: Global,
+        n: u8,
+        threading: Threading,
+    ) -> Result<bool, AllocError> {
+        is_discerning(rt, alloc, self.table, n, threading)
     }
-    Ok(number)
 }
 
 /// The number of a type up to a limit, from [`LEAST_LIMIT`](crate::LEAST_LIMIT) to
@@ -133,5 +129,6 @@ pub fn number<T: Threads + Sync>(
     if let Some(fault) = FindFault::of_limit(limit) {
         return Err(fault);
     }
-    Ok(number_up_to(rt, alloc, table, limit)?)
+    laws::monotonicity();
+    Ok(greatest_number(rt, alloc, &Discerning { table }, limit)?)
 }

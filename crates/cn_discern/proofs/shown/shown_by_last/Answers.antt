@@ -27,8 +27,8 @@ loop-operation-preserved c =
     let o = c.loop-operation.operation in
     elim c.match-stock-operation.branch [
       | in-Some w ↦ (
-          let less = c.requires.stock.links.some o w.in-Some.place w.in-Some.is in
-          let shown = c.requires.before w.in-Some.place less.1.0 less.0 less.1.1 in
+          let less = c.requires.before.stock_is.links.some o w.in-Some.place w.in-Some.is in
+          let shown = c.requires.before.shown w.in-Some.place less.1.0 less.0 less.1.1 in
           let same : w.index-before-place.result ≡ get_or c.args.before.now w.in-Some.place [] = w.index-before-place.is ∙ get_or_default c.args.before.now w.in-Some.place w.index-before-place.result [] less.0 in
           λ r q. subst (λ (set : List ℕ). Gathered (ShownBase t u items f a r q) (ShownPart t u items f a r q) (o + 1) (Has set r q)) (sym w.set-is)
           (gathered_more (ShownBase t u items f a r q) (ShownPart t u items f a r q) o (Has c.loop-operation.set r q) ((found : ℕ) × Has w.index-before-place.result r found × ((transition t o found).1 ≡ q))
@@ -38,7 +38,7 @@ loop-operation-preserved c =
           )
       | in_default w ↦ (λ r q. subst (λ (set : List ℕ). Gathered (ShownBase t u items f a r q) (ShownPart t u items f a r q) (o + 1) (Has set r q)) (sym w.set-is)
           (gathered_none (ShownBase t u items f a r q) (ShownPart t u items f a r q) o (Has c.loop-operation.set r q) (c.loop-operation.invariant r q)
-          (shown_part_none t u items f a o r q (no_less c.args.setting.now.stocks.now (length c.args.before.now) items c.args.stock.now.less c.requires.stock.links o w.in_default.not-Some))))
+          (shown_part_none t u items f a o r q (no_less c.args.setting.now.stocks.now (length c.args.before.now) items c.args.stock.now.less c.requires.before.stock_is.links o w.in_default.not-Some))))
     ]
 
 pub returns : goal.returns
@@ -50,16 +50,16 @@ returns c r q =
     let f = c.args.question.first in
     let a = c.args.question.asked in
     let end : c.loop-operation.operation ≡ length t.operations = omega (arith, c.operations-operation-end.ensures.number, c.loop-operation-test.false, c.loop-operation.auto.operation-end) in
-    shown_all t u items f a (length t.operations) c.requires.stock.known (removal_of s.stocks.now (length c.args.before.now) items c.args.stock.now.less c.requires.stock.links) r q (Has c.loop-operation.set r q)
+    shown_all t u items f a (length t.operations) c.requires.before.stock_is.known (removal_of s.stocks.now (length c.args.before.now) items c.args.stock.now.less c.requires.before.stock_is.links) r q (Has c.loop-operation.set r q)
     (subst (λ (k : ℕ). Gathered (ShownBase t u items f a r q) (ShownPart t u items f a r q) k (Has c.loop-operation.set r q)) end (c.loop-operation.invariant r q))
 
 pub with_moved-set-requires-clause-among : goal.with_moved-set-requires-clause-among
 with_moved-set-requires-clause-among c r q h =
     let t = c.args.setting.now.table.now in
     let u = c.args.setting.now.start.0 in
-    let less = c.requires.stock.links.some c.loop-operation.operation c.in-Some.place c.in-Some.is in
-    let shown = c.requires.before c.in-Some.place less.1.0 less.0 less.1.1 in
-    let inside : c.in-Some.place < length c.args.lead.now = omega (arith, less.0, c.requires.long) in
-    let lead = c.requires.lead c.in-Some.place less.1.0 inside less.1.1 in
+    let less = c.requires.before.stock_is.links.some c.loop-operation.operation c.in-Some.place c.in-Some.is in
+    let shown = c.requires.before.shown c.in-Some.place less.1.0 less.0 less.1.1 in
+    let inside : c.in-Some.place < length c.args.lead.now = omega (arith, less.0, c.requires.before.long) in
+    let lead = c.requires.before.lead_is c.in-Some.place less.1.0 inside less.1.1 in
     let same : c.index-before-place.result ≡ get_or c.args.before.now c.in-Some.place [] = c.index-before-place.is ∙ get_or_default c.args.before.now c.in-Some.place c.index-before-place.result [] less.0 in
     (lead.same q).1 (shows_ends t u less.1.0 c.args.question.first c.args.question.asked r q ((shown r q).0 (subst (λ (set : List ℕ). Has set r q) same h)))

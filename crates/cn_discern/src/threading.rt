@@ -1,0 +1,25 @@
+//! In which threads a search goes on.
+ghost use Rattle.std.specs.Prelude.{◌≡◌, ◌-◌, ◌^◌};
+ghost use Rattle.cn_discern.specs.declared.threading.Threading.TheVariants.{Many, One};
+
+/// In which threads a search goes on. Its answer is the same.
+#[derive(Clone, Copy)]
+pub enum Threading {
+    /// In the caller's thread alone.
+    One,
+    /// In the caller's thread and in further ones, as far as the system starts them.
+    Many,
+}
+
+impl Threading {
+    /// The least number of items of a list for which one thread more is started.
+    pub fn least_piece(self) -> usize
+        ensures one { self ≡ One → result ≡ 2 ^ 64 - 1 }
+        ensures many { self ≡ Many → result ≡ 1 }
+    {
+        match self {
+            Threading::One => usize::MAX,
+            Threading::Many => 1,
+        }
+    }
+}

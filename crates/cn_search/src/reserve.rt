@@ -1,0 +1,15 @@
+//! Memory that is left to a search in one thread.
+ghost use Rattle.std.specs.Prelude.{◌≡◌, [], IfOk};
+
+use std::alloc::{AllocError, Global};
+
+/// A search of any table in one thread takes fewer bytes.
+const ENOUGH_BYTES: usize = 40 * 1024 * 1024;
+
+/// Takes this memory, and writes nothing into it. While it is held, the stacks of threads and what
+/// they allocate stay out of it, so that a search in one thread has room once it is dropped.
+pub(crate) fn reserve(alloc: Global) -> Result<Vec<u8>, AllocError>
+    ensures { IfOk result (λ room. room.items ≡ []) }
+{
+    Vec::with_capacity(alloc, ENOUGH_BYTES)
+}
