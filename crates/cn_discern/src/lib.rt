@@ -6,7 +6,7 @@
 //! there is such a stock.
 //!
 //! ```text
-//! if is_discerning(rt, alloc, &table, 3)? {
+//! if is_discerning(rt, alloc, &table, 3, Threading::Many)? {
 //!     println!(rt; "three processes can agree")?;
 //! }
 //! ```
