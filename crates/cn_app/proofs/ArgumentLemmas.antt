@@ -3,4 +3,5 @@ pub mod Calls
 pub mod Events
 pub mod Files
 pub mod Numbers
+pub mod Operations
 pub mod ShortEvents

@@ -3,3 +3,4 @@ pub mod Calls
 pub mod Events
 pub mod Files
 pub mod Lists
+pub mod Operations

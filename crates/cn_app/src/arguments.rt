@@ -5,4 +5,5 @@ pub mod events;
 pub mod files;
 pub mod list_text;
 pub mod lists;
+pub mod operations;
 pub mod short;

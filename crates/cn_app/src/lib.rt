@@ -26,11 +26,12 @@ pub mod reports;
 mod streams;
 mod threads;
 
-pub use arguments::calls::read_calls;
-pub use arguments::events::read_events;
+pub use arguments::calls::{calls_in, read_calls};
+pub use arguments::events::{EventList, EventWord, read_events};
 pub use arguments::files::read_argument;
 pub use arguments::list_text::ListText;
 pub use arguments::lists::{read_inputs, read_schedule};
+pub use arguments::operations::{OperationName, OperationWord};
 pub use cn_forms::{Form, MOST_TOLD};
 pub use fault::{AppFault, Argument, Source};
 pub use limits::{

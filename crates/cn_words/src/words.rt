@@ -236,10 +236,10 @@ const REPLAY_AFTER: &str = help!(
 Reads a type table in TOML from standard input, a certificate in JSON from the file CERT and the
 table of an object in TOML from the file OBJECT, and checks the certificate. The processes of the
 plan serve the object, which starts in the state START, by a log of CAPACITY slots, from 1 to 1024.
-EVENTS are iP:O, process P calls operation number O, and sP, process P takes a step, with a comma
-and no space between two, at most 65536 of them, or the word none. @ and the name of a file stand
-for the list in that file: at most 1048576 bytes, with a line feed at the end or none, and at most
-303112 events. Those of every run of serve fit: serve .. | sed -n 's/^events //p' > FILE
+EVENTS are iP:O, process P calls the operation of name or number O, and sP, process P takes a step,
+with a comma and no space between two, at most 65536 of them, or the word none. @ and the name of a
+file stand for the list in that file: at most 1048576 bytes, with a line feed at the end or none,
+and at most 303112 events. Those of every run of serve fit: serve .. | sed -n 's/^events //p' > FILE
 
 Writes answer P K R for each call of process P that is answered, with its slot K and its response
 R, and full P for each that finds no slot, in the order of the events. Then writes entry K P O R S
@@ -248,7 +248,7 @@ and the state S of the object afterwards. Whatever the events, the answers are t
 sequential run, in the order of these lines.
 
 ",
-    "  cnum replay tests/certificates/test_and_set_at_3.json types/counter_3.toml 0 4 i0:0,s0,s0,s0,s0 < types/test_and_set.toml
+    "  cnum replay tests/certificates/test_and_set_at_3.json types/counter_3.toml 0 4 i0:inc,s0,s0,s0,s0 < types/test_and_set.toml
 writes entry 0 0 inc 0 1."
 );
 
@@ -261,9 +261,9 @@ Reads a type table in TOML from standard input, a certificate in JSON from the f
 table of an object in TOML from the file OBJECT, and checks the certificate. Each process of the
 plan makes its calls in a thread of its own; they serve the object, which starts in the state START,
 by a log of CAPACITY slots, from 1 to 1024. CALLS has a list for each process, with / between two:
-the numbers of the operations that it calls, with a comma and no space between two, at most 1024 of
-them, or the word none. @ and the name of a file stand for what that file holds: at most 1048576
-bytes, with a line feed at the end or none.
+the operations, by name or number, that it calls, with a comma and no space between two, at most
+1024 of them, or the word none. @ and the name of a file stand for what that file holds: at most
+1048576 bytes, with a line feed at the end or none.
 
 Writes for each process P, from 0 on, answer P K R for each call that is answered, with its slot K
 and its response R, in order, and full P for one that finds no slot, after which the process makes
@@ -273,7 +273,7 @@ where L are the events as the threads came to make them, which replay reads. How
 answers are those of one sequential run, in the order of the entry lines.
 
 ",
-    "  cnum serve tests/certificates/test_and_set_at_3.json types/counter_3.toml 0 4 0/none < types/test_and_set.toml
+    "  cnum serve tests/certificates/test_and_set_at_3.json types/counter_3.toml 0 4 inc/none < types/test_and_set.toml
 writes answer 0 0 0, entry 0 0 inc 0 1 and events i0:0,s0,s0,s0,s0,s0,s0."
 );
 

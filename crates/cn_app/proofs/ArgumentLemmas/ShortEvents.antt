@@ -6,19 +6,22 @@ use Rattle.std.specs.Char.{digit_value, is_ascii_digit}
 use Rattle.std.specs.Str.{bytes_eq}
 use Rattle.std.specs.Str.Parse.{digits_value}
 use Rattle.std.proofs.lemmas.Bool.{ne_eqb}
-use Rattle.std.proofs.lemmas.List.{drop_more, take-append-drop}
+use Rattle.std.proofs.lemmas.List.{drop_more, map-append, take-append-drop}
 use Rattle.std.proofs.lemmas.List.Elements.{All-cons, All-nil}
 use Rattle.std.proofs.lemmas.List.Splits.{slice_split_at, slice_split_none}
 use Rattle.std.proofs.lemmas.Slice.Eq.{bytes_eq-Decides}
 use Rattle.std.proofs.lemmas.Str.{digit_value_digit}
 use Rattle.cn_table.specs.Draft.{all_some}
 use Rattle.cn_table.proofs.Lists.{with_front, front_next}
-use Rattle.cn_log.specs.declared.event.Event.{Event}
-use Rattle.cn_log.specs.declared.event.Event.TheVariants.{Invoke, Step}
-use Rattle.cn_app.specs.Arguments.Events.{event_of}
-use Rattle.cn_app.specs.Arguments.Lists.{items_of, list_up_to, number_up_to}
 use Rattle.cn_table.specs.Texts.{code_of}
+use Rattle.cn_log.specs.declared.event.Event.{Event}
+use Rattle.cn_app.specs.Arguments.Events.{event_of, word_of}
+use Rattle.cn_app.specs.Arguments.Lists.{items_of, list_up_to, number_up_to}
+use Rattle.cn_app.specs.declared.arguments.events.EventWord.{EventWord}
+use Rattle.cn_app.specs.declared.arguments.events.EventWord.TheVariants.{Invoke, Step}
+use Rattle.cn_app.specs.declared.arguments.operations.OperationWord.TheVariants.{Number}
 use Rattle.cn_app.proofs.ArgumentLemmas.Numbers.{small_is_some}
+use Rattle.cn_app.proofs.ArgumentLemmas.Operations.{operation_by_number}
 
 -- a digit spells its number
 pub one_digit : (byte : ℕ) → 48 ≤ byte → byte < 58 → number_up_to 255 (byte ∷ []) ≡ Some (byte - 48)
@@ -32,8 +35,8 @@ one_digit byte low high =
 pub short_step : (byte n : ℕ) → number_up_to 255 (byte ∷ []) ≡ Some n → event_of (115 ∷ byte ∷ []) ≡ Some (Step n)
 short_step byte n is = rw is refl
 
-pub short_invoke : (p o n m : ℕ) → p ≢ 58 → number_up_to 255 (p ∷ []) ≡ Some n → number_up_to 255 (o ∷ []) ≡ Some m → event_of (105 ∷ p ∷ 58 ∷ o ∷ []) ≡ Some (Invoke n m)
-short_invoke p o n m no_colon first second = rw (ne_eqb p 58 no_colon) (rw (first, second) refl)
+pub short_invoke : (p o n m : ℕ) → p ≢ 58 → number_up_to 255 (p ∷ []) ≡ Some n → number_up_to 255 (o ∷ []) ≡ Some m → event_of (105 ∷ p ∷ 58 ∷ o ∷ []) ≡ Some (Invoke n (Number m))
+short_invoke p o n m no_colon first second = rw (ne_eqb p 58 no_colon) (rw (first, operation_by_number (o ∷ []) m second) refl)
 
 -- the same for a text, by its length and its bytes
 pub spells_step : (text : List ℕ) (byte n : ℕ) → length text ≡ 2 → get_or text 0 0 ≡ 115 → get_or text 1 0 ≡ byte → number_up_to 255 (byte ∷ []) ≡ Some n
@@ -45,7 +48,7 @@ spells_step (x ∷ y ∷ []) byte n two letter process is =
 spells_step (x ∷ y ∷ z ∷ rest) byte n two letter process is = absurd (omega arith)
 
 pub spells_invoke : (text : List ℕ) (p o n m : ℕ) → length text ≡ 4 → get_or text 0 0 ≡ 105 → get_or text 1 0 ≡ p → get_or text 2 0 ≡ 58 → get_or text 3 0 ≡ o
-    → p < 58 → number_up_to 255 (p ∷ []) ≡ Some n → number_up_to 255 (o ∷ []) ≡ Some m → event_of text ≡ Some (Invoke n m)
+    → p < 58 → number_up_to 255 (p ∷ []) ≡ Some n → number_up_to 255 (o ∷ []) ≡ Some m → event_of text ≡ Some (Invoke n (Number m))
 spells_invoke [] p o n m four letter process colon operation low first second = absurd (omega arith)
 spells_invoke (a ∷ []) p o n m four letter process colon operation low first second = absurd (omega arith)
 spells_invoke (a ∷ b ∷ []) p o n m four letter process colon operation low first second = absurd (omega arith)
@@ -91,7 +94,7 @@ abbrev pub pieces : List ℕ → List (List ℕ)
 pieces list = slice_split (λ byte. byte == code_of (codes ",")) list
 
 -- an event that ends at a comma is the next of a list
-pub next_event : (front : List Event) (list text rest : List ℕ) (e : Event) → list ≡ text ++ 44 ∷ rest → event_of text ≡ Some e → All (λ byte. byte ≢ 44) text
+pub next_event : (front : List EventWord) (list text rest : List ℕ) (e : EventWord) → list ≡ text ++ 44 ∷ rest → event_of text ≡ Some e → All (λ byte. byte ≢ 44) text
     → with_front front (all_some (map event_of (pieces list))) ≡ with_front (front ++ e ∷ []) (all_some (map event_of (pieces rest)))
 next_event front list text rest e is spelled one =
     let split : pieces (text ++ 44 ∷ rest) ≡ text ∷ pieces rest = slice_split_at is_comma text 44 rest (λ k d less. ne_eqb _ 44 (one k d less)) refl in
@@ -107,28 +110,32 @@ one_piece_more list text rest is one =
 pub last_piece : (text : List ℕ) → All (λ byte. byte ≢ 44) text → pieces text ≡ text ∷ []
 last_piece text one = slice_split_none is_comma text (λ k d less. ne_eqb _ 44 (one k d less))
 
-pub last_event : (front : List Event) (text : List ℕ) (e : Event) → event_of text ≡ Some e → All (λ byte. byte ≢ 44) text
+pub last_event : (front : List EventWord) (text : List ℕ) (e : EventWord) → event_of text ≡ Some e → All (λ byte. byte ≢ 44) text
     → with_front front (all_some (map event_of (pieces text))) ≡ Some (front ++ e ∷ [])
 last_event front text e spelled one = ap (λ l. with_front front (all_some (map event_of l))) (last_piece text one) ∙ rw spelled refl
 
 -- the word for the empty list spells no event, under every limit
-no_event_of_none : (few : Bool) (events : List Event) → (if few then all_some (map event_of (pieces (codes "none"))) else None) ≡ Some events → ⊥
+no_event_of_none : (few : Bool) (events : List EventWord) → (if few then all_some (map event_of (pieces (codes "none"))) else None) ≡ Some events → ⊥
 no_event_of_none true events e = cc e
 no_event_of_none false events e = cc e
 
 -- pieces that are not too many spell the events of the list: the word for the empty list spells no event
-by_word : (most : ℕ) (word : Bool) (list : List ℕ) (events : List Event) → bytes_eq list (codes "none") ≡ word → items_of most event_of (pieces list) ≡ Some events → list_up_to most event_of list ≡ Some events
+by_word : (most : ℕ) (word : Bool) (list : List ℕ) (events : List EventWord) → bytes_eq list (codes "none") ≡ word → items_of most event_of (pieces list) ≡ Some events → list_up_to most event_of list ≡ Some events
 by_word most true list events is spelled =
     let none : list ≡ codes "none" = (bytes_eq-Decides list (codes "none")).0 is in
     absurd (no_event_of_none (nat_le (length (pieces (codes "none"))) most) events (subst (λ l. items_of most event_of (pieces l) ≡ Some events) none spelled))
 by_word most false list events is spelled = rw is spelled
 
-pub events_spelled : (most : ℕ) (list : List ℕ) (events : List Event) → length (pieces list) ≤ most → all_some (map event_of (pieces list)) ≡ Some events → list_up_to most event_of list ≡ Some events
+pub events_spelled : (most : ℕ) (list : List ℕ) (events : List EventWord) → length (pieces list) ≤ most → all_some (map event_of (pieces list)) ≡ Some events → list_up_to most event_of list ≡ Some events
 events_spelled most list events few spelled = by_word most _ list events refl (rw (le-leb (length (pieces list)) most few) spelled)
 
-pub all_spelled : (most : ℕ) (list rest : List ℕ) (events : List Event) (e : Event) → with_front events (all_some (map event_of (pieces rest))) ≡ all_some (map event_of (pieces list))
+pub all_spelled : (most : ℕ) (list rest : List ℕ) (events : List EventWord) (e : EventWord) → with_front events (all_some (map event_of (pieces rest))) ≡ all_some (map event_of (pieces list))
     → length events + length (pieces rest) ≡ length (pieces list) → length events < most → event_of rest ≡ Some e → All (λ byte. byte ≢ 44) rest
     → list_up_to most event_of list ≡ Some (events ++ e ∷ [])
 all_spelled most list rest events e so_far many few spelled one =
     let one_more = ap length (last_piece rest one) in
     events_spelled most list (events ++ e ∷ []) (omega (arith, many, one_more, few)) (sym so_far ∙ last_event events rest e spelled one)
+
+-- the words of events that were read before, and of one more
+pub words_more : (events more : List Event) (e : Event) → more ≡ events ++ e ∷ [] → map word_of more ≡ map word_of events ++ word_of e ∷ []
+words_more events more e is = ap (map word_of) is ∙ map-append word_of events (e ∷ [])

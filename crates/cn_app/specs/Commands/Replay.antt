@@ -10,7 +10,7 @@ use Rattle.cn_log.specs.declared.event.Event.{Event}
 use Rattle.cn_log.specs.declared.fault.ReplayFault.{ReplayFault}
 use Rattle.cn_lines.specs.Log.{answer_lines, entry_lines}
 use Rattle.cn_app.specs.Answers.{is_full, ends_after}
-use Rattle.cn_app.specs.Arguments.Events.{GivesCapacity, GivesEvents, capacity_of, events_of}
+use Rattle.cn_app.specs.Arguments.Events.{GivesCapacity, GivesEvents, capacity_of, events_in, events_of, words_of}
 use Rattle.cn_app.specs.Outcomes.{cut_if}
 use Rattle.cn_app.specs.Steps.{Then}
 use Rattle.cn_app.specs.Texts.Openings.{GivesOpening}
@@ -43,10 +43,11 @@ abbrev pub IsReplayReport : Opening → List Event → Result Report AppFault �
 IsReplayReport o events (Ok report) = IsServed o events (string_bytes report.text) report.outcome
 IsReplayReport o events (Err e) = (e ≡ OutOfMemory) ⊎ IsEventFault o events e
 
--- what `replay` has to say of its arguments: the number of slots and then the events are read before the texts
+-- what `replay` has to say of its arguments: the number of slots and then the events are read before the texts, and the object says which operations have the
+-- names
 abbrev pub HasReplayReport : {R C O : Type 0} → OpeningArguments R C O → ListText → Result Report AppFault → Type 0
 HasReplayReport given events r = Then (GivesCapacity given.capacity.now) (λ slots. Then (GivesEvents events)
-    (λ list. Then (GivesOpening given slots) (λ o. IsReplayReport o list.items))) r
+    (λ list. Then (GivesOpening given slots) (λ o. IsReplayReport o (events_in o.object (words_of list))))) r
 
 -- the words spell a number of slots and events
 abbrev pub SpellEvents : List ℕ → ListText → Type 0

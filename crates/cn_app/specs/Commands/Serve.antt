@@ -6,7 +6,7 @@ use Rattle.cn_log.specs.Bypass.{IsBypassBounded}
 use Rattle.cn_log.specs.Linearized.{IsLinearized}
 use Rattle.cn_log.specs.Log.{IsEventList}
 use Rattle.cn_log.specs.OwnSteps.{IsWaitFree}
-use Rattle.cn_app.specs.Arguments.Calls.{GivesCalls, calls_fit, calls_of}
+use Rattle.cn_app.specs.Arguments.Calls.{GivesCalls, calls_fit, calls_in, calls_of}
 use Rattle.cn_app.specs.Arguments.Events.{GivesCapacity, capacity_of}
 use Rattle.cn_app.specs.Outcomes.{cut_if}
 use Rattle.cn_app.specs.Steps.{Then}
@@ -59,10 +59,11 @@ abbrev pub IsServeReport : (Log → List ProcessHistory → Type 0) → Opening 
 IsServeReport gates o calls (Ok report) = IsServedByThreads gates o calls (string_bytes report.text) report.outcome
 IsServeReport gates o calls (Err e) = (e ≡ OutOfMemory) ⊎ (((calls_fit o calls ≡ false) × (e ≡ Argument Calls)) ⊎ ((calls_fit o calls ≡ true) × (e ≡ Thread)))
 
--- what `serve` has to say of its arguments: the number of slots and then the calls are read before the texts
+-- what `serve` has to say of its arguments: the number of slots and then the calls are read before the texts, and the object says which operations have the
+-- names
 abbrev pub HasServeReport : {R C O : Type 0} → (Log → List ProcessHistory → Type 0) → OpeningArguments R C O → ListText → Result Report AppFault → Type 0
 HasServeReport gates given calls r = Then (GivesCapacity given.capacity.now) (λ slots. Then (GivesCalls calls)
-    (λ lists. Then (GivesOpening given slots) (λ o. IsServeReport gates o (map (λ list. list.items) lists.items)))) r
+    (λ lists. Then (GivesOpening given slots) (λ o. IsServeReport gates o (calls_in o.object (map (λ list. list.items) lists.items))))) r
 
 -- the words spell a number of slots and lists of calls
 abbrev pub SpellCalls : List ℕ → ListText → Type 0

@@ -12,33 +12,33 @@ use crate::limits::MOST_DIGITS;
 use std::alloc::{AllocError, Global};
 
 /// What a list may be of.
-pub(crate) trait Item {
+pub(crate) trait Item<'a> {
     ghost item_of: { List ℕ → Option Self };
 
     /// The item that a text spells, if it spells one.
-    fn read(text: &str) -> Option<Self>
+    fn read(text: &'a str) -> Option<Self>
     where
         Self: Sized,
         ensures { result ≡ item_of text.now };
 }
 
-impl Item for u64 {
+impl<'a> Item<'a> for u64 {
     ghost item_of = { number_up_to 18446744073709551615 };
 
-    fn read(text: &str) -> Option<u64> {
+    fn read(text: &'a str) -> Option<u64> {
         read_number(text)
     }
 }
 
-impl Item for u8 {
+impl<'a> Item<'a> for u8 {
     ghost item_of = { number_up_to 255 };
 
-    fn read(text: &str) -> Option<u8> {
+    fn read(text: &'a str) -> Option<u8> {
         u8::try_from(read_number(text)?).ok()
     }
 }
 
-fn has_digits_only(text: &str) -> bool
+pub(crate) fn has_digits_only(text: &str) -> bool
     ensures { result ≡ list_all is_ascii_digit text.now }
 {
     text.bytes().all(|byte| byte.is_ascii_digit())
@@ -63,9 +63,9 @@ pub(crate) fn pieces_of(alloc: Global, text: &str, separator: char) -> Result<Ve
 }
 
 #[tactic(auto, using(cn_table::proofs::Lists::front_next, cn_table::proofs::Lists::front_stops))]
-fn read_items<T: Item + Drop>(
+fn read_items<'a, T: Item<'a> + Drop>(
     alloc: Global,
-    pieces: &[&str],
+    pieces: &[&'a str],
     argument: Argument,
 ) -> Result<Vec<T>, AppFault>
     ensures { GivesList argument (all_some (map T.item_of (map (λ piece. piece.now) pieces.now)))
@@ -73,7 +73,7 @@ fn read_items<T: Item + Drop>(
 {
     let mut items = Vec::new(alloc);
     for piece in pieces {
-        match T::read(piece) {
+        match T::read(*piece) {
             Some(item) => items.push(item)?,
             None => return Err(AppFault::Argument(argument)),
         }
@@ -82,9 +82,9 @@ fn read_items<T: Item + Drop>(
 }
 
 /// Reads the list of at most so many items that a text spells.
-pub(crate) fn read_up_to<T: Item + Drop>(
+pub(crate) fn read_up_to<'a, T: Item<'a> + Drop>(
     alloc: Global,
-    text: &str,
+    text: &'a str,
     most: usize,
     argument: Argument,
 ) -> Result<Vec<T>, AppFault>
@@ -101,9 +101,9 @@ pub(crate) fn read_up_to<T: Item + Drop>(
 }
 
 /// Reads a list of at most as many items as it may have where it stands.
-fn read_list<T: Item + Drop>(
+fn read_list<'a, T: Item<'a> + Drop>(
     alloc: Global,
-    list: ListText<'_>,
+    list: ListText<'a>,
     argument: Argument,
 ) -> Result<Vec<T>, AppFault>
     ensures { GivesList argument (list_of T.item_of list.entry) result }

@@ -1,6 +1,6 @@
 //! Lists of events in their short form: each number is one digit.
-ghost use Rattle.std.specs.Prelude.{◌≡◌, ◌≢◌, ◌<◌, ◌≤◌, ◌++◌, ◌∷◌, [], ℕ, List, IfOk, IfSome, Some, All, codes};
-ghost use Rattle.cn_app.specs.Arguments.Events.{event_of};
+ghost use Rattle.std.specs.Prelude.{◌≡◌, ◌≢◌, ◌<◌, ◌≤◌, ◌++◌, ◌∷◌, [], ℕ, List, IfOk, IfSome, Some, All, codes, map};
+ghost use Rattle.cn_app.specs.Arguments.Events.{event_of, word_of};
 ghost use Rattle.cn_app.specs.Arguments.Lists.{list_up_to, number_up_to};
 ghost use Rattle.cn_table.specs.Texts.{code_of};
 
@@ -21,7 +21,7 @@ fn digit(byte: u8) -> Option<u8>
 
 /// The event that a text spells in its short form.
 fn short_event(text: &[u8]) -> Option<Event>
-    ensures event { IfSome result (λ e. event_of text.now ≡ Some e) }
+    ensures event { IfSome result (λ e. event_of text.now ≡ Some (word_of e)) }
     ensures one { IfSome result (λ e. All (λ byte. byte ≢ code_of (codes ",")) text.now) }
 {
     match text {
@@ -39,7 +39,7 @@ fn short_event(text: &[u8]) -> Option<Event>
 fn first_event(list: &[u8]) -> Option<(Event, &[u8])>
     ensures { IfSome result (λ r. (text : List ℕ)
         × (list.now ≡ text ++ code_of (codes ",") ∷ r.1.now)
-        × (event_of text ≡ Some r.0) × All (λ byte. byte ≢ code_of (codes ",")) text) }
+        × (event_of text ≡ Some (word_of r.0)) × All (λ byte. byte ≢ code_of (codes ",")) text) }
 {
     let end = if list.len() > 2 && list[2] == b',' {
         2
@@ -61,7 +61,7 @@ pub(crate) fn read_short(
     most: usize,
 ) -> Result<Option<Vec<Event>>, AllocError>
     ensures { IfOk result (λ found. IfSome found
-        (λ events. list_up_to most event_of list.now ≡ Some events.items)) }
+        (λ events. list_up_to most event_of list.now ≡ Some (map word_of events.items))) }
 {
     let mut events = Vec::new(alloc);
     let mut rest = list.as_bytes();

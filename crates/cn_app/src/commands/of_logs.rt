@@ -1,30 +1,60 @@
 //! The commands that serve an object.
-ghost use Rattle.std.specs.Prelude.{◌≡◌, ◌⊎◌, ℕ};
+ghost use Rattle.std.specs.Prelude.{◌≡◌, ◌⊎◌, ℕ, map};
 ghost use Rattle.cn_hall.specs.declared.call.Go.TheVariants.{On};
-ghost use Rattle.cn_app.specs.Commands.Replay.{HasReplayReport, SpellEvents};
-ghost use Rattle.cn_app.specs.Commands.Serve.{HasServeReport, SpellCalls};
+ghost use Rattle.cn_app.specs.Arguments.Calls.{calls_in};
+ghost use Rattle.cn_app.specs.Arguments.Events.{events_in, words_of};
+ghost use Rattle.cn_app.specs.Commands.Replay.{HasReplayReport, IsReplayReport, SpellEvents};
+ghost use Rattle.cn_app.specs.Commands.Serve.{HasServeReport, IsServeReport, SpellCalls};
 ghost use Rattle.cn_app.specs.Texts.Openings.{AreUnread, HaveReadAll};
 ghost use Rattle.cn_app.specs.Threads.Workers.{EachHasOneGate};
 ghost use Rattle.cn_app.specs.Streams.Writing.{IsWritable, Reports};
 
-use crate::arguments::calls::read_calls;
-use crate::arguments::events::{read_capacity, read_events};
+use crate::arguments::calls::{calls_in, read_calls};
+use crate::arguments::events::{EventList, read_capacity, read_events};
 use crate::arguments::list_text::ListText;
+use crate::arguments::operations::OperationWord;
 use crate::fault::AppFault;
 use crate::readers::opening::{OpeningArguments, read_opening};
-use crate::report::Outcome;
+use crate::report::{Outcome, Report};
 use crate::reports::{replay_report, serve_report};
 use crate::streams::output::Output;
 use cn_hall::Gate;
+use cn_log::Opening;
 use std::alloc::Global;
 use std::io::{Read, Write};
 use std::sync::Wait;
 use std::thread::Threads;
 
+/// What there is to say of the events of a list, by the operations of the object.
+fn event_report(alloc: Global, opening: Opening, list: EventList<'_>) -> Result<Report, AppFault>
+    ensures { IsReplayReport opening (events_in opening.object (words_of list.entry)) result }
+{
+    let events = list.events_in(alloc, opening.object())?;
+    replay_report(alloc, opening, &events)
+}
+
+/// What there is to say of the calls of these lists, by the operations of the object.
+fn call_report<T: Threads + Wait + Sync, G: Gate + Send + Drop, F: Fn(u8) -> G>(
+    rt: &T,
+    alloc: Global,
+    opening: Opening,
+    lists: &[Vec<OperationWord<'_>>],
+    make_gate: F,
+) -> Result<Report, AppFault>
+    requires gates { F.IsAlwaysCallable make_gate }
+    requires on { (p : ℕ) (g : _) → F.post make_gate p g → G.says g ≡ On }
+    ensures { IsServeReport (EachHasOneGate G.asks G.says (λ p g. F.post make_gate p g)) opening
+        (calls_in opening.object (map (λ list. list.items) lists.now)) result }
+{
+    let calls = calls_in(alloc, lists, opening.object())?;
+    serve_report(rt, alloc, opening, &calls, make_gate)
+}
+
 /// Opens a log for an object, serves the object by the events, and writes a line for each call that
 /// is answered or that finds no slot, and then a line for each entry of the log ([`replay_report`]).
 ///
-/// `events` are written as for [`read_events`].
+/// `events` are written as for [`read_events`]; a name is that of an operation of the object
+/// ([`EventList::events_in`]).
 ///
 /// # Errors
 ///
@@ -46,16 +76,17 @@ pub fn replay<R: Read, C: Read, O: Read, W: Write>(
         output.old output.new result }
 {
     let slots = read_capacity(given.capacity)?;
-    let events = read_events(alloc, events)?;
+    let list = read_events(alloc, events)?;
     let opening = read_opening(alloc, given, slots)?;
-    output.report(replay_report(alloc, opening, &events))
+    output.report(event_report(alloc, opening, list))
 }
 
 /// Opens a log for an object, serves the object by threads that make the calls, and writes for each
 /// process a line for each of its calls, then a line for each entry of the log, and last a line with
 /// the events ([`serve_report`]).
 ///
-/// `calls` are written as for [`read_calls`].
+/// `calls` are written as for [`read_calls`]; a name is that of an operation of the object
+/// ([`calls_in`]).
 ///
 /// # Errors
 ///
@@ -87,7 +118,7 @@ where
         output.old output.new result }
 {
     let slots = read_capacity(given.capacity)?;
-    let calls = read_calls(alloc, calls)?;
+    let lists = read_calls(alloc, calls)?;
     let opening = read_opening(alloc, given, slots)?;
-    output.report(serve_report(rt, alloc, opening, &calls, make_gate))
+    output.report(call_report(rt, alloc, opening, &lists, make_gate))
 }

@@ -2,11 +2,19 @@
 use super::protocol::helped;
 use super::*;
 use crate::app::runs::{Example, HELPED, Ran, all_examples};
-use cn_app::{AppFault, ListText, Outcome, read_calls, read_events, read_inputs, read_schedule};
+use crate::fixtures::table_of;
+use crate::types::counter_3;
+use cn_app::{
+    AppFault, ListText, Outcome, calls_in, read_calls, read_events, read_inputs, read_schedule,
+};
 use cn_log::Event;
+use cn_table::Table;
 use cn_words::Command;
 use std::sync::Wait;
 use std::thread::Threads;
+
+/// The events of [`HELPED`], with their operations by name.
+const HELPED_BY_NAME: &str = "i0:inc,i1:inc,s1,s1,s1,s1,s1,s1,s0,s0,s0,s0,s0,s0";
 
 /// How the reading of a list ended. The result says whether the list is the one that is spelled.
 fn list_ended(list: Result<bool, AppFault>) -> Ended {
@@ -25,12 +33,19 @@ fn is_schedule(alloc: Global) -> Result<bool, AppFault> {
     Ok(schedule.as_slice() == [1, 1, 0, 0].as_slice())
 }
 
-fn are_events(alloc: Global, wanted: &[Event]) -> Result<bool, AppFault> {
-    Ok(read_events(alloc, ListText::Word(HELPED))?.as_slice() == wanted)
+fn are_events(
+    alloc: Global,
+    object: &Table,
+    text: &str,
+    wanted: &[Event],
+) -> Result<bool, AppFault> {
+    let list = read_events(alloc, ListText::Word(text))?;
+    Ok(list.events_in(alloc, object)?.as_slice() == wanted)
 }
 
-fn are_calls(alloc: Global) -> Result<bool, AppFault> {
-    let calls = read_calls(alloc, ListText::Word("0,0/none"))?;
+fn are_calls(alloc: Global, object: &Table) -> Result<bool, AppFault> {
+    let lists = read_calls(alloc, ListText::Word("inc,0/none"))?;
+    let calls = calls_in(alloc, &lists, object)?;
     Ok(calls.len() == 2 && calls[0].as_slice() == [0, 0].as_slice() && calls[1].is_empty())
 }
 
@@ -50,19 +65,33 @@ fn schedules(rt: HostRuntime) {
 fn events(rt: HostRuntime) -> Result<(), Fail> {
     let alloc = rt.alloc();
     let wanted = helped(alloc)?;
+    let object = table_of(alloc, counter_3())?;
     sweep!(
         &rt,
         alloc,
-        list = are_events(alloc, &wanted),
+        list = are_events(alloc, &object, HELPED, &wanted),
+        list_ended(list)
+    );
+    sweep!(
+        &rt,
+        alloc,
+        list = are_events(alloc, &object, HELPED_BY_NAME, &wanted),
         list_ended(list)
     );
     Ok(())
 }
 
 #[test]
-fn calls(rt: HostRuntime) {
+fn calls(rt: HostRuntime) -> Result<(), Fail> {
     let alloc = rt.alloc();
-    sweep!(&rt, alloc, list = are_calls(alloc), list_ended(list));
+    let object = table_of(alloc, counter_3())?;
+    sweep!(
+        &rt,
+        alloc,
+        list = are_calls(alloc, &object),
+        list_ended(list)
+    );
+    Ok(())
 }
 
 /// How a command ended. `serve` may say that a thread could not be started, for want of memory.

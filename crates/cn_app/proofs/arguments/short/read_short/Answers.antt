@@ -1,9 +1,11 @@
 use Rattle.std.proofs.Common.{◌∙◌, List, [], ◌∷◌, Some, ap, arith, length, length-append, map, sym}
+use Rattle.std.proofs.lemmas.List.{length-map}
 use Rattle.cn_table.specs.Draft.{all_some}
 use Rattle.cn_table.proofs.Lists.{with_front}
 use Rattle.cn_log.specs.declared.event.Event.{Event}
-use Rattle.cn_app.specs.Arguments.Events.{event_of}
-use Rattle.cn_app.proofs.ArgumentLemmas.ShortEvents.{all_spelled, next_event, one_piece_more, pieces}
+use Rattle.cn_app.specs.Arguments.Events.{event_of, word_of}
+use Rattle.cn_app.specs.declared.arguments.events.EventWord.{EventWord}
+use Rattle.cn_app.proofs.ArgumentLemmas.ShortEvents.{all_spelled, next_event, one_piece_more, pieces, words_more}
 use Rattle.cn_app.proofs.arguments.short.read_short.Goals as goal
 
 pub loop-event-preserved : goal.loop-event-preserved
@@ -13,8 +15,8 @@ loop-event-preserved c =
     let behind : List _ = c.in-Some.behind.now in
     let first = c.in-Some.ensures in
     record {
-      spelled = ap (λ (es : List Event). with_front es (all_some (map event_of (pieces behind)))) c.in_ok-push.ensures.items
-          ∙ sym (next_event front list first.0 behind c.in-Some.event first.1 first.2 first.3) ∙ c.loop-event.invariant.spelled;
+      spelled = ap (λ (es : List EventWord). with_front es (all_some (map event_of (pieces behind)))) (words_more front _ c.in-Some.event c.in_ok-push.ensures.items)
+          ∙ sym (next_event (map word_of front) list first.0 behind (word_of c.in-Some.event) first.1 first.2 first.3) ∙ c.loop-event.invariant.spelled;
       many = omega (
         arith,
         ap length c.in_ok-push.ensures.items,
@@ -26,6 +28,8 @@ loop-event-preserved c =
 
 pub returns : goal.returns
 returns c =
-    all_spelled c.args.most c.args.list.now c.loop-event.rest.now c.loop-event.events.items c.in-Some-short_event.last c.loop-event.invariant.spelled c.loop-event.invariant.many
-    (omega (arith, c.if-len-most.false, c.len.ensures, c.loop-event.events.ok.0)) c.in-Some-short_event.ensures.event c.in-Some-short_event.ensures.one
-    ∙ ap Some (sym c.in_ok-push-2.ensures.items)
+    let front : List Event = c.loop-event.events.items in
+    all_spelled c.args.most c.args.list.now c.loop-event.rest.now (map word_of front) (word_of c.in-Some-short_event.last) c.loop-event.invariant.spelled
+    (omega (arith, length-map front word_of, c.loop-event.invariant.many))
+    (omega (arith, length-map front word_of, c.if-len-most.false, c.len.ensures, c.loop-event.events.ok.0)) c.in-Some-short_event.ensures.event c.in-Some-short_event.ensures.one
+    ∙ ap Some (sym (words_more front _ c.in-Some-short_event.last c.in_ok-push-2.ensures.items))

@@ -1,7 +1,7 @@
 use Rattle.std.proofs.Common.{◌∙◌, None, lit<, sym}
 use Rattle.std.proofs.lemmas.Str.Pattern.{strip_prefix_char}
 use Rattle.cn_app.proofs.ArgumentLemmas.Events.{no_event}
-use Rattle.cn_app.proofs.arguments.events.EventItem.read.Goals as goal
+use Rattle.cn_app.proofs.arguments.events.EventWordItem.read.Goals as goal
 
 pub returns-in_err-strip_prefix-in-None : goal.returns-in_err-strip_prefix-in-None
 returns-in_err-strip_prefix-in-None c =
