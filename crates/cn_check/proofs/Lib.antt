@@ -10,3 +10,4 @@ pub mod TurnLemmas
 pub mod VerdictLemmas
 pub mod WalkedLemmas
 pub mod WalkLemmas
+pub mod WitnessLemmas

@@ -1,8 +1,9 @@
-//! The laws that a certificate has one verdict, and that the verdict is right.
+//! The laws that a certificate has one verdict, and that an accepted certificate is right.
 //!
 //! A law is a function that does nothing: its contract is the law.
-ghost use Rattle.std.specs.Prelude.{◌≡◌, None, length};
+ghost use Rattle.std.specs.Prelude.{◌≡◌, IfSome, None, length};
 ghost use Rattle.cn_table.specs.TypeTable.{TypeTable};
+ghost use Rattle.cn_choice.specs.Canonical.{FitsTable};
 ghost use Rattle.cn_choice.specs.Discerning.{IsNumberUpTo};
 ghost use Rattle.cn_search.specs.Evidence.{IsFindingFor};
 ghost use Rattle.cn_search.specs.Faults.{find_fault};
@@ -39,3 +40,9 @@ pub fn accepted_is_right()
     laws::number_before_failure();
     laws::live_list();
 }
+
+/// The witness of a certificate that is accepted is a choice of the table for 2 to
+/// [`MOST_PROCESSES`](cn_choice::MOST_PROCESSES) processes, as a plan needs it.
+pub fn accepted_witnesses_fit()
+    ensures { (t : TypeTable) (c : Certificate) → IsAccepted t c → IfSome c.witness (FitsTable t) }
+{}
