@@ -2,7 +2,7 @@
 ghost use Rattle.std.specs.Prelude.{◌≡◌, ◌-◌, ◌^◌};
 ghost use Rattle.cn_discern.specs.declared.threading.Threading.TheVariants.{Many, One};
 
-/// In which threads a search goes on. Its answer is the same.
+/// In which threads a search goes on. The answer does not depend on it.
 #[derive(Clone, Copy)]
 pub enum Threading {
     /// In the caller's thread alone.

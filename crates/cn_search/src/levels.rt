@@ -37,8 +37,8 @@ fn count_of_blocks(most: Option<usize>, blocks: usize) -> usize
     }
 }
 
-/// Whether one of the first blocks of choices for n processes has a witness, so that the type is
-/// n-discerning. If all blocks are looked at, it is n-discerning nowhere else.
+/// Whether one of the first blocks of choices for n processes has a witness. If one has, the type is
+/// n-discerning. If all blocks are looked at and none has one, it is not.
 fn has_witness<T: Threads + Sync>(
     rt: &T,
     alloc: Global,
@@ -110,7 +110,8 @@ impl<'s> Property for Discerning<'s> {
 /// It is the number of the [`Finding`](crate::Finding) of the type and the limit
 /// ([`laws::number_of_finding`](crate::laws::number_of_finding)), and of a type with any number of
 /// choices. Few choices are gone through as far as the first witness; where there are many, the
-/// operations are looked at without teams. Both go on in several threads.
+/// operations are looked at without teams. Both go on in several threads, or in one where these get
+/// too little memory.
 ///
 /// # Errors
 ///

@@ -34,8 +34,8 @@ pub trait Property {
         ensures { IfOk result (λ yes. IsTrue yes ↔ holds self.now n) };
 }
 
-/// The greatest number with the property, in these threads. By [`PassesDown`] no number above one that
-/// fails has the property, so that the search ends there.
+/// The greatest number with the property, in these threads. No number above one that fails has the
+/// property, so that the search ends there.
 pub(crate) fn greatest_in<P: Property, T: Threads + Sync>(
     rt: &T,
     alloc: Global,
