@@ -1,9 +1,7 @@
-use Rattle.std.proofs.Common.{◌≡◌, ◌∙◌, ap, arith, length, subst, sym, IsTrue, List, None, take}
+use Rattle.std.proofs.Common.{◌≡◌, ◌∙◌, ap, arith, length, subst, sym, IsTrue, List, take}
 use Rattle.std.proofs.Math.Seq.{take-length}
 use Rattle.std.proofs.lemmas.List.Elements.{All-take}
-use Rattle.cn_choice.specs.Blocks.{Block}
 use Rattle.cn_choice.specs.Canonical.{Choice}
-use Rattle.cn_choice.specs.Discerning.{IsDiscerning}
 use Rattle.cn_search.specs.Evidence.{IsFirstAmong, IsListedBlock, choices_of_all}
 use Rattle.cn_search.proofs.Batches.{all_listed}
 use Rattle.cn_search.proofs.ListLemmas.{parts}
