@@ -1,4 +1,4 @@
-//! What `classify` has to say.
+//! The report of `classify`.
 ghost use Rattle.std.specs.Prelude.{◌≡◌, IfOk, None, string_bytes};
 ghost use Rattle.cn_search.specs.Faults.{number_fault};
 ghost use Rattle.cn_app.specs.Commands.Classify.{class_line, GivesLimit, IsClassReport, IsNumbersReport, IsRecoverableReport, number_words, recoverable_line};
