@@ -1,5 +1,5 @@
--- The witness and the entries of a certificate that is accepted.
-use Rattle.std.proofs.Common.{◌≡◌, ◌∙◌, ℕ, suc, ◌+◌, ◌≤◌, ◌↔◌, List, [], ◌∷◌, length, length-append, arith, refl, sym, subst, Bool, true, false, cond, nat_lt, ◌==◌, Option, Some, None, IfSome, All, Contains}
+-- The entries of a certificate that is accepted.
+use Rattle.std.proofs.Common.{◌≡◌, ℕ, suc, ◌+◌, ◌≤◌, ◌↔◌, List, [], ◌∷◌, length, arith, refl, sym, subst, Bool, true, false, cond, nat_lt, ◌==◌, Option, Some, None, All, Contains}
 use Rattle.std.specs.List.{AllZip}
 use Rattle.std.proofs.lemmas.Bool.{ltb-true}
 use Rattle.std.proofs.lemmas.List.Elements.{All-cons, All-nil}
@@ -9,38 +9,13 @@ use Rattle.cn_choice.specs.Collisions.{Collision}
 use Rattle.cn_choice.specs.Live.{IsLive, live_choices}
 use Rattle.cn_choice.specs.RawChoices.{IsRawChoice}
 use Rattle.cn_cert.specs.Certificate.{Certificate}
-use Rattle.cn_check.specs.Conditions.{HasWitnessFor, IsInRange, Refutes}
+use Rattle.cn_check.proofs.WitnessLemmas.{fits_for, greatest_few}
+use Rattle.cn_check.specs.Conditions.{IsInRange, Refutes}
 use Rattle.cn_check.specs.Verdict.{IsAccepted}
-use Rattle.cn_check.specs.Versions.{choices_in_version, choices_to_refute_in, greatest_limit}
+use Rattle.cn_check.specs.Versions.{choices_in_version, choices_to_refute_in}
 use Rattle.cn_forms.specs.Explained.{IsRefuted}
 
-greatest_few : (version : ℕ) → greatest_limit version ≤ 8
-greatest_few version = by_tests (version == 1) (version == 2)
-  where
-    by_tests : (one two : Bool) → cond one 6 (cond two 8 0) ≤ 8
-    by_tests true two = omega arith
-    by_tests false true = omega arith
-    by_tests false false = omega arith
-
 module _ (t : TypeTable) where
-  fits_for : (n : ℕ) (c : Choice) → 2 ≤ n → n ≤ 8 → IsRawChoice t n (raw_choice_of c) → FitsTable t c
-  fits_for n c some few raw =
-      let many : n ≡ length c.a + length c.b = sym raw.one_operation_each ∙ length-append c.a c.b in
-      record { fits = subst (λ (k : ℕ). IsRawChoice t k (raw_choice_of c)) many raw; some = omega (arith, some, many); few = omega (arith, few, many) }
-
-  -- the witness is a choice of the table for 2 to 8 processes
-  pub witness_fits : (c : Certificate) → IsAccepted t c → IfSome c.witness (FitsTable t)
-  witness_fits c accepted = by_parts c.number c.witness accepted.in_range.number_in_limit accepted.witness_fits
-    where
-      few : c.limit ≤ 8
-      few = omega (arith, accepted.in_range.few, greatest_few c.version)
-
-      by_parts : (n : Option ℕ) (w : Option Choice) → IfSome n (λ k. (2 ≤ k) × (k ≤ c.limit)) → HasWitnessFor t n w → IfSome w (FitsTable t)
-      by_parts None None range h = tt
-      by_parts None (Some w) range h = absurd h
-      by_parts (Some n) None range h = absurd h
-      by_parts (Some n) (Some w) range h = fits_for n w range.0 (omega (arith, range.1, few)) h
-
   entries_refuted : (choices : List Choice) (entries : List Collision) → ((x : Choice) → Contains choices x → FitsTable t x) → AllZip (Refutes t) choices entries → All (IsRefuted t) entries
   entries_refuted [] [] fits h = All-nil (IsRefuted t)
   entries_refuted [] (e ∷ es) fits h = absurd h
@@ -55,8 +30,8 @@ module _ (t : TypeTable) where
     counted_fits version n some few c = by_version (version == 1)
       where
         by_version : (one : Bool) → Contains (cond one (canonical_choices (length t.states) (length t.operations) n) (live_choices t n)) c → FitsTable t c
-        by_version true here = fits_for n c some few ((canonical t n c).0 here).1
-        by_version false here = fits_for n c some few ((live t n c).0 here).1
+        by_version true here = fits_for t n c some few ((canonical t n c).0 here).1
+        by_version false here = fits_for t n c some few ((live t n c).0 here).1
 
     listed_fits : (version limit : ℕ) (number : Option ℕ) → IsInRange version limit number → (c : Choice) → Contains (choices_to_refute_in version t limit number) c → FitsTable t c
     listed_fits version limit None range c here = counted_fits version 2 (omega arith) (omega arith) c here

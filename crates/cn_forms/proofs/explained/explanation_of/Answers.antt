@@ -1,7 +1,8 @@
 use Rattle.std.proofs.Common.{Option, IfSome, ap, subst, sym}
 use Rattle.cn_choice.specs.Canonical.{Choice, FitsTable}
 use Rattle.cn_cert.specs.Certificate.{Certificate}
-use Rattle.cn_forms.proofs.AcceptedEntries.{refuted_entries, witness_fits}
+use Rattle.cn_check.proofs.WitnessLemmas.{witness_fits}
+use Rattle.cn_forms.proofs.AcceptedEntries.{refuted_entries}
 use Rattle.cn_forms.proofs.explained.explanation_of.Goals as goal
 
 pub push_why-requires : goal.push_why-requires
