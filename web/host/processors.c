@@ -22,6 +22,12 @@ number syscall(number call, void *place, number of, number value, void *time, ..
     return -1;
 }
 
+// Nor does anything in a page wait until a time.
+int clock_gettime(int clock, void *time) {
+    rattle_set_errno(NOT_THERE);
+    return -1;
+}
+
 int sched_yield(void) {
     return 0;
 }

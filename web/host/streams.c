@@ -78,6 +78,11 @@ int close(int file) {
     return page_close(file);
 }
 
+// A page has no terminal.
+int isatty(int file) {
+    return 0;
+}
+
 void _exit(int status) {
     page_exit(status);
     __builtin_trap();

@@ -14,6 +14,7 @@ use Rattle.cnum.specs.Exits.{classify_status, command_status}
 use Rattle.cnum.specs.NamedTables.{ClassifiesSources, bytes_of}
 use Rattle.cnum.specs.Runs.{Runs}
 use Rattle.cnum.specs.Texts.{left_of}
+use Rattle.cnum.specs.declared.awaited_input.AwaitedInput.{AwaitedInput}
 use Rattle.cnum.specs.declared.faults.Faults.{Faults}
 use Rattle.cnum.specs.declared.lazy_file.LazyFile.{LazyFile}
 use Rattle.cnum.specs.declared.pipe_writer.PipeWriter.{PipeWriter}
@@ -39,9 +40,9 @@ module _ {S F D W : Type 0} (remaining : S → Option (List ℕ)) (left : LazyFi
       ⊎ (((limit : ℕ) (recoverable : Bool) (tables : Vec TextSource Global) → command ≢ Classify limit recoverable tables)
       × RunsOne stdin table command u v status)
 
--- in the same terms: the command was done with these streams, of which nothing was used before
+-- in the same terms: the command was done with these streams, of which nothing was used before; a reader over standard input read it
 abbrev pub Obeys : {S F D W : Type 0} → (S → Option (List ℕ)) → (LazyFile D F → Option (List ℕ)) → (W → Option (List ℕ)) → (List ℕ → Option (List ℕ))
     → S → W → Invocation → ℕ → Type 0
 Obeys {S} {F} {D} {W} remaining left contents files stdin stdout given status =
-    (u : Output (PipeWriter W)) × (v : Output (PipeWriter W)) × (u.writer.writer ≡ stdout) × IsUnwritten u
-    × Does remaining left (λ pipe. contents pipe.writer) files stdin given.table given.command u v status
+    (u : Output (PipeWriter W)) × (v : Output (PipeWriter W)) × (awaited : AwaitedInput D S) × (u.writer.writer ≡ stdout) × IsUnwritten u
+    × (awaited.input ≡ stdin) × Does (λ it. remaining it.input) left (λ pipe. contents pipe.writer) files awaited given.table given.command u v status

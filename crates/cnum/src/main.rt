@@ -4,12 +4,14 @@
 
 ghost use Rattle.std.specs.Prelude.{◌≡◌};
 ghost use Rattle.std.specs.Process.{exit_status};
+ghost use Rattle.std.specs.Thread.{IsSync};
 ghost use Rattle.cn_app.specs.FaultText.{status_of};
 ghost use Rattle.cnum.specs.Exits.{classify_status, command_status};
 ghost use Rattle.cn_app.specs.Streams.Writing.{IsWritable};
 ghost use Rattle.cnum.specs.Obeying.{Does, Obeys};
 ghost use Rattle.cnum.specs.Texts.{left_in};
 
+mod awaited_input;
 mod disk;
 mod faults;
 mod given_list;
@@ -18,6 +20,7 @@ mod pipe_writer;
 mod runs;
 mod text_reader;
 
+use awaited_input::{AwaitedInput, FirstRead};
 use cn_app::commands::Tell;
 use cn_app::reports::AskedNumbers;
 use cn_app::{AppFault, Outcome, Output};
@@ -27,10 +30,11 @@ use faults::Faults;
 use pipe_writer::{PipeWriter, is_broken_pipe};
 use runs::{classify, run};
 use std::alloc::Global;
-use std::io::{ErrorKind, Read, Write};
+use std::io::{ErrorKind, IsTerminal, Read, Write};
 use std::process::ExitCode;
 use std::sync::Wait;
-use std::thread::Threads;
+use std::thread::{Threads, join};
+use std::time::Clock;
 
 // How the program ends after a fault, which it tells.
 fn fault_exit<R: Eprint>(faults: &mut Faults<'_, R>, fault: AppFault) -> ExitCode
@@ -103,16 +107,50 @@ fn obey<T: Threads + Wait + Sync + Disk + Eprint, I: Read + Copy + Drop, O: Writ
     rt: &T,
     alloc: Global,
     stdin: I,
+    first_read: &FirstRead,
     stdout: O,
     given: &Invocation<'_>,
 ) -> ExitCode
     ensures { Obeys I.remaining (left_in T.contents T.Reader.remaining) O.contents
         (T.contents rt.now) stdin stdout given.now (exit_status result) }
 {
+    let input = AwaitedInput::new(rt, stdin, first_read);
     let mut output = Output::new(alloc, PipeWriter::new(stdout));
     let mut faults = Faults::new(rt);
-    let exit = do_command(rt, alloc, stdin, &mut output, &mut faults, given);
+    let exit = do_command(rt, alloc, input, &mut output, &mut faults, given);
     faults.end(!output.into_writer().is_broken);
+    exit
+}
+
+// The same; where standard input is a terminal, another thread tells of a first read that is late.
+// Where none can be started, nothing is told.
+fn obey_and_tell<
+    T: Threads + Wait + Clock + Sync + Disk + Eprint,
+    I: Read + IsTerminal + Copy + Drop,
+    O: Write + Drop,
+>(rt: &T, alloc: Global, stdin: I, stdout: O, given: &Invocation<'_>) -> ExitCode
+    ensures { Obeys I.remaining (left_in T.contents T.Reader.remaining) O.contents
+        (T.contents rt.now) stdin stdout given.now (exit_status result) }
+{
+    let first_read = FirstRead::new();
+    if !stdin.is_terminal() {
+        return obey(rt, alloc, stdin, &first_read, stdout, given);
+    }
+    let (_, exit) = join(
+        rt,
+        ||
+            requires { IsSync T.row }
+        { first_read.tell_if_late(rt) },
+        || -> ExitCode
+            requires { IsSync T.row }
+            ensures { Obeys I.remaining (left_in T.contents T.Reader.remaining) O.contents
+                (T.contents rt.entry.now) stdin stdout given.entry.now (exit_status result) }
+        {
+            let exit = obey(rt, alloc, stdin, &first_read, stdout, given);
+            first_read.end(rt);
+            exit
+        },
+    );
     exit
 }
 
@@ -152,7 +190,7 @@ fn main(rt: HostRuntime) -> ExitCode {
         Err(fault) => return fault_exit(&mut Faults::new(&rt), fault),
     };
     match cn_words::parse(rt.alloc(), given.as_slice()) {
-        Ok(given) => obey(&rt, rt.alloc(), &rt.stdin(), rt.stdout(), &given),
+        Ok(given) => obey_and_tell(&rt, rt.alloc(), rt.stdin(), rt.stdout(), &given),
         Err(reply) => answer(&rt, reply),
     }
 }
