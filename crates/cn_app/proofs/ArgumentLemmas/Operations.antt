@@ -6,7 +6,6 @@ use Rattle.std.specs.List.{list_all}
 use Rattle.cn_table.specs.Names.{is_name}
 use Rattle.cn_app.specs.Arguments.Lists.{number_up_to}
 use Rattle.cn_app.specs.Arguments.Operations.{operation_of}
-use Rattle.cn_app.specs.declared.arguments.operations.OperationWord.{OperationWord}
 use Rattle.cn_app.specs.declared.arguments.operations.OperationWord.TheVariants.{Name, Number}
 
 no_number : (text : List ℕ) → list_all is_ascii_digit text ≡ false → number_up_to 255 text ≡ None
