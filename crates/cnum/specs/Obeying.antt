@@ -30,8 +30,8 @@ module _ {S F D W : Type 0} (remaining : S → Option (List ℕ)) (left : LazyFi
   -- the tables of these sources were classified for the numbers asked for, and the exit status is that of the first fault
   abbrev pub ClassifiesAll : S → AskedNumbers → List TextSource → Output W → Output W → ℕ → Type 0
   ClassifiesAll stdin asked sources u v status = (first : Result (Option AppFault) AppFault) × (before : Faults D) × (after : Faults D)
-      × ClassifiesSources (left_of remaining left) contents (λ _ _ _ _. Unit {0}) (bytes_of (remaining stdin) files) sources asked u before v after first
-      × (status ≡ classify_status first)
+      × ClassifiesSources (left_of remaining left) contents (λ _ _ _ _. Unit {0}) (λ _ _ _ _. Unit {0}) (bytes_of (remaining stdin) files)
+      sources asked u before v after first × (status ≡ classify_status first)
 
   -- `classify` classifies the tables that its words name, and every other command takes one table
   abbrev pub Does : S → TextSource → Command → Output W → Output W → ℕ → Type 0

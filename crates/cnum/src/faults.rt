@@ -1,4 +1,4 @@
-//! Faults on standard error.
+//! Faults and notes on standard error.
 use cn_app::AppFault;
 use cn_app::commands::Tell;
 
@@ -32,6 +32,8 @@ impl<'a, R: Eprint> Faults<'a, R> {
 impl<'a, R: Eprint> Tell for Faults<'a, R> {
     ghost tells = { λ _ _ _ _. Unit {0} };
 
+    ghost notes = { λ _ _ _ _. Unit {0} };
+
     fn tell(&mut self, name: Option<&str>, fault: AppFault) {
         if fault == AppFault::Write {
             self.has_failed = true;
@@ -41,5 +43,9 @@ impl<'a, R: Eprint> Tell for Faults<'a, R> {
             Some(name) => eprintln!(self.rt; "cnum: {name}: {fault}"),
             None => eprintln!(self.rt; "cnum: {fault}"),
         };
+    }
+
+    fn note_same_line(&mut self, name: &str, earlier: &str) {
+        let _ = eprintln!(self.rt; "cnum: {name}: the same line as {earlier}");
     }
 }

@@ -55,6 +55,7 @@ fn named_table<'a, D: Disk, S: Read + Copy>(
     NamedTable {
         name,
         text: text_of(disk, alloc, stdin, source),
+        line: None,
     }
 }
 
@@ -88,7 +89,7 @@ pub fn classify<T: Threads + Sync + Disk, S: Read + Copy, O: Write, F: Tell>(
 ) -> Result<Option<AppFault>, AppFault>
     requires { IsWritable output.old }
     ensures { ClassifiesSources (left_of S.remaining (left_in T.contents T.Reader.remaining))
-        O.contents F.tells (bytes_of (S.remaining stdin) (T.contents rt.now)) sources.now asked
+        O.contents F.tells F.notes (bytes_of (S.remaining stdin) (T.contents rt.now)) sources.now asked
         output.old faults.old output.new faults.new result }
 {
     let mut tables = named_tables(rt, alloc, stdin, sources)?;

@@ -11,7 +11,7 @@ ghost use Rattle.cn_app.specs.Streams.Writing.{IsWritable, Reports};
 
 use crate::fault::{AppFault, Source};
 use crate::readers::table::read_table;
-use crate::report::Outcome;
+use crate::report::{Outcome, Report};
 use crate::reports::{
     AskedNumbers, check_limit, draw_report, find_report, limit_for, lint_report, numbers_report,
     why_report,
@@ -73,6 +73,29 @@ pub fn why<T: Threads + Sync, R: Read, W: Write>(
     output.report(why_report(rt, alloc, table, limit, all))
 }
 
+/// Reads a type table. Answers the line with the numbers asked for ([`numbers_report`]).
+///
+/// # Errors
+///
+/// The first of these: that of [`check_limit`], and then the text is not touched; those of
+/// [`read_table`].
+pub(crate) fn class_report_of<T: Threads + Sync, R: Read>(
+    rt: &T,
+    alloc: Global,
+    table: &mut Text<R>,
+    asked: AskedNumbers,
+) -> Result<Report, AppFault>
+    requires { IsUnread table.old }
+
+    ensures read { HasRead Source.Table R.remaining table.old table.new }
+    ensures order { (table.new ≡ table.old) ⊎ (number_fault asked.limit ≡ None) }
+    ensures reported { HasClassReport table.new asked result }
+{
+    check_limit(asked.limit)?;
+    let table = read_table(alloc, table)?;
+    numbers_report(rt, alloc, &table, asked)
+}
+
 /// Reads a type table and writes a line with the numbers asked for ([`numbers_report`]).
 ///
 /// # Errors
@@ -94,9 +117,7 @@ pub fn classify<T: Threads + Sync, R: Read, W: Write>(
     ensures classified { Reports W.contents (HasClassReport table.new asked)
         output.old output.new result }
 {
-    check_limit(asked.limit)?;
-    let table = read_table(alloc, table)?;
-    output.report(numbers_report(rt, alloc, &table, asked))
+    output.report(class_report_of(rt, alloc, table, asked))
 }
 
 /// Reads a type table and writes its grid, or its flaws if it is refused ([`lint_report`]). A

@@ -53,17 +53,17 @@ impl<W: Write> Output<W> {
     /// # Errors
     ///
     /// `OutOfMemory`, and nothing is handed over, or `Write` if the writer failed.
-    pub fn write(&mut self, report: Report) -> Result<Outcome, AppFault>
+    pub fn write(&mut self, report: &Report) -> Result<Outcome, AppFault>
         requires { IsWritable self.old }
-        ensures { HandsOver W.contents report self.old self.new result }
+        ensures { HandsOver W.contents report.now self.old self.new result }
     {
-        let Report { text, outcome } = report;
+        let text = report.text.as_bytes();
         self.bytes.reserve(text.len())?;
-        self.bytes.extend_from_slice(text.as_bytes())?;
-        match self.writer.write_all(text.as_bytes()) {
+        self.bytes.extend_from_slice(text)?;
+        match self.writer.write_all(text) {
             Ok(()) => {
                 self.progress = Progress::Done;
-                Ok(outcome)
+                Ok(report.outcome)
             }
             Err(_) => {
                 self.progress = Progress::Failed;
@@ -79,7 +79,7 @@ impl<W: Write> Output<W> {
         ensures { Reports W.contents (λ r. r ≡ work) self.old self.new result }
     {
         match work {
-            Ok(report) => self.write(report),
+            Ok(report) => self.write(&report),
             Err(fault) => Err(fault),
         }
     }

@@ -10,17 +10,24 @@ use std::alloc::Global;
 use std::process::Abort;
 use std::thread::Threads;
 
-/// Keeps each fault that it is told, and whether the name of a table came with it.
+/// Keeps each fault that it is told, and whether the name of a table came with it. Counts the notes.
 #[derive(Drop)]
 struct Kept {
     told: Vec<(bool, AppFault)>,
+    notes: u8,
 }
 
 impl Tell for Kept {
     ghost tells = { λ _ _ _ _. Unit {0} };
 
+    ghost notes = { λ _ _ _ _. Unit {0} };
+
     fn tell(&mut self, name: Option<&str>, fault: AppFault) {
         let _ = self.told.push((name.is_some(), fault));
+    }
+
+    fn note_same_line(&mut self, _name: &str, _earlier: &str) {
+        self.notes = self.notes.saturating_add(1);
     }
 }
 
@@ -32,6 +39,7 @@ fn table_of(alloc: Global, text: &'static str, left: usize) -> NamedTable<'stati
     NamedTable {
         name: "t",
         text: Text::new(alloc, Drip { bytes, left }),
+        line: None,
     }
 }
 
@@ -52,6 +60,7 @@ fn is_told<T: Threads + Sync>(
     let mut output = Output::new(alloc, Page::new(room));
     let mut kept = Kept {
         told: Vec::new(alloc),
+        notes: 0,
     };
     let asked = AskedNumbers {
         limit: 8,
@@ -62,7 +71,7 @@ fn is_told<T: Threads + Sync>(
     let page = output.into_writer();
     let written = page.written.as_slice();
     let is_right = written.len() == room.min(whole.len()) && whole.starts_with(written);
-    is_right && fault == Some(first) && kept.told.as_slice() == told
+    is_right && fault == Some(first) && kept.told.as_slice() == told && kept.notes == 0
 }
 
 #[test]
