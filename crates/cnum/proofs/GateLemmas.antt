@@ -2,7 +2,7 @@
 use Rattle.std.proofs.Common.{inl, inr, ℕ, List, map, Option, Result, Ok, Err}
 use Rattle.cn_hall.specs.Seats.{SeatState}
 use Rattle.cn_hall.specs.declared.call.Go.{Go}
-use Rattle.cn_app.specs.Arguments.Calls.{GivesCalls}
+use Rattle.cn_app.specs.Arguments.Calls.{GivesCalls, calls_in}
 use Rattle.cn_app.specs.Arguments.Events.{GivesCapacity}
 use Rattle.cn_app.specs.Commands.Serve.{HasServeReport, IsServeReport}
 use Rattle.cn_app.specs.Steps.{Then}
@@ -40,8 +40,8 @@ module _ {G : Type 0} (asks : G → SeatState → ℕ → G → Type 0) (says : 
       → HasServeReport (EachHasOneGate asks says made) given calls q → HasServeReport (EachHasOneGate asks says (λ _ _. Unit {0})) given calls q
   served_by_any given calls q h =
       behind (GivesCapacity given.capacity.now) _ _ (λ slots. behind (GivesCalls calls) _ _ (λ lists. behind (GivesOpening given slots) _ _ (λ o.
-      by_result (IsServeReport (EachHasOneGate asks says made) o (map (λ list. list.items) lists.items))
-      (IsServeReport (EachHasOneGate asks says (λ _ _. Unit {0})) o (map (λ list. list.items) lists.items))
+      by_result (IsServeReport (EachHasOneGate asks says made) o (calls_in o.object (map (λ list. list.items) lists.items)))
+      (IsServeReport (EachHasOneGate asks says (λ _ _. Unit {0})) o (calls_in o.object (map (λ list. list.items) lists.items)))
       (λ report done. (record {
         fit = done.fit;
         log = done.log;
