@@ -32,11 +32,12 @@ def edges():
 
 
 def classified(files, words):
-    """What `classify` prints for these texts, each in a file of its name."""
+    """What `classify` prints and tells for these texts, each in a file of its name. The names are told without their folder."""
     with tempfile.TemporaryDirectory() as room:
         for name, text in files.items():
             (pathlib.Path(room) / name).write_text(text)
-        return called(["classify", *(f"{room}/{word}" if word in files else word for word in words)])
+        printed, told, status = called(["classify", *(f"{room}/{word}" if word in files else word for word in words)])
+    return printed, told.replace(f"{room}/".encode(), b""), status
 
 
 def numbers():
@@ -50,7 +51,8 @@ def numbers():
     yield "classify", lambda: classified(files, list(files)), answer(wanted)
     twice = [*files, *reversed(files)]
     wanted = "".join(f"{names[int(file[0])]}: {file[0]}\n" for file in twice)
-    yield "classify, each file twice", lambda: classified(files, twice), answer(wanted)
+    told = "".join(f"cnum: {file}: the same line as {file}\n" for file in reversed(files))
+    yield "classify, each file twice", lambda: classified(files, twice), (wanted.encode(), told.encode(), 0)
 
 
 def cases():
