@@ -13,7 +13,7 @@ use Rattle.cn_table.specs.Faults.{is_misfit, has_bad_length, is_miscounted, has_
 use Rattle.cn_table.proofs.Lists.{none_skipped}
 
 -- the parts of a reading that gives a value
-bind_some : {A B : Type 0} (o : Option A) (f : A → Option B) (y : B) → (o >>= f) ≡ Some y → (x : A) × (o ≡ Some x) × (f x ≡ Some y)
+pub bind_some : {A B : Type 0} (o : Option A) (f : A → Option B) (y : B) → (o >>= f) ≡ Some y → (x : A) × (o ≡ Some x) × (f x ≡ Some y)
 bind_some None f y e = cc
 bind_some (Some x) f y e = (x, refl, e)
 

@@ -7,3 +7,4 @@ pub mod Rows
 pub mod ReachLemmas
 pub mod Lines
 pub mod Faultless
+pub mod Spelling

@@ -24,6 +24,7 @@ mod draft_faults;
 mod elements;
 mod fault;
 pub mod keys;
+pub mod laws;
 mod limits;
 pub mod names;
 mod reach;
