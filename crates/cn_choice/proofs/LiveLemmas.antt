@@ -11,17 +11,19 @@ use Rattle.cn_choice.specs.declared.team.Team.TheVariants.{A, B}
 use Rattle.cn_choice.specs.Blocks.{Block, BlockComesBefore, IsBlockOf, canonical_blocks, choices_of_block}
 use Rattle.cn_choice.specs.Canonical.{Choice, ChoiceComesBefore, IsCanonical, canonical_choices, raw_choice_of, second_lists}
 use Rattle.cn_choice.specs.Discerning.{IsDiscerning, IsWitness}
-use Rattle.cn_choice.specs.Live.{IsLive, IsLiveBlock, all_move, is_live, live_blocks, live_choices, live_in}
+use Rattle.cn_choice.specs.Live.{IsLive, IsLiveBlock, IsLiveIn, all_move, is_live, live_blocks, live_choices, live_in}
 use Rattle.cn_choice.specs.RawChoices.{IsRawChoice, RawChoice}
 use Rattle.cn_choice.specs.OutcomeSets.{InOutcomeSet}
 use Rattle.cn_choice.specs.Moves.{answer_of, next_of}
-use Rattle.cn_choice.proofs.Ascending.{blocks_ascend, canonical_ascend}
-use Rattle.cn_choice.proofs.BlockLemmas.{blocks_are, blocks_cover, blocks_listed, blocks_rise, to_blocks}
-use Rattle.cn_choice.proofs.CanonicalForms.{canonical_listed, coverage}
+use Rattle.cn_choice.proofs.Ascending.{blocks_ascend, canonical_ascend, in_with_first, with_first_ascends}
+use Rattle.cn_choice.proofs.BlockLemmas.{blocks_are, blocks_cover, blocks_listed, to_blocks}
+use Rattle.cn_choice.proofs.CanonicalForms.{canonical_listed, choice-IsRawChoice, coverage}
 use Rattle.cn_choice.proofs.EarlyLists.{alone_gets, second_gets}
 use Rattle.cn_choice.proofs.FilterLemmas.{kept, pairs_kept, was_in}
-use Rattle.cn_choice.proofs.Members.{AllPairs-from_Pairs, Contains-from_IsIn, IsIn, IsIn-from_Contains, each_at}
-use Rattle.cn_choice.proofs.NonDecreasing.{is_non_decreasing, never_falls}
+use Rattle.cn_choice.proofs.ListedChoices.{IsRising, above_zero, to_second}
+use Rattle.cn_choice.proofs.Members.{AllPairs-from_Pairs, Contains-from_IsIn, IsIn, IsIn-from_Contains, IsIn-map, each_at}
+use Rattle.cn_choice.proofs.NonDecreasing.{never_falls}
+use Rattle.cn_choice.proofs.Successors.{choice_of}
 
 -- ---- the test
 
@@ -172,11 +174,10 @@ live_blocks_listed t n k few = (
       record {
         block = is.0;
         for_n = is.1;
-        in_order = is_non_decreasing k.a (blocks_rise (length t.states) (length t.operations) n k r.0);
         moves = All-from_recursion (λ o. (transition t o k.state).1 ≢ k.state) k.a (all_from t k.state k.a r.1);
       },
   λ h. Contains-from_IsIn k _ (kept (λ (k : Block). all_move t k.state k.a) k all
-      (to_blocks (length t.states) (length t.operations) n k h.block h.for_n (never_falls k.a h.in_order))
+      (to_blocks (length t.states) (length t.operations) n k h.block h.for_n)
       (all_to t k.state k.a (recursion_from_All (λ o. (transition t o k.state).1 ≢ k.state) k.a h.moves))),
 )
   where
@@ -187,3 +188,58 @@ pub live_blocks_ascend : (t : TypeTable) (n : ℕ) → AllPairs BlockComesBefore
 unfolding live_blocks
 live_blocks_ascend t n =
     AllPairs-from_Pairs BlockComesBefore _ (pairs_kept (λ (k : Block). all_move t k.state k.a) BlockComesBefore _ (blocks_ascend (length t.states) (length t.operations) n))
+
+-- ---- the live choices of one block
+
+-- a canonical choice with the state and the list of team A of the block is one of its choices
+in_block : (t : TypeTable) (k : Block) (c : Choice) → IsLiveIn t k c
+    → IsIn c (choices_of_block (length t.operations) k)
+in_block t k c h =
+    let m : ℕ = length t.operations in
+    let can = h.canonical in
+    let parts = choice-IsRawChoice t k.n c h.for_n in
+    let second = to_second m k.n c.a c.b parts.all can.a_not_longer (record {
+      long = refl;
+      above = above_zero c.b;
+      below = recursion_from_All (λ o. o < m) c.b parts.b_known;
+      in_order = never_falls c.b can.b_in_order;
+    }) can.a_not_above in
+    let own : IsIn c.b (second_lists m k.n k.a) =
+    subst (λ (a : List ℕ). IsIn c.b (second_lists m k.n a)) h.same_a second in
+    let same : choice_of k.state k.a c.b ≡ c = rw (sym h.same_state, sym h.same_a) refl in
+    subst (λ (d : Choice). IsIn d (choices_of_block m k)) same
+    (IsIn-map (choice_of k.state k.a) c.b (second_lists m k.n k.a) own)
+
+-- they are exactly the live canonical choices with its start state and its list of team A
+pub live_in_listed : (t : TypeTable) (k : Block) (c : Choice) → IsBlockOf t k
+    → Contains (live_in t k) c ↔ IsLiveIn t k c
+live_in_listed t k c is = (
+  λ h.
+      let r = was_in (is_live t) c (choices_of_block (length t.operations) k) (IsIn-from_Contains c _ h) in
+      let block = to_blocks (length t.states) (length t.operations) k.n k is refl in
+      let listed = blocks_listed (length t.states) (length t.operations) k.n k c block r.0 in
+      let fits = (canonical_listed t k.n c).0 (Contains-from_IsIn c _ listed) in
+      let own = in_with_first (length t.operations) k.n k.state k.a c r.0 in
+      record {
+        canonical = fits.0;
+        for_n = fits.1;
+        live = live_from t c r.1;
+        same_state = own.0;
+        same_a = own.1;
+      },
+  λ h. Contains-from_IsIn c _ (kept (is_live t) c (choices_of_block (length t.operations) k)
+      (in_block t k c h) (live_to t c h.live)),
+)
+
+pub live_in_ascends : (t : TypeTable) (k : Block) → IsBlockOf t k
+    → AllPairs ChoiceComesBefore (live_in t k)
+live_in_ascends t k is =
+    let m : ℕ = length t.operations in
+    let rising : IsRising 0 m (length k.a) k.a = record {
+      long = refl;
+      above = above_zero k.a;
+      below = recursion_from_All (λ o. o < m) k.a is.known;
+      in_order = never_falls k.a is.in_order;
+    } in
+    AllPairs-from_Pairs ChoiceComesBefore _ (pairs_kept (is_live t) ChoiceComesBefore _
+    (with_first_ascends m k.n k.state k.a rising))

@@ -1,11 +1,10 @@
 -- Live choices: each of their operations leads away from the start state.
 use Rattle.std.specs.Prelude.{ℕ, ◌≡◌, ◌≢◌, ◌==◌, Bool, not, ◌&&◌, List, length, All}
 use Rattle.std.specs.List.{filter, list_all}
-use Rattle.std.specs.List.Sorted.{IsNonDecreasing}
 use Rattle.cn_table.specs.TypeTable.{TypeTable, transition}
 use Rattle.cn_choice.specs.Blocks.{Block, IsBlockOf, canonical_blocks, choices_of_block}
-use Rattle.cn_choice.specs.RawChoices.{RawChoice}
-use Rattle.cn_choice.specs.Canonical.{Choice, canonical_choices}
+use Rattle.cn_choice.specs.RawChoices.{RawChoice, IsRawChoice}
+use Rattle.cn_choice.specs.Canonical.{Choice, IsCanonical, canonical_choices, raw_choice_of}
 
 -- each of the operations, applied in the state, leads to another state
 abbrev pub AllMove : TypeTable → ℕ → List ℕ → Type 0
@@ -15,12 +14,19 @@ AllMove t state operations = All (λ operation. (transition t operation state).1
 abbrev pub IsLive : TypeTable → RawChoice → Type 0
 IsLive t c = AllMove t c.state c.operations
 
--- a block of the table for n processes: the list of team A is non-decreasing, and each of its operations leads away from the start state
+-- a block of the table for n processes: each operation of team A leads away from the start state
 pub record IsLiveBlock (t : TypeTable) (n : ℕ) (k : Block) : Type 0 where
   pub block : IsBlockOf t k
   pub for_n : k.n ≡ n
-  pub in_order : IsNonDecreasing k.a
   pub moves : AllMove t k.state k.a
+
+-- a live canonical choice of the table with the start state and the list of team A of the block
+pub record IsLiveIn (t : TypeTable) (k : Block) (c : Choice) : Type 0 where
+  pub canonical : IsCanonical c
+  pub for_n : IsRawChoice t k.n (raw_choice_of c)
+  pub live : IsLive t (raw_choice_of c)
+  pub same_state : c.state ≡ k.state
+  pub same_a : c.a ≡ k.a
 
 -- whether each of the operations, applied in the state, leads to another state
 abbrev pub all_move : TypeTable → ℕ → List ℕ → Bool

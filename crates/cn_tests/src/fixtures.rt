@@ -1,5 +1,6 @@
 //! Lists and plans that the tests of several crates start from.
 ghost use Rattle.std.specs.Prelude.{◌≡◌, ◌<◌, ◌≤◌, ◌+◌, ◌↔◌, length, All, IsTrue};
+ghost use Rattle.std.specs.List.Sorted.{IsNonDecreasing};
 ghost use Rattle.cn_choice.specs.Canonical.{FitsTable};
 
 use crate::types::test_and_set;
@@ -27,6 +28,13 @@ pub(super) fn are_below(numbers: &[u8], limit: u8) -> bool
     ensures { IsTrue result ↔ All (λ x. x < limit) numbers.now }
 {
     numbers.iter().all(|x| *x < limit)
+}
+
+/// Whether the list is non-decreasing.
+pub(super) fn never_falls(numbers: &[u8]) -> bool
+    ensures { IsTrue result ↔ IsNonDecreasing numbers.now }
+{
+    numbers.is_sorted()
 }
 
 /// The table that a text spells.
