@@ -1,5 +1,6 @@
 //! Memory that is left to a search in one thread.
-ghost use Rattle.std.specs.Prelude.{◌≡◌, [], IfOk};
+ghost use Rattle.std.specs.Prelude.{◌≡◌, ◌≤◌, [], IfOk, vec_capacity};
+ghost use Rattle.cn_search.specs.declared.reserve.TheConstants.{ENOUGH_BYTES};
 
 use std::alloc::{AllocError, Global};
 
@@ -9,7 +10,8 @@ const ENOUGH_BYTES: usize = 40 * 1024 * 1024;
 /// Takes this memory, and writes nothing into it. While it is held, the stacks of threads and what
 /// they allocate stay out of it, so that a search in one thread has room once it is dropped.
 pub(crate) fn reserve(alloc: Global) -> Result<Vec<u8>, AllocError>
-    ensures { IfOk result (λ room. room.items ≡ []) }
+    ensures empty { IfOk result (λ room. room.items ≡ []) }
+    ensures enough { IfOk result (λ room. ENOUGH_BYTES ≤ vec_capacity room) }
 {
     Vec::with_capacity(alloc, ENOUGH_BYTES)
 }
