@@ -1,5 +1,5 @@
 //! Laws of rounds and schedules. A law is a function that does nothing: its contract is the law.
-ghost use Rattle.std.specs.Prelude.{◌≡◌, ◌<◌, ◌↔◌, ℕ, List, length, None, Some};
+ghost use Rattle.std.specs.Prelude.{◌≡◌, ◌-◌, ◌<◌, ◌≤◌, ◌↔◌, ℕ, List, length, None, Some};
 ghost use Rattle.cn_choice.specs.declared.team.Team.{Team as TeamOf};
 ghost use Rattle.cn_proto.specs.Plan.{IsPlan, Plan as PlanOf, protocol_of, processes_of};
 ghost use Rattle.cn_proto.specs.Protocol.{Protocol};
@@ -8,8 +8,8 @@ ghost use Rattle.cn_agree.specs.AtomicStep.{IsAtomic};
 ghost use Rattle.cn_agree.specs.Consensus.{IsConsensus, IsSchedule};
 ghost use Rattle.cn_agree.specs.Reached.{HasBegun, IsReached};
 ghost use Rattle.cn_agree.specs.Rounds.{IsRound, KeepsConsensus, fixed_value};
-ghost use Rattle.cn_agree.specs.Schedules.{decisions_after};
-ghost use Rattle.cn_agree.specs.Steps.{after_step};
+ghost use Rattle.cn_agree.specs.Schedules.{all_begun, decisions_after, decisions_of};
+ghost use Rattle.cn_agree.specs.Steps.{after_schedule, after_step};
 ghost use Rattle.cn_agree.specs.World.{World, input_at, local_at};
 ghost use Rattle.cn_agree.specs.declared.local.Local.TheVariants.{NotBegun};
 
@@ -46,6 +46,16 @@ pub fn plans_reach_consensus<V>()
 {
     every_plan();
 }
+
+/// The same law, for each sound protocol whose paths have no more places than there are nodes, one
+/// fewer than processes: for any number of processes.
+pub fn every_sound_protocol<V>()
+    ensures { (P : Protocol) (n : ℕ) (team : ℕ → TeamOf) → IsSound P n (n - 1) team
+        → ((p : ℕ) → p < n → length (P.path p) ≤ n - 1)
+        → (inputs : List V) (schedule : List ℕ) → length inputs ≡ n → IsSchedule n schedule
+        → IsConsensus P n inputs schedule
+        (decisions_of (after_schedule P schedule (all_begun P (n - 1) inputs))) }
+{}
 
 /// Every round keeps consensus, for all steps of its processes so far:
 ///
