@@ -1,0 +1,14 @@
+pub mod Alike
+pub mod Counting
+pub mod CriticalConfigurations
+pub mod CriticalSearch
+pub mod FirstConfiguration
+pub mod InfiniteSchedules
+pub mod Numbers
+pub mod OneObject
+pub mod RegistersAlone
+pub mod Tables
+pub mod Theorem
+pub mod TwoSteps
+pub mod WellFoundedRuns
+pub mod Witnesses

@@ -1,0 +1,3 @@
+pub mod OneProcess
+pub mod RoundProtocol
+pub mod Solving
