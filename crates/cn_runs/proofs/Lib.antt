@@ -1,0 +1,2 @@
+pub mod OneAccess
+pub mod Races

@@ -1,0 +1,6 @@
+pub mod Races
+pub mod Runs
+pub mod Steps
+pub mod StickyBit
+pub mod TestAndSet
+pub mod ThreeShot
