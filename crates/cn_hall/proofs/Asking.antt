@@ -1,5 +1,5 @@
 -- The questions to a gate, and the steps between them.
-use Rattle.std.proofs.Common.{◌≡◌, ℕ, zero, suc, Bool, true, false, ◌+◌, ◌*◌, ◌-◌, ◌<◌, ◌≤◌, ◌==◌, List, [], ◌∷◌, ◌++◌, drop, length, Some, refl, sym, ap, ◌∙◌, subst, arith, cond, append_assoc, append-nil, length-append}
+use Rattle.std.proofs.Common.{◌≡◌, ℕ, zero, suc, Bool, true, false, ◌+◌, ◌*◌, ◌-◌, ◌<◌, ◌≤◌, ◌==◌, List, [], ◌∷◌, ◌++◌, drop, length, Some, inl, inr, refl, sym, ap, ◌∙◌, subst, arith, cond, append_assoc, append-nil, length-append}
 use Rattle.std.proofs.lemmas.Bool.Decides.{nat_tests}
 use Rattle.std.proofs.Math.Nat.{mul-le-mul_left}
 use Rattle.cn_log.specs.Callers.{BeginsWith, HasNoEventOf}
@@ -12,7 +12,7 @@ use Rattle.cn_log.specs.declared.event.Event.TheVariants.{Invoke, Step}
 use Rattle.cn_log.specs.declared.event.StepAnswer.{StepAnswer}
 use Rattle.cn_proto.specs.Plan.{processes_of}
 use Rattle.cn_hall.specs.Calls.{GoesOn, IsSameSeat}
-use Rattle.cn_hall.specs.Gates.{HasTaken, IsAsked, steps_since}
+use Rattle.cn_hall.specs.Gates.{HasTaken, IsAsked, LastIsOwn, steps_since}
 use Rattle.cn_hall.specs.Seats.{SeatState, IsInvoke, IsLog, IsStep, pending}
 use Rattle.cn_hall.specs.declared.call.Go.{Go}
 use Rattle.cn_hall.specs.declared.call.Go.TheVariants.{On}
@@ -77,6 +77,16 @@ since_step p core now next x h k =
 pub core_later : (p : ℕ) (now next : Log) (x : StepAnswer) → IsStep p now x next → BeginsWith next.schedule now.schedule
 core_later p now next x k = (since_step p now now next x (later_same now) k).1
 
+-- a step of the process is the last event
+pub last_stepped : (p : ℕ) (core now next : Log) (x : StepAnswer) → IsStep p now x next → LastIsOwn p core next
+last_stepped p core now next x k = inr (k.0.schedule, Step p, refl, ap (λ (y : Log). y.schedule) k.2)
+
+-- what is last since a call is last since the core before the call
+last_from_invoke : (p operation : ℕ) (core mid now : Log) → IsInvoke p operation core mid → LastIsOwn p mid now → LastIsOwn p core now
+last_from_invoke p operation core mid now k (inl same) =
+    inr (k.0.schedule, Invoke p operation, refl, ap (λ (y : Log). y.schedule) same ∙ ap (λ (y : Log). y.schedule) k.2)
+last_from_invoke p operation core mid now k (inr last) = inr last
+
 -- a call adds none
 since_invoke : (p operation : ℕ) (core mid now : Log) → IsInvoke p operation core mid → BeginsWith now.schedule mid.schedule → (steps_since p core now ≡ steps_since p mid now) × BeginsWith now.schedule core.schedule
 since_invoke p operation core mid now k h =
@@ -115,7 +125,7 @@ since_few room p core now log h =
 -- the end may be later
 taken_later : (mine : Entry) (k : ℕ) (start seat : SeatState) (end now : Log) → BeginsWith now.schedule end.schedule → HasTaken mine k start end seat → HasTaken mine k start now seat
 taken_later mine k start seat end now more h =
-    record { same = h.same; later = h.later; history = begins_again seat.core.schedule end.schedule now.schedule h.history more; pending = h.pending; steps = h.steps }
+    record { same = h.same; later = h.later; history = begins_again seat.core.schedule end.schedule now.schedule h.history more; pending = h.pending; steps = h.steps; last = h.last }
 
 module _ {G : Type 0} (asks : G → SeatState → ℕ → G → Type 0) (says : G → Go) where
   asked_later : (mine : Entry) (start : SeatState) (end now : Log) → BeginsWith now.schedule end.schedule → (k : ℕ) (old new : G) → IsAsked asks says mine start end k old new → IsAsked asks says mine start now k old new
@@ -124,16 +134,23 @@ module _ {G : Type 0} (asks : G → SeatState → ℕ → G → Type 0) (says : 
 
   -- one more question, about the next step of the seat
   pub asked_next : (mine : Entry) (start seat : SeatState) (now : Log) (k : ℕ) (old mid new : G) → IsSameSeat start seat → BeginsWith seat.core.schedule start.core.schedule → BeginsWith now.schedule seat.core.schedule → pending seat ≡ Some mine
-      → steps_since start.process start.core seat.core ≡ k → IsAsked asks says mine start seat.core k old mid → says mid ≡ On → asks mid seat (k + 1) new → (m : ℕ) → m ≡ suc k → IsAsked asks says mine start now m old new
-  asked_next mine start seat now k old mid new same later more is steps asked on asks_it m e =
+      → steps_since start.process start.core seat.core ≡ k → LastIsOwn start.process start.core seat.core → IsAsked asks says mine start seat.core k old mid → says mid ≡ On → asks mid seat (k + 1) new → (m : ℕ) → m ≡ suc k → IsAsked asks says mine start now m old new
+  asked_next mine start seat now k old mid new same later more is steps last asked on asks_it m e =
       let z : k + 1 ≡ suc k = omega arith in
       subst (λ n. IsAsked asks says mine start now n old new) (sym e)
-      (mid, seat, asked_later mine start seat.core now more k old mid asked, on, record { same = same; later = later; history = more; pending = is; steps = steps }, subst (λ n. asks mid seat n new) z asks_it)
+      (mid, seat, asked_later mine start seat.core now more k old mid asked, on, record { same = same; later = later; history = more; pending = is; steps = steps; last = last }, subst (λ n. asks mid seat n new) z asks_it)
 
   taken_from : (a b seat : SeatState) (end : Log) (operation : ℕ) (mine : Entry) (k : ℕ) → IsSameSeat a b → IsInvoke a.process operation a.core b.core → HasTaken mine k b end seat → HasTaken mine k a end seat
   taken_from a b seat end operation mine k same invoke h =
       let s = since_invoke a.process operation a.core b.core seat.core invoke h.later in
-      record { same = same_again a b seat same h.same; later = s.1; history = h.history; pending = h.pending; steps = s.0 ∙ ap (λ p. steps_since p b.core seat.core) (sym same.1) ∙ h.steps }
+      record {
+        same = same_again a b seat same h.same;
+        later = s.1;
+        history = h.history;
+        pending = h.pending;
+        steps = s.0 ∙ ap (λ p. steps_since p b.core seat.core) (sym same.1) ∙ h.steps;
+        last = last_from_invoke a.process operation a.core b.core seat.core invoke (subst (λ p. LastIsOwn p b.core seat.core) same.1 h.last);
+      }
 
   -- the questions of a call, from its beginning on
   pub asked_from : (a b : SeatState) (end : Log) (operation : ℕ) (mine : Entry) → IsSameSeat a b → IsInvoke a.process operation a.core b.core → (k : ℕ) (old new : G) → IsAsked asks says mine b end k old new → IsAsked asks says mine a end k old new
