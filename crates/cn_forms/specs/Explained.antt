@@ -176,9 +176,9 @@ unfoldable pub same_ways : List ℕ
 same_ways = codes "  Ways that differ only in the numbers of the processes or the names of the teams count as one.\n"
 
 unfoldable pub theorem_line : ℕ → List ℕ
-theorem_line n = codes "That no other protocol does it for " ++ decimal n ++ codes " is Ruppert's theorem (2000), which is not proved here.\n"
+theorem_line n = codes "No protocol at all does it for " ++ decimal n ++ codes ": this is proved (docs/PROVED.md).\n"
 
--- the notes: what the text leaves out, and what is not proved
+-- the notes: what the text leaves out, and that no protocol does it
 abbrev pub notes : ℕ → ℕ → List ℕ
 notes version n = same_ways ++ left_out version ++ theorem_line n
 

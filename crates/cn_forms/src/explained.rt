@@ -249,11 +249,11 @@ fn push_theorem(text: &mut String, n: u8) -> Result<(), AllocError>
 {
     write!(
         text,
-        "That no other protocol does it for {n} is Ruppert's theorem (2000), which is not proved here.\n"
+        "No protocol at all does it for {n}: this is proved (docs/PROVED.md).\n"
     )
 }
 
-/// The notes: what the text leaves out, and what is not proved.
+/// The notes: what the text leaves out, and that no protocol does it.
 fn push_notes(text: &mut String, version: u8, n: u8) -> Result<(), AllocError>
     ensures { OnOk result (string_bytes text.new ≡ string_bytes text.old ++ notes version n) }
 {
