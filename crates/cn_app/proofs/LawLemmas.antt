@@ -1,3 +1,5 @@
 -- The laws.
+pub mod NumberWords
+pub mod NumbersTold
 pub mod Headline
 pub mod OneOutput

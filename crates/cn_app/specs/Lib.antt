@@ -1,6 +1,7 @@
 pub mod Answers
 pub mod Arguments
 pub mod Commands
+pub mod ConsensusNumber
 pub mod FaultText
 pub mod Headline
 pub mod Lines
