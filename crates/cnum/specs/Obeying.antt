@@ -40,9 +40,10 @@ module _ {S F D W : Type 0} (remaining : S → Option (List ℕ)) (left : LazyFi
       ⊎ (((limit : ℕ) (recoverable : Bool) (tables : Vec TextSource Global) → command ≢ Classify limit recoverable tables)
       × RunsOne stdin table command u v status)
 
--- in the same terms: the command was done with these streams, of which nothing was used before; a reader over standard input read it
+-- in the same terms: the command was done with these streams, of which nothing was used before, and the writer is handed back as the command left
+-- it; a reader over standard input read the command's input
 abbrev pub Obeys : {S F D W : Type 0} → (S → Option (List ℕ)) → (LazyFile D F → Option (List ℕ)) → (W → Option (List ℕ)) → (List ℕ → Option (List ℕ))
-    → S → W → Invocation → ℕ → Type 0
-Obeys {S} {F} {D} {W} remaining left contents files stdin stdout given status =
+    → S → W → Invocation → ℕ → PipeWriter W → Type 0
+Obeys {S} {F} {D} {W} remaining left contents files stdin stdout given status back =
     (u : Output (PipeWriter W)) × (v : Output (PipeWriter W)) × (awaited : AwaitedInput D S) × (u.writer.writer ≡ stdout) × IsUnwritten u
-    × (awaited.input ≡ stdin) × Does (λ it. remaining it.input) left (λ pipe. contents pipe.writer) files awaited given.table given.command u v status
+    × (awaited.input ≡ stdin) × (v.writer ≡ back) × Does (λ it. remaining it.input) left (λ pipe. contents pipe.writer) files awaited given.table given.command u v status

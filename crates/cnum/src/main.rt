@@ -102,7 +102,8 @@ fn do_command<T: Threads + Wait + Sync + Disk + Eprint, I: Read + Copy + Drop, O
     command_exit(faults, end)
 }
 
-// Does a command; how the program ends. It is silent where whoever read its output went away.
+// Does a command; how the program ends, and the writer as the command left it. It is silent where
+// whoever read its output went away.
 fn obey<T: Threads + Wait + Sync + Disk + Eprint, I: Read + Copy + Drop, O: Write + Drop>(
     rt: &T,
     alloc: Global,
@@ -110,16 +111,17 @@ fn obey<T: Threads + Wait + Sync + Disk + Eprint, I: Read + Copy + Drop, O: Writ
     first_read: &FirstRead,
     stdout: O,
     given: &Invocation<'_>,
-) -> ExitCode
+) -> (ExitCode, PipeWriter<O>)
     ensures { Obeys I.remaining (left_in T.contents T.Reader.remaining) O.contents
-        (T.contents rt.now) stdin stdout given.now (exit_status result) }
+        (T.contents rt.now) stdin stdout given.now (exit_status result.0) result.1 }
 {
     let input = AwaitedInput::new(rt, stdin, first_read);
     let mut output = Output::new(alloc, PipeWriter::new(stdout));
     let mut faults = Faults::new(rt);
     let exit = do_command(rt, alloc, input, &mut output, &mut faults, given);
-    faults.end(!output.into_writer().is_broken);
-    exit
+    let writer = output.into_writer();
+    faults.end(!writer.is_broken);
+    (exit, writer)
 }
 
 // The same; where standard input is a terminal, another thread tells of a first read that is late.
@@ -128,30 +130,30 @@ fn obey_and_tell<
     T: Threads + Wait + Clock + Sync + Disk + Eprint,
     I: Read + IsTerminal + Copy + Drop,
     O: Write + Drop,
->(rt: &T, alloc: Global, stdin: I, stdout: O, given: &Invocation<'_>) -> ExitCode
+>(rt: &T, alloc: Global, stdin: I, stdout: O, given: &Invocation<'_>) -> (ExitCode, PipeWriter<O>)
     ensures { Obeys I.remaining (left_in T.contents T.Reader.remaining) O.contents
-        (T.contents rt.now) stdin stdout given.now (exit_status result) }
+        (T.contents rt.now) stdin stdout given.now (exit_status result.0) result.1 }
 {
     let first_read = FirstRead::new();
     if !stdin.is_terminal() {
         return obey(rt, alloc, stdin, &first_read, stdout, given);
     }
-    let (_, exit) = join(
+    let (_, done) = join(
         rt,
         ||
             requires { IsSync T.row }
         { first_read.tell_if_late(rt) },
-        || -> ExitCode
+        || -> (ExitCode, PipeWriter<O>)
             requires { IsSync T.row }
             ensures { Obeys I.remaining (left_in T.contents T.Reader.remaining) O.contents
-                (T.contents rt.entry.now) stdin stdout given.entry.now (exit_status result) }
+                (T.contents rt.entry.now) stdin stdout given.entry.now (exit_status result.0) result.1 }
         {
-            let exit = obey(rt, alloc, stdin, &first_read, stdout, given);
+            let done = obey(rt, alloc, stdin, &first_read, stdout, given);
             first_read.end(rt);
-            exit
+            done
         },
     );
-    exit
+    done
 }
 
 // Tells what there is to tell in place of a command; how the program ends.
@@ -190,7 +192,10 @@ fn main(rt: HostRuntime) -> ExitCode {
         Err(fault) => return fault_exit(&mut Faults::new(&rt), fault),
     };
     match cn_words::parse(rt.alloc(), given.as_slice()) {
-        Ok(given) => obey_and_tell(&rt, rt.alloc(), rt.stdin(), rt.stdout(), &given),
+        Ok(given) => {
+            let (exit, _) = obey_and_tell(&rt, rt.alloc(), rt.stdin(), rt.stdout(), &given);
+            exit
+        }
         Err(reply) => answer(&rt, reply),
     }
 }

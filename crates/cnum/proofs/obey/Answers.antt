@@ -1,4 +1,4 @@
-use Rattle.std.proofs.Common.{◌∙◌, ap}
+use Rattle.std.proofs.Common.{◌∙◌, ap, sym}
 use Rattle.cnum.proofs.obey.Goals as goal
 
 pub returns : goal.returns
@@ -9,5 +9,6 @@ returns g c = (
   ap (λ pipe. pipe.writer) c.new-output.ensures.writer ∙ c.new.ensures,
   c.new-output.ensures.unwritten,
   c.new-input.ensures,
+  sym c.into_writer-writer.ensures,
   c.do_command-exit.ensures,
 )
