@@ -284,7 +284,7 @@ var Cnum = globalThis.Cnum || {};
 
         tellNumber([, atLeast, number]) {
             const can = number === '1' ? ALONE : `${number} ${TOGETHER}`;
-            const more = atLeast ? 'More were not asked for.' : `It is not ${Number(number) + 1}-discerning.`;
+            const more = atLeast ? 'More were not asked for.' : `No protocol lets ${Number(number) + 1} agree.`;
             at('number').textContent = atLeast + number;
             at('meaning').textContent = `${can} ${more}`;
         }
