@@ -65,7 +65,6 @@ pub fn every_sound_protocol<V>()
 /// - `fixed`: the fixed value stays.
 /// - `begun`, `stays_begun`: a process that has begun stays so, and has a value on record.
 /// - `sizes`: a round has an entry for each node and each process.
-/// each for each node and process.
 pub fn every_round<V>()
     ensures consensus { (P : Protocol) (n nodes : ℕ) (team : ℕ → TeamOf) (schedule : List ℕ)
         (w : World V) → IsSound P n nodes team → IsReached P n nodes schedule w

@@ -48,8 +48,8 @@ pub fn none_above_the_number<L, V>()
         → ¬ IsConsensusProtocol (all_of t) m P }
 {}
 
-/// Registers alone do not solve consensus for 2 or more processes (Loui and Abu-Amara, 1987): a
-/// type none of whose operations changes its state has no protocol.
+/// Registers alone do not solve consensus for 2 or more processes (Loui and Abu-Amara, 1987): where
+/// no operation of a type changes its state, no protocol over it solves consensus.
 pub fn registers_alone<L, V>()
     ensures { (t : TypeTable) (n : ℕ) (P : Protocol L V) → IsClosed t → NeverChanges t → 2 ≤ n
         → IsProtocolOf (all_of t) n P → ¬ IsConsensusProtocol (all_of t) n P }

@@ -46,4 +46,5 @@ abbrev pub Obeys : {S F D W : Type 0} → (S → Option (List ℕ)) → (LazyFil
     → S → W → Invocation → ℕ → PipeWriter W → Type 0
 Obeys {S} {F} {D} {W} remaining left contents files stdin stdout given status back =
     (u : Output (PipeWriter W)) × (v : Output (PipeWriter W)) × (awaited : AwaitedInput D S) × (u.writer.writer ≡ stdout) × IsUnwritten u
-    × (awaited.input ≡ stdin) × (v.writer ≡ back) × Does (λ it. remaining it.input) left (λ pipe. contents pipe.writer) files awaited given.table given.command u v status
+    × (awaited.input ≡ stdin) × (v.writer ≡ back)
+    × Does (λ it. remaining it.input) left (λ pipe. contents pipe.writer) files awaited given.table given.command u v status
