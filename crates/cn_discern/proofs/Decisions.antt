@@ -1,35 +1,54 @@
--- Whether some stock splits, from what was found for each stock and each start state.
-use Rattle.std.proofs.Common.{◌≡◌, ℕ, zero, suc, ◌+◌, ◌<◌, inl, inr, ◌↔◌, List, [], ◌∷◌, ◌++◌, length, get_or, refl, sym, ap, ◌∙◌, subst, arith, Bool, true, IsTrue, Some, All, Contains, map, Result, Ok, Err, IfOk, MatchResult, ◌≢◌, ◌-◌, ◌≤◌, true≢false}
-use Rattle.std.specs.List.{AllZip, range_with_len}
-use Rattle.std.proofs.lemmas.List.FromFn.{length-range_with_len, get_or-range_with_len}
+-- Whether some stock splits, from what was found for each stock.
+use Rattle.std.proofs.Common.{◌≡◌, ◌≢◌, ℕ, ◌^◌, ◌<◌, ◌≤◌, inl, inr, List, [], ◌∷◌, length, get_or, sym, ap, ◌∙◌, subst, arith, All, Contains, map, Result, Ok, Err, IfOk, MatchResult}
+use Rattle.std.specs.List.{AllZip}
+use Rattle.std.specs.Prelude.{IsBitSet}
+use Rattle.std.proofs.lemmas.Option.{get_or_from_slice_get, slice_get-get_or, slice_get_within}
 use Rattle.cn_table.specs.TypeTable.{TypeTable}
-use Rattle.cn_choice.proofs.Members.{IsIn, IsIn-from_Contains}
+use Rattle.cn_outcomes.proofs.LastProcess.{zero_has_none}
+use Rattle.cn_discern.specs.declared.levels.Level.{Level}
+use Rattle.cn_discern.specs.declared.search.Search.{Search}
 use Rattle.cn_discern.specs.declared.stocks.Stock.{Stock}
-use Rattle.cn_discern.specs.Splits.{SomeSplits, Splits, SplitsFrom}
-use Rattle.cn_discern.specs.Stocks.{HaveAll, items_at}
-use Rattle.cn_discern.specs.Words.{HaveSame, times, Shows}
-use Rattle.cn_discern.proofs.Steps.{shows_same}
-use Rattle.cn_discern.proofs.StockLemmas.{items_within}
-use Rattle.cn_discern.proofs.Times.{one_else, same_or, same_sym, times_at, times_cons, times_none}
+use Rattle.cn_choice.specs.declared.limits.TheConstants.{MOST_PROCESSES}
+use Rattle.cn_discern.specs.declared.decision.GreatestSplit.{GreatestSplit}
+use Rattle.cn_discern.specs.declared.decision.GreatestSplit.TheVariants.{AtLeast, NoSize, Size}
+use Rattle.cn_discern.specs.Greatest.{IsGreatestSplit}
+use Rattle.cn_discern.specs.Levels.{AreSplitStarts, IsLevel, IsNext, IsSearch}
+use Rattle.cn_discern.specs.Splits.{SomeSplits}
+use Rattle.cn_discern.specs.Stocks.{AreStocks}
+use Rattle.cn_discern.specs.Words.{HaveSame, times}
+use Rattle.cn_discern.proofs.PairLemmas.{some_bit}
+use Rattle.cn_discern.proofs.Fewer.{splits_same}
+use Rattle.cn_discern.proofs.StockLemmas.{before_or_behind, items_of, stock_at}
+use Rattle.cn_discern.proofs.Zips.{zip_at, zip_back, zip_none}
 
--- the same operations split alike
-splits_same : (t : TypeTable) (start : ℕ) (a b : List ℕ) → HaveSame a b → Splits t start a → Splits t start b
-splits_same t start a b same s = record {
-  chosen = s.chosen;
-  inside = (s.inside.0, omega (arith, s.inside.1, same s.inside.0), s.inside.2);
-  outside = (s.outside.0, omega (arith, s.outside.1, same s.outside.0), s.outside.2);
-  apart = λ f g yes no j. s.apart f g yes no
-      (j.0, j.1, j.2, shows_same t start a f j.0 a b j.1 j.2 (same_sym a b same) j.3, shows_same t start a g j.0 a b j.1 j.2 (same_sym a b same) j.4);
-}
+-- ---- all stocks of one number of operations
 
-pub none_splits : (t : TypeTable) (n start : ℕ) (stocks : List Stock) → HaveAll (length t.operations) n stocks
-    → ((i : ℕ) (items : List ℕ) → i < length stocks → items_at stocks i ≡ Some items → length items ≡ n → ¬ Splits t start items) → ¬ SplitsFrom t n start
-none_splits t n start stocks all none s =
-    let here = all s.0 s.1 s.2 in
-    let h = here.1 in
-    none here.0 h.0 (items_within stocks here.0 h.0 h.1) h.1 h.3 (splits_same t start s.0 h.0 (same_sym h.0 s.0 h.2) s.3)
+pub all_next : (t : TypeTable) (level : Level) (list : List Stock) → IsLevel t level → AreStocks (length t.operations) level.stocks.list.items list → All (IsNext t level) list
+all_next t level list is are k d l = record { level_is = is; stock_is = are k (get_or list k d) (slice_get-get_or list k d l) }
 
--- ---- start states
+-- a stock that has a start state
+pub some_start : (t : TypeTable) (n : ℕ) (s : Search) (i : ℕ) → IsSearch t n s → i < length s.starts.items → get_or s.starts.items i 0 < 2 ^ 16 → get_or s.starts.items i 0 ≢ 0 → SomeSplits t n
+some_start t n s i is l small some =
+    let starts = get_or s.starts.items i 0 in
+    let fit : Stock → ℕ → Type 0 = λ stock starts. AreSplitStarts t stock.operations.items starts in
+    let here = zip_back fit s.stocks.list.items s.starts.items is.starts i starts (slice_get-get_or s.starts.items i 0 l) in
+    let q = some_bit starts small some in
+    let splits = (here.2 q.0).0 q.1 in
+    (q.0, splits.0, (here.0.operations.items, (is.stocks.stocks i here.0 here.1).known, is.stocks.long i here.0.operations.items (items_of s.stocks.list.items i here.0 here.1), splits.1))
+
+pub none_starts : (t : TypeTable) (n : ℕ) (s : Search) → IsSearch t n s → ((i : ℕ) → i < length s.starts.items → get_or s.starts.items i 0 ≡ 0) → ¬ SomeSplits t n
+none_starts t n s is none h =
+    let fit : Stock → ℕ → Type 0 = λ stock starts. AreSplitStarts t stock.operations.items starts in
+    let split = h.2 in
+    let here = is.stocks.all split.0 split.1 split.2 in
+    let stock = stock_at s.stocks.list.items here.0 here.1.0 here.1.1 in
+    let starts = zip_at fit s.stocks.list.items s.starts.items is.starts here.0 stock.0 stock.1 in
+    let same : HaveSame split.0 stock.0.operations.items = λ o. sym (here.1.2 o) ∙ ap (times o) (sym stock.2) in
+    let bit = (starts.2 h.0).1 (h.1, splits_same t h.0 split.0 stock.0.operations.items same split.3) in
+    let zero_at : get_or s.starts.items here.0 0 ≡ 0 = none here.0 (slice_get_within s.starts.items here.0 starts.0 starts.1) in
+    zero_has_none h.0 (subst (λ (x : ℕ). IsBitSet x h.0) (sym (get_or_from_slice_get s.starts.items here.0 starts.0 0 starts.1) ∙ zero_at) bit)
+
+-- ---- what several threads collect
 
 -- what is collected of results that are all there
 AllZip-of_oks : {X Y : Type 0} (E : Type 0) (R : X → Y → Type 0) (xs : List X) (ys : List Y) → AllZip (λ x (r : Result Y E). IfOk r (R x)) xs (map Ok ys) → AllZip R xs ys
@@ -43,119 +62,17 @@ pub collected : {X Y V : Type 0} (E : Type 0) (R : X → Y → Type 0) (items : 
 collected {Y = Y} E R items xs rs (Ok v) h m = subst (λ ys. AllZip R xs ys) (sym m.2) (AllZip-of_oks E R xs m.0 (subst (λ rs. AllZip (λ x (r : Result Y E). IfOk r (R x)) xs rs) m.1 h))
 collected E R items xs rs (Err e) h m = tt
 
-zip_some : (P : ℕ → Type 0) (xs : List ℕ) (bs : List Bool) → AllZip (λ x b. IsTrue b ↔ P x) xs bs → (k : ℕ) → k < length bs → get_or bs k true ≡ true → (x : ℕ) × IsIn x xs × P x
-zip_some P [] [] h k l e = absurd (omega arith)
-zip_some P [] (b ∷ bs) h k l e = absurd h
-zip_some P (x ∷ xs) [] h k l e = absurd h
-zip_some P (x ∷ xs) (b ∷ bs) h zero l e = (x, inl refl, h.0.0 e)
-zip_some P (x ∷ xs) (b ∷ bs) h (suc k) l e = let r = zip_some P xs bs h.1 k (omega arith) e in (r.0, inr r.1, r.2)
-
-zip_all : (P : ℕ → Type 0) (xs : List ℕ) (bs : List Bool) → AllZip (λ x b. IsTrue b ↔ P x) xs bs → (x : ℕ) → IsIn x xs → P x → (k : ℕ) × (k < length bs) × (get_or bs k true ≡ true)
-zip_all P [] bs h x i p = absurd i
-zip_all P (y ∷ xs) [] h x i p = absurd h
-zip_all P (y ∷ xs) (b ∷ bs) h x i p = elim i [
-  | inl e ↦ (0, omega arith, h.0.1 (subst P (sym e) p))
-  | inr j ↦ (let r = zip_all P xs bs h.1 x j p in (suc r.0, omega (arith, r.1), r.2))
-]
-
-is_known : (bound : ℕ) (xs : List ℕ) → All (λ x. x < bound) xs → (x : ℕ) → IsIn x xs → x < bound
-is_known bound [] a x i = absurd i
-is_known bound (y ∷ xs) a x i = elim i [ inl e ↦ subst (λ (z : ℕ). z < bound) e (a 0 0 (omega arith)) | inr j ↦ is_known bound xs (λ k d l. a (suc k) d (omega (arith, l))) x j ]
-
-pub some_true : (t : TypeTable) (n : ℕ) (starts : List ℕ) (answers : List Bool) → All (λ x. x < length t.states) starts → ((x : ℕ) → x < length t.states → Contains starts x)
-    → AllZip (λ x b. IsTrue b ↔ SplitsFrom t n x) starts answers → Contains answers true ↔ SomeSplits t n
-some_true t n starts answers known all zip = (
-  λ h. (let r = zip_some (SplitsFrom t n) starts answers zip h.0 h.1 h.2 in (r.0, is_known (length t.states) starts known r.0 r.1, r.2)),
-  λ s. zip_all (SplitsFrom t n) starts answers zip s.0 (IsIn-from_Contains s.0 starts (all s.0 s.1)) s.2,
-)
-
--- all states
-pub starts_known : (n : ℕ) (starts : List ℕ) → starts ≡ range_with_len 0 n → All (λ x. x < n) starts
-starts_known n starts e = subst (λ (xs : List ℕ). All (λ x. x < n) xs) (sym e) (λ k d l.
-    let inside : k < n = omega (arith, l, length-range_with_len 0 n) in
-    omega (arith, get_or-range_with_len 0 n k d inside, inside))
-
-pub starts_all : (n : ℕ) (starts : List ℕ) → starts ≡ range_with_len 0 n → (x : ℕ) → x < n → Contains starts x
-starts_all n starts e x l = subst (λ (xs : List ℕ). Contains xs x) (sym e) (x, omega (arith, l, length-range_with_len 0 n), get_or-range_with_len 0 n x x l ∙ omega arith)
-
-pub range_last : (a n : ℕ) → range_with_len a n ++ (a + n) ∷ [] ≡ range_with_len a (suc n)
-range_last a zero = let e : a + 0 ≡ a = omega arith in ap (λ (x : ℕ). x ∷ []) e
-range_last a (suc n) = let e : a + suc n ≡ a + 1 + n = omega arith in ap (λ (l : List ℕ). a ∷ l) (ap (λ (x : ℕ). range_with_len (a + 1) n ++ x ∷ []) e ∙ range_last (a + 1) n)
-
-pub starts_push : (starts new : List ℕ) (n : ℕ) → new ≡ starts ++ n ∷ [] → starts ≡ range_with_len 0 n → new ≡ range_with_len 0 (n + 1)
-starts_push starts new n e is =
-    let zero_first : 0 + n ≡ n = omega arith in
-    let more : suc n ≡ n + 1 = omega arith in
-    e ∙ (ap (λ (l : List ℕ). l ++ n ∷ []) is ∙ (ap (λ (x : ℕ). range_with_len 0 n ++ x ∷ []) (sym zero_first) ∙ (range_last 0 n ∙ ap (range_with_len 0) more)))
-
--- ---- with one operation less
-
--- what is left of a list without one occurrence of x
-taken_out : (x : ℕ) (list : List ℕ) → 1 ≤ times x list → (rest : List ℕ) × HaveSame list (x ∷ rest) × (length list ≡ suc (length rest))
-taken_out x [] l = absurd (omega (arith, l, times_none x))
-taken_out x (y ∷ list) l = elim (same_or y x) [
-  | inl e ↦ (list, (λ o. ap (λ (z : ℕ). times o (z ∷ list)) e), refl)
-  | inr n ↦ (
-      let r = taken_out x list (omega (arith, l, times_cons x y list, one_else x y n)) in
-      (y ∷ r.0, (λ o. omega (arith, r.1 o, times_cons o y list, times_cons o x r.0, times_cons o x (y ∷ r.0), times_cons o y r.0)), omega (arith, r.2))
-      )
-]
-
--- some operation of a list of three is there beside two given ones
-beside : (f g : ℕ) (list : List ℕ) → 3 ≤ length list → 1 ≤ times f list → 1 ≤ times g list → f ≢ g
-    → (rest : List ℕ) × ((x : ℕ) × HaveSame list (x ∷ rest)) × (length list ≡ suc (length rest)) × (1 ≤ times f rest) × (1 ≤ times g rest)
-beside f g list l a b n =
-    let first = taken_out f list a in
-    let left : 1 ≤ times g first.0 = omega (arith, b, first.1 g, times_cons g f first.0, one_else g f n) in
-    let second = taken_out g first.0 left in
-    third second.0 (omega (arith, l, first.2, second.2)) first.0 first.1 second.1 first.2 second.2
-  where
-    third : (rest : List ℕ) → 1 ≤ length rest → (first : List ℕ) → HaveSame list (f ∷ first) → HaveSame first (g ∷ rest) → length list ≡ suc (length first) → length first ≡ suc (length rest)
-        → (rest : List ℕ) × ((x : ℕ) × HaveSame list (x ∷ rest)) × (length list ≡ suc (length rest)) × (1 ≤ times f rest) × (1 ≤ times g rest)
-    third [] l first s u p q = absurd (omega (arith, l))
-    third (x ∷ rest) l first s u p q = (
-      f ∷ g ∷ rest,
-      (x, λ o. omega (arith, s o, u o, times_cons o f first, times_cons o g (x ∷ rest), times_cons o x rest, times_cons o x (f ∷ g ∷ rest), times_cons o f (g ∷ rest), times_cons o g rest)),
-      omega (arith, p, q),
-      times_at f (g ∷ rest),
-      omega (arith, times_cons g f (g ∷ rest), times_at g rest),
-    )
-
-more_shows : (t : TypeTable) (start : ℕ) (stock rest : List ℕ) (x f o r q : ℕ) → HaveSame stock (x ∷ rest) → Shows t start rest f o r q → Shows t start stock f o r q
-more_shows t start stock rest x f o r q same s = record {
-  before = s.before;
-  after = s.after;
-  within = λ p. omega (arith, s.within p, same p, times_cons p x rest);
-  begins = s.begins;
-  answer = s.answer;
-  ends = s.ends;
+pub no_level_is : (t : TypeTable) (level : Level) → level.stocks.list.items ≡ [] → level.starts.items ≡ [] → level.sets.items ≡ [] → IsLevel t level
+no_level_is t level stocks starts sets = record {
+  starts = zip_none _ level.stocks.list.items level.starts.items stocks starts;
+  sets = zip_none _ level.stocks.list.items level.sets.items stocks sets;
 }
 
-one_less : (t : TypeTable) (n start : ℕ) → 2 ≤ n → SplitsFrom t (n + 1) start → SplitsFrom t n start
-one_less t n start l h =
-    let s = h.3 in
-    let apart : s.inside.0 ≢ s.outside.0 = λ e. true≢false (sym s.inside.2 ∙ (ap s.chosen e ∙ s.outside.2)) in
-    let r = beside s.inside.0 s.outside.0 h.0 (omega (arith, l, h.2)) s.inside.1 s.outside.1 apart in
-    let x = r.1.0 in
-    let same = r.1.1 in (
-      r.0,
-      λ o k. h.1 o (omega (arith, k, same o, times_cons o x r.0)),
-      omega (arith, r.2, h.2),
-      record {
-        chosen = s.chosen;
-        inside = (s.inside.0, r.3, s.inside.2);
-        outside = (s.outside.0, r.4, s.outside.2);
-        apart = λ f g sure unsure j. s.apart f g sure unsure
-            (j.0, j.1, j.2, more_shows t start h.0 r.0 x f j.0 j.1 j.2 same j.3, more_shows t start h.0 r.0 x g j.0 j.1 j.2 same j.4);
-      },
-    )
-
--- where no stock of some number of operations splits from a state, no larger one does
-pub fewer : (t : TypeTable) (m more start : ℕ) → 2 ≤ m → SplitsFrom t (m + more) start → SplitsFrom t m start
-fewer t m zero start l h = let e : m + 0 ≡ m = omega arith in subst (λ (k : ℕ). SplitsFrom t k start) e h
-fewer t m (suc more) start l h =
-    let e : m + suc more ≡ m + more + 1 = omega arith in
-    fewer t m more start l (one_less t (m + more) start (omega (arith, l)) (subst (λ (k : ℕ). SplitsFrom t k start) e h))
-
-pub fewer_to : (t : TypeTable) (m n start : ℕ) → 2 ≤ m → m ≤ n → SplitsFrom t n start → SplitsFrom t m start
-fewer_to t m n start l u h = let e : n ≡ m + (n - m) = omega (arith, u) in fewer t m (n - m) start l (subst (λ (k : ℕ). SplitsFrom t k start) e h)
+-- what is found says whether n operations split
+pub size_decides : (t : TypeTable) (n : ℕ) (found : GreatestSplit) → n ≤ MOST_PROCESSES → 3 ≤ n → IsGreatestSplit t n found → SomeSplits t n → found ≡ Size n
+size_decides t n NoSize few some is splits = absurd (is n some (omega arith) splits)
+size_decides t n (Size m) few some is splits = elim (before_or_behind m n) [
+  | inl l ↦ absurd (is.3 n (omega (arith, l)) (omega arith) splits)
+  | inr l ↦ ap Size (omega (arith, l, is.1))
+]
+size_decides t n (AtLeast m) few some is splits = absurd (omega (arith, is.0, is.1, few))

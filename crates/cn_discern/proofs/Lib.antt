@@ -5,4 +5,8 @@ pub mod Steps
 pub mod StockLemmas
 pub mod SplitLemmas
 pub mod Growing
+pub mod Zips
+pub mod PairLemmas
+pub mod Fewer
 pub mod Decisions
+pub mod Counting

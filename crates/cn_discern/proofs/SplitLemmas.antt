@@ -1,18 +1,12 @@
 -- When a stock splits, by the set of the operations that are reached from one.
-use Rattle.std.proofs.Common.{◌≡◌, ℕ, zero, suc, ◌<◌, ◌≤◌, ◌⊎◌, inl, inr, ◌↔◌, List, [], length, get_or, bit_or, Some, refl, sym, ap, ◌∙◌, subst, arith, Bool, true, false, not, nat_eq, true≢false}
-use Rattle.std.specs.Prelude.{IsBitSet, Vec}
-use Rattle.std.specs.declared.alloc.Global.{Global}
-use Rattle.std.proofs.lemmas.List.{get_or_default}
+use Rattle.std.proofs.Common.{◌≡◌, ℕ, zero, suc, ◌<◌, ◌≤◌, ◌⊎◌, inl, inr, ◌↔◌, List, bit_or, refl, sym, ap, ◌∙◌, subst, arith, Bool, true, false, not, nat_eq, true≢false}
+use Rattle.std.specs.Prelude.{IsBitSet}
 use Rattle.std.proofs.lemmas.Nat.{le_or_l}
 use Rattle.std.proofs.lemmas.Nat.Bits.{same_from_bits}
-use Rattle.std.proofs.lemmas.Option.{get_or_from_slice_get, slice_get_within}
 use Rattle.cn_outcomes.proofs.BitSets.{by_bit, union_set}
 use Rattle.cn_outcomes.proofs.Packing.{below_or_last}
-use Rattle.cn_discern.specs.declared.setting.Setting.{Setting}
-use Rattle.cn_discern.specs.declared.stocks.Stock.{Stock}
-use Rattle.cn_discern.specs.Settings.{AreAllShown, AreByAsked, AreByFirst, IsShownSet}
-use Rattle.cn_discern.specs.Stocks.{AreStocks, items_at}
-use Rattle.cn_discern.proofs.StockLemmas.{before_or_behind, stock_at}
+use Rattle.cn_discern.specs.Components.{AreReached}
+use Rattle.cn_discern.proofs.StockLemmas.{before_or_behind}
 use Rattle.std.specs.Int.{bit_at}
 use Rattle.std.proofs.lemmas.Bool.{eqb-true, eq-eqb}
 use Rattle.cn_table.specs.TypeTable.{TypeTable}
@@ -47,15 +41,11 @@ module _ (t : TypeTable) (start : ℕ) (items : List ℕ) where
   pub joined_sym : (f g : ℕ) → AreJoined t start items f g → AreJoined t start items g f
   joined_sym f g j = (j.0, j.1, j.2, j.4, j.3)
 
-  -- each choice of operations that has the first one and is closed under being joined has those of the set
-  abbrev pub AreReached : ℕ → ℕ → Type 0
-  AreReached first set = (chosen : ℕ → Bool) → chosen first ≡ true → ((f g : ℕ) → chosen f ≡ true → AreJoined t start items f g → chosen g ≡ true) → (g : ℕ) → IsBitSet set g → chosen g ≡ true
-
-  pub reached_first : (first set : ℕ) → ((g : ℕ) → IsBitSet set g → g ≡ first) → AreReached first set
+  pub reached_first : (first set : ℕ) → ((g : ℕ) → IsBitSet set g → g ≡ first) → AreReached t start items first set
   reached_first first set only chosen sure closed g b = ap chosen (only g b) ∙ sure
 
-  pub reached_more : (first set new more : ℕ) → AreReached first set → ((g : ℕ) → IsBitSet more g → IsBitSet set g ⊎ IsBitSet new g)
-      → ((g : ℕ) → IsBitSet new g → (f : ℕ) × IsBitSet set f × AreJoined t start items f g) → AreReached first more
+  pub reached_more : (first set new more : ℕ) → AreReached t start items first set → ((g : ℕ) → IsBitSet more g → IsBitSet set g ⊎ IsBitSet new g)
+      → ((g : ℕ) → IsBitSet new g → (f : ℕ) × IsBitSet set f × AreJoined t start items f g) → AreReached t start items first more
   reached_more first set new more r m n chosen sure closed g b = elim (m g b) [
     | inl a ↦ r chosen sure closed g a
     | inr a ↦ (let f = n g a in closed f.0 g (r chosen sure closed f.0 f.1) f.2)
@@ -79,7 +69,7 @@ module _ (t : TypeTable) (start : ℕ) (items : List ℕ) where
       no_in false e = refl
 
   -- where all operations are reached from one
-  pub whole : (first set : ℕ) → AreReached first set → ((g : ℕ) → 1 ≤ times g items → IsBitSet set g) → ¬ Splits t start items
+  pub whole : (first set : ℕ) → AreReached t start items first set → ((g : ℕ) → 1 ≤ times g items → IsBitSet set g) → ¬ Splits t start items
   whole first set r covers s = elim (either (s.chosen first)) [
     | inl sure ↦ true≢false (sym (r s.chosen sure (λ f g e j. closed f g e j) s.outside.0 (covers s.outside.0 s.outside.1)) ∙ s.outside.2)
     | inr unsure ↦ true≢false (sym s.inside.2 ∙ not_false (s.chosen s.inside.0)
@@ -95,7 +85,7 @@ module _ (t : TypeTable) (start : ℕ) (items : List ℕ) where
 -- ---- sets
 
 -- a set with all numbers of another one is not below it
-pub union_above : (a b u : ℕ) → ((q : ℕ) → IsBitSet u q ↔ (IsBitSet a q ⊎ IsBitSet b q)) → a ≤ u
+union_above : (a b u : ℕ) → ((q : ℕ) → IsBitSet u q ↔ (IsBitSet a q ⊎ IsBitSet b q)) → a ≤ u
 union_above a b u h =
     let same : u ≡ bit_or a b = same_from_bits u (bit_or a b) (λ i. bits i (by_bit u i) (by_bit (bit_or a b) i)) in
     omega (arith, same, le_or_l a b)
@@ -105,6 +95,9 @@ union_above a b u h =
     bits i (inl x) (inr y) = absurd (omega (arith, x, bit_from u i ((h i).1 ((union_set a b i).0 (set_from (bit_or a b) i y)))))
     bits i (inr x) (inl y) = absurd (omega (arith, y, bit_from (bit_or a b) i ((union_set a b i).1 ((h i).0 (set_from u i x)))))
     bits i (inr x) (inr y) = x ∙ sym y
+
+pub subset_above : (a b : ℕ) → ((q : ℕ) → IsBitSet a q → IsBitSet b q) → a ≤ b
+subset_above a b h = union_above a b b (λ q. ((λ x. inr x), (λ x. elim x [ inl y ↦ h q y | inr y ↦ y ])))
 
 -- an operation below the bound that is not in the set, if there is one
 look : (items : List ℕ) (set k : ℕ) → ((g : ℕ) × (1 ≤ times g items) × (¬ IsBitSet set g)) ⊎ ((g : ℕ) → g < k → 1 ≤ times g items → IsBitSet set g)
@@ -122,32 +115,3 @@ look items set (suc k) = elim (look items set k) [
 
 pub uncovered : (k : ℕ) (items : List ℕ) (set : ℕ) → IsKnown k items → (((g : ℕ) → 1 ≤ times g items → IsBitSet set g) → ⊥) → (g : ℕ) × (1 ≤ times g items) × (¬ IsBitSet set g)
 uncovered k items set known fails = elim (look items set k) [ inl r ↦ r | inr all ↦ absurd (fails (λ g s. all g (known g s) s)) ]
-
--- ---- rows
-
-pub by_asked_at : (s : Setting) (f k o : ℕ) (rows : List (Vec (List ℕ) Global)) (sets : Vec (List ℕ) Global) → AreByAsked s f k rows → o < k → sets ≡ get_or rows o sets → AreAllShown s f o sets.items
-by_asked_at s f k o rows sets are l e =
-    let r = are o l in
-    let same : r.0 ≡ sets = sym (get_or_from_slice_get rows o r.0 sets r.1) ∙ sym e in
-    subst (λ (v : Vec (List ℕ) Global). AreAllShown s f o v.items) same r.2
-
-pub by_asked_long : (s : Setting) (f k o : ℕ) (rows : List (Vec (List ℕ) Global)) → AreByAsked s f k rows → o < k → o < length rows
-by_asked_long s f k o rows are l = let r = are o l in slice_get_within rows o r.0 r.1
-
-pub by_first_at : (s : Setting) (k f : ℕ) (rows : List (Vec (Vec (List ℕ) Global) Global)) (by_asked : Vec (Vec (List ℕ) Global) Global) → AreByFirst s k rows → f < k → by_asked ≡ get_or rows f by_asked
-    → AreByAsked s f (length s.table.now.operations) by_asked.items
-by_first_at s k f rows by_asked are l e =
-    let r = are f l in
-    let same : r.0 ≡ by_asked = sym (get_or_from_slice_get rows f r.0 by_asked r.1) ∙ sym e in
-    subst (λ (v : Vec (Vec (List ℕ) Global) Global). AreByAsked s f (length s.table.now.operations) v.items) same r.2
-
-pub shown_at : (s : Setting) (f o place : ℕ) (sets : List (List ℕ)) (x items : List ℕ) → AreAllShown s f o sets → place < length s.stocks.now → x ≡ get_or sets place x → items_at s.stocks.now place ≡ Some items → IsShownSet s f o items x
-shown_at s f o place sets x items are l e at =
-    let inside : place < length sets = omega (arith, l, are.long) in
-    let same : get_or sets place [] ≡ x = get_or_default sets place [] x inside ∙ sym e in
-    subst (λ (set : List ℕ). IsShownSet s f o items set) same (are.shown place items inside at)
-
-pub known_at : (operations : ℕ) (stocks : List Stock) (place : ℕ) (items : List ℕ) → AreStocks operations stocks → items_at stocks place ≡ Some items → IsKnown operations items
-known_at operations stocks place items are at =
-    let s = stock_at stocks place items at in
-    subst (λ (list : List ℕ). IsKnown operations list) s.2 (are place s.0 s.1).known

@@ -3,7 +3,6 @@ use Rattle.std.proofs.Common.{◌≡◌, ◌≢◌, ℕ, zero, suc, ◌+◌, ◌
 use Rattle.std.specs.Prelude.{slice_get, slice_index, slice_index_or}
 use Rattle.std.specs.Option.{option_map}
 use Rattle.std.proofs.lemmas.Option.{none-some, same_Some, slice_get_read, slice_get_within}
-use Rattle.std.proofs.lemmas.List.{get_or_append_left}
 use Rattle.cn_discern.specs.declared.stocks.Stock.{Stock}
 use Rattle.cn_discern.specs.Stocks.{AreChildren, AreLinks, AreLong, AreStocks, GoesOn, HasLess, HaveAll, IsGreatest, IsStock, UpTo, items_at}
 use Rattle.cn_discern.specs.Words.{HaveSame, IsKnown, times}
@@ -11,21 +10,21 @@ use Rattle.cn_discern.proofs.Times.{one, one_at, one_some, same_has, same_or, ti
 
 -- ---- links
 
-by_option : {A : Type 0} (o : Option A) → (o ≡ None) ⊎ ((x : A) × (o ≡ Some x))
+pub by_option : {A : Type 0} (o : Option A) → (o ≡ None) ⊎ ((x : A) × (o ≡ Some x))
 by_option None = inl refl
 by_option (Some x) = inr (x, refl)
 
-module _ (stocks : List Stock) (place : ℕ) (items : List ℕ) (less : List (Option ℕ)) (links : AreLinks stocks place items less) where
+module _ (before : List Stock) (items : List ℕ) (less : List (Option ℕ)) (links : AreLinks before items less) where
   pub removal_of : (x : ℕ) → 1 ≤ times x items → (rest : List ℕ) × HaveSame items (x ∷ rest)
   removal_of x l = elim (by_option (slice_index_or less x None)) [
     | inl e ↦ absurd (omega (arith, l, links.none x e))
-    | inr j ↦ (let h = links.some x j.0 j.1 in (h.1.0, h.1.2))
+    | inr j ↦ (let h = links.some x j.0 j.1 in (h.0, h.2))
   ]
 
   pub has_iff : (x : ℕ) (b : Bool) → b ≡ is_some (slice_index_or less x None) → IsTrue b ↔ (1 ≤ times x items)
   has_iff x b e = elim (by_option (slice_index_or less x None)) [
     | inl n ↦ (λ t. absurd (true≢false (sym t ∙ (e ∙ ap is_some n))), λ l. absurd (omega (arith, l, links.none x n)))
-    | inr j ↦ (λ t. (let h = links.some x j.0 j.1 in same_has x items h.1.0 h.1.2), λ l. e ∙ ap is_some j.1)
+    | inr j ↦ (λ t. (let h = links.some x j.0 j.1 in same_has x items h.0 h.2), λ l. e ∙ ap is_some j.1)
   ]
 
   -- where no place is known the operation does not stand in the list
@@ -70,49 +69,19 @@ items_before old more i items e = ap (option_map (λ (s : Stock). s.operations.i
 
 -- ---- a longer list of stocks
 
-module _ (old more : List Stock) where
-  less_more : (place place' : ℕ) (items : List ℕ) (x j : ℕ) → HasLess old place items x j → HasLess (old ++ more) place items x j
-  less_more place place' items x j h = (h.0, (h.1.0, items_before old more j h.1.0 h.1.1, h.1.2))
-
-  pub stock_more : (operations place : ℕ) (s : Stock) → IsStock operations old place s → IsStock operations (old ++ more) place s
-  stock_more operations place s is = record {
-    known = is.known;
-    greatest = is.greatest;
-    links = record {
-      some = λ x j e. less_more place place s.operations.items x j (is.links.some x j e);
-      none = is.links.none;
-    };
-  }
-
-  pub children_more : (operations : ℕ) (children : List (List ℕ)) → length children ≤ length old → AreChildren operations old children → AreChildren operations (old ++ more) children
-  children_more operations children inside are i l items at x u up =
-      let here : items_at old i ≡ Some items = sym (ap (option_map (λ (s : Stock). s.operations.items)) (get_before old more i (omega (arith, l, inside)))) ∙ at in
-      items_before old more (slice_index (slice_index_or children i []) x) (items ++ x ∷ []) (are i l items here x u up)
-
-pub stock_further : (operations : ℕ) (stocks : List Stock) (place further : ℕ) (s : Stock) → place ≤ further → IsStock operations stocks place s → IsStock operations stocks further s
-stock_further operations stocks place further s l is = record {
-  known = is.known;
-  greatest = is.greatest;
-  links = record {
-    some = λ x j e. (let h = is.links.some x j e in (omega (arith, h.0, l), h.1));
-    none = is.links.none;
-  };
-}
+pub children_more : (old more before : List Stock) (operations : ℕ) (children : List (List ℕ)) → AreChildren operations before old children → AreChildren operations before (old ++ more) children
+children_more old more before operations children are i l items at x u up = items_before old more (slice_index (slice_index_or children i []) x) (items ++ x ∷ []) (are i l items at x u up)
 
 -- one stock more at the end
-pub stocks_push : (operations : ℕ) (stocks : List Stock) (s : Stock) → AreStocks operations stocks → IsStock operations stocks (length stocks) s → AreStocks operations (stocks ++ s ∷ [])
-stocks_push operations stocks s are is i r e = elim (before_or_behind i (length stocks)) [
-  | inl l ↦ stock_more stocks (s ∷ []) operations i r (are i r (sym (get_before stocks (s ∷ []) i l) ∙ e))
-  | inr l ↦ (let k = get_behind stocks (s ∷ []) i l in last k.0 k.1 (sym k.2 ∙ e))
+pub stocks_push : (operations : ℕ) (before stocks : List Stock) (s : Stock) → AreStocks operations before stocks → IsStock operations before s → AreStocks operations before (stocks ++ s ∷ [])
+stocks_push operations before stocks s are is i r e = elim (before_or_behind i (length stocks)) [
+  | inl l ↦ are i r (sym (get_before stocks (s ∷ []) i l) ∙ e)
+  | inr l ↦ (let k = get_behind stocks (s ∷ []) i l in last k.0 (sym k.2 ∙ e))
 ]
   where
-    last : (k : ℕ) → length stocks + k ≡ i → slice_get (s ∷ []) k ≡ Some r → IsStock operations (stocks ++ s ∷ []) i r
-    last zero at e =
-        let same : s ≡ r = same_Some s r e in
-        let place : length stocks ≡ i = omega (arith, at) in
-        subst (λ (x : Stock). IsStock operations (stocks ++ s ∷ []) i x) same
-        (subst (λ (p : ℕ). IsStock operations (stocks ++ s ∷ []) p s) place (stock_more stocks (s ∷ []) operations (length stocks) s is))
-    last (suc k) at e = absurd (none-some r e)
+    last : (k : ℕ) → slice_get (s ∷ []) k ≡ Some r → IsStock operations before r
+    last zero e = subst (λ (x : Stock). IsStock operations before x) (same_Some s r e) is
+    last (suc k) e = absurd (none-some r e)
 
 pub items_last : (stocks : List Stock) (s : Stock) → items_at (stocks ++ s ∷ []) (length stocks) ≡ Some s.operations.items
 items_last [] s = refl
@@ -121,9 +90,9 @@ items_last (x ∷ stocks) s = items_last stocks s
 pub goes_on_push : (old new : List Stock) (n : ℕ) (s : Stock) → GoesOn old n new → length s.operations.items ≡ n → GoesOn old n (new ++ s ∷ [])
 goes_on_push old new n s g e = (g.0 ++ s ∷ [], ap (λ (l : List Stock). l ++ s ∷ []) g.1 ∙ append_assoc old g.0 (s ∷ []), long g.0 g.2)
   where
-    long : (more : List Stock) → AreLong 0 more n → AreLong 0 (more ++ s ∷ []) n
-    long more a i items l at = elim (before_or_behind i (length more)) [
-      | inl u ↦ a i items l (sym (ap (option_map (λ (s : Stock). s.operations.items)) (get_before more (s ∷ []) i u)) ∙ at)
+    long : (more : List Stock) → AreLong more n → AreLong (more ++ s ∷ []) n
+    long more a i items at = elim (before_or_behind i (length more)) [
+      | inl u ↦ a i items (sym (ap (option_map (λ (s : Stock). s.operations.items)) (get_before more (s ∷ []) i u)) ∙ at)
       | inr u ↦ (let k = get_behind more (s ∷ []) i u in last k.0 (sym (ap (option_map (λ (s : Stock). s.operations.items)) k.2) ∙ at))
     ]
       where
@@ -135,14 +104,14 @@ pub goes_on_trans : (old middle new : List Stock) (n : ℕ) → GoesOn old n mid
 goes_on_trans old middle new n g h = (
   g.0 ++ h.0,
   h.1 ∙ (ap (λ (l : List Stock). l ++ h.0) g.1 ∙ append_assoc old g.0 h.0),
-  λ i items l at. elim (before_or_behind i (length g.0)) [
-    | inl u ↦ g.2 i items l (sym (ap (option_map (λ (s : Stock). s.operations.items)) (get_before g.0 h.0 i u)) ∙ at)
-    | inr u ↦ (let k = get_behind g.0 h.0 i u in h.2 k.0 items (omega arith) (sym (ap (option_map (λ (s : Stock). s.operations.items)) k.2) ∙ at))
+  λ i items at. elim (before_or_behind i (length g.0)) [
+    | inl u ↦ g.2 i items (sym (ap (option_map (λ (s : Stock). s.operations.items)) (get_before g.0 h.0 i u)) ∙ at)
+    | inr u ↦ (let k = get_behind g.0 h.0 i u in h.2 k.0 items (sym (ap (option_map (λ (s : Stock). s.operations.items)) k.2) ∙ at))
   ],
 )
 
 pub goes_on_none : (old : List Stock) (n : ℕ) → GoesOn old n old
-goes_on_none old n = ([], sym (append_none old), λ i items l at. absurd (none-some items at))
+goes_on_none old n = ([], sym (append_none old), λ i items at. absurd (none-some items at))
   where
     append_none : (xs : List Stock) → xs ++ [] ≡ xs
     append_none [] = refl
@@ -156,16 +125,16 @@ up_to_rest x y items rest same up o l = up o (omega (arith, same o, l, times_con
 same_more : (x y : ℕ) (items rest : List ℕ) → HaveSame items (y ∷ rest) → HaveSame (items ++ x ∷ []) (y ∷ rest ++ x ∷ [])
 same_more x y items rest same o = omega (arith, same o, times_last o x items, times_cons o y rest, times_cons o y (rest ++ x ∷ []), times_last o x rest)
 
--- a stock of which the stock at the place has one more has a child
-pub less_of_child : (operations operation : ℕ) (stocks : List Stock) (children : List (List ℕ)) (place : ℕ) (items : List ℕ) (other j : ℕ) → AreChildren operations stocks children → place ≤ length children → operation < operations
-    → UpTo operation items → HasLess stocks place items other j → HasLess stocks (length stocks) (items ++ operation ∷ []) other (slice_index (slice_index_or children j []) operation)
-less_of_child operations operation stocks children place items other j are rows known up h =
-    let rest = h.1.0 in
-    let at = are j (omega (arith, h.0, rows)) rest h.1.1 operation known (up_to_rest operation other items rest h.1.2 up) in
-    (items_within stocks (slice_index (slice_index_or children j []) operation) (rest ++ operation ∷ []) at, (rest ++ operation ∷ [], at, same_more operation other items rest h.1.2))
+-- a stock of which a stock has one more has a child
+pub less_of_child : (operations operation : ℕ) (before stocks : List Stock) (children : List (List ℕ)) (items : List ℕ) (other j : ℕ) → AreChildren operations before stocks children → length children ≡ length before → operation < operations
+    → UpTo operation items → HasLess before items other j → HasLess stocks (items ++ operation ∷ []) other (slice_index (slice_index_or children j []) operation)
+less_of_child operations operation before stocks children items other j are count known up h =
+    let rest = h.0 in
+    let at = are j (omega (arith, items_within before j rest h.1, count)) rest h.1 operation known (up_to_rest operation other items rest h.2 up) in
+    (rest ++ operation ∷ [], at, same_more operation other items rest h.2)
 
-pub less_of_self : (operation : ℕ) (stocks : List Stock) (place : ℕ) (items : List ℕ) → items_at stocks place ≡ Some items → HasLess stocks (length stocks) (items ++ operation ∷ []) operation place
-less_of_self operation stocks place items at = (items_within stocks place items at, (items, at, λ o. omega (arith, times_last o operation items, times_cons o operation items)))
+pub less_of_self : (operation : ℕ) (stocks : List Stock) (place : ℕ) (items : List ℕ) → items_at stocks place ≡ Some items → HasLess stocks (items ++ operation ∷ []) operation place
+less_of_self operation stocks place items at = (items, at, λ o. omega (arith, times_last o operation items, times_cons o operation items))
 
 pub greatest_of_child : (operation : ℕ) (items : List ℕ) → UpTo operation items → IsGreatest (items ++ operation ∷ []) operation
 greatest_of_child operation items up = record {
@@ -232,10 +201,9 @@ greatest_of x (y ∷ list) = by_order (greatest_of y list)
         none o n = elim (before_or_behind 0 (one o x)) [ inl u ↦ absurd (n (one_some o x (omega (arith, u)))) | inr u ↦ omega (arith, u) ]
 
 -- where each list of n operations stands, and each stock there has its children, each list of one operation more stands
-pub all_longer : (operations n : ℕ) (old new : List Stock) (children : List (List ℕ)) → HaveAll operations n old → length children ≡ length old → AreChildren operations new children
-    → ((i : ℕ) (items : List ℕ) → items_at old i ≡ Some items → items_at new i ≡ Some items) → HaveAll operations (n + 1) new
-all_longer operations n old new children all count are kept [] known e = absurd (omega (arith, e))
-all_longer operations n old new children all count are kept (y ∷ list) known e =
+pub all_longer : (operations n : ℕ) (old new : List Stock) (children : List (List ℕ)) → HaveAll operations n old → length children ≡ length old → AreChildren operations old new children → HaveAll operations (n + 1) new
+all_longer operations n old new children all count are [] known e = absurd (omega (arith, e))
+all_longer operations n old new children all count are (y ∷ list) known e =
     let g = greatest_of y list in
     let rest_known : IsKnown operations g.rest = λ o l. known o (omega (arith, g.same o, l, times_cons o g.x g.rest)) in
     let here = all g.rest rest_known (omega (arith, e, g.long)) in
@@ -243,12 +211,8 @@ all_longer operations n old new children all count are kept (y ∷ list) known e
     let same : HaveSame items g.rest = here.1.2 in
     let below : g.x < operations = known g.x (omega (arith, g.same g.x, times_at g.x g.rest)) in
     let up : UpTo g.x items = λ o l. g.up_to o (omega (arith, l, same o)) in
-    let child = are here.0 (omega (arith, items_within old here.0 items here.1.1, count)) items (kept here.0 items here.1.1) g.x below up in
-    (slice_index (slice_index_or children here.0 []) g.x, (items ++ g.x ∷ [], child, λ o. omega (arith, same o, g.same o, times_last o g.x items, times_cons o g.x g.rest), omega (arith, here.1.3, length_one items g.x)))
-  where
-    length_one : (xs : List ℕ) (x : ℕ) → length (xs ++ x ∷ []) ≡ length xs + 1
-    length_one [] x = refl
-    length_one (y ∷ xs) x = omega (arith, length_one xs x)
+    let child = are here.0 (omega (arith, items_within old here.0 items here.1.1, count)) items here.1.1 g.x below up in
+    (slice_index (slice_index_or children here.0 []) g.x, (items ++ g.x ∷ [], child, λ o. omega (arith, same o, g.same o, times_last o g.x items, times_cons o g.x g.rest)))
 
 -- ---- what is known stock by stock
 
@@ -259,42 +223,12 @@ pub get_seam : {X : Type 0} (xs : List X) (x d : X) → get_or (xs ++ x ∷ []) 
 get_seam [] x d = refl
 get_seam (y ∷ xs) x d = get_seam xs x d
 
-length_last : {X : Type 0} (xs : List X) (x : X) → length (xs ++ x ∷ []) ≡ length xs + 1
+pub length_last : {X : Type 0} (xs : List X) (x : X) → length (xs ++ x ∷ []) ≡ length xs + 1
 length_last [] x = refl
 length_last (y ∷ xs) x = omega (arith, length_last xs x)
 
-module _ {X : Type 0} (none : X) (stocks : List Stock) (fits : List ℕ → X → Type 0) where
-  -- one stock more
-  pub fitting_push : (sets new : List X) (set : X) (index : ℕ) (s : Stock) → new ≡ sets ++ set ∷ [] → length sets ≡ index → slice_get stocks index ≡ Some s → fits s.operations.items set
-      → ((i : ℕ) (items : List ℕ) → i < length sets → items_at stocks i ≡ Some items → fits items (get_or sets i none))
-      → (i : ℕ) (items : List ℕ) → i < length new → items_at stocks i ≡ Some items → fits items (get_or new i none)
-  fitting_push sets new set index s e count at fit are i items l here =
-      let long : length new ≡ length sets + 1 = ap length e ∙ length_last sets set in
-      subst (λ (all : List X). fits items (get_or all i none)) (sym e) (elim (before_or_behind i (length sets)) [
-        | inl u ↦ subst (fits items) (sym (get_or_append_left sets (set ∷ []) none i u)) (are i items u here)
-        | inr u ↦ (
-            let same : length sets ≡ i = omega (arith, l, long, u) in
-            let place : index ≡ i = sym count ∙ same in
-            let list : s.operations.items ≡ items = same_Some _ _ (sym (items_of stocks i s (subst (λ (k : ℕ). slice_get stocks k ≡ Some s) place at)) ∙ here) in
-            subst (λ (list : List ℕ). fits list (get_or (sets ++ set ∷ []) i none)) list
-            (subst (λ (k : ℕ). fits s.operations.items (get_or (sets ++ set ∷ []) k none)) same (subst (fits s.operations.items) (sym (get_seam sets set none)) fit))
-            )
-      ])
-
 pub count_push : {X : Type 0} (xs new : List X) (x : X) (n : ℕ) → new ≡ xs ++ x ∷ [] → length xs ≡ n → length new ≡ n + 1
 count_push xs new x n e count = omega (arith, ap length e, length_last xs x, count)
-
--- one row more
-pub rows_push : {X : Type 0} (fits : ℕ → X → Type 0) (rows new : List X) (row : X) (n : ℕ) → new ≡ rows ++ row ∷ [] → length rows ≡ n → fits n row
-    → ((o : ℕ) → o < n → (x : X) × (slice_get rows o ≡ Some x) × fits o x) → (o : ℕ) → o < n + 1 → (x : X) × (slice_get new o ≡ Some x) × fits o x
-rows_push {X} fits rows new row n e count fit are o l = subst (λ (all : List X). (x : X) × (slice_get all o ≡ Some x) × fits o x) (sym e) (elim (before_or_behind o n) [
-  | inl u ↦ (let r = are o u in (r.0, get_before rows (row ∷ []) o (omega (arith, u, count)) ∙ r.1, r.2))
-  | inr u ↦ (let same : length rows ≡ o = omega (arith, l, u, count) in let place : n ≡ o = omega (arith, l, u) in (row, subst (λ (k : ℕ). slice_get (rows ++ row ∷ []) k ≡ Some row) same (get_last rows), subst (λ (k : ℕ). fits k row) place fit))
-])
-  where
-    get_last : (xs : List X) → slice_get (xs ++ row ∷ []) (length xs) ≡ Some row
-    get_last [] = refl
-    get_last (y ∷ xs) = get_last xs
 
 -- the greatest operation of a list is in it
 pub greatest_in : (items : List ℕ) (greatest : ℕ) → IsGreatest items greatest → 1 ≤ length items → 1 ≤ times greatest items

@@ -1,5 +1,8 @@
 pub mod Words
 pub mod Splits
 pub mod Stocks
-pub mod Settings
-pub mod LastMoves
+pub mod Pairs
+pub mod Reach
+pub mod Levels
+pub mod Components
+pub mod Greatest

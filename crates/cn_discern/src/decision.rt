@@ -1,138 +1,91 @@
-//! Whether a type is n-discerning.
-ghost use Rattle.std.specs.Prelude.{◌≡◌, ◌<◌, ◌≤◌, ◌↔◌, ℕ, length, All, Contains, IfOk, IsTrue, true};
-ghost use Rattle.std.specs.List.{AllZip};
+//! Up to which number of operations stocks split, and whether a type is n-discerning.
+ghost use Rattle.std.specs.Prelude.{◌≡◌, ◌<◌, ◌≤◌, ◌↔◌, ◌+◌, ℕ, length, IfOk, IsTrue};
+ghost use Rattle.cn_table.specs.TypeTable.{TypeTable};
 ghost use Rattle.cn_choice.specs.Discerning.{IsDiscerning};
 ghost use Rattle.cn_choice.specs.declared.limits.TheConstants.{MOST_PROCESSES};
-ghost use Rattle.cn_discern.specs.Settings.{AreByFirst, IsReady, IsSetting, IsStart};
-ghost use Rattle.cn_discern.specs.Splits.{SomeSplits, SplitsFrom};
-ghost use Rattle.cn_discern.specs.Stocks.{AreStocks, HaveAll};
+ghost use Rattle.cn_discern.specs.declared.limits.TheConstants.{MOST_SIZE};
+ghost use Rattle.cn_discern.specs.declared.decision.GreatestSplit.TheVariants.{Size};
+ghost use Rattle.cn_discern.specs.Greatest.{IsGreatestSplit, NoneFrom};
+ghost use Rattle.cn_discern.specs.Splits.{SomeSplits};
 
+use crate::counts::are_too_many;
 use crate::laws;
-use crate::setting::Setting;
-use crate::shown::shown_by_first;
-use crate::splits::splits;
-use crate::stocks::{Stock, stocks_up_to};
+use crate::search::Search;
 use crate::threading::Threading;
-use cn_outcomes::OutcomeSet;
-use cn_table::{State, Table};
-use rayon::prelude::*;
+use cn_table::Table;
 use std::alloc::{AllocError, Global};
 use std::thread::Threads;
 
-/// Whether some stock of n operations splits from the start state.
-fn some_splits(setting: &Setting<'_>, rows: &[Vec<Vec<OutcomeSet>>], n: usize) -> bool
-    requires setting { IsSetting setting.now }
-    requires rows { AreByFirst setting.now (length setting.now.table.now.operations) rows.now }
-    requires all { HaveAll (length setting.now.table.now.operations) n setting.now.stocks.now }
-    requires some { 1 ≤ n }
-    ensures { IsTrue result ↔ SplitsFrom setting.now.table.now n setting.now.start.0 }
+/// The greatest number of operations of which some stock splits, among those that were asked for.
+#[derive(Clone, Copy, Debug, PartialEq, Eq)]
+pub enum GreatestSplit {
+    /// No stock of three operations or more splits.
+    NoSize,
+    /// Some stock of so many operations splits, and no larger one.
+    Size(u8),
+    /// Some stock of so many operations splits. Those of one operation more are too many to make.
+    AtLeast(u8),
+}
+
+/// What is found where no stock of one operation more than so many splits.
+fn split_up_to(n: u8) -> GreatestSplit
+    ensures { (t : TypeTable) (most : ℕ) → 2 ≤ n → n < most → (3 ≤ n → SomeSplits t n)
+        → NoneFrom t (n + 1) most → IsGreatestSplit t most result }
 {
-    for place in 0..setting.stocks.len() {
-        let stock = &setting.stocks[place];
-        if stock.operations.len() == n && splits(setting, rows, place, stock) {
-            return true;
-        }
+    if n < 3 {
+        return GreatestSplit::NoSize;
     }
-    false
+    GreatestSplit::Size(n)
 }
 
-/// Whether some stock of n operations splits from the state.
-fn splits_from(
-    alloc: Global,
-    table: &Table,
-    stocks: &[Stock],
-    n: usize,
-    start: u8,
-) -> Result<bool, AllocError>
-    requires { IsReady table.now n stocks.now start }
-    ensures { IfOk result (λ yes. IsTrue yes ↔ SplitsFrom table.now n start) }
-{
-    let start = State(start);
-    let setting = Setting {
-        table,
-        stocks,
-        start,
-    };
-    let rows = shown_by_first(alloc, &setting)?;
-    Ok(some_splits(&setting, rows.as_slice(), n))
-}
-
-/// Whether some stock of n operations splits from the state, by its own stocks.
-fn splits_alone(alloc: Global, table: &Table, n: u8, start: u8) -> Result<bool, AllocError>
-    requires { IsStart table.now n start }
-    ensures { IfOk result (λ yes. IsTrue yes ↔ SplitsFrom table.now n start) }
-{
-    let stocks = stocks_up_to(alloc, table.operations(), n)?;
-    splits_from(alloc, table, stocks.as_slice(), n as usize, start)
-}
-
-/// Whether some stock of n operations splits from the state. Where none of some number of operations
-/// does no larger one does, so that the search ends there.
-fn splits_by_size(alloc: Global, table: &Table, n: u8, start: u8) -> Result<bool, AllocError>
-    requires { IsStart table.now n start }
-    ensures { IfOk result (λ yes. IsTrue yes ↔ SplitsFrom table.now n start) }
-{
-    for size in 3..n {
-        if !splits_alone(alloc, table, size, start)? {
-            return Ok(false);
-        }
-    }
-    splits_alone(alloc, table, n, start)
-}
-
-/// All states of the table.
-fn all_starts(alloc: Global, table: &Table) -> Result<Vec<u8>, AllocError>
-    ensures known { IfOk result (λ starts. All (λ start. start < length table.now.states)
-        starts.items) }
-    ensures all { IfOk result (λ starts. (start : ℕ) → start < length table.now.states
-        → Contains starts.items start) }
-{
-    let mut starts = Vec::new(alloc);
-    for start in 0..table.states() {
-        starts.push(start)?;
-    }
-    Ok(starts)
-}
-
-/// For each start state whether some stock of n operations splits from it.
-fn by_start<T: Threads + Sync>(
+/// The greatest number of operations, from 3 to the most, of which some stock splits from some state.
+/// It is the greatest such n for which the type is n-discerning ([`laws::splits_decide`]). The most
+/// is from 3 to [`MOST_SIZE`](crate::limits::MOST_SIZE).
+///
+/// The search goes up by one operation until no stock splits. It ends early where the stocks of nine
+/// operations or more are more than [`MOST_STOCKS`](crate::limits::MOST_STOCKS). The threads share
+/// the stocks.
+///
+/// # Errors
+///
+/// Where memory is short.
+pub fn greatest_split<T: Threads + Sync>(
     rt: &T,
     alloc: Global,
     table: &Table,
-    n: u8,
-    starts: &[u8],
+    most: u8,
     threading: Threading,
-) -> Result<Vec<bool>, AllocError>
-    requires { All (IsStart table.now n) starts.now }
-    ensures { IfOk result (λ answers. AllZip
-        (λ start answer. IsTrue answer ↔ SplitsFrom table.now n start) starts.now answers.items) }
+) -> Result<GreatestSplit, AllocError>
+    requires some { 3 ≤ most }
+    requires few { most ≤ MOST_SIZE }
+    ensures { IfOk result (IsGreatestSplit table.now most) }
 {
-    starts
-        .par_iter()
-        .with_min_len(threading.least_piece())
-        .map(
-            |start: &u8| -> Result<bool, AllocError>
-                requires { IsStart table.now n start.now }
-                ensures { IfOk result (λ yes. IsTrue yes ↔ SplitsFrom table.entry.now n start.now) }
-            { splits_by_size(alloc, table, n, *start) },
-        )
-        .collect::<Result<Vec<bool>, AllocError>>(rt, alloc)?
-}
-
-/// Whether one of the answers is yes.
-fn some_yes(answers: &[bool]) -> bool
-    ensures { IsTrue result ↔ Contains answers.now true }
-{
-    for yes in answers {
-        if *yes {
-            return true;
+    let operations = table.operations();
+    let mut search = Search::new(rt, alloc, table, threading)?;
+    for n in 0..most {
+        if are_too_many(operations, n + 1) {
+            return Ok(GreatestSplit::AtLeast(n));
+        }
+        search = search.next(rt, alloc, table, n, threading)?;
+        if n >= 2 && !search.some_splits() {
+            return Ok(split_up_to(n));
         }
     }
-    false
+    Ok(GreatestSplit::Size(most))
+}
+
+/// Whether so many operations are the greatest number.
+fn is_size(found: GreatestSplit, n: u8) -> bool
+    ensures { IsTrue result ↔ (found ≡ Size n) }
+{
+    match found {
+        GreatestSplit::Size(size) => size == n,
+        GreatestSplit::NoSize | GreatestSplit::AtLeast(_) => false,
+    }
 }
 
 /// Whether the type is n-discerning, for n of at least 3: whether some list of n operations splits
-/// from some state ([`laws::splits_decide`]). The threads share the start states.
+/// from some state ([`laws::splits_decide`]). The threads share the stocks.
 ///
 /// # Errors
 ///
@@ -149,12 +102,6 @@ pub fn is_discerning<T: Threads + Sync>(
     ensures { IfOk result (λ yes. IsTrue yes ↔ IsDiscerning table.now n) }
 {
     laws::splits_decide();
-    let _states = table.states();
-    // Often the first state is enough.
-    if splits_by_size(alloc, table, n, 0)? {
-        return Ok(true);
-    }
-    let starts = all_starts(alloc, table)?;
-    let answers = by_start(rt, alloc, table, n, starts.as_slice(), threading)?;
-    Ok(some_yes(answers.as_slice()))
+    let found = greatest_split(rt, alloc, table, n, threading)?;
+    Ok(is_size(found, n))
 }

@@ -3,7 +3,8 @@
 //! [`is_discerning`] looks for a start state and a list of n operations, the stock, that falls into
 //! two parts: nothing that a process can see comes both from orders that begin in the one and from
 //! orders that begin in the other. By [`laws::splits_decide`] the type is n-discerning exactly where
-//! there is such a stock.
+//! there is such a stock. [`greatest_split`] answers the greatest number of operations of such a
+//! stock.
 //!
 //! ```text
 //! if is_discerning(rt, alloc, &table, 3, Threading::Many)? {
@@ -12,14 +13,17 @@
 //! ```
 #![tactic(auto)]
 
+mod counts;
 mod decision;
 pub mod laws;
-mod lead;
-mod setting;
-mod shown;
+mod levels;
+pub mod limits;
+mod pair_sets;
+mod search;
 mod splits;
 mod stocks;
 mod threading;
+mod word_sets;
 
-pub use decision::is_discerning;
+pub use decision::{GreatestSplit, greatest_split, is_discerning};
 pub use threading::Threading;

@@ -1,19 +1,20 @@
 //! Stocks: lists of operations, of which a word may use each as often as it stands there.
 ghost use Rattle.std.specs.Prelude.{◌≡◌, ◌<◌, ◌≤◌, ◌+◌, ◌++◌, ℕ, List, [], ◌∷◌, length, IfOk, Some, slice_index, slice_index_or};
-ghost use Rattle.cn_choice.specs.declared.limits.TheConstants.{MOST_PROCESSES};
 ghost use Rattle.cn_table.specs.declared.limits.TheConstants.{MOST_OPERATIONS};
-ghost use Rattle.cn_discern.specs.Stocks.{AreChildren, AreLinks, AreStocks, AreUpTo, GoesOn, HasChildren, HaveAll, IsStock, UpTo, items_at};
+ghost use Rattle.cn_discern.specs.declared.limits.TheConstants.{MOST_SIZE};
+ghost use Rattle.cn_discern.specs.Stocks.{AreAll, AreChildren, AreLinks, AreStocks, GoesOn, HasChildren, IsStock, UpTo, items_at};
 
+use crate::limits::MOST_SIZE;
 use arrayvec::ArrayVec;
-use cn_choice::MOST_PROCESSES;
 use cn_table::MOST_OPERATIONS;
 use std::alloc::{AllocError, Global};
 
-/// A list of operations, and where in the list of stocks those with one operation less stand.
+/// A list of operations, and where among the stocks of one operation less those stand that have one
+/// of them less.
 #[derive(Drop)]
 pub(crate) struct Stock {
     /// The operations, none below an earlier one.
-    pub operations: ArrayVec<u8, MOST_PROCESSES>,
+    pub operations: ArrayVec<u8, MOST_SIZE>,
     /// The greatest of them, or 0 where there is none.
     pub greatest: u8,
     /// For each operation that stands there, the place of the stock that has it once less.
@@ -37,11 +38,19 @@ impl Stock {
 }
 
 /// By operation, the place of the stock that has it once more.
-type Children = [usize; MOST_OPERATIONS];
+pub(crate) type Children = [usize; MOST_OPERATIONS];
+
+/// All stocks of one number of operations.
+#[derive(Drop)]
+pub(crate) struct Stocks {
+    pub list: Vec<Stock>,
+    /// For each stock of one operation less, where in the list those with one operation more stand.
+    pub children: Vec<Children>,
+}
 
 /// The stock of no operation.
 fn empty_stock(operations: u8) -> Stock
-    ensures stock { IsStock operations [] 0 result }
+    ensures stock { IsStock operations [] result }
     ensures items { result.operations.items ≡ [] }
 {
     let _operations = operations;
@@ -53,8 +62,8 @@ fn empty_stock(operations: u8) -> Stock
 }
 
 /// The list with one operation more.
-fn longer(list: &[u8], operation: u8) -> ArrayVec<u8, MOST_PROCESSES>
-    requires { length list.now < MOST_PROCESSES }
+fn longer(list: &[u8], operation: u8) -> ArrayVec<u8, MOST_SIZE>
+    requires { length list.now < MOST_SIZE }
     ensures { result.items ≡ list.now ++ operation ∷ [] }
 {
     let mut items = ArrayVec::new();
@@ -72,127 +81,118 @@ fn child_place(children: &[Children], place: usize, operation: u8) -> usize
     children[place][operation as usize]
 }
 
-/// For each operation the place of the stock with one of it less than the stock at the place has with
-/// one more of the given operation.
-fn less_with(
-    stocks: &[Stock],
-    children: &[Children],
-    place: usize,
-    operation: u8,
-    operations: u8,
-) -> [Option<usize>; MOST_OPERATIONS]
-    requires few { operations ≤ MOST_OPERATIONS }
-    requires stocks { AreStocks operations stocks.now }
-    requires children { AreChildren operations stocks.now children.now }
-    requires place { (place < length stocks.now) × (place ≤ length children.now) }
-    requires operation { operation < operations }
-    requires up_to { (items : List ℕ) → items_at stocks.now place ≡ Some items
-        → UpTo operation items }
-    ensures { (items : List ℕ) → items_at stocks.now place ≡ Some items
-        → AreLinks stocks.now (length stocks.now) (items ++ operation ∷ []) result }
-{
-    let stock = &stocks[place];
-    let mut less = [None; MOST_OPERATIONS];
-    for other in 0..operations {
-        if let Some(rest) = stock.less[other as usize] {
-            less[other as usize] = Some(child_place(children, rest, operation));
+impl Stocks {
+    ghost use Rattle.std.specs.Prelude.{◌≡◌, ◌<◌, ◌≤◌, ◌+◌, ◌++◌, ℕ, List, [], ◌∷◌, length, IfOk, Some, vec_len};
+    ghost use Rattle.cn_table.specs.declared.limits.TheConstants.{MOST_OPERATIONS};
+    ghost use Rattle.cn_discern.specs.declared.limits.TheConstants.{MOST_SIZE};
+    ghost use Rattle.cn_discern.specs.Stocks.{AreAll, AreLinks, AreStocks, GoesOn, HasChildren, IsStock, SomeAll, UpTo, items_at};
+
+    /// For each operation the place of the stock with one of it less than the stock at the place
+    /// has with one more of the given operation.
+    fn less_with(
+        &self,
+        place: usize,
+        operation: u8,
+        operations: u8,
+        n: u8,
+    ) -> [Option<usize>; MOST_OPERATIONS]
+        requires few { operations ≤ MOST_OPERATIONS }
+        requires all { SomeAll operations n self.now }
+        requires place { place < vec_len self.now.list }
+        requires operation { operation < operations }
+        requires up_to { (items : List ℕ) → items_at self.now.list.items place ≡ Some items
+            → UpTo operation items }
+        ensures { (items : List ℕ) → items_at self.now.list.items place ≡ Some items
+            → AreLinks self.now.list.items (items ++ operation ∷ []) result }
+    {
+        let _n = n;
+        let stock = &self.list[place];
+        let children = self.children.as_slice();
+        let mut less = [None; MOST_OPERATIONS];
+        for other in 0..operations {
+            if let Some(rest) = stock.less[other as usize] {
+                less[other as usize] = Some(child_place(children, rest, operation));
+            }
+        }
+        less[operation as usize] = Some(place);
+        less
+    }
+
+    /// The stock at the place with one more of this operation, which is not below one of its own.
+    fn child_of(&self, place: usize, operation: u8, operations: u8, n: u8) -> Stock
+        requires few { operations ≤ MOST_OPERATIONS }
+        requires all { SomeAll operations n self.now }
+        requires short { n < MOST_SIZE }
+        requires place { place < vec_len self.now.list }
+        requires operation { operation < operations }
+        requires up_to { (items : List ℕ) → items_at self.now.list.items place ≡ Some items
+            → UpTo operation items }
+        ensures stock { IsStock operations self.now.list.items result }
+        ensures items { (items : List ℕ) → items_at self.now.list.items place ≡ Some items
+            → result.operations.items ≡ items ++ operation ∷ [] }
+    {
+        let less = self.less_with(place, operation, operations, n);
+        Stock {
+            operations: longer(self.list[place].operations.as_slice(), operation),
+            greatest: operation,
+            less,
         }
     }
-    less[operation as usize] = Some(place);
-    less
-}
 
-/// The stock at the place with one more of this operation, which is not below one of its own.
-fn child_of(
-    stocks: &[Stock],
-    children: &[Children],
-    place: usize,
-    operation: u8,
-    operations: u8,
-) -> Stock
-    requires few { operations ≤ MOST_OPERATIONS }
-    requires stocks { AreStocks operations stocks.now }
-    requires children { AreChildren operations stocks.now children.now }
-    requires place { (place < length stocks.now) × (place ≤ length children.now) }
-    requires operation { operation < operations }
-    requires up_to { (items : List ℕ) → items_at stocks.now place ≡ Some items
-        → UpTo operation items }
-    requires short { (items : List ℕ) → items_at stocks.now place ≡ Some items
-        → length items < MOST_PROCESSES }
-    ensures stock { IsStock operations stocks.now (length stocks.now) result }
-    ensures items { (items : List ℕ) → items_at stocks.now place ≡ Some items
-        → result.operations.items ≡ items ++ operation ∷ [] }
-{
-    let less = less_with(stocks, children, place, operation, operations);
-    Stock {
-        operations: longer(stocks[place].operations.as_slice(), operation),
-        greatest: operation,
-        less,
+    /// Adds the stocks that have one operation more than the stock at the place, each of them not
+    /// below one of its own, and answers their places.
+    fn add_children(
+        &self,
+        list: &mut Vec<Stock>,
+        place: usize,
+        operations: u8,
+        n: u8,
+    ) -> Result<Children, AllocError>
+        requires few { operations ≤ MOST_OPERATIONS }
+        requires all { SomeAll operations n self.now }
+        requires short { n < MOST_SIZE }
+        requires place { place < vec_len self.now.list }
+        requires stocks { AreStocks operations self.now.list.items list.old.items }
+        ensures stocks { IfOk result (λ _. AreStocks operations self.now.list.items
+            list.new.items) }
+        ensures row { IfOk result (HasChildren self.now.list.items list.new.items place
+            operations) }
+        ensures more { IfOk result (λ _. GoesOn list.old.items (n + 1) list.new.items) }
+    {
+        let mut row = [0; MOST_OPERATIONS];
+        let greatest = self.list[place].greatest;
+        for operation in greatest..operations {
+            let child = self.child_of(place, operation, operations, n);
+            row[operation as usize] = list.len();
+            list.push(child)?;
+        }
+        Ok(row)
+    }
+
+    /// All stocks of one operation more; these have n.
+    pub fn longer(&self, alloc: Global, operations: u8, n: u8) -> Result<Stocks, AllocError>
+        requires few { operations ≤ MOST_OPERATIONS }
+        requires all { SomeAll operations n self.now }
+        requires short { n < MOST_SIZE }
+        ensures { IfOk result (AreAll operations (n + 1) self.now.list.items) }
+    {
+        let _n = n;
+        let mut list = Vec::new(alloc);
+        let mut children = Vec::new(alloc);
+        for place in 0..self.list.len() {
+            let row = self.add_children(&mut list, place, operations, n)?;
+            children.push(row)?;
+        }
+        Ok(Stocks { list, children })
     }
 }
 
-/// Adds the stocks that have one operation more than the stock at the place, each of them not below
-/// one of its own, and answers their places.
-fn add_children(
-    stocks: &mut Vec<Stock>,
-    children: &[Children],
-    place: usize,
-    operations: u8,
-) -> Result<Children, AllocError>
-    requires few { operations ≤ MOST_OPERATIONS }
-    requires stocks { AreStocks operations stocks.old.items }
-    requires children { AreChildren operations stocks.old.items children.now }
-    requires place { (place < length stocks.old.items) × (place ≤ length children.now) }
-    requires inside { length children.now ≤ length stocks.old.items }
-    requires short { (items : List ℕ) → items_at stocks.old.items place ≡ Some items
-        → length items < MOST_PROCESSES }
-    ensures stocks { IfOk result (λ _. AreStocks operations stocks.new.items) }
-    ensures row { IfOk result (HasChildren stocks.new.items place operations) }
-    ensures more { IfOk result (λ _. (items : List ℕ) → items_at stocks.old.items place ≡ Some items
-        → GoesOn stocks.old.items (length items + 1) stocks.new.items) }
+/// The stock of no operation alone.
+pub(crate) fn no_operation(alloc: Global, operations: u8) -> Result<Stocks, AllocError>
+    ensures { IfOk result (AreAll operations 0 []) }
 {
-    let mut row = [0; MOST_OPERATIONS];
-    let greatest = stocks[place].greatest;
-    for operation in greatest..operations {
-        let child = child_of(stocks.as_slice(), children, place, operation, operations);
-        row[operation as usize] = stocks.len();
-        stocks.push(child)?;
-    }
-    Ok(row)
-}
-
-/// Adds the stocks that have one operation more than the longest, which have n.
-fn add_longer(
-    stocks: &mut Vec<Stock>,
-    children: &mut Vec<Children>,
-    operations: u8,
-    n: u8,
-) -> Result<(), AllocError>
-    requires few { operations ≤ MOST_OPERATIONS }
-    requires short { n < MOST_PROCESSES }
-    requires up_to { AreUpTo operations n stocks.old.items children.old.items }
-    ensures { IfOk result (λ _. AreUpTo operations (n + 1) stocks.new.items children.new.items) }
-{
-    let _n = n;
-    for place in children.len()..stocks.len() {
-        let row = add_children(stocks, children.as_slice(), place, operations)?;
-        children.push(row)?;
-    }
-    Ok(())
-}
-
-/// The stocks of up to n of so many operations, each behind those that have less.
-pub(crate) fn stocks_up_to(alloc: Global, operations: u8, n: u8) -> Result<Vec<Stock>, AllocError>
-    requires few { operations ≤ MOST_OPERATIONS }
-    requires short { n ≤ MOST_PROCESSES }
-    ensures stocks { IfOk result (λ stocks. AreStocks operations stocks.items) }
-    ensures all { IfOk result (λ stocks. HaveAll operations n stocks.items) }
-{
-    let mut stocks = Vec::new(alloc);
-    let mut children = Vec::new(alloc);
-    stocks.push(empty_stock(operations))?;
-    for length in 0..n {
-        add_longer(&mut stocks, &mut children, operations, length)?;
-    }
-    Ok(stocks)
+    let mut list = Vec::new(alloc);
+    list.push(empty_stock(operations))?;
+    let children = Vec::new(alloc);
+    Ok(Stocks { list, children })
 }

@@ -5,4 +5,4 @@ use Rattle.cn_discern.proofs.splits.covers.Given as goal
 
 -- the operations so far are in the set
 abbrev pub invariant-loop-operation : goal.invariant-loop-operation
-invariant-loop-operation l = (g : ℕ) → g < l.operation → 1 ≤ times g l.stock.operations.items → IsBitSet l.fn.set g
+invariant-loop-operation l = (g : ℕ) → g < l.operation → 1 ≤ times g l.setting.stock.now.operations.items → IsBitSet l.fn.set g

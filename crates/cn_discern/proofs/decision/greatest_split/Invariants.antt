@@ -1,0 +1,11 @@
+use Rattle.std.proofs.Common.{◌≤◌}
+use Rattle.cn_discern.specs.Levels.{IsSearch}
+use Rattle.cn_discern.specs.Splits.{SomeSplits}
+use Rattle.cn_discern.proofs.decision.greatest_split.Given as goal
+
+-- the search is at n operations, and some stock of these splits
+abbrev pub invariant-loop-n : goal.invariant-loop-n
+invariant-loop-n g l = record {
+  search_is : IsSearch l.table l.n l.search;
+  splits : 3 ≤ l.n → SomeSplits l.table l.n;
+}
