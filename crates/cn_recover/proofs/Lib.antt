@@ -1,4 +1,5 @@
 pub mod Gap
+pub mod NumberBounds
 pub mod Numbers
 pub mod Recordings
 pub mod Searching

@@ -6,6 +6,8 @@ use Rattle.cn_choice.specs.declared.team.Team.TheVariants.{A, B}
 use Rattle.cn_choice.specs.Canonical.{Choice, raw_choice_of}
 use Rattle.cn_choice.specs.RawChoices.{RawChoice, IsRawChoice}
 use Rattle.cn_outcomes.specs.LeftStates.{LeavesIn}
+use Rattle.cn_search.specs.Numbers.{IsNumberOf}
+use Rattle.cn_search.specs.declared.exact.ConsensusNumber.{ConsensusNumber}
 
 -- two processes are in the team
 abbrev pub HasTwo : RawChoice → Team → Type 0
@@ -28,6 +30,10 @@ IsRecording t n = (c : RawChoice) × IsRawChoice t n c × IsRecordingWitness t c
 abbrev pub IsRecoverableNumberUpTo : TypeTable → ℕ → Option ℕ → Type 0
 IsRecoverableNumberUpTo t limit None = (m : ℕ) → 2 ≤ m → m ≤ limit → ¬ IsRecording t m
 IsRecoverableNumberUpTo t limit (Some n) = (2 ≤ n) × (n ≤ limit) × IsRecording t n × ((m : ℕ) → n < m → m ≤ limit → ¬ IsRecording t m)
+
+-- the recoverable number with no limit
+abbrev pub HasRecoverableNumber : TypeTable → ConsensusNumber → Type 0
+HasRecoverableNumber t number = IsNumberOf (IsRecording t) (length t.states) number
 
 -- some choice of the list is a recording witness
 abbrev pub SomeRecords : TypeTable → List Choice → Type 0

@@ -1,7 +1,7 @@
 //! The laws that hold of recording witnesses and of recoverable numbers for every type and limit.
 //!
 //! A law is a function that does nothing: its contract is the law.
-ghost use Rattle.std.specs.Prelude.{◌≡◌, ◌≢◌, ◌<◌, ◌≤◌, ◌+◌, ◌-◌, ℕ, All, Contains, IsSomeAnd, List, None, Option, Some};
+ghost use Rattle.std.specs.Prelude.{◌≡◌, ◌≢◌, ◌<◌, ◌≤◌, ◌+◌, ◌-◌, ◌↔◌, ℕ, All, Contains, IsSomeAnd, List, None, Option, Some};
 ghost use Rattle.cn_table.specs.TypeTable.{TypeTable};
 ghost use Rattle.cn_choice.specs.Canonical.{Choice, raw_choice_of};
 ghost use Rattle.cn_choice.specs.Discerning.{IsDiscerning, IsNumberUpTo, IsWitness};
@@ -96,4 +96,13 @@ pub fn at_least_the_number_less_two()
 {
     coverage();
     choice_by_teams();
+}
+
+/// A type is n-recording for every n exactly where it is n-discerning for every n: it has no greatest
+/// recoverable number exactly where it has no greatest number.
+pub fn no_greatest_together()
+    ensures { (t : TypeTable) → ((n : ℕ) → 2 ≤ n → IsRecording t n)
+        ↔ ((n : ℕ) → 2 ≤ n → IsDiscerning t n) }
+{
+    at_least_the_number_less_two();
 }

@@ -1,6 +1,7 @@
 //! The recoverable number, one number of processes after the other.
-ghost use Rattle.std.specs.Prelude.{◌≡◌, ◌≤◌, ◌⊎◌, ◌↔◌, All, Any, Err, IfErr, IfOk, IsTrue, None, OnOk, Some};
+ghost use Rattle.std.specs.Prelude.{◌≡◌, ◌<◌, ◌≤◌, ◌⊎◌, ◌↔◌, ℕ, length, All, Any, Err, IfErr, IfOk, IsTrue, None, OnOk, Some};
 ghost use Rattle.cn_choice.specs.Canonical.{raw_choice_of};
+ghost use Rattle.cn_choice.specs.Discerning.{IsDiscerning};
 ghost use Rattle.cn_choice.specs.Live.{live_in};
 ghost use Rattle.cn_choice.specs.RawChoices.{IsRawChoice};
 ghost use Rattle.cn_choice.specs.declared.limits.TheConstants.{MOST_PROCESSES};
@@ -9,11 +10,14 @@ ghost use Rattle.cn_search.specs.Faults.{number_fault};
 ghost use Rattle.cn_search.specs.declared.limits.TheConstants.{GREATEST_LIMIT, LEAST_LIMIT};
 ghost use Rattle.cn_search.specs.declared.fault.FindFault.{FindFault};
 ghost use Rattle.cn_search.specs.declared.fault.FindFault.TheVariants.{OutOfMemory};
-ghost use Rattle.cn_recover.specs.Recording.{IsRecording, IsRecordingWitness, IsRecoverableNumberUpTo, SomeRecords};
+ghost use Rattle.cn_recover.specs.Recording.{IsRecording, IsRecordingWitness, HasRecoverableNumber, IsRecoverableNumberUpTo, SomeRecords};
 
 use crate::{is_recording_witness, laws};
 use cn_choice::{Block, Choice, Choices};
-use cn_search::{FindFault, Property, Threading, blocks_for, greatest_number};
+use cn_search::{
+    ConsensusNumber, FindFault, Property, Threading, blocks_for, consensus_number, finite_number,
+    greatest_number,
+};
 use cn_table::Table;
 use rayon::prelude::*;
 use std::alloc::{AllocError, Global};
@@ -153,4 +157,47 @@ pub fn recoverable_number<T: Threads + Sync>(
     }
     laws::monotonicity();
     Ok(greatest_number(rt, alloc, &Recording { table }, limit)?)
+}
+
+/// The recoverable number with no limit of a type that is n-discerning for no n above the bound.
+fn number_below<T: Threads + Sync>(
+    rt: &T,
+    alloc: Global,
+    table: &Table,
+    bound: u8,
+) -> Result<ConsensusNumber, AllocError>
+    requires few { (bound ≤ 2) ⊎ (bound ≤ length table.now.states) }
+    requires above { (m : ℕ) → bound < m → ¬ IsDiscerning table.now m }
+    ensures { IfOk result (HasRecoverableNumber table.now) }
+{
+    laws::monotonicity();
+    let number = finite_number(rt, alloc, &Recording { table }, bound)?;
+    Ok(number)
+}
+
+/// The recoverable number of a type with no limit, by the n for which it is n-recording: `Infinite`
+/// where it is for every n, and else the greatest such n, or 1.
+///
+/// It is infinite exactly where the consensus number is
+/// ([`no_greatest_together`](crate::laws::no_greatest_together)), and at most the consensus number. A
+/// number from 8 on is told as `Between(8, most)`, where the consensus number can be more than 8; `most`
+/// is what that can be at most.
+///
+/// # Errors
+///
+/// `AllocError` where memory is too little for one thread.
+pub fn recoverable_consensus_number<T: Threads + Sync>(
+    rt: &T,
+    alloc: Global,
+    table: &Table,
+) -> Result<ConsensusNumber, AllocError>
+    ensures { IfOk result (HasRecoverableNumber table.now) }
+{
+    laws::no_greatest_together();
+    let number = consensus_number(rt, alloc, table)?;
+    match number {
+        ConsensusNumber::Infinite => Ok(ConsensusNumber::Infinite),
+        ConsensusNumber::Finite(n) => number_below(rt, alloc, table, n),
+        ConsensusNumber::Between(_, most) => number_below(rt, alloc, table, most),
+    }
 }

@@ -2,8 +2,9 @@
 //!
 //! A process that crashes and comes back has lost the response that it got: it has the state of the
 //! object alone. [`is_recording_witness`] says of a choice whether the state always tells which team
-//! moved first. [`recoverable_number`] answers the greatest number of processes up to a limit for
-//! which a type has such a choice.
+//! moved first. [`recoverable_consensus_number`] answers the greatest number of processes for which a
+//! type has such a choice, or that there is no greatest, and [`recoverable_number`] the greatest one
+//! up to a limit.
 //!
 //! ```text
 //! match recoverable_number(rt, alloc, &table, 8)? {
@@ -18,5 +19,5 @@ pub mod laws;
 mod levels;
 mod witness;
 
-pub use levels::recoverable_number;
+pub use levels::{recoverable_consensus_number, recoverable_number};
 pub use witness::is_recording_witness;

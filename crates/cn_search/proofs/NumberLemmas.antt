@@ -1,11 +1,16 @@
 -- Numbers with no evidence, from what was tried.
-use Rattle.std.proofs.Common.{◌≡◌, ◌≢◌, inl, inr, ◌↔◌, ℕ, ◌+◌, ◌≤◌, ◌<◌, Contains, IsTrue, List, ◌++◌, Option, Some, None, is_some, arith, ap, refl, sym, subst, ◌∙◌, true≢false}
+use Rattle.std.proofs.Common.{◌≡◌, ◌≢◌, inl, inr, ◌↔◌, ℕ, ◌+◌, ◌≤◌, ◌<◌, Contains, IsTrue, List, ◌++◌, length, Option, Some, None, is_some, arith, ap, refl, sym, subst, ◌∙◌, true≢false}
 use Rattle.std.proofs.Math.Nat.{eq-or-lt_of_le}
+use Rattle.std.proofs.lemmas.Bool.{cases_order}
 use Rattle.cn_table.specs.TypeTable.{TypeTable}
 use Rattle.cn_choice.specs.Blocks.{Block}
 use Rattle.cn_choice.specs.Canonical.{Choice, raw_choice_of}
 use Rattle.cn_choice.specs.Discerning.{IsDiscerning, IsWitness}
+use Rattle.cn_discern.specs.Greatest.{NoneFrom}
+use Rattle.cn_discern.specs.Splits.{SomeSplits}
 use Rattle.cn_search.specs.Evidence.{IsFirstAmong, NoneIsWitness, choices_of_all}
+use Rattle.cn_search.specs.Numbers.{HasNumber}
+use Rattle.cn_search.specs.declared.exact.ConsensusNumber.TheVariants.{Finite, Between}
 use Rattle.cn_choice.specs.Live.{live_choices}
 use Rattle.cn_search.proofs.Batches.{search_found, search_start}
 use Rattle.cn_search.proofs.ListLemmas.{Contains-between}
@@ -54,3 +59,49 @@ discerning_by_early_witness t n shown blocks front back split whole None h some 
 discerning_by_early_witness t n shown blocks front back split whole (Some w) h some =
     let first = search_found t blocks blocks front back w (search_start t blocks) split h in
     shown w (Contains-between _ first.before first.after w (sym first.listed ∙ whole)) first.witness
+
+-- a type no two of whose operations last, and stocks of up to so many operations, at least as many as it has states
+module _ (t : TypeTable) (decide : (n : ℕ) → 3 ≤ n → IsDiscerning t n ↔ SomeSplits t n) (few : (m : ℕ) → 3 ≤ m → length t.states < m → ¬ IsDiscerning t m)
+    (most : ℕ) (all : length t.states ≤ most) where
+  -- where no larger stock splits, the type is discerning for no more processes
+  none_above : (from : ℕ) → 3 ≤ from → NoneFrom t from most → (m : ℕ) → from ≤ m → ¬ IsDiscerning t m
+  none_above from three none m l d = elim (cases_order m most) [
+    | inl e ↦ none m l (omega (arith, e)) ((decide m (omega (arith, three, l))).0 d)
+    | inr o ↦ elim o [
+      | inl less ↦ none m l (omega (arith, less)) ((decide m (omega (arith, three, l))).0 d)
+      | inr more ↦ few m (omega (arith, three, l)) (omega (arith, all, more)) d
+    ]
+  ]
+
+  pub of_size : (n : ℕ) → 3 ≤ n → SomeSplits t n → NoneFrom t (n + 1) most → HasNumber t (Finite n)
+  of_size n three splits none =
+      let d = (decide n three).1 splits in (
+        omega (arith, three),
+        elim (cases_order n (length t.states)) [
+          | inl e ↦ inr (omega (arith, e))
+          | inr o ↦ elim o [ inl less ↦ inr (omega (arith, less)) | inr more ↦ absurd (few n three more d) ]
+        ],
+        λ two. d,
+        λ m l. none_above (n + 1) (omega (arith, three)) none m (omega (arith, l)),
+      )
+
+  pub of_range : (n : ℕ) → 8 ≤ n → n < length t.states → SomeSplits t n → HasNumber t (Between n (length t.states))
+  of_range n eight less splits =
+      ((decide n (omega (arith, eight))).1 splits, λ m l. few m (omega (arith, eight, less, l)) l, eight, less, omega arith)
+
+  pub of_two : NoneFrom t 3 most → IsDiscerning t 2 → HasNumber t (Finite 2)
+  of_two none d = (omega arith, inl (omega arith), λ two. d, λ m l. none_above 3 (omega arith) none m (omega (arith, l)))
+
+  pub of_one : NoneFrom t 3 most → ¬ IsDiscerning t 2 → HasNumber t (Finite 1)
+  of_one none not_two = (
+    omega arith,
+    inl (omega arith),
+    λ two. absurd (omega (arith, two)),
+    λ m l. elim (cases_order m 2) [
+      | inl e ↦ subst (λ (k : ℕ). ¬ IsDiscerning t k) (sym e) not_two
+      | inr o ↦ elim o [
+        | inl less ↦ absurd (omega (arith, l, less))
+        | inr more ↦ none_above 3 (omega arith) none m (omega (arith, more))
+      ]
+    ],
+  )

@@ -18,7 +18,7 @@ use std::thread::Threads;
 
 /// The least number of processes for which [`cn_discern::is_discerning`] decides. With two processes
 /// both teams may have one operation.
-const LEAST_WITHOUT_TEAMS: u8 = 3;
+pub(crate) const LEAST_WITHOUT_TEAMS: u8 = 3;
 
 /// So many choices of teams are gone through in less time than the operations without teams.
 const FEW_CHOICES: u64 = 30_000;
@@ -39,7 +39,7 @@ fn count_of_blocks(most: Option<usize>, blocks: usize) -> usize
 
 /// Whether one of the first blocks of choices for n processes has a witness. If one has, the type is
 /// n-discerning. If all blocks are looked at and none has one, it is not.
-fn has_witness<T: Threads + Sync>(
+pub(crate) fn has_witness<T: Threads + Sync>(
     rt: &T,
     alloc: Global,
     table: &Table,

@@ -1,0 +1,68 @@
+-- Numbers with no limit.
+use Rattle.std.proofs.Common.{◌≡◌, ◌≢◌, ℕ, zero, suc, ◌+◌, ◌-◌, ◌<◌, ◌≤◌, ◌⊎◌, inl, inr, List, length, ap, subst, arith, Option, Some, None, true, false}
+use Rattle.cn_table.specs.TypeTable.{IsTypeTable, TypeTable}
+use Rattle.cn_choice.specs.Discerning.{IsDiscerning, IsNumberUpTo}
+use Rattle.cn_choice.proofs.Monotone.{discerning_below}
+use Rattle.cn_discern.specs.Splits.{Splits}
+use Rattle.cn_discern.specs.Words.{times}
+use Rattle.cn_lasting.specs.Lasting.{NoneLast, IsAlwaysDiscerning}
+use Rattle.cn_lasting.specs.Numbers.{IsNumber}
+use Rattle.cn_lasting.proofs.Always.{joined_more}
+use Rattle.cn_discern.proofs.Witnesses.{to_splits}
+use Rattle.cn_lasting.proofs.Counts.{less_or_not}
+use Rattle.cn_lasting.proofs.Growth.{too_long}
+
+-- down from a greater number of processes
+down : (t : TypeTable) (k n : ℕ) → 2 ≤ n → IsDiscerning t (k + n) → IsDiscerning t n
+down t zero n l d = let same : 0 + n ≡ n = omega arith in subst (λ (m : ℕ). IsDiscerning t m) same d
+down t (suc k) n l d =
+    let same : suc k + n - 1 ≡ k + n = omega arith in
+    down t k n l (subst (λ (m : ℕ). IsDiscerning t m) same (discerning_below t (suc k + n) (omega (arith, l)) d))
+
+down_to : (t : TypeTable) (m n : ℕ) → 2 ≤ n → n ≤ m → IsDiscerning t m → IsDiscerning t n
+down_to t m n l u d = let same : m ≡ (m - n) + n = omega (arith, u) in down t (m - n) n l (subst (λ (k : ℕ). IsDiscerning t k) same d)
+
+-- the number up to a limit is the number where it is not the limit
+pub below_the_limit : (t : TypeTable) (limit : ℕ) (number : Option ℕ) → 2 ≤ limit → IsNumberUpTo t limit number → number ≢ Some limit → IsNumber t number
+below_the_limit t limit None some is other = λ m l d. is 2 (omega arith) some (down_to t m 2 (omega arith) l d)
+below_the_limit t limit (Some n) some is other = (is.0, is.2, λ m l d. is.3 (n + 1) (omega arith) (next (less_or_not n limit)) (down_to t m (n + 1) (omega (arith, is.0)) (omega (arith, l)) d))
+  where
+    next : (n < limit) ⊎ (limit ≤ n) → n + 1 ≤ limit
+    next (inl l) = omega (arith, l)
+    next (inr l) = absurd (other (let same : n ≡ limit = omega (arith, l, is.1) in ap Some same))
+
+-- a type that is n-discerning for every n has no number
+pub no_number : (t : TypeTable) (number : Option ℕ) → IsAlwaysDiscerning t → ¬ IsNumber t number
+no_number t None always is = is 2 (omega arith) (always 2 (omega arith))
+no_number t (Some n) always is = is.2 (n + 1) (omega arith) (always (n + 1) (omega (arith, is.0)))
+
+-- some of a stock that splits, with operations of both parts, splits
+pub fewer : (t : TypeTable) (start : ℕ) (small stock : List ℕ) (s : Splits t start stock) → ((o : ℕ) → times o small ≤ times o stock)
+    → (f : ℕ) × (1 ≤ times f small) × (s.chosen f ≡ true) → (g : ℕ) × (1 ≤ times g small) × (s.chosen g ≡ false) → Splits t start small
+fewer t start small stock s less inside outside = record {
+  chosen = s.chosen;
+  inside = inside;
+  outside = outside;
+  apart = λ f g yes no joined. s.apart f g yes no (joined_more t start small stock f g (λ word w o. omega (arith, w o, less o)) joined);
+}
+
+-- of a type that is not n-discerning for every n there is no greater number than that of its states
+pub never_above : (t : TypeTable) → IsTypeTable t → NoneLast t → (n : ℕ) → 3 ≤ n → length t.states < n → ¬ IsDiscerning t n
+never_above t valid all n some enough d =
+    let s = to_splits t n some d in
+    too_long t valid s.0 s.1 s.2.0 s.2.1 s.2.3 (omega (arith, some, s.2.2)) (omega (arith, enough, s.2.2)) all
+
+-- so the number up to that of its states is the number
+pub at_the_states : (t : TypeTable) (limit : ℕ) (number : Option ℕ) → IsTypeTable t → NoneLast t → 2 ≤ limit → length t.states ≤ limit → IsNumberUpTo t limit number → IsNumber t number
+at_the_states t limit None valid all some bound is = λ m l. elim (less_or_not limit m) [
+  | inl above ↦ never_above t valid all m (omega (arith, above, some)) (omega (arith, above, bound))
+  | inr up_to ↦ is m l up_to
+]
+at_the_states t limit (Some n) valid all some bound is = (
+  is.0,
+  is.2,
+  λ m l. elim (less_or_not limit m) [
+    | inl above ↦ never_above t valid all m (omega (arith, above, some)) (omega (arith, above, bound))
+    | inr up_to ↦ is.3 m l up_to
+  ],
+)

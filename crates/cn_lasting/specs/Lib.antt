@@ -1,0 +1,4 @@
+pub mod Lasting
+pub mod Leaving
+pub mod Repeats
+pub mod Numbers

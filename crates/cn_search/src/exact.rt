@@ -1,0 +1,198 @@
+//! The consensus number, with no limit.
+ghost use Rattle.std.specs.Prelude.{◌≤◌, ◌<◌, ◌≡◌, ◌⊎◌, ◌↔◌, length, IfOk, IsTrue};
+ghost use Rattle.cn_choice.specs.Discerning.{IsDiscerning};
+ghost use Rattle.cn_discern.specs.Greatest.{IsGreatestSplit};
+ghost use Rattle.cn_discern.specs.declared.limits.TheConstants.{MOST_SIZE};
+ghost use Rattle.cn_lasting.specs.Lasting.{NoneLast};
+ghost use Rattle.cn_search.specs.Numbers.{HasNumber, IsGreatestUpTo, IsNumberOf, NoneAbove, PassesDown};
+ghost use Rattle.cn_search.specs.declared.limits.TheConstants.{GREATEST_LIMIT, LEAST_LIMIT};
+
+use crate::levels::{LEAST_WITHOUT_TEAMS, has_witness};
+use crate::limits::{GREATEST_LIMIT, LEAST_LIMIT};
+use crate::property::{Property, greatest_number};
+use crate::reserve::reserve;
+use cn_discern::laws::splits_decide;
+use cn_discern::{GreatestSplit, Threading, greatest_split};
+use cn_lasting::find_lasting;
+use cn_lasting::laws::{finite_numbers_are_few, lasting_operations_decide};
+use cn_table::Table;
+use std::alloc::{AllocError, Global};
+use std::fmt;
+use std::thread::Threads;
+
+/// For how many processes a type has a property, with no limit.
+#[derive(Clone, Copy, Debug, PartialEq, Eq)]
+pub enum ConsensusNumber {
+    /// For so many and no more. It is 1 where the type has the property for no number from 2 on.
+    Finite(u8),
+    /// For every number.
+    Infinite,
+    /// For as many as the first number at least, and for no more than the second.
+    Between(u8, u8),
+}
+
+impl fmt::Display for ConsensusNumber {
+    ghost use Rattle.std.specs.Prelude.{Some};
+    ghost use Rattle.cn_search.specs.NumberText.{number_text};
+
+    ghost output = { λ number. Some (number_text number) };
+
+    fn fmt<W: fmt::Write>(&self, f: &mut fmt::Formatter<W>) -> fmt::Result {
+        match self {
+            ConsensusNumber::Finite(n) => write!(f, "{n}"),
+            ConsensusNumber::Infinite => write!(f, "infinite"),
+            ConsensusNumber::Between(least, most) => write!(f, "{least} to {most}"),
+        }
+    }
+}
+
+/// The limit up to which the number of a type with so many states is looked for.
+fn limit_of(states: u8) -> u8
+    ensures range { (LEAST_LIMIT ≤ result) × (result ≤ GREATEST_LIMIT) }
+    ensures all { (states ≤ result) ⊎ (result ≡ GREATEST_LIMIT) }
+    ensures few { (result ≡ LEAST_LIMIT) ⊎ (result ≤ states) }
+{
+    states.max(LEAST_LIMIT).min(GREATEST_LIMIT)
+}
+
+/// Whether a number up to the limit is the number with no limit, for a type with so many states.
+fn is_exact(states: u8, limit: u8, number: u8) -> bool
+    ensures { IsTrue result ↔ ((number < limit) ⊎ (states ≤ limit)) }
+{
+    number < limit || states <= limit
+}
+
+/// The number with no limit, from the one up to the limit of a type with so many states.
+fn without_limit<P: Property>(
+    property: &P,
+    states: u8,
+    limit: u8,
+    found: Option<u8>,
+) -> ConsensusNumber
+    requires down { PassesDown (P.holds property.now) }
+    requires few { NoneAbove (P.holds property.now) states }
+    requires range { (LEAST_LIMIT ≤ limit) × (limit ≤ GREATEST_LIMIT) }
+    requires all { (states ≤ limit) ⊎ (limit ≡ GREATEST_LIMIT) }
+    requires least { (limit ≡ LEAST_LIMIT) ⊎ (limit ≤ states) }
+    requires found { IsGreatestUpTo (P.holds property.now) limit found }
+    ensures { IsNumberOf (P.holds property.now) states result }
+{
+    match found {
+        None => ConsensusNumber::Finite(1),
+        Some(n) if is_exact(states, limit, n) => ConsensusNumber::Finite(n),
+        Some(n) => ConsensusNumber::Between(n, states),
+    }
+}
+
+/// The number with no limit of a property that passes down, and that no number above both 2 and so
+/// many states has: in several threads, or in one where these get too little memory.
+///
+/// # Errors
+///
+/// `AllocError` where memory is too little for one thread.
+pub fn finite_number<P: Property, T: Threads + Sync>(
+    rt: &T,
+    alloc: Global,
+    property: &P,
+    states: u8,
+) -> Result<ConsensusNumber, AllocError>
+    requires down { PassesDown (P.holds property.now) }
+    requires few { NoneAbove (P.holds property.now) states }
+    ensures { IfOk result (IsNumberOf (P.holds property.now) states) }
+{
+    let limit = limit_of(states);
+    let found = greatest_number(rt, alloc, property, limit)?;
+    Ok(without_limit(property, states, limit, found))
+}
+
+/// The most operations of a stock that is looked at, for a table with so many states.
+fn most_operations(table: &Table) -> u8
+    ensures range { (3 ≤ result) × (result ≤ MOST_SIZE) }
+    ensures all { length table.now.states ≤ result }
+    ensures least { (result ≡ 3) ⊎ (result ≡ length table.now.states) }
+{
+    table.states().max(LEAST_WITHOUT_TEAMS)
+}
+
+/// The number of a type no two of whose operations last, from the greatest number of operations of
+/// which some stock splits, and from whether the type is 2-discerning.
+fn number_by_stocks(table: &Table, most: u8, found: GreatestSplit, two: bool) -> ConsensusNumber
+    requires finite { NoneLast table.now }
+    requires range { 3 ≤ most }
+    requires all { length table.now.states ≤ most }
+    requires least { (most ≡ 3) ⊎ (most ≡ length table.now.states) }
+    requires found { IsGreatestSplit table.now most found }
+    requires two { IsTrue two ↔ IsDiscerning table.now 2 }
+    ensures { HasNumber table.now result }
+{
+    splits_decide();
+    finite_numbers_are_few();
+    let states = table.states();
+    match found {
+        GreatestSplit::Size(n) => ConsensusNumber::Finite(n),
+        GreatestSplit::AtLeast(n) => ConsensusNumber::Between(n, states),
+        GreatestSplit::NoSize if two => ConsensusNumber::Finite(2),
+        GreatestSplit::NoSize => ConsensusNumber::Finite(1),
+    }
+}
+
+/// The number of a type no two of whose operations last, in these threads.
+fn finite_number_in<T: Threads + Sync>(
+    rt: &T,
+    alloc: Global,
+    table: &Table,
+    threading: Threading,
+) -> Result<ConsensusNumber, AllocError>
+    requires { NoneLast table.now }
+    ensures { IfOk result (HasNumber table.now) }
+{
+    let most = most_operations(table);
+    let found = greatest_split(rt, alloc, table, most, threading)?;
+    let two = has_witness(rt, alloc, table, LEAST_LIMIT, None, threading)?;
+    Ok(number_by_stocks(table, most, found, two))
+}
+
+/// The same in several threads, where memory is left for one.
+fn finite_number_in_threads<T: Threads + Sync>(
+    rt: &T,
+    alloc: Global,
+    table: &Table,
+) -> Result<ConsensusNumber, AllocError>
+    requires { NoneLast table.now }
+    ensures { IfOk result (HasNumber table.now) }
+{
+    let _reserve = reserve(alloc)?;
+    finite_number_in(rt, alloc, table, Threading::Many)
+}
+
+/// The consensus number of a type, by the n for which it is n-discerning: `Infinite` where it is for
+/// every n, and else the greatest such n, or 1.
+///
+/// It is infinite exactly if two operations last from some state
+/// ([`lasting_operations_decide`](cn_lasting::laws::lasting_operations_decide)). A finite number is
+/// at most the number of states ([`finite_numbers_are_few`](cn_lasting::laws::finite_numbers_are_few)),
+/// and is looked for by stocks ([`greatest_split`]). It is told as `Between` two numbers only where
+/// the stocks become too many: from 8 on for a type with 8 operations, from 9 on for one with 7, and
+/// from 12 on for one with 6.
+///
+/// The search goes on in several threads, or in one where these get too little memory.
+///
+/// # Errors
+///
+/// `AllocError` where memory is too little for one thread.
+pub fn consensus_number<T: Threads + Sync>(
+    rt: &T,
+    alloc: Global,
+    table: &Table,
+) -> Result<ConsensusNumber, AllocError>
+    ensures { IfOk result (HasNumber table.now) }
+{
+    lasting_operations_decide();
+    if find_lasting(table).is_some() {
+        return Ok(ConsensusNumber::Infinite);
+    }
+    if let Ok(number) = finite_number_in_threads(rt, alloc, table) {
+        return Ok(number);
+    }
+    finite_number_in(rt, alloc, table, Threading::One)
+}
