@@ -1,5 +1,6 @@
 -- The laws.
 pub mod NumberWords
 pub mod NumbersTold
+pub mod TypeNumbers
 pub mod Headline
 pub mod OneOutput

@@ -1,5 +1,6 @@
 pub mod AcceptedEntries
 pub mod PairLemmas
 pub mod Pieces
+pub mod ReasonLemmas
 pub mod WayLemmas
 pub mod Widths

@@ -8,4 +8,5 @@ pub mod Pairs
 pub mod Common
 pub mod PlanForms
 pub mod PlanText
+pub mod Reasons
 pub mod Promela

@@ -8,7 +8,7 @@ ghost use Rattle.cn_forms.specs.Explained.{apart_line, explain_text, number_line
 ghost use Rattle.cn_forms.specs.Folded.{folded};
 ghost use Rattle.cn_forms.specs.Pairs.{seen_rows};
 
-mod folded;
+pub(crate) mod folded;
 mod pairs;
 mod ways;
 
@@ -153,7 +153,7 @@ fn push_witness(
 }
 
 /// Why the number is so much.
-fn push_why(
+pub(crate) fn push_why(
     alloc: Global,
     text: &mut String,
     table: &Table,
@@ -244,7 +244,7 @@ fn push_same_ways(text: &mut String) -> Result<(), AllocError>
 }
 
 #[tactic(auto, unfolding(crate::specs::Explained::theorem_line))]
-fn push_theorem(text: &mut String, n: u8) -> Result<(), AllocError>
+pub(crate) fn push_theorem(text: &mut String, n: u16) -> Result<(), AllocError>
     ensures { OnOk result (string_bytes text.new ≡ string_bytes text.old ++ theorem_line n) }
 {
     write!(
@@ -259,7 +259,7 @@ fn push_notes(text: &mut String, version: u8, n: u8) -> Result<(), AllocError>
 {
     push_same_ways(text)?;
     push_left_out(text, version)?;
-    push_theorem(text, n)
+    push_theorem(text, n as u16)
 }
 
 /// Why the number is not n: the ways, and the notes.
@@ -282,7 +282,7 @@ fn push_refutation(
 }
 
 /// Why the number is no more.
-fn push_why_not(
+pub(crate) fn push_why_not(
     text: &mut String,
     table: &Table,
     version: u8,

@@ -87,7 +87,7 @@ no_tables f tables found given = let bad = found ∙ raw_values-rows f (codes "F
 abbrev pub Wants : Text → List Row → Type 0
 Wants name rows =
     MatchBool (bytes_eq name (codes "find")) ((n : Option ℕ) × HasLimit rows n)
-    (MatchBool (bytes_eq name (codes "classify")) (((n : ℕ) × HasNumber (codes "limit") rows n) × ((ts : Vec TextSource Global) × HasTables rows ts.items))
+    (MatchBool (bytes_eq name (codes "classify")) (((n : Option ℕ) × HasLimit rows n) × ((ts : Vec TextSource Global) × HasTables rows ts.items))
     (MatchBool (bytes_eq name (codes "lint")) (Unit {0})
     (MatchBool (bytes_eq name (codes "draw")) (Unit {0})
     (MatchBool (bytes_eq name (codes "check")) ((w : TextSource) × HasCertificate rows w)

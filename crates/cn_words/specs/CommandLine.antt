@@ -76,7 +76,7 @@ find_words = command_with (codes "find") (limit_option ∷ table_option ∷ [])
 
 abbrev pub classify_words : Shape
 classify_words = command_with (codes "classify")
-    (record limit_option { defaults = codes "8" ∷ [] } ∷ flag (codes "recoverable") ∷ required_words (codes "FILE") ∷ [])
+    (limit_option ∷ flag (codes "recoverable") ∷ required_words (codes "FILE") ∷ [])
 
 abbrev pub lint_words : Shape
 lint_words = command_with (codes "lint") (table_option ∷ [])

@@ -127,7 +127,7 @@ name_of (Serve opening calls) = codes "serve"
 abbrev pub HasArguments : List Row → Command → Type 0
 HasArguments rows (Find limit) = HasLimit rows limit
 HasArguments rows (Classify limit recoverable tables) =
-    HasNumber (codes "limit") rows limit × HasFlag (codes "recoverable") rows recoverable × HasTables rows tables.items
+    HasLimit rows limit × HasFlag (codes "recoverable") rows recoverable × HasTables rows tables.items
 HasArguments rows Lint = Unit {0}
 HasArguments rows Draw = Unit {0}
 HasArguments rows (Check certificate) = HasCertificate rows certificate

@@ -49,10 +49,10 @@ pub enum Command<'a> {
         /// The greatest number looked for, if one was given.
         limit: Option<u8>,
     },
-    /// Writes the number of each of these types, up to the limit.
+    /// Writes the number of each of these types, up to the limit if one was given.
     Classify {
-        /// The greatest number looked for.
-        limit: u8,
+        /// The greatest number looked for, if one was given.
+        limit: Option<u8>,
         /// Whether the recoverable number is written too.
         recoverable: bool,
         /// The tables of the types, at least one.
@@ -74,7 +74,7 @@ pub enum Command<'a> {
         /// Whether all collisions are told.
         all: bool,
     },
-    /// Finds the certificate of the type, up to the limit, and explains the number.
+    /// Tells why the type has its number, up to the limit if one was given.
     Why {
         /// The greatest number looked for, if one was given.
         limit: Option<u8>,
@@ -258,7 +258,7 @@ fn find<'a>(words: &ArgMatches<'a>) -> Option<Command<'a>>
 fn classify<'a>(alloc: Global, words: &ArgMatches<'a>) -> Result<Option<Command<'a>>, AllocError>
     ensures { IfOk result (Finds (IsNamed (codes "classify") (rows_in words.now))) }
 {
-    let Some(limit) = limit(words) else {
+    let Some(limit) = optional_limit(words) else {
         return Ok(None);
     };
     let Some(tables) = tables(alloc, words)? else {

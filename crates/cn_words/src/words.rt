@@ -84,23 +84,27 @@ const CLASSIFY_ABOUT: &str = "Writes the consensus number of each of several typ
 const CLASSIFY_AFTER: &str = help!(
     "\
 Reads a type table in TOML from each FILE, one after the other; - is standard input. Looks for the
-greatest n from 2 to N for which the type is n-discerning, whatever the count of choices. N is from
-2 to 8.
+greatest n for which the type is n-discerning, whatever the count of choices: so many processes can
+agree, and no more.
 
 Writes for each type a line as soon as its number is known: its name, a colon, and the number; 1
-where it is n-discerning for no such n; at least N where the number is N, since a greater limit may
-show a greater number. A number without at least is that for every greater limit too.
+where it is n-discerning for no n from 2 on; infinite where it is for every n. A finite number is at
+most the number of states. A line says N to M where it would take too long to tell which of these
+the number is; N is then 8 or more.
 
-With --recoverable a comma, the word recoverable and a second number follow: the greatest n from 2
-to N for which the type is n-recording, that is, the number of processes that can agree where each
-may crash and come back with its own memory lost.
+With --limit N, from 2 to 8, no number above N is looked for: a line says at least N where the
+number is N or more.
+
+With --recoverable a comma, the word recoverable and a second number follow: the greatest n for
+which the type is n-recording, that is, the number of processes that can agree where each may crash
+and come back with its own memory lost.
 
 A table that cannot be read or is refused has a line on standard error that begins with the name of
 its file, and the others go on. The exit status is that of the first fault.
 
 ",
     "  cnum classify types/test_and_set.toml types/sticky_bit.toml
-writes test_and_set: 2 and sticky_bit: at least 8."
+writes test_and_set: 2 and sticky_bit: infinite."
 );
 
 const LINT_ABOUT: &str = "Writes the table as a grid, or all that is wrong with it";
@@ -154,9 +158,14 @@ const WHY_ABOUT: &str = "Finds the consensus number of the type, and tells why i
 
 const WHY_AFTER: &str = help!(
     "\
-Reads a type table in TOML from FILE; - is standard input. Finds the certificate of the type up to N
-as find does, and writes of it what explain writes. N is from 2 to 8. A search of more than 100000
-choices for N processes is refused. Without --limit, N is the greatest that is not refused.
+Reads a type table in TOML from FILE; - is standard input. Writes the number, the table, and why the
+number is what it is. For infinite this is two operations that last: where one process does the one
+and any number of others do the other, the state always tells which came first. Then it writes the
+witness and the counterexamples of the certificate that find writes, as explain does. Where these
+are for fewer processes than the number, it says so.
+
+With --limit N, from 2 to 8, finds the certificate of the type up to N as find does, and writes of it
+what explain writes. A search of more than 100000 choices for N processes is refused.
 
 ",
     "  cnum why --limit 3 types/test_and_set.toml
@@ -423,7 +432,7 @@ fn classify<'a>(alloc: Global) -> Result<Command<'a>, AllocError>
 {
     let command = bare_command(alloc, "classify", CLASSIFY_ABOUT, CLASSIFY_AFTER);
     let recoverable = "Writes the recoverable number of each type too";
-    let command = with_argument(Ok(command), limit(alloc).default_value("8"));
+    let command = with_argument(Ok(command), limit(alloc));
     let command = with_argument(command, flag(alloc, "recoverable", recoverable));
     with_argument(command, files(alloc))
 }

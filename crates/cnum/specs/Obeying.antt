@@ -35,9 +35,10 @@ module _ {S F D W : Type 0} (remaining : S → Option (List ℕ)) (left : LazyFi
 
   -- `classify` classifies the tables that its words name, and every other command takes one table
   abbrev pub Does : S → TextSource → Command → Output W → Output W → ℕ → Type 0
-  Does stdin table command u v status = ((limit : ℕ) × (recoverable : Bool) × (tables : Vec TextSource Global) × (command ≡ Classify limit recoverable tables)
+  Does stdin table command u v status =
+      ((limit : Option ℕ) × (recoverable : Bool) × (tables : Vec TextSource Global) × (command ≡ Classify limit recoverable tables)
       × ClassifiesAll stdin (record { limit = limit; recoverable = recoverable }) tables.items u v status)
-      ⊎ (((limit : ℕ) (recoverable : Bool) (tables : Vec TextSource Global) → command ≢ Classify limit recoverable tables)
+      ⊎ (((limit : Option ℕ) (recoverable : Bool) (tables : Vec TextSource Global) → command ≢ Classify limit recoverable tables)
       × RunsOne stdin table command u v status)
 
 -- in the same terms: the command was done with these streams, of which nothing was used before, and the writer is handed back as the command left

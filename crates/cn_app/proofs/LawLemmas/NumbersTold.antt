@@ -1,31 +1,31 @@
 -- What the numbers that commands tell say of all protocols.
-use Rattle.std.proofs.Common.{◌≡◌, ℕ, ◌<◌, ◌≤◌, ◌^◌, List, length, Option, Some, None, Result, Ok, Err}
-use Rattle.std.proofs.Common.{Bool, true, false, ◌&&◌, refl, sym, ◌∙◌, subst, arith, inl}
-use Rattle.std.specs.Prelude.{nat_le, nat_lt, if◌then◌else◌}
+use Rattle.std.proofs.Common.{◌≡◌, ℕ, ◌<◌, ◌≤◌, ◌^◌, ◌⊎◌, List, Option, Some, None, Result, Ok, Err}
+use Rattle.std.proofs.Common.{Bool, true, false, ◌&&◌, refl, sym, subst, arith, inl, inr}
+use Rattle.std.specs.Prelude.{nat_le, if◌then◌else◌}
 use Rattle.std.specs.Result.{result_map_both}
 use Rattle.std.proofs.lemmas.Bool.{leb-true}
 use Rattle.cn_table.specs.Faults.{reading}
-use Rattle.cn_table.specs.TypeTable.{IsTypeTable, TypeTable}
+use Rattle.cn_table.specs.TypeTable.{TypeTable}
 use Rattle.cn_table.specs.declared.fault.TableFault.{TableFault}
-use Rattle.cn_choice.specs.Discerning.{IsNumberUpTo}
-use Rattle.cn_consensus.specs.Types.{IsClosed}
-use Rattle.cn_crashes.specs.RecoverableConsensusNumber.{IsRecoverableConsensusNumber}
-use Rattle.cn_crashes.specs.RecoverableConsensusNumber.{SolvesRecoverableConsensus}
-use Rattle.cn_recover.specs.Recording.{IsRecoverableNumberUpTo}
 use Rattle.cn_search.specs.Faults.{number_fault}
-use Rattle.cn_search.specs.declared.fault.FindFault.{FindFault}
+use Rattle.cn_search.specs.NumberText.{number_text}
+use Rattle.cn_search.specs.Numbers.{IsNumberOf}
+use Rattle.cn_search.specs.declared.exact.ConsensusNumber.{ConsensusNumber}
+use Rattle.cn_search.specs.declared.exact.ConsensusNumber.TheVariants.{Finite, Infinite, Between}
 use Rattle.cn_search.specs.declared.fault.FindFault.TheVariants.{BadLimit}
-use Rattle.cn_solvable.specs.Solving.{IsConsensusNumber, SolvesConsensus}
-use Rattle.cn_app.specs.Commands.Classify.{IsClassified, IsRecoverablyClassified, number_words}
-use Rattle.cn_app.specs.ConsensusNumber.{IsBelow, IsNumberText, TellsConsensus, TellsRecoverable}
-use Rattle.cn_app.specs.ConsensusNumber.{at_least, exactly, line_with, line_with_both}
+use Rattle.cn_app.specs.Commands.Classify.{AreWordsFor, given_limit_fault, number_words}
+use Rattle.cn_app.specs.ConsensusNumber.{IsBelow, IsNumberText, TellsNumber, TextAtLeast}
+use Rattle.cn_app.specs.ConsensusNumber.{TextExactly, TextInfinite, TextRange, WordsTell}
+use Rattle.cn_app.specs.ConsensusNumber.{at_least, infinite, range, told}
 use Rattle.cn_app.specs.FaultText.{plain_of}
 use Rattle.cn_app.specs.Texts.Contents.{table_in}
 use Rattle.cn_app.specs.declared.fault.AppFault.{AppFault}
 use Rattle.cn_app.specs.declared.fault.AppFault.TheVariants.{Table}
-use Rattle.cn_app.proofs.LawLemmas.NumberWords.{IsSmall, number_no_comma, text_no_comma}
-use Rattle.cn_app.proofs.LawLemmas.NumberWords.{words_at_least, words_exact, words_of_both}
-use Rattle.cn_app.proofs.LawLemmas.NumberWords.{words_of_line}
+use Rattle.cn_app.proofs.LawLemmas.NumberWords.{IsSmall, told_small, words_up_to}
+use Rattle.cn_app.proofs.LawLemmas.NumberWords.{same_at_least, same_exactly, same_range}
+use Rattle.cn_app.proofs.LawLemmas.NumberWords.{at_least_not_infinite, at_least_not_range}
+use Rattle.cn_app.proofs.LawLemmas.NumberWords.{exactly_not_at_least, exactly_not_infinite}
+use Rattle.cn_app.proofs.LawLemmas.NumberWords.{exactly_not_range, infinite_not_range}
 
 -- ---- limits and tables
 
@@ -40,7 +40,7 @@ limit_range limit e = by_test (nat_le 2 limit) (nat_le limit 8) refl refl e
     by_test false b p q f = absurd (cc f)
 
 -- a table that a text spells is read from the bytes of the text
-read_whole : (bytes : List ℕ) (t : TypeTable) → table_in bytes ≡ Ok t → reading bytes ≡ Ok t
+pub read_whole : (bytes : List ℕ) (t : TypeTable) → table_in bytes ≡ Ok t → reading bytes ≡ Ok t
 read_whole bytes t e = by_test _ _ e
   where
     by_reading : (r : Result TypeTable TableFault)
@@ -54,113 +54,112 @@ read_whole bytes t e = by_test _ _ e
     by_test true fault f = absurd (cc f)
     by_test false fault f = by_reading (reading bytes) f
 
-small_number : (t : TypeTable) (limit : ℕ) (number : Option ℕ) → limit ≤ 8
-    → IsNumberUpTo t limit number → IsSmall number
-small_number t limit None few up = tt
-small_number t limit (Some n) few up = omega (arith, up.1, few)
+-- ---- a task
 
-small_recoverable : (t : TypeTable) (limit : ℕ) (number : Option ℕ) → limit ≤ 8
-    → IsRecoverableNumberUpTo t limit number → IsSmall number
-small_recoverable t limit None few up = tt
-small_recoverable t limit (Some n) few up = omega (arith, up.1, few)
+-- a property of numbers of processes, for a type of so many states; up to which limit a number is
+-- the greatest with it; and what a number is, solves and excludes
+module _ (D : ℕ → Type 0) (states : ℕ) (UpTo : ℕ → Option ℕ → Type 0) (Is Solves Excluded : ℕ → Type 0)
+    (small : (limit : ℕ) (number : Option ℕ) → limit ≤ 8 → UpTo limit number → IsSmall number)
+    (below : (limit : ℕ) (number : Option ℕ) → 2 ≤ limit → UpTo limit number → IsBelow limit number
+    → Is (told number))
+    (solved : (limit : ℕ) (number : Option ℕ) → 2 ≤ limit → UpTo limit number → Solves (told number))
+    (greatest : (n : ℕ) → 1 ≤ n → (2 ≤ n → D n) → ((m : ℕ) → n < m → ¬ D m) → Is n)
+    (enough : (n : ℕ) → 2 ≤ n → D n → Solves n)
+    (excluded : (n : ℕ) → 2 ≤ n → ¬ D n → Excluded n) (few : states < 2 ^ 64) where
+  -- what a number with no limit tells
+  pub tells : (number : ConsensusNumber) → IsNumberOf D states number
+      → TellsNumber Is Solves Excluded number
+  tells (Finite n) is = greatest n is.0 is.2 is.3
+  tells Infinite is = λ n two. enough n two (is n two)
+  tells (Between least most) is = (
+    enough least (omega (arith, is.2)) is.0,
+    λ m l. excluded m (omega (arith, is.2, is.3, l)) (is.1 m l),
+  )
 
-module _ {L V : Type 0}
-    (spelled : (bytes : List ℕ) (t : TypeTable) → reading bytes ≡ Ok t → IsTypeTable t)
-    (closed : (t : TypeTable) → IsTypeTable t → IsClosed t)
-    (found : (t : TypeTable) (limit n : ℕ) → IsClosed t → IsNumberUpTo t limit (Some n)
-    → n < limit → IsConsensusNumber L V t n)
-    (none : (t : TypeTable) (limit : ℕ) → IsClosed t → 0 < length t.states → 2 ≤ limit
-    → IsNumberUpTo t limit None → IsConsensusNumber L V t 1)
-    (limited : (t : TypeTable) (limit n : ℕ) → IsNumberUpTo t limit (Some n)
-    → SolvesConsensus t n) where
-  pub tells : (t : TypeTable) (limit : ℕ) (number : Option ℕ) → IsTypeTable t → 2 ≤ limit
-      → IsNumberUpTo t limit number → TellsConsensus L V t limit number
-  tells t limit None table two up =
-      let is = none t limit (closed t table) (omega (arith, table.states.some)) two up in
-      record { solved = is.solves; exact = λ below. is }
-  tells t limit (Some n) table two up = record {
-    solved = limited t limit n up;
-    exact = λ below. found t limit n (closed t table) up below;
+  finite_small : (n : ℕ) → (n ≤ 2) ⊎ (n ≤ states) → n < 2 ^ 64
+  finite_small n (inl l) = omega (arith, l)
+  finite_small n (inr l) = omega (arith, l, few)
+
+  -- the words of a number with no limit
+  exact_words_tell : (number : ConsensusNumber) → IsNumberOf D states number
+      → WordsTell Is Solves Excluded (number_text number)
+  exact_words_tell (Finite n) is =
+      let s = finite_small n is.1 in
+      let t = tells (Finite n) is in
+      record {
+        exact = λ m l e. subst Is (same_exactly n m s l e) t;
+        at_least = λ m l e. absurd (exactly_not_at_least n m s e);
+        infinite = λ e. absurd (exactly_not_infinite n s e);
+        range = λ a b l k e. absurd (exactly_not_range n a b s e);
+      }
+  exact_words_tell Infinite is = record {
+    exact = λ m l e. absurd (exactly_not_infinite m l (sym e));
+    at_least = λ m l e. absurd (at_least_not_infinite m l (sym e));
+    infinite = λ e. tells Infinite is;
+    range = λ a b l k e. absurd (infinite_not_range a b l k e);
   }
+  exact_words_tell (Between least most) is =
+      let t = tells (Between least most) is in
+      let m_small : most < 2 ^ 64 = omega (arith, is.4, few) in
+      let l_small : least < 2 ^ 64 = omega (arith, is.3, is.4, few) in
+      record {
+        exact = λ m l e. absurd (exactly_not_range m least most l (sym e));
+        at_least = λ m l e. absurd (at_least_not_range m least most l_small m_small (sym e));
+        infinite = λ e. absurd (infinite_not_range least most l_small m_small (sym e));
+        range = λ a b l k e.
+            let same = same_range least most a b l_small m_small l k e in
+            subst (λ (x : ℕ). Solves x × ((m : ℕ) → b < m → Excluded m)) same.0
+            (subst (λ (x : ℕ). Solves least × ((m : ℕ) → x < m → Excluded m)) same.1 t);
+      }
 
-  pub line_tells : (bytes : List ℕ) (t : TypeTable) (limit N : ℕ) (line : List ℕ)
-      → table_in bytes ≡ Ok t → IsClassified t limit line → N < 2 ^ 64
-      → line ≡ line_with t.name (exactly N) → IsConsensusNumber L V t N
-  line_tells bytes t limit N line read is l e =
-      let range = limit_range limit is.in_range in
-      let words = words_of_line t.name (number_words limit is.number) (exactly N) (sym is.written ∙ e) in
-      let same = words_exact limit is.number N (small_number t limit is.number range.1 is.up_to) l words in
-      subst (IsConsensusNumber L V t) same.1
-      ((tells t limit is.number (spelled bytes t (read_whole bytes t read)) range.0 is.up_to).exact same.0)
+  -- the words of a number up to a limit
+  limited_words_tell : (limit : ℕ) (number : Option ℕ) → 2 ≤ limit → limit ≤ 8 → UpTo limit number
+      → WordsTell Is Solves Excluded (number_words limit number)
+  limited_words_tell limit number two eight up =
+      let s = told_small number (small limit number eight up) in
+      elim (words_up_to limit number) [
+        | inl w ↦ subst (WordsTell Is Solves Excluded) (sym w.1) (record {
+          exact = λ m l e. subst Is (same_exactly (told number) m s l e) (below limit number two up w.0);
+          at_least = λ m l e. absurd (exactly_not_at_least (told number) m s e);
+          infinite = λ e. absurd (exactly_not_infinite (told number) s e);
+          range = λ a b l k e. absurd (exactly_not_range (told number) a b s e);
+        })
+        | inr w ↦ subst (WordsTell Is Solves Excluded) (sym w) (record {
+          exact = λ m l e. absurd (exactly_not_at_least m (told number) l (sym e));
+          at_least = λ m l e. subst Solves (same_at_least (told number) m s l e) (solved limit number two up);
+          infinite = λ e. absurd (at_least_not_infinite (told number) s e);
+          range = λ a b l k e. absurd (at_least_not_range (told number) a b l k e);
+        })
+      ]
 
-  pub line_tells_at_least : (bytes : List ℕ) (t : TypeTable) (limit N : ℕ) (line : List ℕ)
-      → table_in bytes ≡ Ok t → IsClassified t limit line → N < 2 ^ 64
-      → line ≡ line_with t.name (at_least N) → SolvesConsensus t N
-  line_tells_at_least bytes t limit N line read is l e =
-      let range = limit_range limit is.in_range in
-      let words = words_of_line t.name (number_words limit is.number) (at_least N) (sym is.written ∙ e) in
-      let same = words_at_least limit is.number N (small_number t limit is.number range.1 is.up_to) l words in
-      subst (SolvesConsensus t) same
-      (tells t limit is.number (spelled bytes t (read_whole bytes t read)) range.0 is.up_to).solved
+  pub words_tell : (limit : Option ℕ) (words : List ℕ) → given_limit_fault limit ≡ None
+      → AreWordsFor (IsNumberOf D states) UpTo limit words → WordsTell Is Solves Excluded words
+  words_tell None words range (number, is, e) =
+      subst (WordsTell Is Solves Excluded) (sym e) (exact_words_tell number is)
+  words_tell (Some limit) words range (number, up, e) =
+      let within = limit_range limit range in
+      subst (WordsTell Is Solves Excluded) (sym e) (limited_words_tell limit number within.0 within.1 up)
 
-  pub first_tells : (bytes : List ℕ) (t : TypeTable) (limit N : ℕ) (words line : List ℕ)
-      → table_in bytes ≡ Ok t → IsRecoverablyClassified t limit line → N < 2 ^ 64
-      → line ≡ line_with_both t.name (exactly N) words → IsConsensusNumber L V t N
-  first_tells bytes t limit N words line read is l e =
-      let range = limit_range limit is.in_range in
-      let small = small_number t limit is.number range.1 is.up_to in
-      let parts = words_of_both t.name (number_words limit is.number) (number_words limit is.recoverable)
-      (exactly N) words (number_no_comma limit is.number small)
-      (text_no_comma (exactly N) (N, l, inl refl)) (sym is.written ∙ e) in
-      let same = words_exact limit is.number N small l parts.0 in
-      subst (IsConsensusNumber L V t) same.1
-      ((tells t limit is.number (spelled bytes t (read_whole bytes t read)) range.0 is.up_to).exact same.0)
+  -- ---- the words of a number are those of a number
 
-module _ {L V : Type 0}
-    (spelled : (bytes : List ℕ) (t : TypeTable) → reading bytes ≡ Ok t → IsTypeTable t)
-    (closed : (t : TypeTable) → IsTypeTable t → IsClosed t)
-    (found : (t : TypeTable) (limit n : ℕ) → IsClosed t → IsRecoverableNumberUpTo t limit (Some n)
-    → n < limit → IsRecoverableConsensusNumber L V t n)
-    (none : (t : TypeTable) (limit : ℕ) → IsClosed t → 0 < length t.states → 2 ≤ limit
-    → IsRecoverableNumberUpTo t limit None → IsRecoverableConsensusNumber L V t 1)
-    (limited : (t : TypeTable) (limit n : ℕ) → IsRecoverableNumberUpTo t limit (Some n)
-    → SolvesRecoverableConsensus t n) where
-  pub tells_recoverable : (t : TypeTable) (limit : ℕ) (number : Option ℕ) → IsTypeTable t → 2 ≤ limit
-      → IsRecoverableNumberUpTo t limit number → TellsRecoverable L V t limit number
-  tells_recoverable t limit None table two up =
-      let is = none t limit (closed t table) (omega (arith, table.states.some)) two up in
-      record { solved = is.solves; exact = λ below. is }
-  tells_recoverable t limit (Some n) table two up = record {
-    solved = limited t limit n up;
-    exact = λ below. found t limit n (closed t table) up below;
-  }
+  exact_words_text : (number : ConsensusNumber) → IsNumberOf D states number
+      → IsNumberText (number_text number)
+  exact_words_text (Finite n) is = TextExactly (finite_small n is.1)
+  exact_words_text Infinite is = TextInfinite
+  exact_words_text (Between least most) is =
+      TextRange (omega (arith, is.3, is.4, few)) (omega (arith, is.4, few))
 
-  pub recoverable_line_tells : (bytes : List ℕ) (t : TypeTable) (limit N : ℕ) (words line : List ℕ)
-      → table_in bytes ≡ Ok t → IsRecoverablyClassified t limit line → IsNumberText words
-      → N < 2 ^ 64 → line ≡ line_with_both t.name words (exactly N)
-      → IsRecoverableConsensusNumber L V t N
-  recoverable_line_tells bytes t limit N words line read is text l e =
-      let range = limit_range limit is.in_range in
-      let parts = words_of_both t.name (number_words limit is.number) (number_words limit is.recoverable)
-      words (exactly N) (number_no_comma limit is.number (small_number t limit is.number range.1 is.up_to))
-      (text_no_comma words text) (sym is.written ∙ e) in
-      let small = small_recoverable t limit is.recoverable range.1 is.recoverable_up_to in
-      let same = words_exact limit is.recoverable N small l parts.1 in
-      let table = spelled bytes t (read_whole bytes t read) in
-      subst (IsRecoverableConsensusNumber L V t) same.1
-      ((tells_recoverable t limit is.recoverable table range.0 is.recoverable_up_to).exact same.0)
+  limited_words_text : (limit : ℕ) (number : Option ℕ) → limit ≤ 8 → UpTo limit number
+      → IsNumberText (number_words limit number)
+  limited_words_text limit number eight up =
+      let s = told_small number (small limit number eight up) in
+      elim (words_up_to limit number) [
+        | inl w ↦ subst IsNumberText (sym w.1) (TextExactly s)
+        | inr w ↦ subst IsNumberText (sym w) (TextAtLeast s)
+      ]
 
-  pub recoverable_line_tells_at_least : (bytes : List ℕ) (t : TypeTable) (limit N : ℕ)
-      (words line : List ℕ) → table_in bytes ≡ Ok t → IsRecoverablyClassified t limit line
-      → IsNumberText words → N < 2 ^ 64 → line ≡ line_with_both t.name words (at_least N)
-      → SolvesRecoverableConsensus t N
-  recoverable_line_tells_at_least bytes t limit N words line read is text l e =
-      let range = limit_range limit is.in_range in
-      let parts = words_of_both t.name (number_words limit is.number) (number_words limit is.recoverable)
-      words (at_least N) (number_no_comma limit is.number (small_number t limit is.number range.1 is.up_to))
-      (text_no_comma words text) (sym is.written ∙ e) in
-      let small = small_recoverable t limit is.recoverable range.1 is.recoverable_up_to in
-      let same = words_at_least limit is.recoverable N small l parts.1 in
-      let table = spelled bytes t (read_whole bytes t read) in
-      subst (SolvesRecoverableConsensus t) same
-      (tells_recoverable t limit is.recoverable table range.0 is.recoverable_up_to).solved
+  pub words_text : (limit : Option ℕ) (words : List ℕ) → given_limit_fault limit ≡ None
+      → AreWordsFor (IsNumberOf D states) UpTo limit words → IsNumberText words
+  words_text None words range (number, is, e) = subst IsNumberText (sym e) (exact_words_text number is)
+  words_text (Some limit) words range (number, up, e) =
+      subst IsNumberText (sym e) (limited_words_text limit number (limit_range limit range).1 up)

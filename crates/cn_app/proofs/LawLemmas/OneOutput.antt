@@ -9,7 +9,7 @@ use Rattle.cn_cert.specs.Certificate.{Certificate, certificate_of}
 use Rattle.cn_cert.specs.CertificateText.{certificate_text}
 use Rattle.cn_proto.specs.Plan.{Plan, IsPlan}
 use Rattle.cn_recover.specs.Recording.{IsRecoverableNumberUpTo}
-use Rattle.cn_app.specs.Commands.Classify.{IsClassified, IsRecoverablyClassified, class_line, recoverable_line}
+use Rattle.cn_app.specs.Commands.Classify.{IsClassified, IsRecoverablyClassified, line_with, line_with_both, number_words}
 use Rattle.cn_app.specs.Commands.Find.{IsFound, IsFoundCertificate}
 use Rattle.cn_app.specs.Texts.Plans.{IsPlanOf}
 
@@ -26,20 +26,26 @@ pub one_plan_of : ((p q : Plan) → IsPlan p → IsPlan q → p.table ≡ q.tabl
 one_plan_of one t c p q f g = one p q f.is_plan g.is_plan (f.table ∙ sym g.table) (same_choice p.choice q.choice (sym f.witness ∙ g.witness))
 
 pub one_classified : ((t : TypeTable) (limit : ℕ) (m n : Option ℕ) → IsNumberUpTo t limit m → IsNumberUpTo t limit n → m ≡ n)
-    → (t : TypeTable) (limit : ℕ) (x y : List ℕ) → IsClassified t limit x → IsClassified t limit y → x ≡ y
-one_classified one t limit x y f g = f.written ∙ ap (class_line t.name limit) (one t limit f.number g.number f.up_to g.up_to) ∙ sym g.written
+    → (t : TypeTable) (limit : ℕ) (x y : List ℕ) → IsClassified t (Some limit) x → IsClassified t (Some limit) y → x ≡ y
+one_classified one t limit x y f g =
+    f.written ∙ (ap (line_with t.name) (f.number.2 ∙ (ap (number_words limit) (one t limit f.number.0 g.number.0 f.number.1 g.number.1) ∙ sym g.number.2)) ∙ sym g.written)
 
 pub classified_as_found : ((t : TypeTable) (limit : ℕ) (number : Option ℕ) (f : Finding) → IsFindingFor t limit f → IsNumberUpTo t limit number → number ≡ f.number)
-    → (t : TypeTable) (limit : ℕ) (line : List ℕ) (f : Finding) → IsClassified t limit line → IsFindingFor t limit f → line ≡ class_line t.name limit f.number
-classified_as_found one t limit line f is found = is.written ∙ ap (class_line t.name limit) (one t limit is.number f found is.up_to)
+    → (t : TypeTable) (limit : ℕ) (line : List ℕ) (f : Finding) → IsClassified t (Some limit) line → IsFindingFor t limit f
+    → line ≡ line_with t.name (number_words limit f.number)
+classified_as_found one t limit line f is found =
+    is.written ∙ ap (line_with t.name) (is.number.2 ∙ ap (number_words limit) (one t limit is.number.0 f found is.number.1))
 
 pub one_recoverably_classified : ((t : TypeTable) (limit : ℕ) (m n : Option ℕ) → IsNumberUpTo t limit m → IsNumberUpTo t limit n → m ≡ n)
     → ((t : TypeTable) (limit : ℕ) (m n : Option ℕ) → IsRecoverableNumberUpTo t limit m → IsRecoverableNumberUpTo t limit n → m ≡ n)
-    → (t : TypeTable) (limit : ℕ) (x y : List ℕ) → IsRecoverablyClassified t limit x → IsRecoverablyClassified t limit y → x ≡ y
+    → (t : TypeTable) (limit : ℕ) (x y : List ℕ) → IsRecoverablyClassified t (Some limit) x → IsRecoverablyClassified t (Some limit) y → x ≡ y
 one_recoverably_classified one two t limit x y f g =
     f.written
-    ∙ (ap (λ (n : Option ℕ). recoverable_line t.name limit n f.recoverable) (one t limit f.number g.number f.up_to g.up_to)
-    ∙ (ap (recoverable_line t.name limit g.number) (two t limit f.recoverable g.recoverable f.recoverable_up_to g.recoverable_up_to) ∙ sym g.written))
+    ∙ (ap (λ (words : List ℕ). line_with_both t.name words f.recoverable_words)
+    (f.number.2 ∙ (ap (number_words limit) (one t limit f.number.0 g.number.0 f.number.1 g.number.1) ∙ sym g.number.2))
+    ∙ (ap (line_with_both t.name g.words)
+    (f.recoverable.2 ∙ (ap (number_words limit) (two t limit f.recoverable.0 g.recoverable.0 f.recoverable.1 g.recoverable.1) ∙ sym g.recoverable.2))
+    ∙ sym g.written))
 
 pub text_of_found : ((t : TypeTable) (limit : ℕ) (f g : Finding) → IsFindingFor t limit f → IsFindingFor t limit g → f ≡ g)
     → (t : TypeTable) (limit : ℕ) (text : List ℕ) (c : Certificate) → IsFound t limit text → IsFoundCertificate t limit c

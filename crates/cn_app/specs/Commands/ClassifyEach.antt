@@ -2,8 +2,7 @@
 use Rattle.std.specs.Prelude.{◌≡◌, ◌⊎◌, Bool, ℕ, List, [], ◌∷◌, ◌++◌, filter, map, true, false, Option, Some, None, IsSomeAnd, Result, Ok, Err, MatchResult, All, string_bytes}
 use Rattle.std.specs.Option.{option_map_or}
 use Rattle.std.specs.Str.{bytes_eq}
-use Rattle.cn_search.specs.Faults.{number_fault}
-use Rattle.cn_app.specs.Commands.Classify.{HasClassReport}
+use Rattle.cn_app.specs.Commands.Classify.{HasClassReport, given_limit_fault}
 use Rattle.cn_app.specs.FaultText.{is_of_every_table}
 use Rattle.cn_app.specs.Streams.Reading.{HasRead, IsUnread}
 use Rattle.cn_app.specs.Streams.Writing.{HandsOver, Reports}
@@ -47,7 +46,7 @@ pub record HasClassified {R W : Type 0} (remaining : R → Option (List ℕ)) (c
     (old new : NamedTable R) (result : Result Outcome AppFault) (u v : Output W) : Type 0 where
   pub name : new.name ≡ old.name
   pub read : HasRead Table remaining old.text new.text
-  pub order : (new.text ≡ old.text) ⊎ (number_fault asked.limit ≡ None)
+  pub order : (new.text ≡ old.text) ⊎ (given_limit_fault asked.limit ≡ None)
   pub classified : Reports contents (HasClassReport new.text asked) u v result
   pub line : MatchResult result (λ _. IsSomeAnd new.line (λ line. v.bytes.items ≡ u.bytes.items ++ string_bytes line)) (λ _. new.line ≡ None)
 

@@ -1,18 +1,50 @@
--- What `why` writes: a function of the table that it reads and of the limit.
-use Rattle.std.specs.Prelude.{ℕ, Bool, Option, Result}
+-- What `why` writes: a function of the table that it reads and of the limit, if one was given.
+use Rattle.std.specs.Prelude.{◌≡◌, ℕ, List, Bool, Option, Some, None, MatchOption, Result, Ok, Err, string_bytes}
 use Rattle.cn_table.specs.TypeTable.{TypeTable}
+use Rattle.cn_lasting.specs.Lasting.{NoneLast}
+use Rattle.cn_lasting.specs.Leaving.{IsLasting}
+use Rattle.cn_lasting.specs.declared.search.Lasting.{Lasting}
+use Rattle.cn_search.specs.Numbers.{HasNumber}
+use Rattle.cn_search.specs.declared.exact.ConsensusNumber.{ConsensusNumber}
+use Rattle.cn_cert.specs.Certificate.{Certificate}
+use Rattle.cn_forms.specs.Reasons.{HasReasons}
 use Rattle.cn_app.specs.Commands.Explain.{IsExplainReport}
-use Rattle.cn_app.specs.Commands.Find.{GivesFound, IsLimitFor}
+use Rattle.cn_app.specs.Commands.Find.{GivesFound, IsFoundCertificate, IsLimitFor}
 use Rattle.cn_app.specs.Steps.{Then}
 use Rattle.cn_app.specs.Texts.Contents.{GivesTable}
+use Rattle.cn_app.specs.declared.report.Outcome.TheVariants.{Whole}
 use Rattle.cn_app.specs.declared.report.Report.{Report}
 use Rattle.cn_app.specs.declared.streams.text.Text.{Text}
 use Rattle.cn_app.specs.declared.fault.AppFault.{AppFault}
+use Rattle.cn_app.specs.declared.fault.AppFault.TheVariants.{OutOfMemory}
 
 -- the result of `why` for a table and a limit: that of `explain` for the certificate that `find` finds
-abbrev pub IsWhyReport : TypeTable → ℕ → Bool → Result Report AppFault → Type 0
-IsWhyReport t limit all r = Then (GivesFound t limit) (λ c. IsExplainReport (record { table = t; certificate = c }) all) r
+abbrev pub IsLimitedReport : TypeTable → ℕ → Bool → Result Report AppFault → Type 0
+IsLimitedReport t limit all r = Then (GivesFound t limit) (λ c. IsExplainReport (record { table = t; certificate = c }) all) r
 
--- the result of `why` for a text, with a given limit or none
+-- the text tells the number of the table with no limit and the reasons for it: two operations that last, if any do, and the certificate up to
+-- the greatest limit
+pub record HasReasonsFor (t : TypeTable) (all : Bool) (text : List ℕ) : Type 0 where
+  pub number : ConsensusNumber
+  pub is_number : HasNumber t number
+  pub limit : ℕ
+  pub is_limit : IsLimitFor t None limit
+  pub certificate : Certificate
+  pub found : IsFoundCertificate t limit certificate
+  pub lasting : Option Lasting
+  pub is_lasting : MatchOption lasting (NoneLast t) (IsLasting t)
+  pub reasons : HasReasons t certificate number lasting all text
+
+-- the result of `why` for a table with no limit; the only fault is want of memory
+abbrev pub IsReasonsReport : TypeTable → Bool → Result Report AppFault → Type 0
+IsReasonsReport t all (Ok report) = HasReasonsFor t all (string_bytes report.text) × (report.outcome ≡ Whole)
+IsReasonsReport t all (Err e) = e ≡ OutOfMemory
+
+-- the result of `why` for a table, with a given limit or none
+abbrev pub IsWhyReport : TypeTable → Option ℕ → Bool → Result Report AppFault → Type 0
+IsWhyReport t (Some limit) all r = IsLimitedReport t limit all r
+IsWhyReport t None all r = IsReasonsReport t all r
+
+-- the result of `why` for a text
 abbrev pub HasWhyReport : {R : Type 0} → Text R → Option ℕ → Bool → Result Report AppFault → Type 0
-HasWhyReport text given all r = Then (GivesTable text) (λ t s. (limit : ℕ) × IsLimitFor t given limit × IsWhyReport t limit all s) r
+HasWhyReport text given all r = Then (GivesTable text) (λ t s. IsWhyReport t given all s) r

@@ -1,7 +1,6 @@
 //! The command `classify` over several tables.
 ghost use Rattle.std.specs.Prelude.{◌≡◌, ◌⊎◌, [], IfSome, None, option_map, string_bytes};
-ghost use Rattle.cn_search.specs.Faults.{number_fault};
-ghost use Rattle.cn_app.specs.Commands.Classify.{HasClassReport};
+ghost use Rattle.cn_app.specs.Commands.Classify.{HasClassReport, given_limit_fault};
 ghost use Rattle.cn_app.specs.Commands.ClassifyEach.{AreClassified, AreUnread, HasClassified, IsFirst, Notes, Writes, has_line, names_with};
 ghost use Rattle.cn_app.specs.Streams.Reading.{HasRead, IsUnread};
 ghost use Rattle.cn_app.specs.Streams.Writing.{IsWritable};
@@ -61,7 +60,7 @@ fn written_report<T: Threads + Sync, R: Read, W: Write>(
     requires output { IsWritable output.old }
 
     ensures read { HasRead Source.Table R.remaining text.old text.new }
-    ensures order { (text.new ≡ text.old) ⊎ (number_fault asked.limit ≡ None) }
+    ensures order { (text.new ≡ text.old) ⊎ (given_limit_fault asked.limit ≡ None) }
     ensures written { Writes W.contents (HasClassReport text.new asked) output.old output.new
         result }
 {

@@ -1,7 +1,6 @@
 //! The commands that read a type table.
 ghost use Rattle.std.specs.Prelude.{◌≡◌, ◌⊎◌, None};
-ghost use Rattle.cn_search.specs.Faults.{number_fault};
-ghost use Rattle.cn_app.specs.Commands.Classify.{HasClassReport};
+ghost use Rattle.cn_app.specs.Commands.Classify.{HasClassReport, given_limit_fault};
 ghost use Rattle.cn_app.specs.Commands.Draw.{HasDrawReport};
 ghost use Rattle.cn_app.specs.Commands.Find.{HasFindReport};
 ghost use Rattle.cn_app.specs.Commands.Lint.{HasLintReport};
@@ -47,8 +46,8 @@ pub fn find<T: Threads + Sync, R: Read, W: Write>(
     output.report(find_report(rt, alloc, &table, limit))
 }
 
-/// Reads a type table and writes an explanation for people of its consensus number up to the limit
-/// ([`why_report`]). Without a `limit` it takes [`limit_for`] the table.
+/// Reads a type table and writes an explanation for people of its consensus number, up to the limit
+/// if one was given ([`why_report`]).
 ///
 /// # Errors
 ///
@@ -69,7 +68,6 @@ pub fn why<T: Threads + Sync, R: Read, W: Write>(
         output.old output.new result }
 {
     let table = read_table(alloc, table)?;
-    let limit = limit_for(&table, limit);
     output.report(why_report(rt, alloc, table, limit, all))
 }
 
@@ -88,7 +86,7 @@ pub(crate) fn class_report_of<T: Threads + Sync, R: Read>(
     requires { IsUnread table.old }
 
     ensures read { HasRead Source.Table R.remaining table.old table.new }
-    ensures order { (table.new ≡ table.old) ⊎ (number_fault asked.limit ≡ None) }
+    ensures order { (table.new ≡ table.old) ⊎ (given_limit_fault asked.limit ≡ None) }
     ensures reported { HasClassReport table.new asked result }
 {
     check_limit(asked.limit)?;
@@ -113,7 +111,7 @@ pub fn classify<T: Threads + Sync, R: Read, W: Write>(
     requires output { IsWritable output.old }
 
     ensures read { HasRead Source.Table R.remaining table.old table.new }
-    ensures order { (table.new ≡ table.old) ⊎ (number_fault asked.limit ≡ None) }
+    ensures order { (table.new ≡ table.old) ⊎ (given_limit_fault asked.limit ≡ None) }
     ensures classified { Reports W.contents (HasClassReport table.new asked)
         output.old output.new result }
 {

@@ -1,11 +1,13 @@
 //! The report of `classify`.
-ghost use Rattle.std.specs.Prelude.{◌≡◌, IfOk, None, string_bytes};
-ghost use Rattle.cn_search.specs.Faults.{number_fault};
-ghost use Rattle.cn_app.specs.Commands.Classify.{class_line, GivesLimit, IsClassReport, IsNumbersReport, IsRecoverableReport, number_words, recoverable_line};
+ghost use Rattle.std.specs.Prelude.{◌≡◌, IfErr, IfOk, None, string_bytes};
+ghost use Rattle.cn_search.specs.NumberText.{number_text};
+ghost use Rattle.cn_search.specs.declared.fault.FindFault.TheVariants.{OutOfMemory};
+ghost use Rattle.cn_app.specs.Commands.Classify.{AreNumberWords, AreRecoverableWords, GivesLimit, IsClassReport, IsNumbersReport, IsRecoverableReport, given_limit_fault, line_with, line_with_both, number_words};
 
 use crate::fault::AppFault;
 use crate::report::Report;
-use cn_search::FindFault;
+use cn_recover::{recoverable_consensus_number, recoverable_number};
+use cn_search::{ConsensusNumber, FindFault, consensus_number, number};
 use cn_table::Table;
 use std::alloc::{AllocError, Global};
 use std::thread::Threads;
@@ -13,10 +15,17 @@ use std::thread::Threads;
 /// Which numbers are written of each type.
 #[derive(Clone, Copy)]
 pub struct AskedNumbers {
-    /// Up to which limit they are looked for.
-    pub limit: u8,
+    /// Up to which limit they are looked for, if one was given.
+    pub limit: Option<u8>,
     /// Whether the recoverable number stands behind the number.
     pub recoverable: bool,
+}
+
+/// A number with no limit, as it stands in a line.
+fn exact_words_of(alloc: Global, number: ConsensusNumber) -> Result<String, AllocError>
+    ensures { IfOk result (λ words. string_bytes words ≡ number_text number) }
+{
+    format!(in alloc; "{number}")
 }
 
 /// A number up to the limit, as it stands in a line.
@@ -30,33 +39,76 @@ fn words_of(alloc: Global, limit: u8, number: Option<u8>) -> Result<String, Allo
     }
 }
 
-/// The line of a type with its number up to the limit.
-fn line_of(alloc: Global, name: &str, limit: u8, number: Option<u8>) -> Result<String, AllocError>
-    ensures { IfOk result (λ line. string_bytes line ≡ class_line name.now limit number) }
+/// The number of the table, as it stands in a line.
+fn number_words<T: Threads + Sync>(
+    rt: &T,
+    alloc: Global,
+    table: &Table,
+    limit: Option<u8>,
+) -> Result<String, FindFault>
+    requires { given_limit_fault limit ≡ None }
+    ensures words { IfOk result (λ words. AreNumberWords table.now limit (string_bytes words)) }
+    ensures refused { IfErr result (λ e. e ≡ OutOfMemory) }
 {
-    let words = words_of(alloc, limit, number)?;
-    format!(in alloc; "{name}: {words}\n")
+    match limit {
+        None => Ok(exact_words_of(alloc, consensus_number(rt, alloc, table)?)?),
+        Some(limit) => Ok(words_of(alloc, limit, number(rt, alloc, table, limit)?)?),
+    }
 }
 
-/// Whether a limit is one up to which a number can be told: from 2 to 8.
+/// The recoverable number of the table, as it stands in a line.
+fn recoverable_words<T: Threads + Sync>(
+    rt: &T,
+    alloc: Global,
+    table: &Table,
+    limit: Option<u8>,
+) -> Result<String, FindFault>
+    requires { given_limit_fault limit ≡ None }
+    ensures words { IfOk result (λ words. AreRecoverableWords table.now limit (string_bytes words)) }
+    ensures refused { IfErr result (λ e. e ≡ OutOfMemory) }
+{
+    match limit {
+        None => {
+            let number = recoverable_consensus_number(rt, alloc, table)?;
+            Ok(exact_words_of(alloc, number)?)
+        }
+        Some(limit) => {
+            let number = recoverable_number(rt, alloc, table, limit)?;
+            Ok(words_of(alloc, limit, number)?)
+        }
+    }
+}
+
+/// The line of a type with its number.
+fn line_of(alloc: Global, name: &str, number: &str) -> Result<String, AllocError>
+    ensures { IfOk result (λ line. string_bytes line ≡ line_with name.now number.now) }
+{
+    format!(in alloc; "{name}: {number}\n")
+}
+
+/// Whether numbers can be told up to the limit, if one was given: from 2 to 8.
 ///
 /// # Errors
 ///
 /// The fault of the limit, where it has one.
-pub fn check_limit(limit: u8) -> Result<(), AppFault>
+pub fn check_limit(limit: Option<u8>) -> Result<(), AppFault>
     ensures { GivesLimit limit result }
 {
+    let Some(limit) = limit else {
+        return Ok(());
+    };
     match FindFault::of_limit(limit) {
         Some(fault) => Err(AppFault::from(fault)),
         None => Ok(()),
     }
 }
 
-/// A line with the table's consensus number up to the limit: the name of the type, a colon and a
-/// space, and the greatest n from 2 to the limit for which the type is n-discerning; `1` where there
-/// is none, and `at least` before it where it is the limit.
+/// A line with the table's consensus number: the name of the type, a colon and a space, and the
+/// number ([`consensus_number`]): a number, `infinite`, or `N to M`.
 ///
-/// What stands there without `at least` is the number for every greater limit too
+/// With a limit, the number is the greatest n from 2 to the limit for which the type is
+/// n-discerning; `1` where there is none, and `at least` before it where it is the limit. What stands
+/// there without `at least` is the number for every greater limit too
 /// ([`number_below_the_limit`](cn_search::laws::number_below_the_limit)). `rt` starts the threads of
 /// the search.
 ///
@@ -67,34 +119,31 @@ pub fn class_report<T: Threads + Sync>(
     rt: &T,
     alloc: Global,
     table: &Table,
-    limit: u8,
+    limit: Option<u8>,
 ) -> Result<Report, AppFault>
-    requires { number_fault limit ≡ None }
+    requires { given_limit_fault limit ≡ None }
     ensures { IsClassReport table.now limit result }
 {
-    let number = cn_search::number(rt, alloc, table, limit)?;
-    Ok(Report::whole(line_of(alloc, table.name(), limit, number)?))
+    let number = number_words(rt, alloc, table, limit)?;
+    Ok(Report::whole(line_of(alloc, table.name(), number.as_str())?))
 }
 
-/// The line of a type with its number and its recoverable number up to the limit.
+/// The line of a type with its number and its recoverable number.
 fn recoverable_line_of(
     alloc: Global,
     name: &str,
-    limit: u8,
-    number: Option<u8>,
-    recoverable: Option<u8>,
+    number: &str,
+    recoverable: &str,
 ) -> Result<String, AllocError>
     ensures { IfOk result (λ line. string_bytes line
-        ≡ recoverable_line name.now limit number recoverable) }
+        ≡ line_with_both name.now number.now recoverable.now) }
 {
-    let plain = words_of(alloc, limit, number)?;
-    let beside = words_of(alloc, limit, recoverable)?;
-    format!(in alloc; "{name}: {plain}, recoverable {beside}\n")
+    format!(in alloc; "{name}: {number}, recoverable {recoverable}\n")
 }
 
 /// The line of [`class_report`], with a comma, the word recoverable and the recoverable number
-/// behind the number: the greatest n from 2 to the limit for which the type is n-recording, written
-/// as the number is.
+/// behind the number, written as the number is: the greatest n for which the type is n-recording
+/// ([`recoverable_consensus_number`]).
 ///
 /// # Errors
 ///
@@ -103,14 +152,14 @@ pub fn recoverable_report<T: Threads + Sync>(
     rt: &T,
     alloc: Global,
     table: &Table,
-    limit: u8,
+    limit: Option<u8>,
 ) -> Result<Report, AppFault>
-    requires { number_fault limit ≡ None }
+    requires { given_limit_fault limit ≡ None }
     ensures { IsRecoverableReport table.now limit result }
 {
-    let number = cn_search::number(rt, alloc, table, limit)?;
-    let recoverable = cn_recover::recoverable_number(rt, alloc, table, limit)?;
-    let line = recoverable_line_of(alloc, table.name(), limit, number, recoverable)?;
+    let number = number_words(rt, alloc, table, limit)?;
+    let recoverable = recoverable_words(rt, alloc, table, limit)?;
+    let line = recoverable_line_of(alloc, table.name(), number.as_str(), recoverable.as_str())?;
     Ok(Report::whole(line))
 }
 
@@ -126,7 +175,7 @@ pub fn numbers_report<T: Threads + Sync>(
     table: &Table,
     asked: AskedNumbers,
 ) -> Result<Report, AppFault>
-    requires { number_fault asked.limit ≡ None }
+    requires { given_limit_fault asked.limit ≡ None }
     ensures { IsNumbersReport table.now asked result }
 {
     if asked.recoverable {

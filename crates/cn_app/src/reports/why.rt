@@ -1,18 +1,64 @@
 //! The report of `why`.
-ghost use Rattle.cn_app.specs.Commands.Why.{IsWhyReport};
+ghost use Rattle.cn_app.specs.Commands.Why.{IsLimitedReport, IsReasonsReport, IsWhyReport};
 
 use crate::fault::AppFault;
 use crate::readers::checked::Checked;
 use crate::report::Report;
 use crate::reports::explain::explain_report;
-use crate::reports::find::found_certificate;
+use crate::reports::find::{found_certificate, limit_for};
 use cn_check::laws::accepted_is_right;
+use cn_forms::reasons_of;
+use cn_lasting::find_lasting;
+use cn_search::consensus_number;
 use cn_table::Table;
 use std::alloc::Global;
 use std::thread::Threads;
 
-/// An explanation for people of the table's consensus number up to the limit: the text of
-/// [`explain_report`] for the certificate that [`find_report`](crate::reports::find_report) writes.
+/// An explanation of the number up to the limit: the text of [`explain_report`] for the certificate
+/// that [`find_report`](crate::reports::find_report) writes.
+fn limited_report<T: Threads + Sync>(
+    rt: &T,
+    alloc: Global,
+    table: Table,
+    limit: u8,
+    all: bool,
+) -> Result<Report, AppFault>
+    ensures { IsLimitedReport table limit all result }
+{
+    // The check accepts what is found.
+    accepted_is_right();
+    let certificate = found_certificate(rt, alloc, &table, limit)?;
+    let checked = Checked { table, certificate };
+    explain_report(alloc, &checked, all)
+}
+
+/// The reasons for the number with no limit ([`reasons_of`]), with the certificate up to the greatest
+/// limit that has one.
+fn reasons_report<T: Threads + Sync>(
+    rt: &T,
+    alloc: Global,
+    table: &Table,
+    all: bool,
+) -> Result<Report, AppFault>
+    ensures { IsReasonsReport table.now all result }
+{
+    // The check accepts what is found.
+    accepted_is_right();
+    let number = consensus_number(rt, alloc, table)?;
+    let limit = limit_for(table, None);
+    let certificate = found_certificate(rt, alloc, table, limit)?;
+    let lasting = find_lasting(table);
+    let text = reasons_of(alloc, table, &certificate, number, lasting, all)?;
+    Ok(Report::whole(text))
+}
+
+/// An explanation for people of the table's consensus number.
+///
+/// - Without a limit, it tells the number and the reasons for it ([`reasons_of`]). The evidence in it
+///   is the certificate up to the greatest limit that [`find_report`](crate::reports::find_report)
+///   accepts.
+/// - With a limit, it is the text of [`explain_report`] for the certificate that
+///   [`find_report`](crate::reports::find_report) writes.
 ///
 /// # Errors
 ///
@@ -21,14 +67,13 @@ pub fn why_report<T: Threads + Sync>(
     rt: &T,
     alloc: Global,
     table: Table,
-    limit: u8,
+    limit: Option<u8>,
     all: bool,
 ) -> Result<Report, AppFault>
     ensures { IsWhyReport table limit all result }
 {
-    // The check accepts what is found.
-    accepted_is_right();
-    let certificate = found_certificate(rt, alloc, &table, limit)?;
-    let checked = Checked { table, certificate };
-    explain_report(alloc, &checked, all)
+    match limit {
+        Some(limit) => limited_report(rt, alloc, table, limit, all),
+        None => reasons_report(rt, alloc, &table, all),
+    }
 }

@@ -63,7 +63,7 @@ fn is_told<T: Threads + Sync>(
         notes: 0,
     };
     let asked = AskedNumbers {
-        limit: 8,
+        limit: Some(8),
         recoverable: false,
     };
     let fault = classify_each(rt, alloc, &mut tables, &mut output, &mut kept, asked);

@@ -92,7 +92,7 @@ pub(crate) fn all_examples(alloc: Global) -> [Example; 11] {
         Example::new(Command::Find { limit: Some(3) }, found_test_and_set_at_3()),
         Example::new(
             Command::Classify {
-                limit: 8,
+                limit: Some(8),
                 recoverable: false,
                 tables,
             },
@@ -100,7 +100,7 @@ pub(crate) fn all_examples(alloc: Global) -> [Example; 11] {
         ),
         Example::new(
             Command::Classify {
-                limit: 8,
+                limit: Some(8),
                 recoverable: true,
                 tables: more_tables,
             },

@@ -7,7 +7,7 @@ use Rattle.cn_words.proofs.commands.classify.Goals as goal
 pub returns-in_default : goal.returns-in_default
 returns-in_default c = λ command is.
     let w = wants (codes "classify") (rows_in c.args.words.now) command is in
-    (rw c.in_default.is at c.limit.ensures) w.0.0 w.0.1
+    (rw c.in_default.is at c.optional_limit.ensures) w.0.0 w.0.1
 
 pub returns-in_default-2 : goal.returns-in_default-2
 returns-in_default-2 c = λ command is.
@@ -18,7 +18,7 @@ pub returns : goal.returns
 returns c = (
   refl,
   (
-    rw c.in-Some.is at c.limit.ensures,
+    rw c.in-Some.is at c.optional_limit.ensures,
     flag_read (found_of c.args.words.now) (codes "recoverable") c.get_flag.result c.get_flag.ensures.none c.get_flag.ensures.value c.get_flag.ensures.other,
     rw c.in-Some-2.is at c.in_ok-tables.ensures,
   ),

@@ -1,5 +1,5 @@
-use Rattle.std.proofs.Common.{rules, append_assoc, sym}
+use Rattle.std.proofs.Common.{rules, append_assoc}
 use Rattle.cn_app.proofs.reports.classify.recoverable_line_of.Goals as goal
 
 pub returns : goal.returns
-returns c = rw (sym c.in_ok-plain.ensures, sym c.in_ok-beside.ensures) (search (rules, append_assoc))
+returns c = search (rules, append_assoc)

@@ -1,6 +1,6 @@
 use Rattle.std.proofs.Common.{inr}
 use Rattle.cn_app.proofs.ReportLemmas.FoundCertificates.{found_is_accepted}
-use Rattle.cn_app.proofs.reports.why.why_report.Goals as goal
+use Rattle.cn_app.proofs.reports.why.limited_report.Goals as goal
 
 pub explain_report-requires : goal.explain_report-requires
 explain_report-requires g c =
