@@ -1,4 +1,4 @@
-"""`find` near 100,000 choices; for each limit, the types that tell from 2 to 7 times which team was first."""
+"""`find` near 100,000 choices; with no limit and for each limit, the types that tell from 2 to 8 times which team was first."""
 import math
 import pathlib
 import tempfile
@@ -41,8 +41,8 @@ def classified(files, words):
 
 
 def numbers():
-    """Types of each number from 2 to 7, all of them for each limit; their names have 32 bytes."""
-    names = {k: f"{'shots':_<31}{k}" for k in range(2, 8)}
+    """Types of each number from 2 to 8, all of them for each limit and with none; their names have 32 bytes."""
+    names = {k: f"{'shots':_<31}{k}" for k in range(2, 9)}
     files = {f"{k}.toml": shots(k, name=name) for k, name in names.items()}
     for limit in range(2, 9):
         wanted = "".join(f"{name}: {k if k < limit else f'at least {limit}'}\n" for k, name in names.items())

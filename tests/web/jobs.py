@@ -71,6 +71,7 @@ class Jobs:
         self.run(["lint"], table)
         self.run(["draw"], table)
         self.run(["classify", "--limit", "5", "-"], table)
+        self.run(["classify", "--recoverable", "-"], table)
         self.run(["classify", "--limit", "3", "T", "-", "T"], table, T=table)
         certificate = self.run(["find", "--limit", "4"], table)
         if not 0 < len(certificate) < MOST_CERTIFICATE:

@@ -27,7 +27,7 @@ response = ["done", "done", "done"]
 next = ["b", "b", "b"]
 """
 
-LONG = TYPES["late_sticky_14_8"]  # at the limit 8 the number takes a second natively, on one processor
+LONG = TYPES["near_16_8"]  # the number takes half a second natively, on one processor
 
 # Questions to the page, in its own language.
 
@@ -137,9 +137,9 @@ class Use:
             self.call("Input.dispatchKeyEvent", type=kind, key=key, code=key, windowsVirtualKeyCode=code, modifiers=int(alt))
 
 
-def native_number(table, limit=4):
+def native_number(table):
     """The number that the program itself prints."""
-    return called(["classify", "--limit", str(limit), "-"], table)[0].decode().partition(": ")[2].strip()
+    return called(["classify", "-"], table)[0].decode().partition(": ")[2].strip()
 
 
 def first_answer(use):
@@ -210,6 +210,22 @@ def examples(use):
         yield f"each arrow of {path}", use.count("#picture .label") == arrows, arrows
 
 
+def meanings(use):
+    """What the page says of a number, of no greatest number, and of a range."""
+    use.open()
+    for name, number, *told in (
+        ("idle", "1", "One process alone decides.", "No protocol lets 2 agree."),
+        ("three_shot", "3", "3 processes can agree", "No protocol lets 4 agree."),
+        ("sticky_bit", "infinite", "Any number of processes can agree"),
+        ("inc_dec_9", "9", "9 processes can agree", "No protocol lets 10 agree."),
+        ("memory_swap_own_8", "8 to 9", "8 processes can agree", "No protocol lets 10 agree.", "would take too long."),
+    ):
+        use.give(TYPES[name] if name in TYPES else (TOP / f"catalogue/{name}.toml").read_text())
+        said = use.text("meaning")
+        yield f"the number of {name}", use.text("number") == number, use.text("number")
+        yield f"what it says of {name}", all(it in said for it in told) and ("No protocol" in said) == (number != "infinite"), said
+
+
 def pictures(use):
     """Tables made at random, and the greatest one, up to 16 states and 8 operations."""
     use.open()
@@ -235,7 +251,7 @@ def grid(use):
     use.open()
     use.give(SLOT)
     yield "a slot", use.text("number") == "1", use.text("number")
-    for label, name, number in (("state after put_a in b", "b", "1"), ("state after put_b in a", "a", "at least 4")):
+    for label, name, number in (("state after put_a in b", "b", "1"), ("state after put_b in a", "a", "infinite")):
         field = f"[...document.querySelectorAll('#grid select')].find(it => it.getAttribute('aria-label') === {label!r})"
         use.value(f"(it => {{ it.focus(); it.value = {name!r}; it.dispatchEvent(new Event('change')); }})({field})")
         well = use.until("/processes|alone/.test(document.getElementById('meaning').textContent)") and use.has_number(number)
@@ -312,7 +328,9 @@ def steps(use, name, certificate, inputs, schedule):
 
 def links(use):
     use.open("#example=types/three_shot&limit=3&inputs=7,8,9&run=2,2,x2,0,0,0,0")
-    yield "a link shows an example", use.text("number") == "at least 3", use.text("number")
+    yield "a link shows an example", use.text("number") == "3", use.text("number")
+    limit = use.value("JSON.parse(Cnum.page.certificate).limit")
+    yield "and its certificate", limit == 3, limit
     told = use.texts(".decision")
     yield "and its run", told[0].startswith("4 steps, decides") and told[2] == "2 steps, undecided, stopped", told
     use.open()
@@ -366,7 +384,6 @@ def explanations(use):
 
 def searches(use):
     use.open()
-    use.value("document.getElementById('limit').value = '8'")
     use.begin(LONG)
     yield "a long search shows that it runs", use.until("!document.getElementById('running').hidden", 20), use.text("meaning")
     use.value("document.getElementById('break-off').click()")
@@ -440,4 +457,4 @@ def quiet(use):
     yield "no error is logged", logged == [], logged
 
 
-ALL = (first_answer, flaws, examples, pictures, grid, schedules, links, certificates, explanations, searches, without, for_all, quiet)
+ALL = (first_answer, flaws, examples, meanings, pictures, grid, schedules, links, certificates, explanations, searches, without, for_all, quiet)
