@@ -10,13 +10,14 @@ var Cnum = globalThis.Cnum || {};
     const BEFORE_TEAMS = 400;
     const FIRST_EXAMPLE = 'types/test_and_set';
     const FIRST_LIMIT = '4';
-    const HEAD = /: consensus number ((?:at least )?)(\d+)/;
-    const CLASS = /: ((?:at least )?)(\d+)\n$/;
+    const CLASS = /: (infinite|(\d+)(?: to (\d+))?)\n$/;
     const CERTIFICATE = 'certificate';
+    const NO_NUMBER = '–';
     // The meaning of a number.
     const ALONE = 'One process alone decides.';
     const TOGETHER =
         'processes can agree through objects of this type and registers, however fast each of them is and wherever the others stop.';
+    const TOO_LONG = 'To tell which of these the number is would take too long.';
 
     const at = id => document.getElementById(id);
     const examples = new Map(Cnum.examples.flatMap(group => group.types).map(it => [it.path, it]));
@@ -181,7 +182,7 @@ var Cnum = globalThis.Cnum || {};
         forget(why) {
             clearTimeout(this.early);
             this.certificate = '';
-            at('number').textContent = '–';
+            at('number').textContent = NO_NUMBER;
             at('meaning').textContent = why;
             at('why').replaceChildren();
             at('picture').replaceChildren();
@@ -200,21 +201,40 @@ var Cnum = globalThis.Cnum || {};
             await this.showNumber(linked);
         }
 
-        // Finds the number, and shows it, its explanation, and the protocol.
+        // Finds the number, and shows it, and then the evidence up to the limit.
         async showNumber(linked) {
+            at('meaning').textContent = 'Searching.';
+            const classify = await this.timed(this.ask(this.search, ['classify', '-']));
+            if (!classify) return;
+            if (classify.status !== 0) {
+                this.refuse(classify.stderr);
+                return;
+            }
+            this.tellNumber(CLASS.exec(classify.stdout));
+            await this.showEvidence(linked);
+        }
+
+        // Finds the certificate for the number up to the limit, and shows its explanation and the protocol.
+        async showEvidence(linked) {
             const find = await this.timed(this.ask(this.search, ['find', '--limit', at('limit').value]));
             if (!find) return;
             if (find.status !== 0) {
-                await this.classify(find.stderr);
+                this.refuse(find.stderr);
                 return;
             }
             this.certificate = find.stdout;
             at('download').disabled = false;
             const explain = await this.ask(this.search, ['explain', CERTIFICATE], this.files());
             if (!explain) return;
-            this.tellNumber(HEAD.exec(explain.stdout));
             Cnum.showExplanation(at('why'), explain.stdout, () => this.explainAll());
             await this.showProtocol(linked);
+        }
+
+        // Says why there is no evidence, and so no protocol.
+        refuse(why) {
+            this.draw(null);
+            at('why').replaceChildren(element('p', {}, why));
+            this.protocol.clear(why);
         }
 
         files() {
@@ -253,7 +273,6 @@ var Cnum = globalThis.Cnum || {};
         async timed(search) {
             const began = performance.now();
             const seconds = () => ((performance.now() - began) / 1000).toFixed(1);
-            at('meaning').textContent = 'Searching.';
             const tick = setInterval(() => {
                 at('running').hidden = false;
                 at('elapsed').textContent = `${seconds()} s`;
@@ -269,24 +288,14 @@ var Cnum = globalThis.Cnum || {};
 
         breakOff() {
             this.search.breakOff();
-            at('meaning').textContent = 'The search was broken off.';
+            if (at('number').textContent === NO_NUMBER) at('meaning').textContent = 'The search was broken off.';
+            else this.refuse('The search for a certificate was broken off.');
         }
 
-        // The number alone, if find refuses to look for evidence.
-        async classify(why) {
-            const answer = await this.timed(this.ask(this.search, ['classify', '--limit', at('limit').value, '-']));
-            if (!answer) return;
-            this.draw(null);
-            if (answer.status === 0) this.tellNumber(CLASS.exec(answer.stdout));
-            at('why').replaceChildren(element('p', {}, answer.status === 0 ? why : answer.stderr));
-            this.protocol.clear(why);
-        }
-
-        tellNumber([, atLeast, number]) {
-            const can = number === '1' ? ALONE : `${number} ${TOGETHER}`;
-            const more = atLeast ? 'More were not asked for.' : `No protocol lets ${Number(number) + 1} agree.`;
-            at('number').textContent = atLeast + number;
-            at('meaning').textContent = `${can} ${more}`;
+        // A number, that there is no greatest, or a range in which the number is.
+        tellNumber([, words, least, most]) {
+            at('number').textContent = words;
+            at('meaning').textContent = least ? meaningOf(Number(least), most && Number(most)) : `Any number of ${TOGETHER}`;
         }
 
         async explainAll() {
@@ -312,6 +321,12 @@ var Cnum = globalThis.Cnum || {};
             const version = await this.quick.run(['--version']);
             at('version').textContent = version.stdout.trim();
         }
+    }
+
+    // What a number says, or a range, of which the second number is the greatest.
+    function meaningOf(least, most) {
+        const can = least === 1 ? ALONE : `${least} ${TOGETHER}`;
+        return `${can} No protocol lets ${(most || least) + 1} agree.${most ? ` ${TOO_LONG}` : ''}`;
     }
 
     function exampleGroup(group) {
