@@ -1,7 +1,7 @@
 """Rules that give the number of a type, and its recoverable number, from its table alone, without a search.
 
 They share nothing with the program: they are here so that the numbers in `expected` stand on more than
-one leg. Each is said and proved in README.md, under "Rules that give a number".
+one leg. Each is said in README.md, under "Rules that give a number", with its reason or its law.
 """
 import math
 import tomllib
@@ -46,8 +46,13 @@ def tells(s, f, g):
 
 
 def one_against_many(a_type):
-    """True where one process can be told from any number of processes that all do a second operation."""
+    """True where one process can be told from any number of processes that all do a second operation, by responses and states."""
     return any(tells_from_many(*start) for start in a_type.starts())
+
+
+def operations_last(a_type):
+    """True where two operations last from some state: the state alone tells for good whether the single one was first."""
+    return any(state_tells_from_many(*start) for start in a_type.starts())
 
 
 def led_to(states, g):
@@ -98,15 +103,21 @@ def state_tells_from_many(s, f, g):
 
 def recoverable_number(a_type):
     """The recoverable number by the rules: 1, "infinite", or None where they do not say."""
-    if any(state_tells_from_many(*start) for start in a_type.starts()):
+    if operations_last(a_type):
         return "infinite"
     return None if any(state_tells(*start) for start in a_type.starts()) else 1
 
 
 def go_together(number, recoverable):
-    """True where a type can have these two numbers: the second is at most the first, and from 4 on at least the first less 2."""
+    """True where a type can have these two numbers: the second is at most the first, and from 4 on at least the first less 2; so
+    both are infinite or none is."""
     number, recoverable = (math.inf if it == "infinite" else it for it in (number, recoverable))
     return recoverable <= number and (number < 4 or recoverable >= number - 2)
+
+
+def is_within_states(a_type, number):
+    """True where a type with so many states can have this number: a finite number is at most 2, or at most the number of states."""
+    return number == "infinite" or number <= max(2, len(a_type.states))
 
 
 def faults(a_type, pair):
@@ -116,3 +127,7 @@ def faults(a_type, pair):
             yield f"the rules give {by_rule}, and not {told}"
     if not go_together(*pair):
         yield f"no type has number {pair[0]} and recoverable number {pair[1]}"
+    if not is_within_states(a_type, pair[0]):
+        yield f"no type with {len(a_type.states)} states has number {pair[0]}"
+    if one_against_many(a_type) != operations_last(a_type):
+        yield "responses tell one from many where the state does not"
