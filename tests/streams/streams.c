@@ -47,7 +47,7 @@ int open(const char *path, int flags, ...) {
     if (name && !strcmp(name, path)) {
         opens++;
         if (file >= 0) reader = file;
-    }
+    } else if (file >= 0 && file == reader) reader = -1; /* another file has the number of the reader, which is closed */
     return file;
 }
 

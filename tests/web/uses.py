@@ -27,7 +27,7 @@ response = ["done", "done", "done"]
 next = ["b", "b", "b"]
 """
 
-LONG = TYPES["near_16_8"]  # the number takes half a second natively, on one processor
+LONG = TYPES["climbed_16_8"]  # the number takes longest of all types that are known
 
 # Questions to the page, in its own language.
 
@@ -218,7 +218,8 @@ def meanings(use):
         ("three_shot", "3", "3 processes can agree", "No protocol lets 4 agree."),
         ("sticky_bit", "infinite", "Any number of processes can agree"),
         ("inc_dec_9", "9", "9 processes can agree", "No protocol lets 10 agree."),
-        ("memory_swap_own_8", "8 to 9", "8 processes can agree", "No protocol lets 10 agree.", "would take too long."),
+        ("memory_swap_own_8", "8", "8 processes can agree", "No protocol lets 9 agree."),
+        ("inc_dec_copies_16_8", "9 to 16", "9 processes can agree", "No protocol lets 17 agree.", "would take too long."),
     ):
         use.give(TYPES[name] if name in TYPES else (TOP / f"catalogue/{name}.toml").read_text())
         said = use.text("meaning")

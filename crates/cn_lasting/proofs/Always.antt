@@ -5,11 +5,11 @@ use Rattle.std.proofs.lemmas.Bool.{eqb-true, eq-eqb, ne_eqb}
 use Rattle.cn_outcomes.proofs.Packing.{below_or_last}
 use Rattle.cn_table.specs.TypeTable.{IsTypeTable, TypeTable}
 use Rattle.cn_choice.specs.Discerning.{IsDiscerning}
-use Rattle.cn_discern.specs.Splits.{AreJoined, Splits}
-use Rattle.cn_discern.specs.Words.{IsKnown, IsWithin, Shows, times}
-use Rattle.cn_discern.proofs.Steps.{shows_first}
-use Rattle.cn_discern.proofs.Times.{one_some, same_or, times_at}
-use Rattle.cn_discern.proofs.Witnesses.{to_splits, to_witness}
+use Rattle.cn_stocks.specs.Splits.{AreJoined, Splits}
+use Rattle.cn_stocks.specs.Words.{IsKnown, IsWithin, Shows, times}
+use Rattle.cn_stocks.proofs.Steps.{shows_first}
+use Rattle.cn_stocks.proofs.Times.{one_some, same_or, times_at}
+use Rattle.cn_stocks.proofs.Witnesses.{to_splits, to_witness}
 use Rattle.cn_lasting.specs.Lasting.{NoneLast, EndsAt, IsAlwaysDiscerning, Lasts, single_and}
 use Rattle.cn_lasting.proofs.Forms.{joined, not_joined}
 use Rattle.cn_lasting.proofs.Soon.{ends_soon}

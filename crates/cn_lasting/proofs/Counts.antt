@@ -2,8 +2,8 @@
 use Rattle.std.proofs.Common.{◌≡◌, ◌≢◌, ℕ, zero, suc, ◌+◌, ◌*◌, ◌<◌, ◌≤◌, ◌⊎◌, inl, inr, List, [], ◌∷◌, length, refl, sym, ap, ◌∙◌, arith, cond, nat_eq}
 use Rattle.std.specs.Prelude.{replicate}
 use Rattle.std.proofs.lemmas.Bool.{eq-eqb, ne_eqb}
-use Rattle.cn_discern.specs.Words.{IsKnown, IsWithin, times}
-use Rattle.cn_discern.proofs.Times.{one, one_at, one_else, one_of, same_or, times_at, times_cons, times_none}
+use Rattle.cn_stocks.specs.Words.{IsKnown, IsWithin, times}
+use Rattle.cn_stocks.proofs.Times.{one, one_at, one_else, one_of, same_or, times_at, times_cons, times_none}
 use Rattle.cn_lasting.specs.Lasting.{single_and}
 
 pub times_same : (o k : ℕ) → times o (replicate k o) ≡ k

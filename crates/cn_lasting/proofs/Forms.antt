@@ -4,9 +4,9 @@ use Rattle.std.specs.Prelude.{replicate}
 use Rattle.cn_table.specs.TypeTable.{TypeTable, transition}
 use Rattle.cn_table.specs.Run.{state_after}
 use Rattle.cn_outcomes.proofs.LastProcess.{state_last}
-use Rattle.cn_discern.specs.Splits.{AreJoined}
-use Rattle.cn_discern.specs.Words.{BeginsWith, EndsIn, IsWithin, Shows, times}
-use Rattle.cn_discern.proofs.Times.{one, one_at, one_else, one_of, same_or, times_at, times_between, times_cons, times_last, times_none}
+use Rattle.cn_stocks.specs.Splits.{AreJoined}
+use Rattle.cn_stocks.specs.Words.{BeginsWith, EndsIn, IsWithin, Shows, times}
+use Rattle.cn_stocks.proofs.Times.{one, one_at, one_else, one_of, same_or, times_at, times_between, times_cons, times_last, times_none}
 use Rattle.cn_lasting.specs.Lasting.{EndsAt, Meet, ManyFirst, SingleFirst, single_and}
 use Rattle.cn_lasting.proofs.Counts.{times_other, times_same, times_stock, within_more, zero_or_one}
 

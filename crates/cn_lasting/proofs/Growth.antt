@@ -5,9 +5,9 @@ use Rattle.cn_table.specs.TypeTable.{IsTypeTable, TypeTable, transition}
 use Rattle.cn_table.specs.Run.{state_after}
 use Rattle.cn_table.proofs.ReachLemmas.{next_below}
 use Rattle.cn_outcomes.proofs.LastProcess.{state_last}
-use Rattle.cn_discern.specs.Splits.{Splits}
-use Rattle.cn_discern.specs.Words.{IsKnown, Shows, times}
-use Rattle.cn_discern.proofs.Times.{one, one_at, one_else, same_or, times_at, times_cons, times_last, times_none}
+use Rattle.cn_stocks.specs.Splits.{Splits}
+use Rattle.cn_stocks.specs.Words.{IsKnown, Shows, times}
+use Rattle.cn_stocks.proofs.Times.{one, one_at, one_else, same_or, times_at, times_cons, times_last, times_none}
 use Rattle.cn_lasting.specs.Lasting.{NoneLast, ManyFirst, SingleFirst}
 use Rattle.cn_lasting.proofs.Counts.{less_or_not}
 use Rattle.cn_lasting.proofs.Forms.{state_join}

@@ -3,12 +3,12 @@ use Rattle.std.proofs.Common.{◌≡◌, ◌≢◌, ℕ, zero, suc, ◌+◌, ◌
 use Rattle.cn_table.specs.TypeTable.{IsTypeTable, TypeTable}
 use Rattle.cn_choice.specs.Discerning.{IsDiscerning, IsNumberUpTo}
 use Rattle.cn_choice.proofs.Monotone.{discerning_below}
-use Rattle.cn_discern.specs.Splits.{Splits}
-use Rattle.cn_discern.specs.Words.{times}
+use Rattle.cn_stocks.specs.Splits.{Splits}
+use Rattle.cn_stocks.specs.Words.{times}
 use Rattle.cn_lasting.specs.Lasting.{NoneLast, IsAlwaysDiscerning}
 use Rattle.cn_lasting.specs.Numbers.{IsNumber}
 use Rattle.cn_lasting.proofs.Always.{joined_more}
-use Rattle.cn_discern.proofs.Witnesses.{to_splits}
+use Rattle.cn_stocks.proofs.Witnesses.{to_splits}
 use Rattle.cn_lasting.proofs.Counts.{less_or_not}
 use Rattle.cn_lasting.proofs.Growth.{too_long}
 

@@ -2,7 +2,7 @@
 use Rattle.std.proofs.Common.{◌≡◌, ◌≢◌, ℕ, zero, suc, ◌<◌, ◌⊎◌, inl, inr, refl, sym, ◌∙◌, arith, cond, nat_eq}
 use Rattle.std.proofs.lemmas.Bool.{eq-eqb, ne_eqb}
 use Rattle.cn_outcomes.proofs.Packing.{below_or_last}
-use Rattle.cn_discern.proofs.Times.{same_or}
+use Rattle.cn_stocks.proofs.Times.{same_or}
 
 pub record Twins (f : ℕ → ℕ) (end : ℕ) : Type 0 where
   pub first : ℕ

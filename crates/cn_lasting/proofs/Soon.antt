@@ -4,7 +4,7 @@ use Rattle.std.specs.Prelude.{replicate}
 use Rattle.cn_table.specs.TypeTable.{IsTypeTable, TypeTable, transition}
 use Rattle.cn_table.specs.Run.{state_after}
 use Rattle.cn_table.proofs.ReachLemmas.{next_below}
-use Rattle.cn_discern.proofs.Times.{one_at, one_else, times_between, times_cons, times_last}
+use Rattle.cn_stocks.proofs.Times.{one_at, one_else, times_between, times_cons, times_last}
 use Rattle.cn_lasting.specs.Lasting.{EndsAt, Meet, ManyFirst}
 use Rattle.cn_lasting.proofs.Counts.{times_same}
 use Rattle.cn_lasting.proofs.Cuts.{AloneSoon, MixedSoon, alone_soon, mixed_soon, times_on}

@@ -4,7 +4,7 @@ use Rattle.std.specs.Prelude.{◌≡◌, ◌≢◌, ◌⊎◌, ℕ, ◌<◌, ◌
 use Rattle.cn_table.specs.TypeTable.{TypeTable}
 use Rattle.cn_table.specs.Run.{state_after}
 use Rattle.cn_choice.specs.Discerning.{IsDiscerning}
-use Rattle.cn_discern.specs.Splits.{AreJoined}
+use Rattle.cn_stocks.specs.Splits.{AreJoined}
 
 -- the type is n-discerning for each n: it has no greatest number
 abbrev pub IsAlwaysDiscerning : TypeTable → Type 0

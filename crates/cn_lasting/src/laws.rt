@@ -4,8 +4,8 @@
 ghost use Rattle.std.specs.Prelude.{◌≤◌, ◌<◌, ◌≡◌, ◌≢◌, ◌*◌, ◌-◌, ℕ, List, Option, Some, false, length, true};
 ghost use Rattle.cn_table.specs.TypeTable.{IsTypeTable, TypeTable};
 ghost use Rattle.cn_choice.specs.Discerning.{IsDiscerning, IsNumberUpTo};
-ghost use Rattle.cn_discern.specs.Splits.{Splits};
-ghost use Rattle.cn_discern.specs.Words.{times};
+ghost use Rattle.cn_stocks.specs.Splits.{Splits};
+ghost use Rattle.cn_stocks.specs.Words.{times};
 ghost use Rattle.cn_lasting.specs.Lasting.{IsAlwaysDiscerning, Lasts, NoneLast};
 ghost use Rattle.cn_lasting.specs.Numbers.{IsNumber};
 

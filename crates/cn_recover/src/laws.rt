@@ -9,6 +9,7 @@ ghost use Rattle.cn_choice.specs.Live.{live_choices};
 ghost use Rattle.cn_choice.specs.RawChoices.{RawChoice};
 ghost use Rattle.cn_choice.specs.Renumbering.{Embeds, with_other_teams};
 ghost use Rattle.cn_choice.specs.declared.team.Team.TheVariants.{A, B};
+ghost use Rattle.cn_stocks.specs.Records.{SomeRecords};
 ghost use Rattle.cn_recover.specs.Recording.{IsRecording, IsRecordingWitness, IsRecoverableNumberUpTo, Misses};
 
 use cn_choice::laws::{
@@ -79,6 +80,13 @@ pub fn live_choices_decide()
     live_list();
     witnesses_are_live();
 }
+
+/// For n of at least 2 a type is n-recording exactly where some stock of n of its operations records
+/// from some state. Two processes with one operation are in one team of each recording witness, so
+/// that teams are teams of operations, and an order of the processes is a word within the stock.
+pub fn records_decide()
+    ensures { (t : TypeTable) (n : ℕ) → 2 ≤ n → IsRecording t n ↔ SomeRecords t n }
+{}
 
 /// A witness without one process of each team is a recording witness.
 pub fn witness_less_one_of_each()

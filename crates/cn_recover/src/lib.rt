@@ -16,8 +16,8 @@
 #![tactic(auto)]
 
 pub mod laws;
-mod levels;
+mod number;
 mod witness;
 
-pub use levels::{recoverable_consensus_number, recoverable_number};
+pub use number::{recoverable_consensus_number, recoverable_number};
 pub use witness::is_recording_witness;

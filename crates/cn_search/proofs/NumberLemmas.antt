@@ -6,8 +6,8 @@ use Rattle.cn_table.specs.TypeTable.{TypeTable}
 use Rattle.cn_choice.specs.Blocks.{Block}
 use Rattle.cn_choice.specs.Canonical.{Choice, raw_choice_of}
 use Rattle.cn_choice.specs.Discerning.{IsDiscerning, IsWitness}
-use Rattle.cn_discern.specs.Greatest.{NoneFrom}
-use Rattle.cn_discern.specs.Splits.{SomeSplits}
+use Rattle.cn_stocks.specs.Greatest.{NoneFrom}
+use Rattle.cn_stocks.specs.Splits.{SomeSplits}
 use Rattle.cn_search.specs.Evidence.{IsFirstAmong, NoneIsWitness, choices_of_all}
 use Rattle.cn_search.specs.Numbers.{HasNumber}
 use Rattle.cn_search.specs.declared.exact.ConsensusNumber.TheVariants.{Finite, Between}
@@ -85,9 +85,9 @@ module _ (t : TypeTable) (decide : (n : ℕ) → 3 ≤ n → IsDiscerning t n �
         λ m l. none_above (n + 1) (omega (arith, three)) none m (omega (arith, l)),
       )
 
-  pub of_range : (n : ℕ) → 8 ≤ n → n < length t.states → SomeSplits t n → HasNumber t (Between n (length t.states))
-  of_range n eight less splits =
-      ((decide n (omega (arith, eight))).1 splits, λ m l. few m (omega (arith, eight, less, l)) l, eight, less, omega arith)
+  pub of_range : (n : ℕ) → 9 ≤ n → n < length t.states → SomeSplits t n → HasNumber t (Between n (length t.states))
+  of_range n nine less splits =
+      ((decide n (omega (arith, nine))).1 splits, λ m l. few m (omega (arith, nine, less, l)) l, nine, less, omega arith)
 
   pub of_two : NoneFrom t 3 most → IsDiscerning t 2 → HasNumber t (Finite 2)
   of_two none d = (omega arith, inl (omega arith), λ two. d, λ m l. none_above 3 (omega arith) none m (omega (arith, l)))

@@ -1,20 +1,19 @@
 //! The consensus number, with no limit.
 ghost use Rattle.std.specs.Prelude.{◌≤◌, ◌<◌, ◌≡◌, ◌⊎◌, ◌↔◌, length, IfOk, IsTrue};
 ghost use Rattle.cn_choice.specs.Discerning.{IsDiscerning};
-ghost use Rattle.cn_discern.specs.Greatest.{IsGreatestSplit};
-ghost use Rattle.cn_discern.specs.declared.limits.TheConstants.{MOST_SIZE};
+ghost use Rattle.cn_stocks.specs.Greatest.{IsGreatestSplit};
+ghost use Rattle.cn_stocks.specs.declared.limits.TheConstants.{MOST_SIZE};
 ghost use Rattle.cn_lasting.specs.Lasting.{NoneLast};
-ghost use Rattle.cn_search.specs.Numbers.{HasNumber, IsGreatestUpTo, IsNumberOf, NoneAbove, PassesDown};
+ghost use Rattle.cn_search.specs.Numbers.{HasNumber};
 ghost use Rattle.cn_search.specs.declared.limits.TheConstants.{GREATEST_LIMIT, LEAST_LIMIT};
 
 use crate::levels::{LEAST_WITHOUT_TEAMS, has_witness};
-use crate::limits::{GREATEST_LIMIT, LEAST_LIMIT};
-use crate::property::{Property, greatest_number};
-use crate::reserve::reserve;
-use cn_discern::laws::splits_decide;
-use cn_discern::{GreatestSplit, Threading, greatest_split};
+use crate::limits::LEAST_LIMIT;
+use crate::memory::reserve;
 use cn_lasting::find_lasting;
 use cn_lasting::laws::{finite_numbers_are_few, lasting_operations_decide};
+use cn_stocks::laws::splits_decide;
+use cn_stocks::{GreatestSplit, Threading, greatest_split};
 use cn_table::Table;
 use std::alloc::{AllocError, Global};
 use std::fmt;
@@ -44,65 +43,6 @@ impl fmt::Display for ConsensusNumber {
             ConsensusNumber::Between(least, most) => write!(f, "{least} to {most}"),
         }
     }
-}
-
-/// The limit up to which the number of a type with so many states is looked for.
-fn limit_of(states: u8) -> u8
-    ensures range { (LEAST_LIMIT ≤ result) × (result ≤ GREATEST_LIMIT) }
-    ensures all { (states ≤ result) ⊎ (result ≡ GREATEST_LIMIT) }
-    ensures few { (result ≡ LEAST_LIMIT) ⊎ (result ≤ states) }
-{
-    states.max(LEAST_LIMIT).min(GREATEST_LIMIT)
-}
-
-/// Whether a number up to the limit is the number with no limit, for a type with so many states.
-fn is_exact(states: u8, limit: u8, number: u8) -> bool
-    ensures { IsTrue result ↔ ((number < limit) ⊎ (states ≤ limit)) }
-{
-    number < limit || states <= limit
-}
-
-/// The number with no limit, from the one up to the limit of a type with so many states.
-fn without_limit<P: Property>(
-    property: &P,
-    states: u8,
-    limit: u8,
-    found: Option<u8>,
-) -> ConsensusNumber
-    requires down { PassesDown (P.holds property.now) }
-    requires few { NoneAbove (P.holds property.now) states }
-    requires range { (LEAST_LIMIT ≤ limit) × (limit ≤ GREATEST_LIMIT) }
-    requires all { (states ≤ limit) ⊎ (limit ≡ GREATEST_LIMIT) }
-    requires least { (limit ≡ LEAST_LIMIT) ⊎ (limit ≤ states) }
-    requires found { IsGreatestUpTo (P.holds property.now) limit found }
-    ensures { IsNumberOf (P.holds property.now) states result }
-{
-    match found {
-        None => ConsensusNumber::Finite(1),
-        Some(n) if is_exact(states, limit, n) => ConsensusNumber::Finite(n),
-        Some(n) => ConsensusNumber::Between(n, states),
-    }
-}
-
-/// The number with no limit of a property that passes down, and that no number above both 2 and so
-/// many states has: in several threads, or in one where these get too little memory.
-///
-/// # Errors
-///
-/// `AllocError` where memory is too little for one thread.
-pub fn finite_number<P: Property, T: Threads + Sync>(
-    rt: &T,
-    alloc: Global,
-    property: &P,
-    states: u8,
-) -> Result<ConsensusNumber, AllocError>
-    requires down { PassesDown (P.holds property.now) }
-    requires few { NoneAbove (P.holds property.now) states }
-    ensures { IfOk result (IsNumberOf (P.holds property.now) states) }
-{
-    let limit = limit_of(states);
-    let found = greatest_number(rt, alloc, property, limit)?;
-    Ok(without_limit(property, states, limit, found))
 }
 
 /// The most operations of a stock that is looked at, for a table with so many states.
@@ -172,8 +112,8 @@ fn finite_number_in_threads<T: Threads + Sync>(
 /// ([`lasting_operations_decide`](cn_lasting::laws::lasting_operations_decide)). A finite number is
 /// at most the number of states ([`finite_numbers_are_few`](cn_lasting::laws::finite_numbers_are_few)),
 /// and is looked for by stocks ([`greatest_split`]). It is told as `Between` two numbers only where
-/// the stocks become too many: from 8 on for a type with 8 operations, from 9 on for one with 7, and
-/// from 12 on for one with 6.
+/// the stocks become too many: from 9 on for a type with 8 operations, from 10 on for one with 7, and
+/// from 13 on for one with 6.
 ///
 /// The search goes on in several threads, or in one where these get too little memory.
 ///

@@ -11,12 +11,12 @@ use crate::FindFault;
 use crate::property::{Property, greatest_number};
 use crate::search::{blocks_for, first_witness};
 use cn_choice::{count, laws};
-use cn_discern::Threading;
+use cn_stocks::Threading;
 use cn_table::Table;
 use std::alloc::{AllocError, Global};
 use std::thread::Threads;
 
-/// The least number of processes for which [`cn_discern::is_discerning`] decides. With two processes
+/// The least number of processes for which [`cn_stocks::is_discerning`] decides. With two processes
 /// both teams may have one operation.
 pub(crate) const LEAST_WITHOUT_TEAMS: u8 = 3;
 
@@ -80,7 +80,7 @@ fn is_discerning<T: Threads + Sync>(
     if has_witness(rt, alloc, table, n, Some(EARLY_BLOCKS), threading)? {
         return Ok(true);
     }
-    cn_discern::is_discerning(rt, alloc, table, n, threading)
+    cn_stocks::is_discerning(rt, alloc, table, n, threading)
 }
 
 /// For how many processes the type is discerning.

@@ -5,13 +5,13 @@ ghost use Rattle.cn_choice.specs.declared.limits.TheConstants.{MOST_PROCESSES};
 ghost use Rattle.cn_search.specs.Numbers.{IsGreatestUpTo, PassesDown};
 ghost use Rattle.cn_search.specs.declared.limits.TheConstants.{GREATEST_LIMIT, LEAST_LIMIT};
 
-use crate::reserve::reserve;
-use cn_discern::Threading;
+use crate::memory::reserve;
+use cn_stocks::Threading;
 use std::alloc::{AllocError, Global};
 use std::thread::Threads;
 
 /// A property of numbers of processes.
-pub trait Property {
+pub(crate) trait Property {
     /// Holds of the numbers with the property.
     ghost holds: { Self → ℕ → Type 0 };
 
@@ -80,7 +80,7 @@ fn greatest_in_threads<P: Property, T: Threads + Sync>(
 /// # Errors
 ///
 /// `AllocError` where memory is too little for one thread.
-pub fn greatest_number<P: Property, T: Threads + Sync>(
+pub(crate) fn greatest_number<P: Property, T: Threads + Sync>(
     rt: &T,
     alloc: Global,
     property: &P,

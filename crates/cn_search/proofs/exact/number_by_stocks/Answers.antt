@@ -1,5 +1,5 @@
 use Rattle.std.proofs.Common.{◌<◌, length, inl, inr, arith, subst, sym, true≢false, ◌∙◌}
-use Rattle.cn_discern.specs.Greatest.{IsGreatestSplit}
+use Rattle.cn_stocks.specs.Greatest.{IsGreatestSplit}
 use Rattle.cn_search.proofs.NumberLemmas.{of_one, of_range, of_size, of_two}
 use Rattle.cn_search.proofs.exact.number_by_stocks.Goals as goal
 

@@ -6,7 +6,7 @@ use Rattle.rayon.proofs.ToStd.{slice-AllZip}
 use Rattle.cn_choice.specs.Blocks.{Block}
 use Rattle.cn_choice.specs.Collisions.{Collision}
 use Rattle.cn_search.specs.Evidence.{AreRecordedFor, IsRefutedBlock, choices_of_all}
-use Rattle.cn_discern.proofs.Decisions.{collected}
+use Rattle.cn_stocks.proofs.Decisions.{collected}
 use Rattle.cn_search.proofs.Batches.{all_by_part}
 use Rattle.cn_search.proofs.search.collisions_by_chunk.Goals as goal
 

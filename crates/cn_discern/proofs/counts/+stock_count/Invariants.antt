@@ -1,5 +1,0 @@
-use Rattle.std.proofs.Common.{◌+◌}
-use Rattle.cn_discern.proofs.counts.+stock_count.Given as goal
-
-abbrev pub decreases-stock_count : goal.decreases-stock_count
-decreases-stock_count l = l.operations + l.n

@@ -1,0 +1,164 @@
+//! The recoverable number, by stocks.
+ghost use Rattle.std.specs.Prelude.{◌≡◌, ◌<◌, ◌≤◌, ◌⊎◌, ℕ, length, Err, IfErr, IfOk, None, OnOk, Some};
+ghost use Rattle.cn_choice.specs.Discerning.{IsDiscerning};
+ghost use Rattle.cn_stocks.specs.declared.limits.TheConstants.{MOST_SIZE};
+ghost use Rattle.cn_search.specs.Faults.{number_fault};
+ghost use Rattle.cn_search.specs.declared.limits.TheConstants.{LEAST_LIMIT};
+ghost use Rattle.cn_search.specs.declared.fault.FindFault.{FindFault};
+ghost use Rattle.cn_search.specs.declared.fault.FindFault.TheVariants.{OutOfMemory};
+ghost use Rattle.cn_recover.specs.Recording.{HasRecoverableNumber, IsExact, IsRecoverableNumberUpTo};
+
+use crate::laws;
+use cn_search::{ConsensusNumber, FindFault, LEAST_LIMIT, Threading, consensus_number, reserve};
+use cn_stocks::greatest_record;
+use cn_table::Table;
+use std::alloc::{AllocError, Global};
+use std::thread::Threads;
+
+/// The greatest number of processes up to the most for which the type is recording, in these threads.
+fn greatest_in<T: Threads + Sync>(
+    rt: &T,
+    alloc: Global,
+    table: &Table,
+    most: u8,
+    threading: Threading,
+) -> Result<Option<u8>, AllocError>
+    requires some { 2 ≤ most }
+    requires few { most ≤ MOST_SIZE }
+    ensures { IfOk result (IsRecoverableNumberUpTo table.now most) }
+{
+    laws::records_decide();
+    greatest_record(rt, alloc, table, most, threading)
+}
+
+/// The same in several threads, where memory is left for one.
+fn greatest_in_threads<T: Threads + Sync>(
+    rt: &T,
+    alloc: Global,
+    table: &Table,
+    most: u8,
+) -> Result<Option<u8>, AllocError>
+    requires some { 2 ≤ most }
+    requires few { most ≤ MOST_SIZE }
+    ensures { IfOk result (IsRecoverableNumberUpTo table.now most) }
+{
+    let _reserve = reserve(alloc)?;
+    greatest_in(rt, alloc, table, most, Threading::Many)
+}
+
+/// The same in several threads, or in one where these get too little memory.
+fn greatest<T: Threads + Sync>(
+    rt: &T,
+    alloc: Global,
+    table: &Table,
+    most: u8,
+) -> Result<Option<u8>, AllocError>
+    requires some { 2 ≤ most }
+    requires few { most ≤ MOST_SIZE }
+    ensures { IfOk result (IsRecoverableNumberUpTo table.now most) }
+{
+    if let Ok(number) = greatest_in_threads(rt, alloc, table, most) {
+        return Ok(number);
+    }
+    greatest_in(rt, alloc, table, most, Threading::One)
+}
+
+/// The recoverable number of a type up to a limit, from [`LEAST_LIMIT`](cn_search::LEAST_LIMIT) to
+/// [`GREATEST_LIMIT`](cn_search::GREATEST_LIMIT): the greatest n from 2 to the limit for which the
+/// type is n-recording, if there is one.
+///
+/// It is at most the number of the type up to the limit
+/// ([`laws::at_most_the_number`](crate::laws::at_most_the_number)). The type may have any number of
+/// choices: the number is looked for by stocks of operations
+/// ([`laws::records_decide`](crate::laws::records_decide)), in several threads, or in one where these
+/// get too little memory.
+///
+/// # Errors
+///
+/// `BadLimit` where the limit is not one of these. `OutOfMemory` can stand in place of a number.
+pub fn recoverable_number<T: Threads + Sync>(
+    rt: &T,
+    alloc: Global,
+    table: &Table,
+    limit: u8,
+) -> Result<Option<u8>, FindFault>
+    ensures number { IfOk result (IsRecoverableNumberUpTo table.now limit) }
+    ensures searched { OnOk result (number_fault limit ≡ None) }
+    ensures told { (e : FindFault) → number_fault limit ≡ Some e → result ≡ Err e }
+    ensures refused { IfErr result (λ e. (e ≡ OutOfMemory) ⊎ (number_fault limit ≡ Some e)) }
+{
+    if let Some(fault) = FindFault::of_limit(limit) {
+        return Err(fault);
+    }
+    Ok(greatest(rt, alloc, table, limit)?)
+}
+
+/// The number with no limit, from the one up to the bound, or up to 2 where the bound is less.
+fn without_limit(table: &Table, bound: u8, found: Option<u8>) -> ConsensusNumber
+    requires few { (bound ≤ 2) ⊎ (bound ≤ length table.now.states) }
+    requires above { (m : ℕ) → bound < m → ¬ IsDiscerning table.now m }
+    requires found { (most : ℕ) × (bound ≤ most) × ((most ≡ 2) ⊎ (most ≡ bound))
+        × IsRecoverableNumberUpTo table.now most found }
+    ensures number { HasRecoverableNumber table.now result }
+    ensures exact { IsExact result }
+{
+    let (_table, _bound) = (table, bound);
+    match found {
+        Some(n) => ConsensusNumber::Finite(n),
+        None => ConsensusNumber::Finite(1),
+    }
+}
+
+/// The most processes that are looked at, where the type is n-discerning for no n above the bound.
+fn most_processes(table: &Table, bound: u8) -> u8
+    requires { (bound ≤ 2) ⊎ (bound ≤ length table.now.states) }
+    ensures range { (2 ≤ result) × (result ≤ MOST_SIZE) }
+    ensures all { bound ≤ result }
+    ensures least { (result ≡ 2) ⊎ (result ≡ bound) }
+{
+    let _states = table.states();
+    bound.max(LEAST_LIMIT)
+}
+
+/// The recoverable number with no limit of a type that is n-discerning for no n above the bound.
+fn number_below<T: Threads + Sync>(
+    rt: &T,
+    alloc: Global,
+    table: &Table,
+    bound: u8,
+) -> Result<ConsensusNumber, AllocError>
+    requires few { (bound ≤ 2) ⊎ (bound ≤ length table.now.states) }
+    requires above { (m : ℕ) → bound < m → ¬ IsDiscerning table.now m }
+    ensures number { IfOk result (HasRecoverableNumber table.now) }
+    ensures exact { IfOk result IsExact }
+{
+    let found = greatest(rt, alloc, table, most_processes(table, bound))?;
+    Ok(without_limit(table, bound, found))
+}
+
+/// The recoverable number of a type with no limit, by the n for which it is n-recording: `Infinite`
+/// where it is for every n, and else the greatest such n, or 1.
+///
+/// It is infinite exactly where the consensus number is
+/// ([`no_greatest_together`](crate::laws::no_greatest_together)), and at most the consensus number. It
+/// is never told as `Between` two numbers.
+///
+/// # Errors
+///
+/// `AllocError` where memory is too little for one thread.
+pub fn recoverable_consensus_number<T: Threads + Sync>(
+    rt: &T,
+    alloc: Global,
+    table: &Table,
+) -> Result<ConsensusNumber, AllocError>
+    ensures number { IfOk result (HasRecoverableNumber table.now) }
+    ensures exact { IfOk result IsExact }
+{
+    laws::no_greatest_together();
+    let number = consensus_number(rt, alloc, table)?;
+    match number {
+        ConsensusNumber::Infinite => Ok(ConsensusNumber::Infinite),
+        ConsensusNumber::Finite(n) => number_below(rt, alloc, table, n),
+        ConsensusNumber::Between(_, most) => number_below(rt, alloc, table, most),
+    }
+}

@@ -1,0 +1,16 @@
+pub mod Times
+pub mod WordOrders
+pub mod Teams
+pub mod Witnesses
+pub mod Steps
+pub mod StockLemmas
+pub mod SplitLemmas
+pub mod Growing
+pub mod Zips
+pub mod PairLemmas
+pub mod Fewer
+pub mod Decisions
+pub mod Counting
+pub mod MeetingLemmas
+pub mod RecordLemmas
+pub mod StartLemmas

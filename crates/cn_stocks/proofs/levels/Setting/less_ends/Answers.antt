@@ -1,0 +1,30 @@
+use Rattle.std.proofs.Common.{ℕ, List, arith, length, subst}
+use Rattle.cn_stocks.specs.declared.stocks.Stock.{Stock}
+use Rattle.cn_stocks.specs.declared.word_sets.Ends.{Ends}
+use Rattle.cn_stocks.specs.Reach.{AreEnds}
+use Rattle.cn_stocks.proofs.StockLemmas.{items_within, stock_at}
+use Rattle.cn_stocks.proofs.Zips.{zip_long, zip_read}
+use Rattle.cn_stocks.proofs.levels.Setting.less_ends.Goals as goal
+
+pub index-requires : goal.index-requires
+index-requires c =
+    let s = c.args.self.now in
+    let level = s.level.now in
+    let is = c.requires.setting.next in
+    let fit : Stock → Ends → Type 0 = λ stock ends. AreEnds s.table.now stock.operations.items (length s.table.now.states) ends.states in
+    let h = is.stock_is.links.some c.args.operation c.in-Some.place c.in-Some.is in
+    omega (arith, items_within level.stocks.list.items c.in-Some.place h.0 h.1, zip_long fit level.stocks.list.items level.ends.items is.level_is.ends, level.ends.ok.0)
+
+pub returns-in-Some : goal.returns-in-Some
+returns-in-Some c =
+    let s = c.args.self.now in
+    let level = s.level.now in
+    let is = c.requires.setting.next in
+    let fit : Stock → Ends → Type 0 = λ stock ends. AreEnds s.table.now stock.operations.items (length s.table.now.states) ends.states in
+    let h = is.stock_is.links.some c.args.operation c.in-Some.place c.in-Some.is in
+    let stock = stock_at level.stocks.list.items c.in-Some.place h.0 h.1 in
+    let ends = zip_read fit level.stocks.list.items level.ends.items is.level_is.ends c.in-Some.place stock.0 c.index.result.now stock.1 c.index.ensures in
+    (h.0, h.2, subst (λ (items : List ℕ). AreEnds s.table.now items (length s.table.now.states) c.index.result.now.states) stock.2 ends)
+
+pub returns-in-None : goal.returns-in-None
+returns-in-None c = c.requires.setting.next.stock_is.links.none c.args.operation c.in-None.is

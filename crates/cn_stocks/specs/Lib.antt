@@ -1,0 +1,11 @@
+pub mod Words
+pub mod Splits
+pub mod Records
+pub mod Questions
+pub mod Stocks
+pub mod Pairs
+pub mod Reach
+pub mod Levels
+pub mod Components
+pub mod Meetings
+pub mod Greatest

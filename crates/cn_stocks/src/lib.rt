@@ -1,0 +1,33 @@
+//! Whether a type is n-discerning, for n of at least 3, with no choice of teams.
+//!
+//! [`is_discerning`] looks for a start state and a list of n operations, the stock, that falls into
+//! two parts: nothing that a process can see comes both from orders that begin in the one and from
+//! orders that begin in the other. By [`laws::splits_decide`] the type is n-discerning exactly where
+//! there is such a stock. [`greatest_split`] answers the greatest number of operations of such a
+//! stock.
+//!
+//! ```text
+//! if is_discerning(rt, alloc, &table, 3, Threading::Many)? {
+//!     println!(rt; "three processes can agree")?;
+//! }
+//! ```
+#![tactic(auto)]
+
+mod counts;
+mod decision;
+pub mod laws;
+mod levels;
+pub mod limits;
+mod meetings;
+mod pair_sets;
+mod question;
+mod records;
+mod search;
+mod splits;
+mod starts;
+mod stocks;
+mod threading;
+mod word_sets;
+
+pub use decision::{GreatestSplit, greatest_record, greatest_split, is_discerning};
+pub use threading::Threading;

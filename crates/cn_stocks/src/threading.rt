@@ -1,0 +1,40 @@
+//! In which threads a search goes on.
+ghost use Rattle.std.specs.Prelude.{◌≡◌, ◌-◌, ◌^◌, ◌≤◌};
+ghost use Rattle.cn_stocks.specs.declared.threading.Threading.TheVariants.{Many, One};
+
+/// The fewest stocks that several threads share.
+const FEWEST_STOCKS: usize = 256;
+
+/// In which threads a search goes on. The answer does not depend on it.
+#[derive(Clone, Copy)]
+pub enum Threading {
+    /// In the caller's thread alone.
+    One,
+    /// In the caller's thread and in further ones, as far as the system starts them.
+    Many,
+}
+
+impl Threading {
+    /// The least number of items of a list for which one thread more is started.
+    pub fn least_piece(self) -> usize
+        ensures one { self ≡ One → result ≡ 2 ^ 64 - 1 }
+        ensures many { self ≡ Many → result ≡ 1 }
+    {
+        match self {
+            Threading::One => usize::MAX,
+            Threading::Many => 1,
+        }
+    }
+
+    /// In which threads a list of so many stocks is gone over. A short list is done sooner than a
+    /// thread starts.
+    pub(crate) fn for_stocks(self, count: usize) -> Threading
+        ensures one { self ≡ One → result ≡ One }
+        ensures many { FEWEST_STOCKS ≤ count → result ≡ self }
+    {
+        if count < FEWEST_STOCKS {
+            return Threading::One;
+        }
+        self
+    }
+}

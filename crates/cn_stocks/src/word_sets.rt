@@ -1,0 +1,241 @@
+//! What words within a stock lead to, from each state.
+ghost use Rattle.std.specs.Prelude.{◌≡◌, ◌<◌, ◌↔◌, ℕ, length, IfOk, IsBitSet, All};
+ghost use Rattle.cn_stocks.specs.declared.question.Question.TheVariants.{Splitting};
+ghost use Rattle.cn_stocks.specs.Levels.{AreAllEnds, AreAllShown, IsNext, IsSetting, IsSomeNext, IsSomeSetting};
+ghost use Rattle.cn_stocks.specs.Meetings.{AreLeft};
+ghost use Rattle.cn_stocks.specs.Pairs.{Has, set_at};
+ghost use Rattle.cn_stocks.specs.Reach.{AreEnds, ArePairs, AreShown, EndsWithin, ShowsAtOnce};
+
+use crate::levels::{Level, Setting};
+use crate::meetings::StateSets;
+use crate::pair_sets::PairSet;
+use crate::question::Question;
+use crate::stocks::Stock;
+use crate::threading::Threading;
+use cn_outcomes::bits::{union, with};
+use cn_table::{MOST_OPERATIONS, MOST_STATES, Operation, State, Table};
+use rayon::prelude::*;
+use std::alloc::{AllocError, Global};
+use std::thread::Threads;
+
+/// The states in which words within a stock end.
+#[derive(Clone, Copy)]
+pub(crate) struct Ends {
+    /// For each start state the set of these.
+    pub states: [u16; MOST_STATES],
+}
+
+/// The pairs that words within a stock show.
+#[derive(Clone, Copy)]
+pub(crate) struct Shown {
+    /// For each operation and each start state the pairs that these words show the operation.
+    pub pairs: [[PairSet; MOST_STATES]; MOST_OPERATIONS],
+}
+
+/// The states in which words within the stock end.
+fn ends_from(setting: &Setting<'_>, start: u8) -> u16
+    requires setting { IsSomeSetting setting.now }
+    requires start { start < length setting.now.table.now.states }
+    ensures { (q : ℕ) → IsBitSet result q ↔ EndsWithin setting.now.table.now start
+        setting.now.stock.now.operations.items q }
+{
+    let _states = setting.table.states();
+    let mut set = with(0, start);
+    for operation in 0..setting.table.operations() {
+        if let Some(ends) = setting.less_ends(operation) {
+            let (_, next) = setting.table.apply(Operation(operation), State(start));
+            set = union(set, ends.states[next.0 as usize]);
+        }
+    }
+    set
+}
+
+/// These states for each start state.
+fn stock_ends(setting: &Setting<'_>) -> Ends
+    requires { IsSomeSetting setting.now }
+    ensures { AreEnds setting.now.table.now setting.now.stock.now.operations.items
+        (length setting.now.table.now.states) result.states }
+{
+    let mut states = [0; MOST_STATES];
+    for start in 0..setting.table.states() {
+        states[start as usize] = ends_from(setting, start);
+    }
+    Ends { states }
+}
+
+/// For each operation of the stock the states that words within the stock leave which begin with it.
+pub(crate) fn left_states(setting: &Setting<'_>, start: u8) -> StateSets
+    requires setting { IsSomeSetting setting.now }
+    requires start { start < length setting.now.table.now.states }
+    ensures { AreLeft setting.now.table.now start setting.now.stock.now.operations.items result }
+{
+    let _states = setting.table.states();
+    let mut sets = [0; MOST_OPERATIONS];
+    for operation in 0..setting.table.operations() {
+        if let Some(ends) = setting.less_ends(operation) {
+            let (_, next) = setting.table.apply(Operation(operation), State(start));
+            sets[operation as usize] = ends.states[next.0 as usize];
+        }
+    }
+    sets
+}
+
+/// The pairs that words within the stock show the operation at their first place.
+pub(crate) fn shown_at_once(setting: &Setting<'_>, asked: u8, start: u8) -> PairSet
+    requires setting { IsSetting Splitting setting.now }
+    requires asked { asked < length setting.now.table.now.operations }
+    requires start { start < length setting.now.table.now.states }
+    ensures { (r q : ℕ) → Has result r q ↔ ShowsAtOnce setting.now.table.now start
+        setting.now.stock.now.operations.items asked r q }
+{
+    let (_responses, _states) = (setting.table.responses(), setting.table.states());
+    let mut set = PairSet::none();
+    if let Some(ends) = setting.less_ends(asked) {
+        let (response, next) = setting.table.apply(Operation(asked), State(start));
+        set.add_states(response.0, ends.states[next.0 as usize]);
+    }
+    set
+}
+
+/// The pairs that words within the stock show the operation.
+fn shown_from(setting: &Setting<'_>, asked: u8, start: u8) -> PairSet
+    requires setting { IsSetting Splitting setting.now }
+    requires asked { asked < length setting.now.table.now.operations }
+    requires start { start < length setting.now.table.now.states }
+    ensures { ArePairs setting.now.table.now start setting.now.stock.now.operations.items asked
+        result }
+{
+    let (_operations, _states) = (setting.table.operations(), setting.table.states());
+    let mut set = shown_at_once(setting, asked, start);
+    for operation in 0..setting.table.operations() {
+        if let Some(shown) = setting.less_shown(operation) {
+            let (_, next) = setting.table.apply(Operation(operation), State(start));
+            set.add_all(&shown.pairs[asked as usize][next.0 as usize]);
+        }
+    }
+    set
+}
+
+/// These pairs for each start state.
+fn shown_to(setting: &Setting<'_>, asked: u8) -> [PairSet; MOST_STATES]
+    requires setting { IsSetting Splitting setting.now }
+    requires asked { asked < length setting.now.table.now.operations }
+    ensures { (start : ℕ) → start < length setting.now.table.now.states
+        → ArePairs setting.now.table.now start setting.now.stock.now.operations.items asked
+        (set_at result start) }
+{
+    let mut sets = [PairSet::none(); MOST_STATES];
+    for start in 0..setting.table.states() {
+        sets[start as usize] = shown_from(setting, asked, start);
+    }
+    sets
+}
+
+/// The pairs that words within the stock show.
+fn stock_pairs(setting: &Setting<'_>) -> Shown
+    requires { IsSetting Splitting setting.now }
+    ensures { AreShown setting.now.table.now setting.now.stock.now.operations.items result.pairs }
+{
+    let mut pairs = [[PairSet::none(); MOST_STATES]; MOST_OPERATIONS];
+    for asked in 0..setting.table.operations() {
+        // An operation that the stock does not have is shown nothing.
+        if setting.stock.has(asked) {
+            pairs[asked as usize] = shown_to(setting, asked);
+        }
+    }
+    Shown { pairs }
+}
+
+/// The pairs that words within the stock show, on the heap.
+fn boxed_pairs(alloc: Global, setting: &Setting<'_>) -> Result<Box<Shown>, AllocError>
+    requires { IsSetting Splitting setting.now }
+    ensures { IfOk result (λ shown. AreShown setting.now.table.now
+        setting.now.stock.now.operations.items shown.value.pairs) }
+{
+    Ok(Box::new(alloc, stock_pairs(setting))?)
+}
+
+/// The states in which words within each of these stocks end. The threads share the stocks.
+pub(crate) fn all_ends<T: Threads + Sync>(
+    rt: &T,
+    alloc: Global,
+    table: &Table,
+    level: &Level,
+    stocks: &[Stock],
+    threading: Threading,
+) -> Result<Vec<Ends>, AllocError>
+    requires { All (IsSomeNext table.now level.now) stocks.now }
+    ensures { IfOk result (λ ends. AreAllEnds table.now stocks.now ends.items) }
+{
+    let threading = threading.for_stocks(stocks.len());
+    stocks
+        .par_iter()
+        .with_min_len(threading.least_piece())
+        .map(
+            |stock: &Stock| -> Ends
+                requires { IsSomeNext table.now level.now stock.now }
+                ensures { AreEnds table.entry.now stock.now.operations.items
+                    (length table.entry.now.states) result.states }
+            {
+                stock_ends(&Setting {
+                    table,
+                    level,
+                    stock,
+                })
+            },
+        )
+        .collect::<Vec<Ends>>(rt, alloc)
+}
+
+/// The pairs that words within each of these stocks show. The threads share the stocks.
+fn all_shown<T: Threads + Sync>(
+    rt: &T,
+    alloc: Global,
+    table: &Table,
+    level: &Level,
+    stocks: &[Stock],
+    threading: Threading,
+) -> Result<Vec<Box<Shown>>, AllocError>
+    requires { All (IsNext Splitting table.now level.now) stocks.now }
+    ensures { IfOk result (λ shown. AreAllShown table.now stocks.now shown.items) }
+{
+    let threading = threading.for_stocks(stocks.len());
+    stocks
+        .par_iter()
+        .with_min_len(threading.least_piece())
+        .map(
+            |stock: &Stock| -> Result<Box<Shown>, AllocError>
+                requires { IsNext Splitting table.now level.now stock.now }
+                ensures { IfOk result (λ shown. AreShown table.entry.now
+                    stock.now.operations.items shown.value.pairs) }
+            {
+                let setting = Setting {
+                    table,
+                    level,
+                    stock,
+                };
+                boxed_pairs(alloc, &setting)
+            },
+        )
+        .collect::<Result<Vec<Box<Shown>>, AllocError>>(rt, alloc)?
+}
+
+/// The same where it is asked whether stocks split, and else nothing.
+pub(crate) fn shown_for<T: Threads + Sync>(
+    rt: &T,
+    alloc: Global,
+    question: Question,
+    table: &Table,
+    level: &Level,
+    stocks: &[Stock],
+    threading: Threading,
+) -> Result<Vec<Box<Shown>>, AllocError>
+    requires { All (IsNext question table.now level.now) stocks.now }
+    ensures { IfOk result (λ shown. question ≡ Splitting
+        → AreAllShown table.now stocks.now shown.items) }
+{
+    match question {
+        Question::Splitting => all_shown(rt, alloc, table, level, stocks, threading),
+        Question::Recording => Ok(Vec::new(alloc)),
+    }
+}
