@@ -4,7 +4,7 @@ use Rattle.clap.specs.Lexer.{usize_max}
 use Rattle.clap.specs.Built.{AddsArg, AddsSubcommand}
 use Rattle.clap.specs.Simple.{App, Shape, app_of, new_rule, new_shape}
 use Rattle.clap.specs.Walk.{Rule, Text, is_empty, rule_of, texts}
-use Rattle.clap.specs.declared.builder.action.ArgAction.TheVariants.{Set, SetTrue}
+use Rattle.clap.specs.declared.builder.action.ArgAction.TheVariants.{Append, Set, SetTrue}
 use Rattle.clap.specs.declared.builder.arg.Arg.{Arg}
 use Rattle.clap.specs.declared.builder.command.Command.{Command}
 use Rattle.clap.specs.declared.builder.value_parser.ValueParser.{ValueParser}
@@ -16,11 +16,11 @@ use Rattle.clap.specs.declared.builder.value_parser.ValueParser.TheVariants.{Nam
 abbrev pub required_word : Text → Rule
 required_word id = record (new_rule id) { required = true }
 
--- words, at least one of which is required
+-- words, at least one of which is required; options may stand between them
 abbrev pub required_words : Text → Rule
 required_words id = record (required_word id) {
   range = Some (record { start_inclusive = 1; end_inclusive = usize_max });
-  action = Some Set;
+  action = Some Append;
 }
 
 -- an option with a value: --ID VALUE

@@ -90,7 +90,7 @@ agree, and no more.
 Writes for each type a line as soon as its number is known: its name, a colon, and the number; 1
 where it is n-discerning for no n from 2 on; infinite where it is for every n. A finite number is at
 most the number of states. A line says N to M where it would take too long to tell which of these
-the number is; N is then 8 or more.
+the number is; N is then 9 or more.
 
 With --limit N, from 2 to 8, no number above N is looked for: a line says at least N where the
 number is N or more.
@@ -345,13 +345,13 @@ fn limit<'a>(alloc: Global) -> Arg<'a>
     value_option(alloc, "limit", "N", help).value_parser(value_parser!(u8))
 }
 
-/// The files of `classify`.
+/// The files of `classify`. Options may stand between them.
 fn files<'a>(alloc: Global) -> Arg<'a>
     ensures { IsArgument (required_words (codes "FILE")) result }
 {
     required_word(alloc, "FILE", "The files that hold the type tables")
         .num_args(1..)
-        .action(ArgAction::Set)
+        .action(ArgAction::Append)
 }
 
 /// The file of the table, if standard input is not.

@@ -1,17 +1,24 @@
 -- The bytes of the readers of the program, if they are known.
-use Rattle.std.specs.Prelude.{◌≡◌, ℕ, List, Option}
-use Rattle.std.specs.Option.{option_map_or}
+use Rattle.std.specs.Prelude.{◌≡◌, ℕ, List, [], Option, Some}
 use Rattle.cn_words.specs.declared.commands.TextSource.{TextSource}
 use Rattle.cn_words.specs.declared.commands.TextSource.TheVariants as source
 use Rattle.cn_app.specs.Streams.Reading.{IsUnread}
 use Rattle.cn_app.specs.declared.streams.text.Text.{Text}
 use Rattle.cnum.specs.declared.lazy_file.LazyFile.{LazyFile}
+use Rattle.cnum.specs.declared.lazy_file.Progress.{Progress}
+use Rattle.cnum.specs.declared.lazy_file.Progress.TheVariants.{Ended, Open, Unopened}
 use Rattle.cnum.specs.declared.text_reader.TextReader.{TextReader}
 use Rattle.cnum.specs.declared.text_reader.TextReader.TheVariants.{File, Standard}
 
+-- what a file has left, by how far it was read and by all its bytes
+abbrev pub left_at : {F : Type 0} → (F → Option (List ℕ)) → Option (List ℕ) → Progress F → Option (List ℕ)
+left_at remaining whole Unopened = whole
+left_at remaining whole (Open file) = remaining file
+left_at remaining whole Ended = Some []
+
 -- what a file has left: before it is open, all bytes of the file of its name
 abbrev pub left_in : {D F : Type 0} → (D → List ℕ → Option (List ℕ)) → (F → Option (List ℕ)) → LazyFile D F → Option (List ℕ)
-left_in contents remaining file = option_map_or remaining file.file (contents file.disk.now file.path.now)
+left_in contents remaining file = left_at remaining (contents file.disk.now file.path.now) file.progress
 
 -- what the reader of a text has left, by what standard input and a file have left
 abbrev pub left_of : {S D F : Type 0} → (S → Option (List ℕ)) → (LazyFile D F → Option (List ℕ)) → TextReader S D F → Option (List ℕ)

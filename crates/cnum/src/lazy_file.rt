@@ -1,6 +1,7 @@
 //! Files that are opened late.
-ghost use Rattle.std.specs.Prelude.{◌≡◌, None};
+ghost use Rattle.std.specs.Prelude.{◌≡◌};
 ghost use Rattle.cnum.specs.Texts.{IsTextOf, left_in};
+ghost use Rattle.cnum.specs.declared.lazy_file.Progress.TheVariants.{Unopened};
 
 use crate::disk::Disk;
 use cn_app::Text;
@@ -8,16 +9,25 @@ use std::alloc::Global;
 use std::io;
 use std::io::Read;
 
+/// How far a file was read.
+#[derive(Drop)]
+pub enum Progress<F> {
+    Unopened,
+    Open(F),
+    /// It was read to its end, and is closed.
+    Ended,
+}
+
 /// A file that is opened at its first read: if an earlier text is refused, the file is not touched.
-/// A fault of the opening is a fault of that read.
+/// A fault of the opening is a fault of that read. It is closed once it was read to its end, so that
+/// a command can read any number of files.
 #[derive(Drop)]
 pub struct LazyFile<'a, D: Disk> {
     /// What opens it.
     pub disk: &'a D,
     /// The name of the file.
     pub path: &'a str,
-    /// The file, once it is open.
-    pub file: Option<D::Reader>,
+    pub progress: Progress<D::Reader>,
 }
 
 impl<'a, D: Disk> LazyFile<'a, D> {
@@ -25,12 +35,12 @@ impl<'a, D: Disk> LazyFile<'a, D> {
     pub fn new(disk: &'a D, path: &'a str) -> LazyFile<'a, D>
         ensures disk { result.disk ≡ disk.entry }
         ensures path { result.path ≡ path.entry }
-        ensures closed { result.file ≡ None }
+        ensures closed { result.progress ≡ Unopened }
     {
         LazyFile {
             disk,
             path,
-            file: None,
+            progress: Progress::Unopened,
         }
     }
 }
@@ -41,13 +51,17 @@ impl<'a, D: Disk> Read for LazyFile<'a, D> {
     ghost remaining = { left_in D.contents D.Reader.remaining };
 
     fn read(&mut self, buffer: &mut [u8]) -> io::Result<usize> {
-        if self.file.is_none() {
-            self.file = Some(self.disk.open(self.path)?);
+        if let Progress::Unopened = &self.progress {
+            self.progress = Progress::Open(self.disk.open(self.path)?);
         }
-        match &mut self.file {
-            Some(file) => file.read(buffer),
-            None => Ok(0),
+        let count = match &mut self.progress {
+            Progress::Open(file) => file.read(buffer)?,
+            Progress::Unopened | Progress::Ended => 0,
+        };
+        if count == 0 && !buffer.is_empty() {
+            self.progress = Progress::Ended;
         }
+        Ok(count)
     }
 }
 
