@@ -4,9 +4,11 @@ import itertools
 
 def onward(table, many, states):
     """The states to which an operation leads from these states, done any number of times."""
-    reached = set(states)
-    while not reached >= (more := {table.act(many, state)[1] for state in reached}):
-        reached |= more
+    reached = set()
+    for state in states:
+        while state not in reached:
+            reached.add(state)
+            state = table.act(many, state)[1]
     return reached
 
 
@@ -21,6 +23,11 @@ def left_states(table, start, many, single):
 def first_lasting(table):
     """The first start state, operation of many processes and single operation that last: no state is left both by an order that begins with
     the single one and by another. None if there are none."""
-    pairs = list(itertools.permutations(range(len(table.operations)), 2))
-    choices = ((start, *pair) for start in range(len(table.states)) for pair in pairs)
-    return next((it for it in choices if not set.intersection(*left_states(table, *it))), None)
+    states, operations = range(len(table.states)), range(len(table.operations))
+    reached = [[onward(table, many, [state]) for state in states] for many in operations]
+    for start, (many, single) in itertools.product(states, itertools.permutations(operations, 2)):
+        # most meet by the orders that lack the single operation, and by those that have it first; these are at hand
+        if reached[many][start].isdisjoint(reached[many][table.act(single, start)[1]]):
+            if not set.intersection(*left_states(table, start, many, single)):
+                return start, many, single
+    return None

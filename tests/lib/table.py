@@ -14,6 +14,21 @@ class Table:
             for it in table["operation"]
         ]
 
+    @classmethod
+    def of(cls, name, rows):
+        """The type with these rows; its states, responses and operations have names by their numbers."""
+        made = cls.__new__(cls)
+        made.name, made.rows = name, rows
+        made.states = [f"s{state}" for state in range(len(rows[0]))]
+        made.responses = [f"r{response}" for response in range(1 + max(response for row in rows for response, _ in row))]
+        made.operations = [f"o{operation}" for operation in range(len(rows))]
+        return made
+
+    def text(self):
+        """The text of the type."""
+        rows = [([self.responses[response] for response, _ in row], [self.states[after] for _, after in row]) for row in self.rows]
+        return table_text(self.name, self.states, self.responses, [(name, *row) for name, row in zip(self.operations, rows)])
+
     def act(self, operation, state):
         """The response and the next state."""
         return self.rows[operation][state]
