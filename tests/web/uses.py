@@ -27,7 +27,7 @@ response = ["done", "done", "done"]
 next = ["b", "b", "b"]
 """
 
-LONG = TYPES["climbed_16_8"]  # the number takes longest of all types that are known
+LONG = TYPES["climbed_16_8"]  # the number takes longest of the types of tests/types
 
 # Questions to the page, in its own language.
 
