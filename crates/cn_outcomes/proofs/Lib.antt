@@ -1,16 +1,7 @@
 pub mod BitSets
-pub mod DeadEndLemmas
 pub mod EarlyPairs
 pub mod Exchange
-pub mod FirstCollisions
-pub mod FirstOrders
-pub mod ImageLemmas
 pub mod LastAnswers
 pub mod LastProcess
-pub mod LeastSizes
-pub mod LengthRowLemmas
-pub mod ShortCollisions
 pub mod Packing
-pub mod Sizes
-pub mod TailLemmas
 pub mod Unions

@@ -10,13 +10,11 @@ use Rattle.cn_choice.specs.RawChoices.{RawChoice}
 use Rattle.cn_choice.specs.OutcomeSets.{InOutcomeSet}
 use Rattle.cn_outcomes.specs.Subsets.{FindsState, GivesPair, IsWithout}
 use Rattle.cn_choice.specs.Moves.{next_of}
-use Rattle.cn_outcomes.specs.Tails.{count_below}
 use Rattle.cn_outcomes.specs.Twins.{AreLinks, AreTwins, IsMover, IsPacked, IsRun}
-use Rattle.cn_outcomes.proofs.BitSets.{by_bit, cleared, cleared_is, filled, member_below, pow_set, union_set, without_less}
+use Rattle.cn_outcomes.proofs.BitSets.{by_bit, cleared, cleared_is, member_below, pow_set, union_set, without_less}
 use Rattle.cn_outcomes.proofs.Exchange.{IsExchanged, exchange_first, exchange_other, exchange_second, finds_before, finds_next, gives_exchanged, twin_results, which, without_exchanged}
 use Rattle.cn_outcomes.proofs.LastProcess.{LeavesLast, bit_from, set_from}
 use Rattle.cn_outcomes.proofs.LastAnswers.{gives_member}
-use Rattle.cn_outcomes.proofs.Sizes.{count_more}
 
 pub below_or_last : (i k : ℕ) → i < k + 1 → (i < k) ⊎ (i ≡ k)
 below_or_last zero zero l = inr refl
@@ -115,28 +113,19 @@ moved_less p subset rest s n w =
     ) in
     omega (arith, without_less (bit_or rest (2 ^ p)) p rest here back, without_less subset (p + 1) rest s w, pow_below p (p + 1) (omega arith))
 
-size_moved : (p subset rest : ℕ) → p + 1 < 8 → IsBitSet subset (p + 1) → ¬ IsBitSet subset p → IsWithout subset (p + 1) rest → count_below 8 (bit_or rest (2 ^ p)) ≡ count_below 8 subset
-size_moved p subset rest l s n w =
-    let one = count_more 8 p rest (omega (arith, l)) (λ a. n ((w p).0 a).0) in
-    let other = count_more 8 (p + 1) rest l (λ a. ((w (p + 1)).0 a).1 refl) in
-    one ∙ (sym other ∙ ap (count_below 8) (filled subset (p + 1) rest s w))
-
--- if a property holds of a subset, and passes on as a linked process moves down, it holds of a packed subset of the same size
+-- if a property holds of a subset, and passes on as a linked process moves down, it holds of a packed subset
 pub packed_down : (links n : ℕ) (P : ℕ → Type 0) → n ≤ 8 → ((p subset other : ℕ) → IsBitSet links (p + 1) → ¬ IsBitSet subset p → IsExchanged p (p + 1) subset other → P subset → P other)
-    → (fuel subset : ℕ) → subset < fuel → subset < 2 ^ n → P subset → (packed : ℕ) × (packed < 2 ^ n) × IsPacked links packed × P packed × (count_below 8 packed ≡ count_below 8 subset)
+    → (fuel subset : ℕ) → subset < fuel → subset < 2 ^ n → P subset → (packed : ℕ) × (packed < 2 ^ n) × IsPacked links packed × P packed
 packed_down links n P few moves zero subset l u g = absurd (omega (arith, l))
 packed_down links n P few moves (suc fuel) subset l u g = elim (packed_or_not links subset (omega (arith, u, pow_below n 16 (omega (arith, few))))) [
-  | inl p ↦ (subset, u, p, g, refl)
+  | inl p ↦ (subset, u, p, g)
   | inr h ↦ (
       let p = h.0 in
       let small : subset < 2 ^ 16 = omega (arith, u, pow_below n 16 (omega (arith, few))) in
       let rest = cleared subset (p + 1) in
       let v : IsWithout subset (p + 1) rest = cleared_is subset (p + 1) (member_below 16 subset (p + 1) small h.2) small in
       let less = moved_less p subset rest h.2 h.3 v in
-      let inside : p + 1 < 8 = omega (arith, few, member_below n subset (p + 1) u h.2) in
-      let found = packed_down links n P few moves fuel (bit_or rest (2 ^ p)) (omega (arith, less, l)) (omega (arith, less, u)) (moves p subset (bit_or rest (2 ^ p)) h.1 h.3 (moved_down p subset rest h.2 h.3 v) g) in
-      let size : count_below 8 found.0 ≡ count_below 8 subset = omega (arith, found.4, size_moved p subset rest inside h.2 h.3 v) in
-      (found.0, found.1, found.2, found.3, size)
+      packed_down links n P few moves fuel (bit_or rest (2 ^ p)) (omega (arith, less, l)) (omega (arith, less, u)) (moves p subset (bit_or rest (2 ^ p)) h.1 h.3 (moved_down p subset rest h.2 h.3 v) g)
       )
 ]
 
@@ -204,9 +193,9 @@ module _ (t : TypeTable) (c : RawChoice) (team : Team) (links : ℕ) (linked : A
         16 p (omega arith) s (n, h) in
         (g.0, g.1, g.2.1)
 
-    -- a packed subset of the same size gives what a subset gives
+    -- some packed subset gives what a subset gives
     pub packing : (fuel subset r q : ℕ) → subset < fuel → subset < 2 ^ length c.operations → length c.operations ≤ 8 → GivesPair t c team j subset r q
-        → (packed : ℕ) × (packed < 2 ^ length c.operations) × IsPacked links packed × GivesPair t c team j packed r q × (count_below 8 packed ≡ count_below 8 subset)
+        → (packed : ℕ) × (packed < 2 ^ length c.operations) × IsPacked links packed × GivesPair t c team j packed r q
     packing fuel subset r q l u few g =
         packed_down links (length c.operations) (λ s. GivesPair t c team j s r q) few
         (λ p s o link n x h. gives_exchanged t c p (linked.twins p link) team j s o r q (λ e. n (subst (IsBitSet s) e (gives_member t c team j s r q h))) (not_linked p link) x h)

@@ -1,15 +1,6 @@
-pub mod AskedStates
 pub mod EarlyPairs
-pub mod Examination
-pub mod Images
 pub mod LeftStates
-pub mod LengthRows
-pub mod ShortOrders
-pub mod OutcomeOrders
 pub mod PairSets
 pub mod RowSettings
-pub mod Subjects
 pub mod Subsets
-pub mod Tails
-pub mod Targets
 pub mod Twins

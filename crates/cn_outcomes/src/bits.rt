@@ -2,10 +2,6 @@
 //! 16.
 ghost use Rattle.std.specs.Prelude.{◌≡◌, ◌≢◌, ◌<◌, ◌↔◌, ◌⊎◌, ◌+◌, ◌^◌, ℕ, IsBitSet, IsTrue};
 ghost use Rattle.cn_outcomes.specs.Subsets.{IsWithout};
-ghost use Rattle.cn_outcomes.specs.Tails.{count_below};
-ghost use Rattle.cn_choice.specs.declared.limits.TheConstants.{MOST_PROCESSES};
-
-use cn_choice::MOST_PROCESSES;
 
 /// Whether the number is in the set.
 pub fn contains(set: u16, number: u8) -> bool
@@ -35,13 +31,6 @@ pub(crate) fn share(a: u16, b: u16) -> bool
     ensures { IsTrue result ↔ ((q : ℕ) × IsBitSet a q × IsBitSet b q) }
 {
     a & b != 0
-}
-
-/// The numbers that are in both sets.
-pub(crate) fn intersection(a: u16, b: u16) -> u16
-    ensures { (q : ℕ) → IsBitSet result q ↔ (IsBitSet a q × IsBitSet b q) }
-{
-    a & b
 }
 
 /// The numbers of the first set that are not in the second.
@@ -76,17 +65,4 @@ pub(crate) fn least(set: u16) -> u8
     ensures minimal { (i : ℕ) → i < result → ¬ IsBitSet set i }
 {
     set.trailing_zeros() as u8
-}
-
-/// The number of processes in the set.
-pub(crate) fn size(set: u16) -> u8
-    ensures { result ≡ count_below MOST_PROCESSES set }
-{
-    let mut size = 0;
-    for number in 0..MOST_PROCESSES as u8 {
-        if contains(set, number) {
-            size += 1;
-        }
-    }
-    size
 }

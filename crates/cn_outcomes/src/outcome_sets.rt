@@ -8,7 +8,7 @@ ghost use Rattle.cn_choice.specs.Canonical.{FitsTable, raw_choice_of};
 ghost use Rattle.cn_choice.specs.Discerning.{IsWitness};
 ghost use Rattle.cn_outcomes.specs.PairSets.{Has, HaveCommonPair};
 ghost use Rattle.cn_choice.specs.OutcomeSets.{InOutcomeSet};
-ghost use Rattle.cn_outcomes.specs.RowSettings.{HasPairRows, HasRows, IsRowSetting, subset_count};
+ghost use Rattle.cn_outcomes.specs.RowSettings.{HasRows, IsRowSetting, subset_count};
 ghost use Rattle.cn_choice.specs.declared.limits.TheConstants.{MOST_PROCESSES};
 
 use crate::bits::{contains, least, share, union, with, without};
@@ -193,9 +193,8 @@ pub(crate) fn outcomes_from(
     requires j { j < length setting.now.choice.now.operations }
     requires first { ¬ IsBitSet setting.now.links j }
     requires rows { HasRows setting.now (subset_count setting.now) rows.now }
-    ensures set { (r q : ℕ) → Has result r q
+    ensures { (r q : ℕ) → Has result r q
         ↔ InOutcomeSet setting.now.table.now setting.now.choice.now setting.now.team j (r, q) }
-    ensures pairs { HasPairRows setting.now j (subset_count setting.now) pairs.new }
 {
     OutcomeSet {
         row: outcome_row(setting, j, rows, pairs),

@@ -6,13 +6,12 @@ ghost use Rattle.cn_outcomes.specs.PairSets.{Has};
 ghost use Rattle.cn_choice.specs.OutcomeSets.{InOutcomeSet};
 ghost use Rattle.cn_outcomes.specs.RowSettings.{HasPairRows, HasRows, HasRowsBefore, IsRowSetting, subset_count};
 ghost use Rattle.cn_outcomes.specs.Subsets.{LeavesState, GivesPair, FindsState, Below, IsRow, OtherLast, OwnLast};
-ghost use Rattle.cn_outcomes.specs.Tails.{count_below};
 ghost use Rattle.cn_outcomes.specs.Twins.{IsMover, IsPacked};
 ghost use Rattle.cn_choice.specs.declared.limits.TheConstants.{MOST_PROCESSES};
 ghost use Rattle.cn_outcomes.specs.declared.limits.TheConstants.{SUBSETS};
 
-use crate::bits::{contains, least, size, union, with, without};
-use crate::limits::{SUBSETS, TOO_LONG};
+use crate::bits::{contains, least, union, with, without};
+use crate::limits::SUBSETS;
 use crate::row_setting::RowSetting;
 use crate::twins::{is_packed, last_twin, movers};
 use cn_choice::{RawChoice, Team};
@@ -281,7 +280,6 @@ pub(crate) fn outcome_row(
     ensures same { (r q : ℕ) → Has result r q
         ↔ InOutcomeSet setting.now.table.now setting.now.choice.now setting.now.team j (r, q) }
     ensures row { IsRow setting.now.table.now result }
-    ensures pairs { HasPairRows setting.now j (subset_count setting.now) pairs.new }
 {
     let choice = setting.choice;
     pairs[0] = [0; MOST_STATES];
@@ -299,33 +297,4 @@ pub(crate) fn outcome_row(
         all = row_union(setting.table, &all, &row);
     }
     all
-}
-
-/// The size of the least packed subset of n processes whose row has the pair, or `TOO_LONG` if no
-/// row has it.
-pub(crate) fn least_size(
-    links: u16,
-    n: u8,
-    pairs: &[[u16; MOST_STATES]; SUBSETS],
-    response: u8,
-    state: u8,
-) -> u8
-    requires few { n ≤ MOST_PROCESSES }
-    requires response { response < MOST_RESPONSES }
-    requires state { state < MOST_STATES }
-    ensures { (subset : ℕ) → subset < 2 ^ n → IsPacked links subset
-        → Has (slice_index_or pairs.now subset []) response state
-        → result ≤ count_below MOST_PROCESSES subset }
-{
-    let mut least = TOO_LONG;
-    for subset in 0..1u16 << n {
-        if !contains(pairs[subset as usize][state as usize], response) {
-            continue;
-        }
-        if !is_packed(links, subset) {
-            continue;
-        }
-        least = least.min(size(subset));
-    }
-    least
 }

@@ -14,13 +14,17 @@ use Rattle.cn_choice.specs.Collisions.{Collision}
 use Rattle.cn_choice.specs.Discerning.{IsWitness}
 use Rattle.cn_search.specs.Evidence.{IsListedBlock, IsRefutedBlock, AreRecordedFor, IsFirstAmong, IsFirstWitness, IsRecordedFor, NoneIsWitness, choices_of_all}
 use Rattle.cn_choice.specs.Live.{live_blocks, live_in}
+use Rattle.cn_collisions.specs.declared.sets.Sets.{Sets}
+use Rattle.cn_collisions.specs.Levels.{AreSetsFor}
+use Rattle.cn_search.specs.Kept.{KeepsFor}
+use Rattle.cn_search.specs.Refuted.{IsRefutedWith}
 
 module _ (t : TypeTable) where
   abbrev Fails : Choice → Type 0
   Fails c = ¬ IsWitness t (raw_choice_of c)
 
   -- behind choices none of which is a witness, and before others
-  behind : (xs ys : List Choice) (found : Option Choice) → NoneIsWitness t xs → IsFirstAmong t ys found → IsFirstAmong t (xs ++ ys) found
+  pub behind : (xs ys : List Choice) (found : Option Choice) → NoneIsWitness t xs → IsFirstAmong t ys found → IsFirstAmong t (xs ++ ys) found
   behind xs ys None none h = All-append Fails xs ys none h
   behind xs ys (Some w) none h = record {
     before = xs ++ h.before;
@@ -30,7 +34,7 @@ module _ (t : TypeTable) where
     earlier = All-append Fails xs h.before none h.earlier;
   }
 
-  ahead : (xs ys : List Choice) (w : Choice) → IsFirstWitness t xs w → IsFirstWitness t (xs ++ ys) w
+  pub ahead : (xs ys : List Choice) (w : Choice) → IsFirstWitness t xs w → IsFirstWitness t (xs ++ ys) w
   ahead xs ys w h = record { before = h.before; after = h.after ++ ys; listed = ap (λ l. l ++ ys) h.listed ∙ append_assoc h.before (w ∷ h.after) ys; witness = h.witness; earlier = h.earlier }
 
   -- some blocks have no witness, and this is the first witness of those behind them, if they have one
@@ -99,44 +103,58 @@ module _ (t : TypeTable) where
       go [] s h = search_done blocks s
       go (k ∷ after) s h = absurd h
 
-  -- the collisions of one item more
-  pub recorded_more : {X : Type 0} (choices : X → List Choice) (before : List X) (x : X) (collisions part : List Collision) → AreRecordedFor t (flat_map choices before) collisions → AreRecordedFor t (choices x) part
-      → AreRecordedFor t (flat_map choices (before ++ x ∷ [])) (collisions ++ part)
-  recorded_more choices before x collisions part done here =
-      subst (λ l. AreRecordedFor t l (collisions ++ part)) (sym (flat_map-append choices before (x ∷ []) ∙ ap (λ l. flat_map choices before ++ l) (append-nil (choices x))))
-      (AllZip-append (IsRecordedFor t) (flat_map choices before) (choices x) collisions part done here)
+  -- the choices of one block more
+  pub choices_more : (before : List Block) (k : Block) → choices_of_all t before ++ live_in t k ≡ choices_of_all t (before ++ k ∷ [])
+  choices_more before k = sym (flat_map-append (live_in t) before (k ∷ []) ∙ ap (λ l. choices_of_all t before ++ l) (append-nil (live_in t k)))
 
-  -- the collisions so far are those of some items, and these are the collisions of those behind them
-  pub record IsGathering {X P : Type 0} (choices : X → List Choice) (items : P → List Collision) (all : List X) (collisions : List Collision) (left : List P) : Type 0 where
-    pub before : List X
-    pub after : List X
-    pub whole : all ≡ before ++ after
-    pub done : AreRecordedFor t (flat_map choices before) collisions
-    pub parts : AllZip (λ x part. AreRecordedFor t (choices x) (items part)) after left
+  module _ {E : Type 0} (keeps : E → List Collision → Type 0) where
+    -- a form that keeps no collision
+    pub keeps_none : (form : E) → keeps form [] → KeepsFor keeps t [] form
+    keeps_none form k = record { kept = []; keeps_these = k; recorded = tt }
 
-  module _ {X P : Type 0} (choices : X → List Choice) (items : P → List Collision) (all : List X) where
-    pub gather_start : (left : List P) → AllZip (λ x part. AreRecordedFor t (choices x) (items part)) all left → IsGathering choices items all [] left
-    gather_start left h = record { before = []; after = all; whole = refl; done = tt; parts = h }
+    -- the form keeps the collisions of some items, and these forms keep the collisions of those behind them
+    pub record IsGathering {X : Type 0} (choices : X → List Choice) (all : List X) (form : E) (left : List E) : Type 0 where
+      pub before : List X
+      pub after : List X
+      pub whole : all ≡ before ++ after
+      pub done : KeepsFor keeps t (flat_map choices before) form
+      pub parts : AllZip (λ x part. KeepsFor keeps t (choices x) part) after left
 
-    pub gather_on : (collisions : List Collision) (left rest : List P) (part : P) → IsGathering choices items all collisions left → left ≡ part ∷ rest → IsGathering choices items all (collisions ++ items part) rest
-    gather_on collisions left rest part g e = go g.after g.whole (subst (λ l. AllZip (λ x p. AreRecordedFor t (choices x) (items p)) g.after l) e g.parts)
-      where
-        go : (after : List X) → all ≡ g.before ++ after → AllZip (λ x p. AreRecordedFor t (choices x) (items p)) after (part ∷ rest) → IsGathering choices items all (collisions ++ items part) rest
-        go [] whole h = absurd h
-        go (x ∷ after) whole h = record {
-          before = g.before ++ x ∷ [];
-          after = after;
-          whole = whole ∙ sym (append_assoc g.before (x ∷ []) after);
-          done = recorded_more choices g.before x collisions (items part) g.done h.0;
-          parts = h.1;
-        }
+    module _ {X : Type 0} (choices : X → List Choice) (all : List X) where
+      pub gather_start : (form : E) (left : List E) → keeps form [] → AllZip (λ x part. KeepsFor keeps t (choices x) part) all left → IsGathering choices all form left
+      gather_start form left k h = record { before = []; after = all; whole = refl; done = keeps_none form k; parts = h }
 
-    pub gather_done : (collisions : List Collision) (left : List P) → IsGathering choices items all collisions left → left ≡ [] → AreRecordedFor t (flat_map choices all) collisions
-    gather_done collisions left g e = go g.after g.whole (subst (λ l. AllZip (λ x p. AreRecordedFor t (choices x) (items p)) g.after l) e g.parts)
-      where
-        go : (after : List X) → all ≡ g.before ++ after → AllZip (λ x p. AreRecordedFor t (choices x) (items p)) after [] → AreRecordedFor t (flat_map choices all) collisions
-        go [] whole h = subst (λ l. AreRecordedFor t (flat_map choices l) collisions) (sym (whole ∙ append-nil g.before)) g.done
-        go (x ∷ after) whole h = absurd h
+      -- the collisions of one item more
+      more : (before : List X) (x : X) (form part next : E) → ((kept more : List Collision) → keeps form kept → keeps part more → keeps next (kept ++ more))
+          → KeepsFor keeps t (flat_map choices before) form → KeepsFor keeps t (choices x) part → KeepsFor keeps t (flat_map choices (before ++ x ∷ [])) next
+      more before x form part next joins done here = record {
+        kept = done.kept ++ here.kept;
+        keeps_these = joins done.kept here.kept done.keeps_these here.keeps_these;
+        recorded =
+            subst (λ l. AreRecordedFor t l (done.kept ++ here.kept)) (sym (flat_map-append choices before (x ∷ []) ∙ ap (λ l. flat_map choices before ++ l) (append-nil (choices x))))
+            (AllZip-append (IsRecordedFor t) (flat_map choices before) (choices x) done.kept here.kept done.recorded here.recorded);
+      }
+
+      pub gather_on : (form next : E) (left rest : List E) (part : E) → ((kept more : List Collision) → keeps form kept → keeps part more → keeps next (kept ++ more))
+          → IsGathering choices all form left → left ≡ part ∷ rest → IsGathering choices all next rest
+      gather_on form next left rest part joins g e = go g.after g.whole (subst (λ l. AllZip (λ x p. KeepsFor keeps t (choices x) p) g.after l) e g.parts)
+        where
+          go : (after : List X) → all ≡ g.before ++ after → AllZip (λ x p. KeepsFor keeps t (choices x) p) after (part ∷ rest) → IsGathering choices all next rest
+          go [] whole h = absurd h
+          go (x ∷ after) whole h = record {
+            before = g.before ++ x ∷ [];
+            after = after;
+            whole = whole ∙ sym (append_assoc g.before (x ∷ []) after);
+            done = more g.before x form part next joins g.done h.0;
+            parts = h.1;
+          }
+
+      pub gather_done : (form : E) (left : List E) → IsGathering choices all form left → left ≡ [] → KeepsFor keeps t (flat_map choices all) form
+      gather_done form left g e = go g.after g.whole (subst (λ l. AllZip (λ x p. KeepsFor keeps t (choices x) p) g.after l) e g.parts)
+        where
+          go : (after : List X) → all ≡ g.before ++ after → AllZip (λ x p. KeepsFor keeps t (choices x) p) after [] → KeepsFor keeps t (flat_map choices all) form
+          go [] whole h = subst (λ l. KeepsFor keeps t (flat_map choices l) form) (sym (whole ∙ append-nil g.before)) g.done
+          go (x ∷ after) whole h = absurd h
 
   -- the choices of parts of a list of blocks, one part after the other, are those of the list
   pub choices_by_part : (size : ℕ) (blocks : List Block) → 0 < size → flat_map (choices_of_all t) (chunks_of size blocks) ≡ choices_of_all t blocks
@@ -151,7 +169,7 @@ pub nil_from_length : {X : Type 0} (xs : List X) → length xs ≡ 0 → xs ≡ 
 nil_from_length [] e = refl
 nil_from_length (x ∷ xs) e = absurd (omega arith)
 
-parts_of : {X : Type 0} (P : X → Type 0) (xs ys : List X) → AllByRecursion P (xs ++ ys) → AllByRecursion P xs × AllByRecursion P ys
+pub parts_of : {X : Type 0} (P : X → Type 0) (xs ys : List X) → AllByRecursion P (xs ++ ys) → AllByRecursion P xs × AllByRecursion P ys
 parts_of P [] ys h = (tt, h)
 parts_of P (x ∷ xs) ys h = let r = parts_of P xs ys h.1 in ((h.0, r.0), r.1)
 
@@ -173,7 +191,7 @@ all_listed t n some few law blocks e = λ i d less.
     let same : k.n ≡ n = (law k few listed).1 in
     record { some = omega (arith, same); few = omega (arith, same); listed = subst (λ m. Contains (live_blocks t m) k) (sym same) listed })
 
-pub all_refuted : (t : TypeTable) (blocks : List Block) → All (IsListedBlock t) blocks → NoneIsWitness t (choices_of_all t blocks) → All (IsRefutedBlock t) blocks
+all_refuted : (t : TypeTable) (blocks : List Block) → All (IsListedBlock t) blocks → NoneIsWitness t (choices_of_all t blocks) → All (IsRefutedBlock t) blocks
 all_refuted t blocks listed none = All-from_recursion (IsRefutedBlock t) blocks (go blocks (recursion_from_All (IsListedBlock t) blocks listed) (recursion_from_All (Fails t) (choices_of_all t blocks) none))
   where
     go : (blocks : List Block) → AllByRecursion (IsListedBlock t) blocks → AllByRecursion (Fails t) (choices_of_all t blocks) → AllByRecursion (IsRefutedBlock t) blocks
@@ -181,3 +199,12 @@ all_refuted t blocks listed none = All-from_recursion (IsRefutedBlock t) blocks 
     go (k ∷ blocks) l n =
         let p = parts_of (Fails t) (live_in t k) (choices_of_all t blocks) n in
         (record { block = l.0; none = All-from_recursion (Fails t) (live_in t k) p.0 }, go blocks l.1 p.1)
+
+-- each is refuted, and the sets for n processes are those for it
+pub all_refuted_with : (t : TypeTable) (n : ℕ) (s : Sets) → AreSetsFor t n s → 2 ≤ n → n ≤ 8 → ((k : Block) → n ≤ 8 → Contains (live_blocks t n) k → IsBlockOf t k × (k.n ≡ n)) → (blocks : List Block) → blocks ≡ live_blocks t n
+    → NoneIsWitness t (choices_of_all t blocks) → All (IsRefutedWith t s) blocks
+all_refuted_with t n s sets some few law blocks e none = λ i d less.
+    (let k : Block = slice_index_or blocks i d in
+    let there : Contains blocks k = (i, less, get_or_default blocks i k d less) in
+    let same : k.n ≡ n = (law k few (subst (λ (l : List Block). Contains l k) e there)).1 in
+    record { block = all_refuted t blocks (all_listed t n some few law blocks e) none i d less; sets = subst (λ m. AreSetsFor t m s) (sym same) sets })

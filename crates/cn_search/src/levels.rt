@@ -1,8 +1,9 @@
 //! The number alone, one number of processes after the other.
-ghost use Rattle.std.specs.Prelude.{◌≡◌, ◌≤◌, ◌⊎◌, ◌↔◌, Err, IfErr, IfOk, IsTrue, None, OnOk, Some};
+ghost use Rattle.std.specs.Prelude.{◌≡◌, ◌<◌, ◌≤◌, ◌⊎◌, ◌↔◌, Err, IfErr, IfOk, IsTrue, None, OnOk, Some};
 ghost use Rattle.cn_choice.specs.Discerning.{IsDiscerning, IsNumberUpTo};
 ghost use Rattle.cn_choice.specs.declared.limits.TheConstants.{MOST_PROCESSES};
 ghost use Rattle.cn_search.specs.Faults.{number_fault};
+ghost use Rattle.cn_search.specs.declared.levels.TheConstants.{LEAST_WITHOUT_TEAMS};
 ghost use Rattle.cn_search.specs.declared.limits.TheConstants.{GREATEST_LIMIT, LEAST_LIMIT};
 ghost use Rattle.cn_search.specs.declared.fault.FindFault.{FindFault};
 ghost use Rattle.cn_search.specs.declared.fault.FindFault.TheVariants.{OutOfMemory};
@@ -21,10 +22,10 @@ use std::thread::Threads;
 pub(crate) const LEAST_WITHOUT_TEAMS: u8 = 3;
 
 /// So many choices of teams are gone through in less time than the operations without teams.
-const FEW_CHOICES: u64 = 30_000;
+const FEW_CHOICES: u64 = 2_000;
 
 /// So many blocks of choices are looked at first, where there are more choices.
-const EARLY_BLOCKS: usize = 64;
+pub(crate) const EARLY_BLOCKS: usize = 8;
 
 /// How many of the blocks are looked at: so many, or all.
 fn count_of_blocks(most: Option<usize>, blocks: usize) -> usize
@@ -60,6 +61,16 @@ pub(crate) fn has_witness<T: Threads + Sync>(
     Ok(witness.is_some())
 }
 
+/// Whether the choices of teams for n processes are gone through: where they are few, and for two
+/// processes.
+pub(crate) fn is_decided_by_teams(table: &Table, n: u8) -> bool
+    requires some { 2 ≤ n }
+    requires few { n ≤ MOST_PROCESSES }
+    ensures { n < LEAST_WITHOUT_TEAMS → IsTrue result }
+{
+    n < LEAST_WITHOUT_TEAMS || count(table.states(), table.operations(), n) <= FEW_CHOICES
+}
+
 /// Whether the type is n-discerning. Few choices of teams are gone through. Of many the first ones
 /// are, since mostly a witness is among them; then the operations are looked at without teams.
 fn is_discerning<T: Threads + Sync>(
@@ -73,8 +84,7 @@ fn is_discerning<T: Threads + Sync>(
     requires few { n ≤ MOST_PROCESSES }
     ensures { IfOk result (λ yes. IsTrue yes ↔ IsDiscerning table.now n) }
 {
-    let choices = count(table.states(), table.operations(), n);
-    if n < LEAST_WITHOUT_TEAMS || choices <= FEW_CHOICES {
+    if is_decided_by_teams(table, n) {
         return has_witness(rt, alloc, table, n, None, threading);
     }
     if has_witness(rt, alloc, table, n, Some(EARLY_BLOCKS), threading)? {

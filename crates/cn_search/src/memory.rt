@@ -5,7 +5,7 @@ ghost use Rattle.cn_search.specs.declared.memory.TheConstants.{ENOUGH_BYTES};
 use std::alloc::{AllocError, Global};
 
 /// A search of any table in one thread takes fewer bytes.
-const ENOUGH_BYTES: usize = 56 * 1024 * 1024;
+const ENOUGH_BYTES: usize = 64 * 1024 * 1024;
 
 /// Takes as much memory as a search of any table in one thread takes, and writes nothing into it.
 /// While it is held, the stacks of threads and what they allocate stay out of it, so that a search in

@@ -15,7 +15,7 @@ use Rattle.cn_stocks.specs.Greatest.{IsGreatestRecord, IsGreatestSplit}
 use Rattle.cn_stocks.specs.Records.{SomeRecords}
 use Rattle.cn_stocks.specs.Levels.{AreStarts, IsLevel, IsNext, IsSearch, IsSearchFor, IsSomeNext}
 use Rattle.cn_stocks.specs.declared.question.Question.{Question}
-use Rattle.cn_stocks.specs.Questions.{SomeHolds}
+use Rattle.cn_stocks.specs.Questions.{AreStartsOfSome, HoldsFrom, SomeHolds}
 use Rattle.cn_stocks.specs.Splits.{SomeSplits}
 use Rattle.cn_stocks.specs.Stocks.{AreStocks}
 use Rattle.cn_stocks.specs.Words.{HaveSame, times}
@@ -32,27 +32,44 @@ all_next question t level list is are k d l = record { level_is = is; stock_is =
 pub all_some_next : (question : Question) (t : TypeTable) (level : Level) (list : List Stock) → All (IsNext question t level) list → All (IsSomeNext t level) list
 all_some_next question t level list all k d l = record { question = question; next = all k d l }
 
--- a stock that has a start state
-pub some_start : (t : TypeTable) (n : ℕ) (s : Search) (i : ℕ) → IsSearch t n s → i < length s.starts.items → get_or s.starts.items i 0 < 2 ^ 16 → get_or s.starts.items i 0 ≢ 0 → SomeHolds s.question t n
-some_start t n s i is l small some =
+-- the stock at the place has it from the state
+pub holds_at : (t : TypeTable) (n : ℕ) (s : Search) (i q : ℕ) → IsSearch t n s → i < length s.starts.items → IsBitSet (get_or s.starts.items i 0) q → (q < length t.states) × HoldsFrom s.question t n q
+holds_at t n s i q is l b =
     let starts = get_or s.starts.items i 0 in
     let fit : Stock → ℕ → Type 0 = λ stock starts. AreStarts s.question t stock.operations.items starts in
     let here = zip_back fit s.stocks.list.items s.starts.items is.starts i starts (slice_get-get_or s.starts.items i 0 l) in
-    let q = some_bit starts small some in
-    let holds = (here.2 q.0).0 q.1 in
-    (q.0, holds.0, (here.0.operations.items, (is.stocks.stocks i here.0 here.1).known, is.stocks.long i here.0.operations.items (items_of s.stocks.list.items i here.0 here.1), holds.1))
+    let holds = (here.2 q).0 b in
+    (holds.0, (here.0.operations.items, (is.stocks.stocks i here.0 here.1).known, is.stocks.long i here.0.operations.items (items_of s.stocks.list.items i here.0 here.1), holds.1))
 
-pub none_starts : (t : TypeTable) (n : ℕ) (s : Search) → IsSearch t n s → ((i : ℕ) → i < length s.starts.items → get_or s.starts.items i 0 ≡ 0) → ¬ SomeHolds s.question t n
-none_starts t n s is none h =
+-- at some place stands a stock that has it from the state
+pub place_of : (t : TypeTable) (n : ℕ) (s : Search) (q : ℕ) → IsSearch t n s → q < length t.states → HoldsFrom s.question t n q → (i : ℕ) × (i < length s.starts.items) × IsBitSet (get_or s.starts.items i 0) q
+place_of t n s q is l found =
     let fit : Stock → ℕ → Type 0 = λ stock starts. AreStarts s.question t stock.operations.items starts in
-    let found = h.2 in
     let here = is.stocks.all found.0 found.1 found.2 in
     let stock = stock_at s.stocks.list.items here.0 here.1.0 here.1.1 in
     let starts = zip_at fit s.stocks.list.items s.starts.items is.starts here.0 stock.0 stock.1 in
     let same : HaveSame found.0 stock.0.operations.items = λ o. sym (here.1.2 o) ∙ ap (times o) (sym stock.2) in
-    let bit = (starts.2 h.0).1 (h.1, holds_same s.question t h.0 found.0 stock.0.operations.items same found.3) in
-    let zero_at : get_or s.starts.items here.0 0 ≡ 0 = none here.0 (slice_get_within s.starts.items here.0 starts.0 starts.1) in
-    zero_has_none h.0 (subst (λ (x : ℕ). IsBitSet x h.0) (sym (get_or_from_slice_get s.starts.items here.0 starts.0 0 starts.1) ∙ zero_at) bit)
+    let bit = (starts.2 q).1 (l, holds_same s.question t q found.0 stock.0.operations.items same found.3) in
+    (here.0, slice_get_within s.starts.items here.0 starts.0 starts.1, subst (λ (x : ℕ). IsBitSet x q) (sym (get_or_from_slice_get s.starts.items here.0 starts.0 0 starts.1)) bit)
+
+-- a stock that has a start state
+pub some_start : (t : TypeTable) (n : ℕ) (s : Search) (i : ℕ) → IsSearch t n s → i < length s.starts.items → get_or s.starts.items i 0 < 2 ^ 16 → get_or s.starts.items i 0 ≢ 0 → SomeHolds s.question t n
+some_start t n s i is l small some =
+    let q = some_bit (get_or s.starts.items i 0) small some in
+    let holds = holds_at t n s i q.0 is l q.1 in
+    (q.0, holds.0, holds.1)
+
+pub none_starts : (t : TypeTable) (n : ℕ) (s : Search) → IsSearch t n s → ((i : ℕ) → i < length s.starts.items → get_or s.starts.items i 0 ≡ 0) → ¬ SomeHolds s.question t n
+none_starts t n s is none h =
+    let at = place_of t n s h.0 is h.1 h.2 in
+    zero_has_none h.0 (subst (λ (x : ℕ). IsBitSet x h.0) (none at.0 at.1) at.2)
+
+-- the states of all stocks are those from which some stock has it
+pub starts_of_some : (t : TypeTable) (n set : ℕ) (s : Search) → IsSearch t n s → ((q : ℕ) → IsBitSet set q ↔ ((i : ℕ) × (i < length s.starts.items) × IsBitSet (get_or s.starts.items i 0) q)) → AreStartsOfSome s.question t n set
+starts_of_some t n set s is all q = (
+  λ b. (let at = (all q).0 b in holds_at t n s at.0 q is at.1 at.2),
+  λ h. (all q).1 (place_of t n s q is h.0 h.1),
+)
 
 -- ---- what several threads collect
 
@@ -90,6 +107,9 @@ next_for question asked t n s e is = (is.0 ∙ e, is.1)
 
 pub found_by : (question : Question) (t : TypeTable) (n : ℕ) (s : Search) → IsSearchFor question t n s → (found : Bool) → ((t : TypeTable) (n : ℕ) → IsSearch t n s → IsTrue found ↔ SomeHolds s.question t n) → IsTrue found ↔ SomeHolds question t n
 found_by question t n s is found says = subst (λ (asked : Question). IsTrue found ↔ SomeHolds asked t n) is.0 (says t n is.1)
+
+pub starts_by : (question : Question) (t : TypeTable) (n set : ℕ) (s : Search) → IsSearchFor question t n s → ((t : TypeTable) (n : ℕ) → IsSearch t n s → AreStartsOfSome s.question t n set) → AreStartsOfSome question t n set
+starts_by question t n set s is says = subst (λ (asked : Question). AreStartsOfSome asked t n set) is.0 (says t n is.1)
 
 -- what is found where no larger stock records
 pub record_up_to : (t : TypeTable) (most n : ℕ) (greatest : Option ℕ) → n ≤ most → (2 ≤ n → (greatest ≡ Some n) × SomeRecords t n) → (n ≤ 1 → greatest ≡ None) → ((m : ℕ) → n < m → m ≤ most → ¬ SomeRecords t m) → IsGreatestRecord t most greatest

@@ -12,7 +12,7 @@ use Rattle.cn_choice.specs.OutcomeSets.{InOutcomeSet, operations_of, pair_of}
 use Rattle.cn_choice.specs.RawChoices.{IsRawChoice, RawChoice}
 use Rattle.cn_choice.proofs.LastMoves.{last_self, pair_whole}
 use Rattle.std.proofs.lemmas.List.{map-append}
-use Rattle.cn_stocks.specs.Splits.{SomeSplits, Splits}
+use Rattle.cn_stocks.specs.Splits.{SomeSplits, Splits, SplitsFrom}
 use Rattle.cn_stocks.specs.Words.{BeginsWith, IsWithin, Shows}
 use Rattle.cn_stocks.proofs.Teams.{choice_of, chosen_a, chosen_b, in_a, is_choice, operations_known, some_in_a, some_in_b, team_a, team_at, team_b, team_of}
 use Rattle.cn_stocks.proofs.Times.{place_in, times_between, one_at}
@@ -95,8 +95,12 @@ module _ (t : TypeTable) (n : ℕ) (some : 3 ≤ n) (c : RawChoice) (is : IsRawC
         (outcome B g o joined.1 joined.2 here.0 (λ p l e. team_b t n c is twins g p no l e) here.1 here.2 joined.4);
   }
 
+-- the operations of a witness split from its start state
+pub to_splits_from : (t : TypeTable) (n : ℕ) (c : RawChoice) → 3 ≤ n → IsRawChoice t n c → IsWitness t c → SplitsFrom t n c.state
+to_splits_from t n c some is w = (c.operations, operations_known t n c is, is.one_operation_each, split_by t n some c is w)
+
 pub to_splits : (t : TypeTable) (n : ℕ) → 3 ≤ n → IsDiscerning t n → SomeSplits t n
-to_splits t n some d = (d.0.state, d.1.state_known, (d.0.operations, operations_known t n d.0 d.1, d.1.one_operation_each, split_by t n some d.0 d.1 d.2))
+to_splits t n some d = (d.0.state, d.1.state_known, to_splits_from t n d.0 some d.1 d.2)
 
 -- ---- to a witness
 

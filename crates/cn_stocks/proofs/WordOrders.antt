@@ -24,13 +24,13 @@ use Rattle.cn_stocks.proofs.Times.{one, one_of, times_append, times_between, tim
 
 -- ---- what is taken out of a list, by the values
 
-times_remove : (f : ℕ → ℕ) (o : ℕ) (free : List ℕ) (d : ℕ) → d < length free → times o (map f free) ≡ one o (f (get_or free d 0)) + times o (map f (remove free d))
+pub times_remove : (f : ℕ → ℕ) (o : ℕ) (free : List ℕ) (d : ℕ) → d < length free → times o (map f free) ≡ one o (f (get_or free d 0)) + times o (map f (remove free d))
 times_remove f o [] d l = absurd (omega arith)
 times_remove f o (x ∷ free) zero l = times_cons o (f x) (map f free)
 times_remove f o (x ∷ free) (suc d) l =
     omega (arith, times_cons o (f x) (map f free), times_cons o (f x) (map f (remove free d)), times_remove f o free d (omega arith))
 
-taken_within : (f : ℕ → ℕ) (xs free : List ℕ) → IsTaken free xs → IsWithin (map f free) (map f xs)
+pub taken_within : (f : ℕ → ℕ) (xs free : List ℕ) → IsTaken free xs → IsWithin (map f free) (map f xs)
 taken_within f [] free h o = omega (arith, times_none o)
 taken_within f (x ∷ xs) free h o =
     let e : times o (map f (x ∷ xs)) ≡ one o (f (get_or free h.0 0)) + times o (map f xs) = times_cons o (f x) (map f xs) ∙ ap (λ (y : ℕ). one o (f y) + times o (map f xs)) (sym h.2) in
@@ -47,7 +47,7 @@ at_place f x (y ∷ free) l = by_test (nat_eq (f y) x) refl (at_place f x free)
         let r = later (omega (arith, l, z, times_cons x (f y) (map f free))) in
         (suc r.0, omega (arith, r.1), r.2)
 
-to_taken : (f : ℕ → ℕ) (word free : List ℕ) → IsWithin (map f free) word → (xs : List ℕ) × IsTaken free xs × (map f xs ≡ word)
+pub to_taken : (f : ℕ → ℕ) (word free : List ℕ) → IsWithin (map f free) word → (xs : List ℕ) × IsTaken free xs × (map f xs ≡ word)
 to_taken f [] free w = ([], tt, refl)
 to_taken f (x ∷ word) free w =
     let here = at_place f x free (omega (arith, w x, times_cons x x word, one_of x x refl)) in
@@ -79,7 +79,7 @@ range_map before (x ∷ xs) =
 
 -- ---- orders from lists that differ
 
-map_parts : (f : ℕ → ℕ) (us vs xs : List ℕ) → map f xs ≡ us ++ vs → (ys : List ℕ) × (zs : List ℕ) × (xs ≡ ys ++ zs) × (map f ys ≡ us) × (map f zs ≡ vs)
+pub map_parts : (f : ℕ → ℕ) (us vs xs : List ℕ) → map f xs ≡ us ++ vs → (ys : List ℕ) × (zs : List ℕ) × (xs ≡ ys ++ zs) × (map f ys ≡ us) × (map f zs ≡ vs)
 map_parts f [] vs xs e = ([], xs, refl, refl, e)
 map_parts f (a ∷ us) vs [] e = absurd (cc e)
 map_parts f (a ∷ us) vs (x ∷ xs) e =
@@ -91,13 +91,13 @@ map_parts f (a ∷ us) vs (x ∷ xs) e =
     cons_both : (a b : ℕ) (us vs : List ℕ) → a ≡ b → us ≡ vs → a ∷ us ≡ b ∷ vs
     cons_both a b us vs e g = rw (e, g) refl
 
-spread_in : (p j : ℕ) (ys zs : List ℕ) → IsIn p (ys ++ j ∷ zs) → IsIn p (j ∷ ys ++ zs)
+pub spread_in : (p j : ℕ) (ys zs : List ℕ) → IsIn p (ys ++ j ∷ zs) → IsIn p (j ∷ ys ++ zs)
 spread_in p j ys zs i = elim (IsIn-append_cases p ys (j ∷ zs) i) [
   | inl a ↦ inr (IsIn-append_left p ys zs a)
   | inr b ↦ elim b [ inl e ↦ inl e | inr k ↦ inr (IsIn-append_right p ys zs k) ]
 ]
 
-differ_spread : (j : ℕ) (ys zs : List ℕ) → Differ (j ∷ ys ++ zs) → Differ (ys ++ j ∷ zs) × (IsIn j ys → ⊥)
+pub differ_spread : (j : ℕ) (ys zs : List ℕ) → Differ (j ∷ ys ++ zs) → Differ (ys ++ j ∷ zs) × (IsIn j ys → ⊥)
 differ_spread j [] zs d = (d, λ i. i)
 differ_spread j (y ∷ ys) zs d =
     let later = differ_spread j ys zs (d.0.1, d.1.1) in (
@@ -123,7 +123,7 @@ to_order n xs some below differ = record {
 }
 
 module _ (c : RawChoice) where
-  whole : map (λ p. slice_index c.operations p) (range_with_len 0 (length c.operations)) ≡ c.operations
+  pub whole : map (λ p. slice_index c.operations p) (range_with_len 0 (length c.operations)) ≡ c.operations
   whole = range_map [] c.operations
 
   -- an order is a word within the operations
@@ -143,7 +143,7 @@ module _ (c : RawChoice) where
     pub answer : (transition t (slice_index c.operations j) (state_after t c.state (operations_of c before))).0 ≡ r
     pub ends : state_after t c.state (operations_of c order) ≡ q
 
-  response_seen : (t : TypeTable) (j s : ℕ) (order : List ℕ) (r : ℕ) → response_of j order (responses_along t s (operations_of c order)) ≡ Some r
+  pub response_seen : (t : TypeTable) (j s : ℕ) (order : List ℕ) (r : ℕ) → response_of j order (responses_along t s (operations_of c order)) ≡ Some r
       → (before : List ℕ) × (after : List ℕ) × (order ≡ before ++ j ∷ after) × ((transition t (slice_index c.operations j) (state_after t s (operations_of c before))).0 ≡ r)
   response_seen t j s [] r e = absurd (cc e)
   response_seen t j s (p ∷ ps) r e = by_test (nat_eq p j) refl e (response_seen t j (transition t (slice_index c.operations p) s).1 ps r)
@@ -199,7 +199,7 @@ module _ (c : RawChoice) where
         back_is = parts.4;
       }
 
-  response_at : (t : TypeTable) (j s : ℕ) (front back : List ℕ) → (IsIn j front → ⊥)
+  pub response_at : (t : TypeTable) (j s : ℕ) (front back : List ℕ) → (IsIn j front → ⊥)
       → response_of j (front ++ j ∷ back) (responses_along t s (operations_of c (front ++ j ∷ back))) ≡ Some (transition t (slice_index c.operations j) (state_after t s (operations_of c front))).0
   response_at t j s [] back n = rw (eq-eqb j j refl) refl
   response_at t j s (p ∷ front) back n =

@@ -1,5 +1,5 @@
 -- Stocks that split: their operations fall into two parts that no operation can tell from each other's words.
-use Rattle.std.specs.Prelude.{◌≡◌, ℕ, ◌≤◌, ◌<◌, List, length, Bool, true, false}
+use Rattle.std.specs.Prelude.{◌≡◌, ◌↔◌, ℕ, ◌≤◌, ◌<◌, List, length, Bool, true, false, IsBitSet}
 use Rattle.cn_table.specs.TypeTable.{TypeTable}
 use Rattle.cn_stocks.specs.Words.{IsKnown, Shows, times}
 
@@ -17,6 +17,10 @@ pub record Splits (t : TypeTable) (start : ℕ) (stock : List ℕ) : Type 0 wher
 -- some stock of n operations of the type splits from the state
 abbrev pub SplitsFrom : TypeTable → ℕ → ℕ → Type 0
 SplitsFrom t n start = (stock : List ℕ) × IsKnown (length t.operations) stock × (length stock ≡ n) × Splits t start stock
+
+-- the states of the table from which some stock of n operations splits
+abbrev pub AreSplittingStarts : TypeTable → ℕ → ℕ → Type 0
+AreSplittingStarts t n starts = (q : ℕ) → IsBitSet starts q ↔ ((q < length t.states) × SplitsFrom t n q)
 
 -- some stock of n operations of the type splits from some state
 abbrev pub SomeSplits : TypeTable → ℕ → Type 0

@@ -6,7 +6,7 @@ ghost use Rattle.cn_choice.specs.declared.limits.TheConstants.{MOST_PROCESSES};
 ghost use Rattle.cn_stocks.specs.declared.limits.TheConstants.{MOST_SIZE};
 ghost use Rattle.cn_stocks.specs.declared.decision.GreatestSplit.TheVariants.{Size};
 ghost use Rattle.cn_stocks.specs.Greatest.{IsGreatestRecord, IsGreatestSplit, NoneFrom};
-ghost use Rattle.cn_stocks.specs.Splits.{SomeSplits};
+ghost use Rattle.cn_stocks.specs.Splits.{AreSplittingStarts, SomeSplits};
 
 use crate::counts::are_too_many;
 use crate::laws;
@@ -105,6 +105,30 @@ pub fn is_discerning<T: Threads + Sync>(
     laws::splits_decide();
     let found = greatest_split(rt, alloc, table, n, threading)?;
     Ok(is_size(found, n))
+}
+
+/// The states from which some stock of n operations splits, as a set of their numbers. n is at most
+/// [`MOST_SIZE`](crate::limits::MOST_SIZE). For n of at least 3 the start state of each witness for n
+/// processes is one of them ([`laws::starts_of_witnesses`]). The threads share the stocks.
+///
+/// # Errors
+///
+/// Where memory is short.
+pub fn splitting_starts<T: Threads + Sync>(
+    rt: &T,
+    alloc: Global,
+    table: &Table,
+    n: u8,
+    threading: Threading,
+) -> Result<u16, AllocError>
+    requires few { n ≤ MOST_SIZE }
+    ensures { IfOk result (AreSplittingStarts table.now n) }
+{
+    let mut search = Search::new(rt, alloc, Question::Splitting, table, threading)?;
+    for size in 0..n {
+        search = search.next(rt, alloc, table, size, threading)?;
+    }
+    Ok(search.starts_of_some())
 }
 
 /// The greatest number of operations, from 2 to the most, of which some stock records from some

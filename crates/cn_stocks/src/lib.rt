@@ -4,7 +4,7 @@
 //! two parts: nothing that a process can see comes both from orders that begin in the one and from
 //! orders that begin in the other. By [`laws::splits_decide`] the type is n-discerning exactly where
 //! there is such a stock. [`greatest_split`] answers the greatest number of operations of such a
-//! stock.
+//! stock, and [`splitting_starts`] the start states of the stocks of one number of operations.
 //!
 //! ```text
 //! if is_discerning(rt, alloc, &table, 3, Threading::Many)? {
@@ -19,15 +19,17 @@ pub mod laws;
 mod levels;
 pub mod limits;
 mod meetings;
-mod pair_sets;
+pub mod pair_sets;
 mod question;
 mod records;
 mod search;
 mod splits;
 mod starts;
-mod stocks;
+pub mod stocks;
 mod threading;
 mod word_sets;
 
-pub use decision::{GreatestSplit, greatest_record, greatest_split, is_discerning};
+pub use decision::{
+    GreatestSplit, greatest_record, greatest_split, is_discerning, splitting_starts,
+};
 pub use threading::Threading;

@@ -6,7 +6,7 @@ use cn_table::MOST_RESPONSES;
 
 /// A set of pairs of a response and a state.
 #[derive(Clone, Copy)]
-pub(crate) struct PairSet {
+pub struct PairSet {
     /// For each response the set of the states.
     states: [u16; MOST_RESPONSES],
 }
@@ -53,5 +53,12 @@ impl PairSet {
             common |= self.states[response] & other.states[response];
         }
         common != 0
+    }
+    /// Whether the response and one of the states are a pair of the set.
+    pub fn has_some(&self, response: u8, states: u16) -> bool
+        requires { response < MOST_RESPONSES }
+        ensures { IsTrue result ↔ ((q : ℕ) × Has self.now response q × IsBitSet states q) }
+    {
+        self.states[response as usize] & states != 0
     }
 }

@@ -7,6 +7,7 @@ use crate::starts::all_starts;
 use crate::stocks::{Stocks, no_operation};
 use crate::threading::Threading;
 use crate::word_sets::{all_ends, shown_for};
+use cn_outcomes::bits::union;
 use cn_table::Table;
 use std::alloc::{AllocError, Global};
 use std::thread::Threads;
@@ -45,7 +46,7 @@ impl Search {
     ghost use Rattle.cn_table.specs.TypeTable.{TypeTable};
     ghost use Rattle.cn_stocks.specs.declared.limits.TheConstants.{MOST_SIZE};
     ghost use Rattle.cn_stocks.specs.Levels.{IsLevelOf, IsSearch, IsSearchFor};
-    ghost use Rattle.cn_stocks.specs.Questions.{SomeHolds};
+    ghost use Rattle.cn_stocks.specs.Questions.{AreStartsOfSome, SomeHolds};
 
     /// The search at the stock of no operation.
     pub fn new<T: Threads + Sync>(
@@ -138,5 +139,16 @@ impl Search {
             }
         }
         false
+    }
+    /// The states from which some stock has what is asked for.
+    pub fn starts_of_some(&self) -> u16
+        ensures { (t : TypeTable) (n : ℕ) → IsSearch t n self.now
+            → AreStartsOfSome self.now.question t n result }
+    {
+        let mut set = 0;
+        for starts in &self.starts {
+            set = union(set, *starts);
+        }
+        set
     }
 }

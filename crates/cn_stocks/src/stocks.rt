@@ -13,7 +13,7 @@ use std::alloc::{AllocError, Global};
 /// A list of operations, and where among the stocks of one operation less those stand that have one
 /// of them less.
 #[derive(Drop)]
-pub(crate) struct Stock {
+pub struct Stock {
     /// The operations, none below an earlier one.
     pub operations: ArrayVec<u8, MOST_SIZE>,
     /// The greatest of them, or 0 where there is none.
@@ -39,11 +39,11 @@ impl Stock {
 }
 
 /// By operation, the place of the stock that has it once more.
-pub(crate) type Children = [u32; MOST_OPERATIONS];
+pub type Children = [u32; MOST_OPERATIONS];
 
 /// All stocks of one number of operations.
 #[derive(Drop)]
-pub(crate) struct Stocks {
+pub struct Stocks {
     pub list: Vec<Stock>,
     /// For each stock of one operation less, where in the list those with one operation more stand.
     pub children: Vec<Children>,
@@ -200,7 +200,7 @@ impl Stocks {
 }
 
 /// The stock of no operation alone.
-pub(crate) fn no_operation(alloc: Global, operations: u8) -> Result<Stocks, AllocError>
+pub fn no_operation(alloc: Global, operations: u8) -> Result<Stocks, AllocError>
     ensures { IfOk result (AreAll operations 0 []) }
 {
     let mut list = Vec::new(alloc);

@@ -6,7 +6,7 @@ use Rattle.cn_choice.proofs.Walks.{pair_takes_part}
 use Rattle.cn_outcomes.proofs.outcome_sets.is_witness_by_rows.Goals as goal
 
 pub loop-j-preserved : goal.loop-j-preserved
-loop-j-preserved c = below_more _ _ c.loop-j.invariant (λ r q a b. true≢false (sym (c.if-meets.ensures.1 (r, q, (c.outcomes_from-from_a.ensures.set r q).1 a, (c.outcomes_from-from_b.ensures.set r q).1 b))))
+loop-j-preserved c = below_more _ _ c.loop-j.invariant (λ r q a b. true≢false (sym (c.if-meets.ensures.1 (r, q, (c.outcomes_from-from_a.ensures r q).1 a, (c.outcomes_from-from_b.ensures r q).1 b))))
 
 pub returns : goal.returns
 returns c =
@@ -19,7 +19,7 @@ returns c =
 pub returns-then-meets : goal.returns-then-meets
 returns-then-meets c = (
   λ f. absurd (true≢false (sym f)),
-  λ w. (let h = c.meets.ensures.0 c.if-meets.true in absurd (w c.loop-j.j (h.0, h.1) ((c.outcomes_from-from_a.ensures.set h.0 h.1).0 h.2) ((c.outcomes_from-from_b.ensures.set h.0 h.1).0 h.3))),
+  λ w. (let h = c.meets.ensures.0 c.if-meets.true in absurd (w c.loop-j.j (h.0, h.1) ((c.outcomes_from-from_a.ensures h.0 h.1).0 h.2) ((c.outcomes_from-from_b.ensures h.0 h.1).0 h.3))),
 )
 
 pub loop-j-preserved-then-contains : goal.loop-j-preserved-then-contains

@@ -1,8 +1,7 @@
-use Rattle.std.proofs.Common.{rules, List, [], get_or-set_same, length-set, ◌∙◌, arith, ℕ, ◌≡◌, ◌<◌, ◌≤◌, ◌^◌, length, get_or, refl, ap, subst, sym, true≢false}
+use Rattle.std.proofs.Common.{rules, List, [], get_or-set_same, length-set, ◌∙◌, arith, ℕ, ◌≡◌, ◌<◌, ◌≤◌, ◌^◌, length, get_or, refl, ap, sym, true≢false}
 use Rattle.std.proofs.Math.ListN.{set}
 use Rattle.std.specs.Prelude.{IsBitSet}
 use Rattle.cn_choice.specs.RawChoices.{RawChoice}
-use Rattle.cn_outcomes.specs.Subsets.{ArePairRows}
 use Rattle.cn_outcomes.specs.Twins.{IsPacked}
 use Rattle.cn_outcomes.proofs.Unions.{gives_nothing, subsets_without, pairs_first, pairs_more, pairs_passed, subsets_passed, subsets_first, subsets_more, subsets_all, subsets_of, zeros, zeros_at}
 use Rattle.cn_outcomes.proofs.subset_rows.outcome_row.Goals as goal
@@ -59,15 +58,6 @@ returns-clause-same c r q =
     let e : c.loop-subset.subset ≡ 2 ^ c.len.result = omega (arith, s.0, s.2, c.loop-subset-test.false, c.loop-subset.auto.subset-end) in
     subsets_all setting.table.now setting.choice.now setting.team c.args.j setting.links c.requires.setting.linked c.requires.first c.requires.setting.few r q c.loop-subset.subset (get_or c.loop-subset.all q 0)
     (cc (e, ap (λ (k : ℕ). 2 ^ k) same)) (c.loop-subset.invariant.1 q)
-
-pub returns-clause-pairs : goal.returns-clause-pairs
-returns-clause-pairs c =
-    let setting = c.args.setting.now in
-    let seen = ap (λ (a : RawChoice). length a.operations) c.choice.view_is in
-    let same : c.len.result ≡ length setting.choice.now.operations = omega (arith, seen, c.len.ensures.value) in
-    let s = subsets_of c.len.result (omega (arith, same)) in
-    let e : c.loop-subset.subset ≡ 2 ^ c.len.result = omega (arith, s.0, s.2, c.loop-subset-test.false, c.loop-subset.auto.subset-end) in
-    subst (λ (k : ℕ). ArePairRows setting.table.now setting.choice.now setting.team c.args.j setting.links k c.loop-subset.pairs) (e ∙ ap (λ (k : ℕ). 2 ^ k) same) c.loop-subset.invariant.0
 
 pub loop-subset-preserved-then-not-is_packed : goal.loop-subset-preserved-then-not-is_packed
 loop-subset-preserved-then-not-is_packed c =

@@ -1,0 +1,11 @@
+pub mod EachLemmas
+pub mod ExactWords
+pub mod WayLemmas
+pub mod FirstOrders
+pub mod FirstCollisions
+pub mod WayWords
+pub mod LevelLemmas
+pub mod StandLemmas
+pub mod PlaceLemmas
+pub mod PrefixLemmas
+pub mod Gathering

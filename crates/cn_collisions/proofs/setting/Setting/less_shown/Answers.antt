@@ -1,0 +1,26 @@
+use Rattle.std.proofs.Common.{ℕ, List, ◌-◌, arith, length, subst}
+use Rattle.cn_stocks.proofs.StockLemmas.{items_within, stock_at}
+use Rattle.cn_collisions.specs.WordSets.{IsShown}
+use Rattle.cn_collisions.proofs.EachLemmas.{each_read}
+use Rattle.cn_collisions.proofs.ExactWords.{has_some}
+use Rattle.cn_collisions.proofs.setting.Setting.less_shown.Goals as goal
+
+pub bounds-shown-place : goal.bounds-shown-place
+bounds-shown-place c =
+    let is = c.requires.setting in
+    let h = is.stock_is.links.some c.args.operation c.in-Some.place c.in-Some.is in
+    omega (arith, items_within is.before c.in-Some.place h.0 h.1, is.shown_are.0)
+
+pub returns-in-Some : goal.returns-in-Some
+returns-in-Some c =
+    let s = c.args.self.now in
+    let is = c.requires.setting in
+    let h = is.stock_is.links.some c.args.operation c.in-Some.place c.in-Some.is in
+    let stock = stock_at is.before c.in-Some.place h.0 h.1 in
+    let shown = each_read _ s.shown.now (length is.before) c.in-Some.place c.index-shown-place.result is.shown_are (items_within is.before c.in-Some.place h.0 h.1) c.index-shown-place.is stock.0 stock.1 in (
+      omega (arith, has_some c.args.operation s.stock.now.operations.items h.0 h.2, is.long),
+      (h.0, h.2, subst (λ (items : List ℕ). IsShown s.table.now (s.size - 1) items c.index-shown-place.result) stock.2 shown),
+    )
+
+pub returns-in-None : goal.returns-in-None
+returns-in-None c = c.requires.setting.stock_is.links.none c.args.operation c.in-None.is

@@ -1,0 +1,6 @@
+use Rattle.cn_collisions.specs.Each.{EachAt}
+use Rattle.cn_collisions.specs.WordSets.{AreRows}
+use Rattle.cn_collisions.proofs.word_sets.stock_shown.Given as goal
+
+abbrev pub invariant-loop-count : goal.invariant-loop-count
+invariant-loop-count l = EachAt (λ k rows. AreRows l.setting.table.now l.setting.stock.now.operations.items k rows.items) l.count l.by_count.items

@@ -1,0 +1,45 @@
+-- All stocks of up to so many operations, and their sets.
+use Rattle.std.specs.Prelude.{◌≡◌, ℕ, suc, ◌+◌, ◌-◌, ◌≤◌, List, [], length, slice_get, Some}
+use Rattle.std.specs.declared.alloc.Global.{Global}
+use Rattle.std.specs.declared.vec.Vec.{Vec}
+use Rattle.cn_table.specs.TypeTable.{TypeTable}
+use Rattle.cn_choice.specs.declared.limits.TheConstants.{MOST_PROCESSES}
+use Rattle.cn_stocks.specs.declared.stocks.Stock.{Stock}
+use Rattle.cn_stocks.specs.declared.stocks.Stocks.{Stocks}
+use Rattle.cn_stocks.specs.Stocks.{AreAll, AreLong, AreStocks}
+use Rattle.cn_collisions.specs.declared.sets.Sets.{Sets}
+use Rattle.cn_collisions.specs.declared.word_sets.Ends.{Ends}
+use Rattle.cn_collisions.specs.declared.word_sets.Shown.{Shown}
+use Rattle.cn_collisions.specs.Each.{EachAt}
+use Rattle.cn_collisions.specs.WordSets.{AreEndsOf, AreShownOf}
+
+-- for each number of operations below the count, all stocks of so many, each with links to those of one operation less
+pub record AreLevels (operations count : ℕ) (levels : List Stocks) : Type 0 where
+  pub long : length levels ≡ count
+  pub first : (s : Stocks) → slice_get levels 0 ≡ Some s → AreAll operations 0 [] s
+  pub next : (m : ℕ) (b s : Stocks) → slice_get levels m ≡ Some b → slice_get levels (suc m) ≡ Some s → AreAll operations (m + 1) b.list.items s
+
+-- for each number of operations below the count, the ends of all stocks of so many
+abbrev pub AreAllEnds : TypeTable → List Stocks → ℕ → List (Vec Ends Global) → Type 0
+AreAllEnds t levels count ends = EachAt (λ m e. (s : Stocks) → slice_get levels m ≡ Some s → AreEndsOf t m s.list.items e.items) count ends
+
+-- for each number of operations below the count, the pairs of all stocks of so many
+abbrev pub AreAllShown : TypeTable → List Stocks → ℕ → List (Vec Shown Global) → Type 0
+AreAllShown t levels count shown = EachAt (λ m e. (s : Stocks) → slice_get levels m ≡ Some s → AreShownOf t m s.list.items e.items) count shown
+
+-- stocks of m operations beside those of one operation less
+pub record AreBeside (operations m : ℕ) (before stocks : List Stock) : Type 0 where
+  pub stocks_are : AreStocks operations before stocks
+  pub long : AreLong stocks m
+
+-- the sets are those of their table for choices for their number of processes
+pub record AreSomeSets (s : Sets) : Type 0 where
+  pub some : 2 ≤ s.n
+  pub few : s.n ≤ MOST_PROCESSES
+  pub levels : AreLevels (length s.table.now.operations) (s.n + 1) s.stocks.items
+  pub ends_are : AreAllEnds s.table.now s.stocks.items s.n s.ends.items
+  pub shown_are : AreAllShown s.table.now s.stocks.items (s.n - 1) s.shown.items
+
+-- they are those of this table for choices for n processes
+abbrev pub AreSetsFor : TypeTable → ℕ → Sets → Type 0
+AreSetsFor t n s = (s.table.now ≡ t) × (s.n ≡ n) × AreSomeSets s

@@ -1,0 +1,12 @@
+pub mod Exact
+pub mod Each
+pub mod WordSets
+pub mod Levels
+pub mod Ways
+pub mod Steps
+pub mod OutcomeOrders
+pub mod Rests
+pub mod Views
+pub mod Stands
+pub mod Places
+pub mod Examination

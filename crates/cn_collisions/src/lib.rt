@@ -1,0 +1,28 @@
+//! The recorded collision of each choice of a type for one number of processes.
+//!
+//! [`Sets`] says what words of exactly so many operations lead to, for all stocks of operations. They
+//! are made once, and [`examine`] reads the recorded collision of a choice off them, process by
+//! process, with no step back.
+//!
+//! ```text
+//! let sets = Sets::new(alloc, &table, 3)?;
+//! match examine(&sets, &choice) {
+//!     Examined::Splits => println!(rt; "a witness")?,
+//!     Examined::Meets(collision) => println!(rt; "process {} cannot tell", collision.process)?,
+//! }
+//! ```
+#![tactic(auto)]
+
+mod asked;
+mod collisions;
+mod examination;
+mod orders;
+mod places;
+mod sets;
+mod setting;
+mod view;
+mod ways;
+mod word_sets;
+
+pub use examination::{Examined, examine};
+pub use sets::Sets;

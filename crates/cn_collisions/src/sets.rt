@@ -1,0 +1,319 @@
+//! All stocks of up to so many operations, and what words within them lead to.
+ghost use Rattle.std.specs.Prelude.{◌≡◌, ◌≤◌, ◌<◌, ◌-◌, ◌+◌, ℕ, List, length, vec_len, slice_get, IfOk, Some};
+ghost use Rattle.cn_table.specs.declared.limits.TheConstants.{MOST_OPERATIONS};
+ghost use Rattle.cn_choice.specs.declared.limits.TheConstants.{MOST_PROCESSES};
+ghost use Rattle.cn_stocks.specs.declared.stocks.Stock.{Stock as StockOf};
+ghost use Rattle.std.specs.declared.vec.Vec.{Vec as VecOf};
+ghost use Rattle.cn_collisions.specs.declared.word_sets.Ends.{Ends as EndsOf};
+ghost use Rattle.cn_collisions.specs.declared.word_sets.Shown.{Shown as ShownOf};
+ghost use Rattle.cn_collisions.specs.Each.{EachAt};
+ghost use Rattle.cn_collisions.specs.Levels.{AreAllEnds, AreAllShown, AreBeside, AreLevels, AreSetsFor};
+ghost use Rattle.cn_collisions.specs.WordSets.{AreEndsOf, AreShownOf};
+
+use crate::setting::Setting;
+use crate::word_sets::{Ends, Shown, stock_ends, stock_shown};
+use cn_choice::MOST_PROCESSES;
+use cn_stocks::pair_sets::PairSet;
+use cn_stocks::stocks::{Stock, Stocks, no_operation};
+use cn_table::{Operation, State, Table};
+use std::alloc::{AllocError, Global};
+
+/// The sets of a table for all choices for one number of processes.
+#[derive(Drop)]
+pub struct Sets<'t> {
+    pub(crate) table: &'t Table,
+    pub(crate) n: u8,
+    /// For each number of operations up to n.
+    pub(crate) stocks: Vec<Stocks>,
+    /// For each number of operations below n.
+    pub(crate) ends: Vec<Vec<Ends>>,
+    /// For each number of operations below n - 1.
+    pub(crate) shown: Vec<Vec<Shown>>,
+}
+
+/// All stocks of up to n operations.
+fn all_stocks(alloc: Global, operations: u8, n: u8) -> Result<Vec<Stocks>, AllocError>
+    requires operations { operations ≤ MOST_OPERATIONS }
+    requires n { n ≤ MOST_PROCESSES }
+    ensures { IfOk result (λ levels. AreLevels operations (n + 1) levels.items) }
+{
+    let mut levels = Vec::with_capacity(alloc, n as usize + 1)?;
+    let none = no_operation(alloc, operations)?;
+    levels.push(none)?;
+    for size in 0..n {
+        let here = &levels[size as usize];
+        let longer = here.longer(alloc, operations, size)?;
+        levels.push(longer)?;
+    }
+    Ok(levels)
+}
+
+/// The ends of stocks of so many operations, from those of one operation less.
+fn level_ends(
+    alloc: Global,
+    table: &Table,
+    size: u8,
+    stocks: &[Stock],
+    ends: &[Ends],
+) -> Result<Vec<Ends>, AllocError>
+    requires few { size < MOST_PROCESSES }
+    requires beside { (before : List StockOf)
+        × AreBeside (length table.now.operations) size before stocks.now
+        × AreEndsOf table.now (size - 1) before ends.now }
+    ensures { IfOk result (λ level. AreEndsOf table.now size stocks.now level.items) }
+{
+    let mut level = Vec::with_capacity(alloc, stocks.len())?;
+    for stock in stocks {
+        let setting = Setting {
+            table,
+            size,
+            stock,
+            ends,
+            shown: &[],
+        };
+        let own = stock_ends(alloc, &setting)?;
+        level.push(own)?;
+    }
+    Ok(level)
+}
+
+/// The ends of the stocks of one operation less than so many.
+fn ends_below(ends: &[Vec<Ends>], size: u8) -> &[Ends]
+    requires { size ≤ length ends.now }
+    ensures none { size ≡ 0 → length result.now ≡ 0 }
+    ensures some { (m : ℕ) (level : VecOf EndsOf Global) → size ≡ m + 1
+        → slice_get ends.now m ≡ Some level → result.now ≡ level.items }
+{
+    if size == 0 {
+        return &[];
+    }
+    let level = &ends[size as usize - 1];
+    level.as_slice()
+}
+
+/// The ends of all stocks of fewer than n operations.
+fn all_ends(
+    alloc: Global,
+    table: &Table,
+    stocks: &[Stocks],
+    n: u8,
+) -> Result<Vec<Vec<Ends>>, AllocError>
+    requires few { n ≤ MOST_PROCESSES }
+    requires stocks { AreLevels (length table.now.operations) (n + 1) stocks.now }
+    ensures { IfOk result (λ ends. AreAllEnds table.now stocks.now n ends.items) }
+{
+    let mut ends = Vec::with_capacity(alloc, n as usize)?;
+    for size in 0..n {
+        let here = &stocks[size as usize];
+        let list = here.list.as_slice();
+        let done = ends.as_slice();
+        let below = ends_below(done, size);
+        let level = level_ends(alloc, table, size, list, below)?;
+        ends.push(level)?;
+    }
+    Ok(ends)
+}
+
+/// The pairs of stocks of so many operations, from those of one operation less.
+fn level_shown(
+    alloc: Global,
+    table: &Table,
+    size: u8,
+    stocks: &[Stock],
+    ends: &[Ends],
+    shown: &[Shown],
+) -> Result<Vec<Shown>, AllocError>
+    requires few { size < MOST_PROCESSES }
+    requires beside { (before : List StockOf)
+        × AreBeside (length table.now.operations) size before stocks.now
+        × AreShownOf table.now (size - 1) before shown.now }
+    requires ends { AreEndsOf table.now size stocks.now ends.now }
+    ensures { IfOk result (λ level. AreShownOf table.now size stocks.now level.items) }
+{
+    let mut level = Vec::with_capacity(alloc, stocks.len())?;
+    for place in 0..stocks.len() {
+        let stock = &stocks[place];
+        let setting = Setting {
+            table,
+            size,
+            stock,
+            ends,
+            shown,
+        };
+        let mine = &ends[place];
+        let own = stock_shown(alloc, &setting, mine)?;
+        level.push(own)?;
+    }
+    Ok(level)
+}
+
+/// The pairs of the stocks of one operation less than so many.
+fn shown_below(shown: &[Vec<Shown>], size: u8) -> &[Shown]
+    requires { size ≤ length shown.now }
+    ensures none { size ≡ 0 → length result.now ≡ 0 }
+    ensures some { (m : ℕ) (level : VecOf ShownOf Global) → size ≡ m + 1
+        → slice_get shown.now m ≡ Some level → result.now ≡ level.items }
+{
+    if size == 0 {
+        return &[];
+    }
+    let level = &shown[size as usize - 1];
+    level.as_slice()
+}
+
+/// The pairs of all stocks of fewer than n - 1 operations.
+fn all_shown(
+    alloc: Global,
+    table: &Table,
+    stocks: &[Stocks],
+    ends: &[Vec<Ends>],
+    n: u8,
+) -> Result<Vec<Vec<Shown>>, AllocError>
+    requires some { 2 ≤ n }
+    requires few { n ≤ MOST_PROCESSES }
+    requires stocks { AreLevels (length table.now.operations) (n + 1) stocks.now }
+    requires ends { AreAllEnds table.now stocks.now n ends.now }
+    ensures { IfOk result (λ shown. AreAllShown table.now stocks.now (n - 1) shown.items) }
+{
+    let mut shown = Vec::with_capacity(alloc, n as usize)?;
+    for size in 0..n - 1 {
+        let here = &stocks[size as usize];
+        let list = here.list.as_slice();
+        let done = shown.as_slice();
+        let below = shown_below(done, size);
+        let row = &ends[size as usize];
+        let own = row.as_slice();
+        let level = level_shown(alloc, table, size, list, own, below)?;
+        shown.push(level)?;
+    }
+    Ok(shown)
+}
+
+impl<'t> Sets<'t> {
+    ghost use Rattle.std.specs.Prelude.{◌≡◌, ◌≤◌, ◌<◌, ◌+◌, ◌-◌, ◌↔◌, ℕ, List, ◌∷◌, length, IfOk, IsBitSet};
+    ghost use Rattle.cn_choice.specs.declared.limits.TheConstants.{MOST_PROCESSES};
+    ghost use Rattle.cn_stocks.specs.Pairs.{Has};
+    ghost use Rattle.cn_stocks.specs.Words.{HaveSame};
+    ghost use Rattle.cn_collisions.specs.Exact.{EndsAfter, EndsUpTo, ShowsAfter, ShowsUpTo};
+    ghost use Rattle.cn_collisions.specs.Levels.{AreSetsFor, AreSomeSets};
+    ghost use Rattle.cn_collisions.specs.Stands.{HasStock, HasStockWith, StandsAt};
+
+    /// The sets for all choices of the table for n processes, from 2 to
+    /// [`MOST_PROCESSES`](cn_choice::MOST_PROCESSES).
+    ///
+    /// # Errors
+    ///
+    /// Where memory is short.
+    pub fn new(alloc: Global, table: &'t Table, n: u8) -> Result<Sets<'t>, AllocError>
+        requires some { 2 ≤ n }
+        requires few { n ≤ MOST_PROCESSES }
+        ensures { IfOk result (AreSetsFor table.now n) }
+    {
+        let stocks = all_stocks(alloc, table.operations(), n)?;
+        let levels = stocks.as_slice();
+        let ends = all_ends(alloc, table, levels, n)?;
+        let rows = ends.as_slice();
+        let shown = all_shown(alloc, table, levels, rows, n)?;
+        Ok(Sets {
+            table,
+            n,
+            stocks,
+            ends,
+            shown,
+        })
+    }
+
+    /// The place of the stock with one of the operation less.
+    pub(crate) fn less(&self, size: u8, place: u32, operation: Operation) -> u32
+        requires sets { AreSomeSets self.now }
+        requires operation { operation.0 < length self.now.table.now.operations }
+        requires stock { HasStockWith self.now size place operation.0 }
+        ensures { (stock : List ℕ) → StandsAt self.now size place stock
+            → (1 ≤ size) × ((rest : List ℕ) × HaveSame stock (operation.0 ∷ rest)
+            × StandsAt self.now (size - 1) result rest) }
+    {
+        let _operations = self.table.operations();
+        let level = &self.stocks[size as usize];
+        let stock = &level.list[place as usize];
+        if let Some(less) = stock.less[operation.0 as usize] {
+            return less;
+        }
+        unreachable!()
+    }
+
+    /// The states in which words of so many operations within the stock end.
+    pub(crate) fn ends_after(&self, size: u8, place: u32, count: u8, state: State) -> u16
+        requires sets { AreSomeSets self.now }
+        requires stock { HasStock self.now size place }
+        requires size { size < self.now.n }
+        requires count { count ≤ size }
+        requires state { state.0 < length self.now.table.now.states }
+        ensures { (stock : List ℕ) → StandsAt self.now size place stock
+            → (q : ℕ) → IsBitSet result q ↔ EndsAfter self.now.table.now state.0 stock count q }
+    {
+        let _states = self.table.states();
+        let row = &self.ends[size as usize];
+        let ends = &row[place as usize];
+        ends.after(count, state.0)
+    }
+
+    /// The pairs that words of so many operations within the stock show the asked one.
+    pub(crate) fn shown_after(
+        &self,
+        size: u8,
+        place: u32,
+        count: u8,
+        asked: Operation,
+        state: State,
+    ) -> &PairSet
+        requires sets { AreSomeSets self.now }
+        requires stock { HasStock self.now size place }
+        requires size { size + 1 < self.now.n }
+        requires count { count ≤ size }
+        requires asked { asked.0 < length self.now.table.now.operations }
+        requires state { state.0 < length self.now.table.now.states }
+        ensures { (stock : List ℕ) → StandsAt self.now size place stock
+            → (r q : ℕ) → Has result.now r q
+            ↔ ShowsAfter self.now.table.now state.0 stock asked.0 count r q }
+    {
+        let row = &self.shown[size as usize];
+        let shown = &row[place as usize];
+        shown.after(count, asked.0, state.0)
+    }
+    /// The states in which words of any number of operations within the stock end.
+    pub(crate) fn ends_ever(&self, size: u8, place: u32, state: State) -> u16
+        requires sets { AreSomeSets self.now }
+        requires stock { HasStock self.now size place }
+        requires size { size < self.now.n }
+        requires state { state.0 < length self.now.table.now.states }
+        ensures { (stock : List ℕ) → StandsAt self.now size place stock
+            → (q : ℕ) → IsBitSet result q ↔ EndsUpTo self.now.table.now state.0 stock size q }
+    {
+        let _states = self.table.states();
+        let row = &self.ends[size as usize];
+        let ends = &row[place as usize];
+        ends.ever(state.0)
+    }
+
+    /// The pairs that words of any number of operations within the stock show the asked one.
+    pub(crate) fn shown_ever(
+        &self,
+        size: u8,
+        place: u32,
+        asked: Operation,
+        state: State,
+    ) -> &PairSet
+        requires sets { AreSomeSets self.now }
+        requires stock { HasStock self.now size place }
+        requires size { size + 1 < self.now.n }
+        requires asked { asked.0 < length self.now.table.now.operations }
+        requires state { state.0 < length self.now.table.now.states }
+        ensures { (stock : List ℕ) → StandsAt self.now size place stock
+            → (r q : ℕ) → Has result.now r q
+            ↔ ShowsUpTo self.now.table.now state.0 stock asked.0 size r q }
+    {
+        let row = &self.shown[size as usize];
+        let shown = &row[place as usize];
+        shown.ever(asked.0, state.0)
+    }
+}

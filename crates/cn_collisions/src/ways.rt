@@ -1,0 +1,162 @@
+//! The first way to go on, in list order, that leads into a set of pairs.
+ghost use Rattle.std.specs.Prelude.{◌≡◌, ◌≢◌, ◌≤◌, ◌<◌, ◌+◌, ◌++◌, ◌∷◌, [], ◌⊎◌, ℕ, List, length, slice_index, IfNone, IfSome, IsBitSet, IsFalse, IsTrue};
+ghost use Rattle.cn_table.specs.declared.limits.TheConstants.{MOST_RESPONSES, MOST_STATES};
+ghost use Rattle.cn_choice.specs.declared.limits.TheConstants.{MOST_PROCESSES};
+ghost use Rattle.cn_collisions.specs.Views.{IsPrefix, IsView, moves_left};
+ghost use Rattle.cn_collisions.specs.Steps.{IsFirstStep, LeadsOnward};
+ghost use Rattle.cn_collisions.specs.Ways.{IsFirstWay, IsPassed, NoWay};
+
+use crate::view::{Prefix, View};
+use arrayvec::ArrayVec;
+use cn_choice::MOST_PROCESSES;
+use cn_outcomes::bits::{contains, with};
+use cn_stocks::pair_sets::PairSet;
+
+/// Whether the process is tried next. It has not moved, and it is the process in question or none
+/// with its operation was tried.
+fn is_open(view: &View<'_>, used: u16, tried: u16, process: u8) -> bool
+    requires view { IsView view.now }
+    requires process { process < length view.now.raw.now.operations }
+    ensures open { IsTrue result → ¬ IsBitSet used process }
+    ensures closed { IsFalse result
+        → IsPassed view.now.raw.now view.now.process used tried process }
+{
+    let _operations = view.sets.table.operations();
+    if contains(used, process) {
+        return false;
+    }
+    if process == view.process {
+        return true;
+    }
+    !contains(tried, view.operation(process).0)
+}
+
+/// The operations tried, with that of the process. The process in question does not count.
+fn tried_after(view: &View<'_>, tried: u16, process: u8) -> u16
+    requires view { IsView view.now }
+    requires process { process < length view.now.raw.now.operations }
+    ensures { (o : ℕ) → IsBitSet result o → IsBitSet tried o
+        ⊎ ((process ≢ view.now.process)
+        × (o ≡ slice_index view.now.raw.now.operations process)) }
+{
+    let _operations = view.sets.table.operations();
+    if process == view.process {
+        tried
+    } else {
+        with(tried, view.operation(process).0)
+    }
+}
+
+/// A process that moves next, and the prefix after its move.
+#[derive(Clone, Copy)]
+pub(crate) struct Step {
+    pub process: u8,
+    pub prefix: Prefix,
+}
+
+/// The first process from low on and below high after which some way to go on leads into the set,
+/// where the way has exactly so many processes with this one. Of processes with the same operation
+/// only the first is tried. A call of its own would cost as much as a process.
+#[inline(always)]
+fn first_step(
+    view: &View<'_>,
+    target: &PairSet,
+    low: u8,
+    high: u8,
+    left: u8,
+    prefix: Prefix,
+) -> Option<Step>
+    requires view { IsView view.now }
+    requires prefix { IsPrefix view.now prefix }
+    requires high { high ≤ length view.now.raw.now.operations }
+    requires some { 1 ≤ left }
+    requires left { left ≤ moves_left prefix }
+    ensures none { IfNone result (NoWay view.now.sets.now.table.now view.now.raw.now
+        view.now.process target.now left low high prefix.used prefix.state.0 prefix.seen) }
+    ensures step { IfSome result (IsFirstStep view.now target.now left low high prefix) }
+{
+    let mut tried = 0;
+    for process in low..high {
+        if !is_open(view, prefix.used, tried, process) {
+            continue;
+        }
+        tried = tried_after(view, tried, process);
+        let next = view.after(prefix, process);
+        if view.leads_into(next, left - 1, target) {
+            return Some(Step {
+                process,
+                prefix: next,
+            });
+        }
+    }
+    None
+}
+
+/// Appends the process of the step, and then the first way to go on with exactly so many processes
+/// that leads into the set. Answers its pair. Some way leads there, so no step is taken back.
+fn way_after(
+    view: &View<'_>,
+    target: &PairSet,
+    left: u8,
+    step: Step,
+    order: &mut ArrayVec<u8, MOST_PROCESSES>,
+) -> (u8, u8)
+    requires view { IsView view.now }
+    requires prefix { IsPrefix view.now step.prefix }
+    requires left { left ≤ moves_left step.prefix }
+    requires short { length order.old.items + left + 1 ≤ MOST_PROCESSES }
+    requires leads { LeadsOnward view.now target.now left step.prefix }
+    ensures way { (tail : List ℕ)
+        × (order.new.items ≡ (order.old.items ++ step.process ∷ []) ++ tail)
+        × IsFirstWay view.now.sets.now.table.now view.now.raw.now view.now.process target.now
+        left 0 (length view.now.raw.now.operations) step.prefix.used step.prefix.state.0
+        step.prefix.seen tail result }
+    ensures in_range { (result.0 < MOST_RESPONSES) × (result.1 < MOST_STATES) }
+{
+    let _states = view.sets.table.states();
+    order.push(step.process);
+    if left == 0 {
+        if let Some(response) = step.prefix.seen {
+            return (response, step.prefix.state.0);
+        }
+        unreachable!()
+    }
+    let raw = view.raw;
+    let n = raw.operations.len() as u8;
+    match first_step(view, target, 0, n, left, step.prefix) {
+        Some(next) => way_after(view, target, left - 1, next, order),
+        None => unreachable!(),
+    }
+}
+
+/// Appends the first way to go on with exactly so many processes that leads into the set, and answers
+/// its pair. Its first process is from low on and below high.
+pub(crate) fn first_way(
+    view: &View<'_>,
+    target: &PairSet,
+    low: u8,
+    high: u8,
+    left: u8,
+    prefix: Prefix,
+    order: &mut ArrayVec<u8, MOST_PROCESSES>,
+) -> Option<(u8, u8)>
+    requires view { IsView view.now }
+    requires prefix { IsPrefix view.now prefix }
+    requires high { high ≤ length view.now.raw.now.operations }
+    requires some { 1 ≤ left }
+    requires left { left ≤ moves_left prefix }
+    requires short { length order.old.items + left ≤ MOST_PROCESSES }
+
+    ensures none { IfNone result (NoWay view.now.sets.now.table.now view.now.raw.now
+        view.now.process target.now left low high prefix.used prefix.state.0 prefix.seen) }
+    ensures kept { IfNone result (order.new.items ≡ order.old.items) }
+    ensures first { IfSome result (λ pair. (tail : List ℕ)
+        × (order.new.items ≡ order.old.items ++ tail)
+        × IsFirstWay view.now.sets.now.table.now view.now.raw.now view.now.process target.now
+        left low high prefix.used prefix.state.0 prefix.seen tail pair) }
+    ensures in_range { IfSome result (λ pair.
+        (pair.0 < MOST_RESPONSES) × (pair.1 < MOST_STATES)) }
+{
+    let step = first_step(view, target, low, high, left, prefix)?;
+    Some(way_after(view, target, left - 1, step, order))
+}

@@ -1,9 +1,0 @@
-use Rattle.std.proofs.Common.{◌<◌, ℕ, List}
-use Rattle.cn_choice.specs.Collisions.{IsCollision}
-use Rattle.cn_outcomes.proofs.examination.collision_by_rows.Given as goal
-
--- no process so far has a collision
-abbrev pub invariant-loop-process : goal.invariant-loop-process
-invariant-loop-process l =
-    (j : ℕ) → j < l.process → (alpha beta : List ℕ)
-    → ¬ IsCollision l.subject.table.now l.subject.raw.now j alpha beta

@@ -1,0 +1,34 @@
+use Rattle.std.proofs.Common.{ℕ, ◌≡◌, ◌++◌, ◌∙◌, ap, subst, sym, List, Option, Some, None, IfSome, Result, Ok, Err, IfOk}
+use Rattle.std.specs.declared.alloc.AllocError.{AllocError}
+use Rattle.std.proofs.lemmas.Grind.{flat_map-append}
+use Rattle.std.proofs.lemmas.List.Elements.{All-take}
+use Rattle.cn_table.specs.TypeTable.{TypeTable}
+use Rattle.cn_choice.specs.Blocks.{Block}
+use Rattle.cn_choice.specs.Canonical.{Choice}
+use Rattle.cn_choice.specs.Live.{live_choices, live_in}
+use Rattle.cn_search.specs.Evidence.{IsFirstAmong, IsFirstWitness, IsListedBlock, choices_of_all}
+use Rattle.cn_search.proofs.Batches.{ahead, all_listed}
+use Rattle.cn_search.proofs.ListLemmas.{parts}
+use Rattle.cn_search.proofs.search.early_witness.Goals as goal
+
+-- the first witness of the first blocks is that of all
+early_of : (t : TypeTable) (n : ℕ) (blocks front back : List Block) → blocks ≡ front ++ back → choices_of_all t blocks ≡ live_choices t n → (r : Result (Option Choice) AllocError) → IfOk r (IsFirstAmong t (choices_of_all t front))
+    → IfOk r (λ found. IfSome found (IsFirstWitness t (live_choices t n)))
+early_of t n blocks front back both whole (Err e) h = tt
+early_of t n blocks front back both whole (Ok None) h = tt
+early_of t n blocks front back both whole (Ok (Some w)) h =
+    let joined : choices_of_all t front ++ choices_of_all t back ≡ live_choices t n = sym (ap (choices_of_all t) both ∙ flat_map-append (live_in t) front back) ∙ whole in
+    subst (λ (l : List Choice). IsFirstWitness t l w) joined (ahead t (choices_of_all t front) (choices_of_all t back) w h)
+
+pub first_witness-requires-after_bounds : goal.first_witness-requires-after_bounds
+first_witness-requires-after_bounds g c =
+    let t = c.args.table.now in
+    let listed = all_listed t c.args.n c.requires.some c.requires.few (λ k few i. c.block_list.ensures.blocks t c.args.n k few i) c.deref.result.now (c.deref.ensures.value ∙ c.in_ok-blocks.ensures) in
+    λ κs lives. rw c.split_at.ensures.front (All-take (IsListedBlock t) _ c.deref.result.now listed)
+
+pub returns : goal.returns
+returns g c =
+    let t = c.args.table.now in
+    let n = c.args.n in
+    let whole = ap (choices_of_all t) (c.deref.ensures.value ∙ c.in_ok-blocks.ensures) ∙ c.block_list.ensures.cover t n in
+    early_of t n c.deref.result.now c.split_at.result.0.now c.split_at.result.1.now (parts _ c.deref.result.now _ _ c.split_at.ensures.front c.split_at.ensures.back) whole c.first_witness.result c.first_witness.ensures
