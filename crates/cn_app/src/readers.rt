@@ -1,6 +1,7 @@
 //! The readers of commands, one for each shape of input: a table; a table and a checked
 //! certificate; these and an object, for the opening of a log.
 
+pub(crate) mod accepted;
 pub(crate) mod checked;
 pub(crate) mod opening;
 pub(crate) mod table;

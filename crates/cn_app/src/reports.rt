@@ -4,7 +4,7 @@
 //! ([`commands`](crate::commands)) read the values and write the reports.
 
 mod agree;
-mod check;
+pub(crate) mod check;
 mod classify;
 mod draw;
 mod explain;

@@ -1,7 +1,9 @@
 pub mod ArrayWalks
 pub mod Conversions
 pub mod DigitLemmas
+pub mod EntryLists
 pub mod FindingRanges
+pub mod FramedTexts
 pub mod LineFeeds
 pub mod MemberReads
 pub mod ObjectWalks

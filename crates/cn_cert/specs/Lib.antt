@@ -6,6 +6,8 @@ pub mod Draft
 pub mod Tokens
 pub mod Ranges
 pub mod Faults
+pub mod Entries
+pub mod Frames
 pub mod Reading
 pub mod Reads
 pub mod FaultText

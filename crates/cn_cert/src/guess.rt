@@ -6,7 +6,8 @@ ghost use Rattle.std.specs.List.{list_all};
 ghost use Rattle.cn_table.specs.Names.{is_name};
 ghost use Rattle.cn_table.specs.declared.limits.TheConstants.{MOST_STATES};
 ghost use Rattle.cn_cert.specs.Certificate.{is_version};
-ghost use Rattle.cn_cert.specs.CertificateText.{certificate_text};
+ghost use Rattle.serde_json.specs.Written.{members_text};
+ghost use Rattle.cn_cert.specs.CertificateText.{certificate_text, other_members};
 ghost use Rattle.cn_cert.specs.Ranges.{is_number_in_range, is_short, is_choice_in_range, is_collision_in_range, is_witness_in_range, is_in_range};
 ghost use Rattle.cn_cert.specs.Reading.{reading};
 ghost use Rattle.cn_table.specs.Texts.{line_feed};
@@ -14,7 +15,7 @@ ghost use Rattle.cn_table.specs.Texts.{line_feed};
 use crate::certificate::Certificate;
 use crate::ranges::GREATEST_NUMBER;
 use crate::sink::Sink;
-use crate::write::push_certificate;
+use crate::write::{push_certificate, push_rest};
 use arrayvec::ArrayVec;
 use cn_choice::{Choice, Collision, MOST_PROCESSES};
 use cn_table::{LONGEST_NAME, State, is_name};
@@ -23,9 +24,9 @@ use std::marker::{Brand, PhantomData};
 
 /// The bytes of a text that are left.
 #[derive(Drop)]
-struct Bytes<'a> {
-    text: &'a [u8],
-    at: usize,
+pub(crate) struct Bytes<'a> {
+    pub text: &'a [u8],
+    pub at: usize,
 }
 
 /// The digit that a byte spells, if it is at most this one.
@@ -192,11 +193,11 @@ impl<'a> Bytes<'a> {
         Some(Some(choice))
     }
 
-    fn certificate(&mut self, alloc: Global) -> Option<Certificate>
+    /// Takes what stands behind the collisions, and adds these collisions.
+    pub(crate) fn rest(&mut self, alloc: Global, collisions: Vec<Collision>) -> Option<Certificate>
+        requires { list_all is_collision_in_range collisions.items ≡ true }
         ensures { IfSome result (λ c. (is_version c.version ≡ true) × (is_in_range c ≡ true)) }
     {
-        self.pass_all(b"{\"collisions\":[")?;
-        let collisions = self.collisions(alloc)?;
         self.pass_all(b",\"limit\":")?;
         let limit = digit(self.next(), 9)?;
         self.pass_all(b",\"number\":")?;
@@ -219,10 +220,18 @@ impl<'a> Bytes<'a> {
             collisions,
         })
     }
+
+    fn certificate(&mut self, alloc: Global) -> Option<Certificate>
+        ensures { IfSome result (λ c. (is_version c.version ≡ true) × (is_in_range c ≡ true)) }
+    {
+        self.pass_all(b"{\"collisions\":[")?;
+        let collisions = self.collisions(alloc)?;
+        self.rest(alloc, collisions)
+    }
 }
 
 /// A text without the line feed at its end, if it has one.
-fn without_line_feed(bytes: &[u8]) -> &[u8]
+pub(crate) fn without_line_feed(bytes: &[u8]) -> &[u8]
     ensures { (bytes.now ≡ result.now) ⊎ (bytes.now ≡ result.now ++ line_feed) }
 {
     match bytes.split_last() {
@@ -233,7 +242,7 @@ fn without_line_feed(bytes: &[u8]) -> &[u8]
 
 /// The bytes with which a text is compared. The type of the comparison has them, since code that
 /// pushes to a sink says nothing of its fields.
-trait Original {
+pub(crate) trait Original {
     ghost use Rattle.std.specs.Prelude.{ℕ, List};
 
     ghost bytes: { List ℕ };
@@ -313,6 +322,24 @@ fn is_text_of<O: Original>(alloc: Global, certificate: &Certificate, bytes: &[u8
     };
     push_certificate(alloc, &mut comparison, certificate).is_ok()
         && comparison.agreed == bytes.len()
+}
+
+/// Whether this is the text of the certificate behind its collisions. The answer can be no for want
+/// of memory, if the name has something to escape.
+pub(crate) fn is_rest_of<O: Original>(
+    alloc: Global,
+    certificate: &Certificate,
+    bytes: &[u8],
+) -> bool
+    requires { bytes.now ≡ O.bytes }
+    ensures { IsTrue result → bytes.now ≡ members_text true (other_members certificate.now) }
+{
+    let mut comparison = Comparison::<O> {
+        bytes,
+        agreed: 0,
+        original: PhantomData,
+    };
+    push_rest(alloc, &mut comparison, certificate).is_ok() && comparison.agreed == bytes.len()
 }
 
 /// The certificate of this text, which can have a line feed at its end; none if the guess is wrong.

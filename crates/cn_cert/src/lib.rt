@@ -1,7 +1,8 @@
 //! Certificates: the finding of a search with the name of its type, as a value and as a JSON text.
 //!
 //! [`Certificate::of_finding`] makes a certificate, [`write_certificate`] gives its one text, and
-//! [`read_certificate`] reads it back. A [`CertFault`] says what is wrong with a text.
+//! [`read_certificate`] reads it back. A [`CertFault`] says what is wrong with a text. [`find_text`]
+//! looks for the number of a type and writes the text of its certificate meanwhile.
 //!
 //! ```text
 //! let finding = find(rt, alloc, &table, 3)?;
@@ -17,7 +18,10 @@ mod array;
 mod certificate;
 mod document;
 mod draft;
+mod entries;
 mod fault;
+mod found;
+mod frame;
 mod guess;
 mod kind;
 pub mod laws;
@@ -31,5 +35,7 @@ mod write;
 
 pub use certificate::Certificate;
 pub use fault::CertFault;
+pub use found::find_text;
+pub use frame::{Frame, read_frame};
 pub use read::read_certificate;
 pub use write::write_certificate;

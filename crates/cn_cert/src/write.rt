@@ -85,7 +85,7 @@ fn push_witness<S: Sink>(out: &mut S, witness: &Option<Choice>) -> Result<(), S:
     }
 }
 
-fn push_collision<S: Sink>(out: &mut S, collision: &Collision) -> Result<(), S::Error>
+pub(crate) fn push_collision<S: Sink>(out: &mut S, collision: &Collision) -> Result<(), S::Error>
     ensures { OnOk result (S.text out.new
         ≡ S.text out.old ++ compact_text (collision_data collision.now)) }
 {
@@ -139,7 +139,11 @@ fn push_name<S: Sink>(alloc: Global, out: &mut S, name: &str) -> Result<(), S::E
 }
 
 /// Writes the members behind the collisions, and the end of the object.
-fn push_rest<S: Sink>(alloc: Global, out: &mut S, certificate: &Certificate) -> Result<(), S::Error>
+pub(crate) fn push_rest<S: Sink>(
+    alloc: Global,
+    out: &mut S,
+    certificate: &Certificate,
+) -> Result<(), S::Error>
     ensures { OnOk result (S.text out.new
         ≡ S.text out.old ++ members_text true (other_members certificate.now)) }
 {

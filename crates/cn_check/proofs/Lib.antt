@@ -1,5 +1,9 @@
 pub mod CollisionLemmas
 pub mod EntryLemmas
+pub mod EntryTextLemmas
+pub mod PassLemmas
+pub mod PieceLemmas
+pub mod ShownLemmas
 pub mod FaultLemmas
 pub mod RefutationLemmas
 pub mod OutcomeSetLemmas

@@ -2,7 +2,7 @@
 use Rattle.std.proofs.Common.{◌≡◌, ℕ, zero, suc, ◌+◌, ◌-◌, ◌<◌, ◌≤◌, List, [], ◌∷◌, ◌++◌, length, length-append, length-drop, length-take-le, append-nil, get_or, set, take, drop, drop-cons, refl, sym, ap, ◌∙◌, arith, replicate, All}
 use Rattle.std.specs.List.{AllByRecursion, refill}
 use Rattle.std.proofs.lemmas.Bool.{lt-ltb}
-use Rattle.std.proofs.lemmas.List.{drop_all, length-replicate, set-append_right, take-append-drop, take_all}
+use Rattle.std.proofs.lemmas.List.{drop_all, length-replicate, set-append_right, take-append-drop, take-append-le, take_all}
 use Rattle.std.proofs.lemmas.List.Edits.{fill_more}
 use Rattle.std.proofs.lemmas.List.Elements.{All-from_recursion, recursion_from_All}
 use Rattle.cn_choice.specs.Canonical.{second_lists}
@@ -62,6 +62,12 @@ raise_more xs ys place later value l inside e =
     ap (λ (zs : List ℕ). set zs later value) e
     ∙ (set-append_right (take place xs) (replicate (later - place) value ++ drop (later - place) (drop place xs)) place later value front l
     ∙ ap (λ (zs : List ℕ). take place xs ++ zs) (more ∙ ap (λ (k : ℕ). replicate k value ++ drop k (drop place xs)) next))
+
+-- the front of a list stays, whatever comes behind it
+pub taken_twice : (place : ℕ) (xs behind : List ℕ) → place ≤ length xs → take place (take place xs ++ behind) ≡ take place xs
+taken_twice place xs behind fits =
+    let front : length (take place xs) ≡ place = length-take-le place xs fits in
+    take-append-le place (take place xs) behind (omega (arith, front)) ∙ take_all place (take place xs) (omega (arith, front))
 
 -- a list that is written over with one of its length is that one
 pub written_over : (xs ys : List ℕ) → length ys ≡ length xs → refill (length xs) xs ys ≡ ys

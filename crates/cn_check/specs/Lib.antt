@@ -1,6 +1,7 @@
 pub mod Conditions
 pub mod Faults
 pub mod FaultText
+pub mod EntryTexts
 pub mod EvidenceFaults
 pub mod Refutations
 pub mod Runs

@@ -15,11 +15,15 @@
 //! ```
 #![tactic(auto)]
 
+mod acceptance;
 mod choice;
 mod end_sets;
+mod entry;
 mod fault;
 pub mod laws;
+mod one_pass;
 mod pairs;
+mod pieces;
 mod refutation;
 mod sets;
 mod shown_pairs;
@@ -27,5 +31,6 @@ mod steps;
 mod verdict;
 mod witness;
 
+pub use acceptance::accepts;
 pub use fault::CheckFault;
 pub use verdict::check;

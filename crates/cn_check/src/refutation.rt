@@ -27,7 +27,7 @@ fn are_one_pair(alpha: Option<(u8, u8)>, beta: Option<(u8, u8)>) -> bool
 }
 
 /// Whether the entry's process and lists are a collision of its choice.
-fn holds_collision(table: &Table, entry: &Collision) -> bool
+pub(crate) fn holds_collision(table: &Table, entry: &Collision) -> bool
     requires { FitsTable table.now entry.now.choice }
     ensures { IsTrue result ↔ HoldsCollision table.now entry.now }
 {
@@ -93,7 +93,7 @@ fn all_move(table: &Table, state: State, operations: &[u8]) -> bool
 
 /// Whether the operations count in the version: in version 1 always, in version 2 if they all lead
 /// away from the state.
-fn all_count(table: &Table, version: u8, state: State, operations: &[u8]) -> bool
+pub(crate) fn all_count(table: &Table, version: u8, state: State, operations: &[u8]) -> bool
     requires state { state.0 < length table.now.states }
     requires known { All (λ operation. operation < length table.now.operations) operations.now }
     ensures { result ≡ all_count version table.now state.0 operations.now }

@@ -24,7 +24,7 @@ use cn_choice::{Choice, Collision};
 use cn_table::Table;
 
 /// Whether the certificate is for a type of the table's name.
-fn is_of_type(certificate: &Certificate, table: &Table) -> bool
+pub(crate) fn is_of_type(certificate: &Certificate, table: &Table) -> bool
     ensures { IsTrue result ↔ (certificate.now.type_name ≡ table.now.name) }
 {
     certificate.type_name.as_str() == table.name()
@@ -43,7 +43,7 @@ fn greatest_limit(version: u8) -> u8
 
 /// Whether the limit is from 2 to the greatest limit of the version, and the number, if there is
 /// one, from 2 to the limit.
-fn is_in_range(version: u8, limit: u8, number: Option<u8>) -> bool
+pub(crate) fn is_in_range(version: u8, limit: u8, number: Option<u8>) -> bool
     ensures { IsTrue result ↔ IsInRange version limit number }
 {
     let limit_is = 2 <= limit && limit <= greatest_limit(version);
@@ -55,7 +55,7 @@ fn is_in_range(version: u8, limit: u8, number: Option<u8>) -> bool
 
 /// Checks that the witness is one of the table for the number, and that there is none without a
 /// number. The witness need not be canonical.
-fn check_witness(
+pub(crate) fn check_witness(
     table: &Table,
     number: Option<u8>,
     witness: &Option<Choice>,

@@ -1,5 +1,5 @@
 -- The recoverable number with no limit, from the one up to a bound above which the type is not discerning.
-use Rattle.std.proofs.Common.{◌≡◌, ◌↔◌, Result, Ok, Err, IfOk, ℕ, ◌<◌, ◌≤◌, ◌⊎◌, inl, inr, length, Option, Some, None, arith, subst}
+use Rattle.std.proofs.Common.{◌≡◌, ◌↔◌, Result, Ok, Err, IfOk, ℕ, ◌<◌, ◌≤◌, ◌⊎◌, inl, inr, length, Option, Some, None, arith}
 use Rattle.std.proofs.lemmas.Bool.{cases_order}
 use Rattle.cn_table.specs.TypeTable.{TypeTable}
 use Rattle.cn_choice.specs.Discerning.{IsDiscerning}

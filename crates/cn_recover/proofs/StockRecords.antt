@@ -1,5 +1,5 @@
 -- The operations of a recording witness record, and a stock that records is that of a recording witness.
-use Rattle.std.proofs.Common.{◌≡◌, ◌≢◌, ℕ, ◌<◌, ◌≤◌, List, [], ◌∷◌, ◌++◌, length, map, refl, sym, ap, ◌∙◌, subst, arith, Some, Bool, true, false}
+use Rattle.std.proofs.Common.{◌≡◌, ℕ, ◌<◌, List, [], ◌∷◌, ◌++◌, length, refl, sym, ap, ◌∙◌, subst, arith, Some, Bool, true, false}
 use Rattle.std.specs.Prelude.{slice_index, slice_get}
 use Rattle.std.proofs.lemmas.List.{map-append}
 use Rattle.std.proofs.lemmas.Option.{same_Some}
@@ -14,7 +14,7 @@ use Rattle.cn_choice.proofs.EarlyLists.{known_two}
 use Rattle.cn_choice.proofs.LastMoves.{order_from}
 use Rattle.cn_choice.proofs.Listing.{differ_from}
 use Rattle.cn_outcomes.specs.LeftStates.{LeavesIn}
-use Rattle.cn_stocks.specs.Words.{EndsIn, IsKnown, IsWithin, times}
+use Rattle.cn_stocks.specs.Words.{EndsIn, IsWithin}
 use Rattle.cn_stocks.proofs.Times.{place_in, times_at}
 use Rattle.cn_stocks.proofs.WordOrders.{order_for, order_within}
 use Rattle.cn_stocks.proofs.Teams.{choice_of, chosen_a, chosen_b, in_a, is_choice, operations_known, some_in_a, some_in_b, team_a, team_at, team_b, team_of}

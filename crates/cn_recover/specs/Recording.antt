@@ -1,9 +1,8 @@
 -- Recording witnesses, of which the state alone tells for good which team moved first, and the numbers of processes for which a type has one.
-use Rattle.std.specs.Prelude.{◌≡◌, ◌≢◌, ℕ, ◌<◌, ◌≤◌, length, slice_get, Option, Some, None, List, ⊤}
+use Rattle.std.specs.Prelude.{◌≡◌, ◌≢◌, ℕ, ◌<◌, ◌≤◌, length, slice_get, Option, Some, None, ⊤}
 use Rattle.cn_table.specs.TypeTable.{TypeTable}
 use Rattle.cn_choice.specs.declared.team.Team.{Team}
 use Rattle.cn_choice.specs.declared.team.Team.TheVariants.{A, B}
-use Rattle.cn_choice.specs.Canonical.{Choice, raw_choice_of}
 use Rattle.cn_choice.specs.RawChoices.{RawChoice, IsRawChoice}
 use Rattle.cn_outcomes.specs.LeftStates.{LeavesIn}
 use Rattle.cn_search.specs.Numbers.{IsNumberOf}

@@ -19,5 +19,5 @@ pub mod laws;
 mod number;
 mod witness;
 
-pub use number::{recoverable_consensus_number, recoverable_number};
+pub use number::{BothNumbers, both_numbers, recoverable_consensus_number, recoverable_number};
 pub use witness::is_recording_witness;

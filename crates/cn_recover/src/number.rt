@@ -3,6 +3,7 @@ ghost use Rattle.std.specs.Prelude.{◌≡◌, ◌<◌, ◌≤◌, ◌⊎◌, �
 ghost use Rattle.cn_choice.specs.Discerning.{IsDiscerning};
 ghost use Rattle.cn_stocks.specs.declared.limits.TheConstants.{MOST_SIZE};
 ghost use Rattle.cn_search.specs.Faults.{number_fault};
+ghost use Rattle.cn_search.specs.Numbers.{HasNumber};
 ghost use Rattle.cn_search.specs.declared.limits.TheConstants.{LEAST_LIMIT};
 ghost use Rattle.cn_search.specs.declared.fault.FindFault.{FindFault};
 ghost use Rattle.cn_search.specs.declared.fault.FindFault.TheVariants.{OutOfMemory};
@@ -136,12 +137,62 @@ fn number_below<T: Threads + Sync>(
     Ok(without_limit(table, bound, found))
 }
 
-/// The recoverable number of a type with no limit, by the n for which it is n-recording: `Infinite`
-/// where it is for every n, and else the greatest such n, or 1.
+/// The number and the recoverable number of a type, with no limit.
+#[derive(Clone, Copy, Debug, PartialEq, Eq)]
+pub struct BothNumbers {
+    /// The consensus number.
+    pub number: ConsensusNumber,
+    /// The recoverable number. It is never told as `Between` two numbers.
+    pub recoverable: ConsensusNumber,
+}
+
+/// The recoverable number of a type with this consensus number.
+fn recoverable_of<T: Threads + Sync>(
+    rt: &T,
+    alloc: Global,
+    table: &Table,
+    number: ConsensusNumber,
+) -> Result<ConsensusNumber, AllocError>
+    requires { HasNumber table.now number }
+    ensures number { IfOk result (HasRecoverableNumber table.now) }
+    ensures exact { IfOk result IsExact }
+{
+    laws::no_greatest_together();
+    match number {
+        ConsensusNumber::Infinite => Ok(ConsensusNumber::Infinite),
+        ConsensusNumber::Finite(n) => number_below(rt, alloc, table, n),
+        ConsensusNumber::Between(_, most) => number_below(rt, alloc, table, most),
+    }
+}
+
+/// The consensus number of a type ([`consensus_number`]) and its recoverable number, by the n for
+/// which it is n-recording: `Infinite` where it is for every n, and else the greatest such n, or 1.
 ///
-/// It is infinite exactly where the consensus number is
+/// The recoverable number is infinite exactly where the consensus number is
 /// ([`no_greatest_together`](crate::laws::no_greatest_together)), and at most the consensus number. It
 /// is never told as `Between` two numbers.
+///
+/// # Errors
+///
+/// `AllocError` where memory is too little for one thread.
+pub fn both_numbers<T: Threads + Sync>(
+    rt: &T,
+    alloc: Global,
+    table: &Table,
+) -> Result<BothNumbers, AllocError>
+    ensures number { IfOk result (λ both. HasNumber table.now both.number) }
+    ensures recoverable { IfOk result (λ both. HasRecoverableNumber table.now both.recoverable) }
+    ensures exact { IfOk result (λ both. IsExact both.recoverable) }
+{
+    let number = consensus_number(rt, alloc, table)?;
+    let recoverable = recoverable_of(rt, alloc, table, number)?;
+    Ok(BothNumbers {
+        number,
+        recoverable,
+    })
+}
+
+/// The recoverable number of a type with no limit, as [`both_numbers`] tells it.
 ///
 /// # Errors
 ///
@@ -154,11 +205,6 @@ pub fn recoverable_consensus_number<T: Threads + Sync>(
     ensures number { IfOk result (HasRecoverableNumber table.now) }
     ensures exact { IfOk result IsExact }
 {
-    laws::no_greatest_together();
-    let number = consensus_number(rt, alloc, table)?;
-    match number {
-        ConsensusNumber::Infinite => Ok(ConsensusNumber::Infinite),
-        ConsensusNumber::Finite(n) => number_below(rt, alloc, table, n),
-        ConsensusNumber::Between(_, most) => number_below(rt, alloc, table, most),
-    }
+    let both = both_numbers(rt, alloc, table)?;
+    Ok(both.recoverable)
 }

@@ -16,7 +16,7 @@ use Rattle.cn_search.specs.declared.fault.FindFault.TheVariants.{BadLimit}
 use Rattle.cn_app.specs.Commands.Classify.{AreWordsFor, given_limit_fault, number_words}
 use Rattle.cn_app.specs.ConsensusNumber.{IsBelow, IsNumberText, TellsNumber, TextAtLeast}
 use Rattle.cn_app.specs.ConsensusNumber.{TextExactly, TextInfinite, TextRange, WordsTell}
-use Rattle.cn_app.specs.ConsensusNumber.{at_least, infinite, range, told}
+use Rattle.cn_app.specs.ConsensusNumber.{range, told}
 use Rattle.cn_app.specs.FaultText.{plain_of}
 use Rattle.cn_app.specs.Texts.Contents.{table_in}
 use Rattle.cn_app.specs.declared.fault.AppFault.{AppFault}

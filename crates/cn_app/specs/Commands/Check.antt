@@ -2,7 +2,7 @@
 use Rattle.std.specs.Prelude.{◌≡◌, codes, Result, Ok, Err, string_bytes}
 use Rattle.cn_choice.specs.Discerning.{IsNumberUpTo}
 use Rattle.cn_app.specs.Steps.{Then}
-use Rattle.cn_app.specs.Texts.Checked.{GivesChecked}
+use Rattle.cn_app.specs.Texts.Checked.{GivesChecked, IsChecked}
 use Rattle.cn_app.specs.declared.readers.checked.Checked.{Checked}
 use Rattle.cn_app.specs.declared.report.Outcome.TheVariants.{Whole}
 use Rattle.cn_app.specs.declared.report.Report.{Report}
@@ -18,6 +18,10 @@ HasItsNumber checked = IsNumberUpTo checked.table checked.certificate.limit chec
 abbrev pub IsCheckReport : Checked → Result Report AppFault → Type 0
 IsCheckReport checked (Ok report) = HasItsNumber checked × (string_bytes report.text ≡ codes "ok\n") × (report.outcome ≡ Whole)
 IsCheckReport checked (Err e) = e ≡ OutOfMemory
+
+-- the same report on every accepted certificate
+abbrev pub IsOkReport : Result Report AppFault → Type 0
+IsOkReport r = (checked : Checked) → IsChecked checked → IsCheckReport checked r
 
 -- the result of `check` for two texts
 abbrev pub HasCheckReport : {R C : Type 0} → Text R → Text C → Result Report AppFault → Type 0

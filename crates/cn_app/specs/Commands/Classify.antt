@@ -15,6 +15,7 @@ use Rattle.cn_app.specs.Texts.Contents.{GivesTable}
 use Rattle.cn_app.specs.declared.report.Outcome.TheVariants.{Whole}
 use Rattle.cn_app.specs.declared.report.Report.{Report}
 use Rattle.cn_app.specs.declared.reports.classify.AskedNumbers.{AskedNumbers}
+use Rattle.cn_app.specs.declared.reports.classify.BothWords.{BothWords}
 use Rattle.cn_app.specs.declared.streams.text.Text.{Text}
 use Rattle.cn_app.specs.declared.fault.AppFault.{AppFault}
 use Rattle.cn_app.specs.declared.fault.AppFault.TheVariants.{Find, OutOfMemory}
@@ -41,6 +42,11 @@ AreNumberWords t limit words = AreWordsFor (HasNumber t) (IsNumberUpTo t) limit 
 -- the words of its recoverable number
 abbrev pub AreRecoverableWords : TypeTable → Option ℕ → List ℕ → Type 0
 AreRecoverableWords t limit words = AreWordsFor (HasRecoverableNumber t) (IsRecoverableNumberUpTo t) limit words
+
+-- the words of both
+pub record AreBothWords (t : TypeTable) (limit : Option ℕ) (both : BothWords) : Type 0 where
+  pub number : AreNumberWords t limit (string_bytes both.number)
+  pub recoverable : AreRecoverableWords t limit (string_bytes both.recoverable)
 
 -- the line of a type of this name with this number in words
 abbrev pub line_with : List ℕ → List ℕ → List ℕ

@@ -2,6 +2,7 @@
 use Rattle.std.specs.Prelude.{ℕ, List, Option, Result, Ok, Err, ◌≡◌, ◌⊎◌}
 use Rattle.cn_table.specs.TypeTable.{TypeTable}
 use Rattle.cn_cert.specs.Certificate.{Certificate}
+use Rattle.cn_cert.specs.Reading.{reading}
 use Rattle.cn_check.specs.Verdict.{IsAccepted}
 use Rattle.cn_check.specs.Faults.{IsFirstFault}
 use Rattle.cn_check.specs.declared.fault.CheckFault.{CheckFault}
@@ -22,6 +23,15 @@ IsChecked checked = IsAccepted checked.table checked.certificate
 abbrev pub GivesCheck : TypeTable → Certificate → Result Checked AppFault → Type 0
 GivesCheck t c (Ok checked) = IsAccepted t c × (checked.table ≡ t) × (checked.certificate ≡ c)
 GivesCheck t c (Err e) = (fault : CheckFault) × IsFirstFault t c fault × (e ≡ Check fault)
+
+-- the bytes spell a certificate that the check accepts for the table
+abbrev pub SpellAcceptedCertificate : TypeTable → List ℕ → Type 0
+SpellAcceptedCertificate t bytes = (c : Certificate) × (reading bytes ≡ Ok c) × IsAccepted t c
+
+-- the result of reading a certificate and checking it against a table, where the certificate is not kept: the check accepts it; or this is the first fault
+abbrev pub EndsCheck : {C : Type 0} → TypeTable → Text C → Result Unit AppFault → Type 0
+EndsCheck t certificate (Ok done) = (c : Certificate) × GivesCertificate certificate (Ok c) × IsAccepted t c
+EndsCheck t certificate (Err e) = Then (GivesCertificate certificate) (λ c. GivesCheck t c) (Err e)
 
 -- a table is read, then a certificate, and then the certificate is checked against the table
 abbrev pub GivesChecked : {R C : Type 0} → Text R → Text C → Result Checked AppFault → Type 0

@@ -12,9 +12,12 @@ ghost use Rattle.cn_app.specs.Streams.Writing.{IsWritable, Reports};
 use crate::arguments::list_text::ListText;
 use crate::arguments::lists::read_run_lists;
 use crate::fault::AppFault;
+use crate::readers::accepted::check_certificate;
 use crate::readers::checked::read_checked;
+use crate::readers::table::read_table;
 use crate::report::Outcome;
-use crate::reports::{agree_report, check_report, explain_report, show_report};
+use crate::reports::check::ok_report;
+use crate::reports::{agree_report, explain_report, show_report};
 use crate::streams::output::Output;
 use crate::streams::text::Text;
 use cn_forms::Form;
@@ -42,8 +45,9 @@ pub fn check<R: Read, C: Read, W: Write>(
     ensures checked { Reports W.contents (HasCheckReport table.new certificate.new)
         output.old output.new result }
 {
-    let checked = read_checked(alloc, table, certificate)?;
-    output.report(check_report(alloc, &checked))
+    let table = read_table(alloc, table)?;
+    check_certificate(alloc, &table, certificate)?;
+    output.report(ok_report(alloc))
 }
 
 /// Reads a type table and a certificate, checks the certificate against the table, and writes an

@@ -1,6 +1,6 @@
 //! The texts that commands read, each whole and up to its limit.
 ghost use Rattle.cn_app.specs.Texts.Contents.{GivesCertificate, GivesObject, GivesTable};
-ghost use Rattle.cn_app.specs.Streams.Reading.{HasRead, IsUnread};
+ghost use Rattle.cn_app.specs.Streams.Reading.{HasRead, IsUnread, IsWhole};
 
 use crate::fault::{AppFault, Source};
 use crate::streams::text::Text;
@@ -24,6 +24,18 @@ pub fn read_table<R: Read>(alloc: Global, text: &mut Text<R>) -> Result<Table, A
     Ok(cn_table::read_table(alloc, &text.bytes)?)
 }
 
+/// The certificate that a whole text spells. It is not checked.
+///
+/// # Errors
+///
+/// The text is refused, or `OutOfMemory`.
+pub(crate) fn spelled_certificate<R>(alloc: Global, text: &Text<R>) -> Result<Certificate, AppFault>
+    requires { IsWhole Source.Certificate text.now }
+    ensures { GivesCertificate text.now result }
+{
+    Ok(cn_cert::read_certificate(alloc, &text.bytes)?)
+}
+
 /// Reads a certificate: at most [`MOST_CERTIFICATE_BYTES`](crate::MOST_CERTIFICATE_BYTES). It is
 /// not checked.
 ///
@@ -37,7 +49,7 @@ pub fn read_certificate<R: Read>(alloc: Global, text: &mut Text<R>) -> Result<Ce
     ensures certificate { GivesCertificate text.new result }
 {
     text.fill(Source::Certificate)?;
-    Ok(cn_cert::read_certificate(alloc, &text.bytes)?)
+    spelled_certificate(alloc, text)
 }
 
 /// Reads the table of an object: at most [`MOST_TABLE_BYTES`](crate::MOST_TABLE_BYTES).

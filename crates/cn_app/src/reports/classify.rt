@@ -1,12 +1,12 @@
 //! The report of `classify`.
-ghost use Rattle.std.specs.Prelude.{◌≡◌, IfErr, IfOk, None, string_bytes};
+ghost use Rattle.std.specs.Prelude.{◌≡◌, IfErr, IfOk, None, Some, string_bytes};
 ghost use Rattle.cn_search.specs.NumberText.{number_text};
 ghost use Rattle.cn_search.specs.declared.fault.FindFault.TheVariants.{OutOfMemory};
-ghost use Rattle.cn_app.specs.Commands.Classify.{AreNumberWords, AreRecoverableWords, GivesLimit, IsClassReport, IsNumbersReport, IsRecoverableReport, given_limit_fault, line_with, line_with_both, number_words};
+ghost use Rattle.cn_app.specs.Commands.Classify.{AreBothWords, AreNumberWords, GivesLimit, IsClassReport, IsNumbersReport, IsRecoverableReport, given_limit_fault, line_with, line_with_both, number_words};
 
 use crate::fault::AppFault;
 use crate::report::Report;
-use cn_recover::{recoverable_consensus_number, recoverable_number};
+use cn_recover::{both_numbers, recoverable_number};
 use cn_search::{ConsensusNumber, FindFault, consensus_number, number};
 use cn_table::Table;
 use std::alloc::{AllocError, Global};
@@ -56,26 +56,61 @@ fn number_words<T: Threads + Sync>(
     }
 }
 
-/// The recoverable number of the table, as it stands in a line.
-fn recoverable_words<T: Threads + Sync>(
+/// The number and the recoverable number of a table, as they stand in a line.
+#[derive(Drop)]
+struct BothWords {
+    number: String,
+    recoverable: String,
+}
+
+/// Both numbers of the table with no limit, which are looked for together.
+fn exact_words_of_both<T: Threads + Sync>(
+    rt: &T,
+    alloc: Global,
+    table: &Table,
+) -> Result<BothWords, AllocError>
+    ensures { IfOk result (AreBothWords table.now None) }
+{
+    let both = both_numbers(rt, alloc, table)?;
+    Ok(BothWords {
+        number: exact_words_of(alloc, both.number)?,
+        recoverable: exact_words_of(alloc, both.recoverable)?,
+    })
+}
+
+/// Both numbers of the table up to the limit.
+fn words_of_both<T: Threads + Sync>(
+    rt: &T,
+    alloc: Global,
+    table: &Table,
+    limit: u8,
+) -> Result<BothWords, FindFault>
+    requires { given_limit_fault (Some limit) ≡ None }
+    ensures words { IfOk result (AreBothWords table.now (Some limit)) }
+    ensures refused { IfErr result (λ e. e ≡ OutOfMemory) }
+{
+    let number = number(rt, alloc, table, limit)?;
+    let recoverable = recoverable_number(rt, alloc, table, limit)?;
+    Ok(BothWords {
+        number: words_of(alloc, limit, number)?,
+        recoverable: words_of(alloc, limit, recoverable)?,
+    })
+}
+
+/// Both numbers of the table.
+fn both_words<T: Threads + Sync>(
     rt: &T,
     alloc: Global,
     table: &Table,
     limit: Option<u8>,
-) -> Result<String, FindFault>
+) -> Result<BothWords, FindFault>
     requires { given_limit_fault limit ≡ None }
-    ensures words { IfOk result (λ words. AreRecoverableWords table.now limit (string_bytes words)) }
+    ensures words { IfOk result (AreBothWords table.now limit) }
     ensures refused { IfErr result (λ e. e ≡ OutOfMemory) }
 {
     match limit {
-        None => {
-            let number = recoverable_consensus_number(rt, alloc, table)?;
-            Ok(exact_words_of(alloc, number)?)
-        }
-        Some(limit) => {
-            let number = recoverable_number(rt, alloc, table, limit)?;
-            Ok(words_of(alloc, limit, number)?)
-        }
+        None => Ok(exact_words_of_both(rt, alloc, table)?),
+        Some(limit) => words_of_both(rt, alloc, table, limit),
     }
 }
 
@@ -143,7 +178,7 @@ fn recoverable_line_of(
 
 /// The line of [`class_report`], with a comma, the word recoverable and the recoverable number
 /// behind the number, written as the number is: the greatest n for which the type is n-recording
-/// ([`recoverable_consensus_number`]).
+/// ([`both_numbers`]).
 ///
 /// # Errors
 ///
@@ -157,9 +192,9 @@ pub fn recoverable_report<T: Threads + Sync>(
     requires { given_limit_fault limit ≡ None }
     ensures { IsRecoverableReport table.now limit result }
 {
-    let number = number_words(rt, alloc, table, limit)?;
-    let recoverable = recoverable_words(rt, alloc, table, limit)?;
-    let line = recoverable_line_of(alloc, table.name(), number.as_str(), recoverable.as_str())?;
+    let words = both_words(rt, alloc, table, limit)?;
+    let (number, recoverable) = (words.number.as_str(), words.recoverable.as_str());
+    let line = recoverable_line_of(alloc, table.name(), number, recoverable)?;
     Ok(Report::whole(line))
 }
 

@@ -3,7 +3,7 @@ ghost use Rattle.cn_app.specs.Commands.Find.{GivesFound, IsFindReport, IsLimitFo
 
 use crate::fault::AppFault;
 use crate::report::Report;
-use cn_cert::{Certificate, write_certificate};
+use cn_cert::{Certificate, find_text};
 use cn_search::greatest_limit;
 use cn_table::Table;
 use std::alloc::Global;
@@ -38,11 +38,11 @@ pub(crate) fn found_certificate<T: Threads + Sync>(
 /// The certificate of the table's consensus number up to the limit, and a line feed.
 ///
 /// The number is the greatest n from 2 to the limit for which the type is n-discerning. `rt` starts
-/// the threads of the search.
+/// the threads of the search, which write the certificate as they find it ([`find_text`]).
 ///
 /// # Errors
 ///
-/// [`cn_search::find`] refuses the limit. Want of memory can stand in place of any answer.
+/// [`find_text`] refuses the limit. Want of memory can stand in place of any answer.
 pub fn find_report<T: Threads + Sync>(
     rt: &T,
     alloc: Global,
@@ -51,8 +51,7 @@ pub fn find_report<T: Threads + Sync>(
 ) -> Result<Report, AppFault>
     ensures { IsFindReport table.now limit result }
 {
-    let certificate = found_certificate(rt, alloc, table, limit)?;
-    let mut text = write_certificate(alloc, &certificate)?;
+    let mut text = find_text(rt, alloc, table, limit)?;
     text.push_str("\n")?;
     Ok(Report::whole(text))
 }

@@ -1,5 +1,5 @@
 use Rattle.std.proofs.Common.{◌≡◌, ◌+◌, ◌≤◌, drop, All}
-use Rattle.cn_check.proofs.steps.step.Given as goal
+use Rattle.cn_check.proofs.steps.step_from.Given as goal
 
 -- the list is as it was, and its numbers from the place on cannot grow
 abbrev pub invariant-loop-place : goal.invariant-loop-place

@@ -1,0 +1,101 @@
+//! The certificate of a type as a text, written while it is looked for.
+ghost use Rattle.std.specs.Prelude.{◌≡◌, ◌⊎◌, List, [], length, string_bytes, Err, IfErr, IfOk, None, OnOk, Some};
+ghost use Rattle.cn_choice.specs.Collisions.{Collision as CollisionOf};
+ghost use Rattle.cn_search.specs.Evidence.{IsFindingFor};
+ghost use Rattle.cn_search.specs.Faults.{find_fault};
+ghost use Rattle.cn_search.specs.Finding.{Finding as FindingOf};
+ghost use Rattle.cn_search.specs.Kept.{finding_of};
+ghost use Rattle.cn_search.specs.declared.fault.FindFault.{FindFault};
+ghost use Rattle.cn_search.specs.declared.fault.FindFault.TheVariants.{OutOfMemory};
+ghost use Rattle.cn_cert.specs.Certificate.{certificate_of};
+ghost use Rattle.cn_cert.specs.CertificateText.{certificate_text};
+ghost use Rattle.cn_cert.specs.Entries.{listed_text};
+ghost use Rattle.cn_cert.specs.Frames.{AreEntries};
+
+use crate::certificate::Certificate;
+use crate::entries::EntriesText;
+use crate::sink::Sink;
+use crate::write::push_rest;
+use cn_search::{FindFault, Finding, Outline, find_evidence};
+use cn_table::Table;
+use std::alloc::{AllocError, Global};
+use std::thread::Threads;
+
+/// The text of an array of entries without its brackets.
+fn array_body(entries: EntriesText) -> String
+    ensures { (kept : List CollisionOf) → string_bytes entries.text ≡ listed_text kept
+        → AreEntries (string_bytes result) kept }
+{
+    let mut body = entries.text;
+    let _comma = body.pop();
+    body
+}
+
+/// The certificate but for its entries.
+fn frame_of(alloc: Global, table: &Table, outline: Outline) -> Result<Certificate, AllocError>
+    ensures { IfOk result (λ c. c ≡ certificate_of table.now.name (finding_of outline [])) }
+{
+    let Outline {
+        limit,
+        number,
+        witness,
+    } = outline;
+    let finding = Finding {
+        limit,
+        number,
+        witness,
+        collisions: Vec::new(alloc),
+    };
+    match Certificate::of_finding(alloc, table, finding) {
+        Ok(certificate) => Ok(certificate),
+        Err(_) => Err(AllocError),
+    }
+}
+
+/// The text of the certificate with these entries.
+fn text_of(
+    alloc: Global,
+    table: &Table,
+    outline: Outline,
+    entries: EntriesText,
+) -> Result<String, AllocError>
+    ensures { (kept : List CollisionOf) → string_bytes entries.text ≡ listed_text kept
+        → IfOk result (λ text. string_bytes text
+        ≡ certificate_text (certificate_of table.now.name (finding_of outline kept))) }
+{
+    let frame = frame_of(alloc, table, outline)?;
+    let mut text = String::new(alloc);
+    Sink::push_str(&mut text, "{\"collisions\":[")?;
+    Sink::push_str(&mut text, array_body(entries).as_str())?;
+    Sink::push(&mut text, b']')?;
+    push_rest(alloc, &mut text, &frame)?;
+    Ok(text)
+}
+
+/// The text of the certificate of a type's number up to a limit, as
+/// [`write_certificate`](crate::write_certificate) writes it. The threads of the search write the
+/// entries as they find them, so that no entry is kept but as text.
+///
+/// # Errors
+///
+/// Those of [`find_evidence`].
+pub fn find_text<T: Threads + Sync>(
+    rt: &T,
+    alloc: Global,
+    table: &Table,
+    limit: u8,
+) -> Result<String, FindFault>
+    ensures text { IfOk result (λ text. (finding : FindingOf)
+        × IsFindingFor table.now limit finding
+        × (string_bytes text ≡ certificate_text (certificate_of table.now.name finding))) }
+    ensures searched { OnOk result (find_fault (length table.now.states)
+        (length table.now.operations) limit ≡ None) }
+    ensures told { (e : FindFault)
+        → find_fault (length table.now.states) (length table.now.operations) limit ≡ Some e
+        → result ≡ Err e }
+    ensures refused { IfErr result (λ e. (e ≡ OutOfMemory)
+        ⊎ (find_fault (length table.now.states) (length table.now.operations) limit ≡ Some e)) }
+{
+    let (outline, entries) = find_evidence::<T, EntriesText>(rt, alloc, table, limit)?;
+    Ok(text_of(alloc, table, outline, entries)?)
+}
