@@ -1,13 +1,14 @@
 -- The invariant of every event of the log.
-use Rattle.std.proofs.Common.{ℕ, ◌≡◌, ◌⊎◌, inl, inr, ◌+◌, ◌<◌, ◌≤◌, List, [], ◌∷◌, length, slice_get, Some, None, subst, arith}
+use Rattle.std.proofs.Common.{ℕ, ◌≡◌, ◌⊎◌, inl, inr, ◌+◌, ◌<◌, ◌≤◌, List, [], ◌∷◌, length, slice_get, Some, None, refl, subst, arith}
 use Rattle.cn_log.specs.declared.batch.Batch.{Batch}
 use Rattle.cn_log.specs.declared.entry.Entry.{Entry}
 use Rattle.cn_log.specs.declared.caller_state.Phase.{Phase}
 use Rattle.cn_log.specs.declared.caller_state.Phase.TheVariants.{Idle, Looks, Runs}
 use Rattle.cn_log.specs.Agreement.{RoundsAgree}
-use Rattle.cn_log.specs.Batches.{HoldsEntry, entry_at}
+use Rattle.cn_log.specs.Batches.{HoldsEntry, entry_at, no_entries}
 use Rattle.cn_log.specs.Callers.{IsUnseen}
 use Rattle.cn_log.specs.Log.{Setting, World, Note, Called, Replied, FoundFull, response_in}
+use Rattle.cn_log.proofs.BatchEntries.{HasPlaces, none_there}
 
 pub record IsNoted (note : Note) (notes : List Note) : Type 0 where
   pub place : ℕ
@@ -38,10 +39,19 @@ IsShaped b = (q : ℕ) (e : Entry) → entry_at b q ≡ Some e → e.process ≡
 
 -- a batch that a process gathers for its next slot: calls, none of them in a slot that the process has applied
 pub record IsGathered (seen : List Batch) (history : List Note) (batch : Batch) : Type 0 where
-  pub places : length batch.entries ≡ 8
+  pub places : HasPlaces batch
   pub shaped : IsShaped batch
   pub called : (e : Entry) → HoldsEntry batch e → IsCalled e history
   pub unseen : (e : Entry) → HoldsEntry batch e → IsUnseen seen e
+
+-- a process has gathered nothing when it begins to look
+pub none_gathered : (seen : List Batch) (history : List Note) → IsGathered seen history no_entries
+none_gathered seen history = record {
+  places = record { operations = refl; calls = refl };
+  shaped = λ i f at. absurd (none_there i f at);
+  called = λ f at. absurd (none_there f.process f at);
+  unseen = λ f at. absurd (none_there f.process f at);
+}
 
 pub record IsLooking {R : Type 0} (L : Setting R) (w : World R) (p : ℕ) (mine : Entry) (q : ℕ) (batch : Batch) : Type 0 where
   pub pending : IsPending L w p mine

@@ -12,9 +12,9 @@ use Rattle.cn_log.specs.declared.event.Event.{Event}
 use Rattle.cn_log.specs.declared.event.Event.TheVariants.{Invoke, Step}
 use Rattle.cn_log.specs.Agreement.{RoundsAgree}
 use Rattle.cn_log.proofs.ListLemmas.{put_same, put_other, there_is}
-use Rattle.cn_log.proofs.Invariant.{IsNoted, IsCalled, IsRuns, IsPending, IsLooking, PhaseHolds, Holds, HasGathered, fixed_begun, in_order, Facts, IsMine, IsSeen, Stands, StandsBy, IsReply}
+use Rattle.cn_log.proofs.Invariant.{none_gathered, IsNoted, IsCalled, IsRuns, IsPending, IsLooking, PhaseHolds, Holds, HasGathered, fixed_begun, in_order, Facts, IsMine, IsSeen, Stands, StandsBy, IsReply}
 use Rattle.cn_log.proofs.Looking.{keeps_look, look_facts}
-use Rattle.cn_log.proofs.Running.{keeps_run, run_facts, called_more, none_at}
+use Rattle.cn_log.proofs.Running.{keeps_run, run_facts, called_more}
 
 -- the slots before the first open one
 module _ {R : Type 0} (L : Setting R) (round : ℕ → R) where
@@ -104,7 +104,7 @@ module _ {R : Type 0} (L : Setting R) (Good : R → Type 0) (agrees : RoundsAgre
   looking_new = record {
     pending = pending_new;
     next = omega arith;
-    gathered = record { places = refl; shaped = λ i f at. absurd (none_at 8 i f at); called = λ f at. absurd (none_at 8 f.process f at); unseen = λ f at. absurd (none_at 8 f.process f at) };
+    gathered = none_gathered _ _;
   }
 
   pub keeps_invoke : Holds L Good w'

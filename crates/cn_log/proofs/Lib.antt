@@ -3,6 +3,7 @@ pub mod EventLists
 pub mod EntryLists
 pub mod EntryPositions
 pub mod OwnLemmas
+pub mod BatchEntries
 pub mod Invariant
 pub mod Bypassing
 pub mod Looking

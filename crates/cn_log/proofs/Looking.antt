@@ -1,5 +1,5 @@
 -- A look keeps the invariant.
-use Rattle.std.proofs.Common.{ℕ, ◌≡◌, ◌≢◌, ◌⊎◌, inl, inr, Bool, true, false, ◌+◌, ◌<◌, ◌≤◌, ◌==◌, List, length, slice_get, Option, Some, None, refl, sym, ap, ◌∙◌, subst, arith, if◌then◌else◌, length-set, get_or-set_same, get_or-set_other}
+use Rattle.std.proofs.Common.{ℕ, ◌≡◌, ◌≢◌, ◌⊎◌, inl, inr, Bool, true, false, ◌+◌, ◌<◌, ◌≤◌, ◌==◌, List, length, slice_get, Option, Some, None, refl, sym, ap, ◌∙◌, subst, arith, if◌then◌else◌}
 use Rattle.std.proofs.lemmas.Bool.{cases_eq}
 use Rattle.std.proofs.lemmas.Bool.Decides.{nat_tests}
 use Rattle.cn_log.specs.declared.batch.Batch.{Batch}
@@ -11,21 +11,9 @@ use Rattle.cn_log.specs.Batches.{HoldsEntry, entry_at, with_entry, entries_in}
 use Rattle.cn_log.specs.Callers.{IsUnseen}
 use Rattle.cn_log.specs.Log.{Setting, World, Caller, Called, put, has_entry, batch_with, after_gathering, after_step}
 use Rattle.cn_log.proofs.ListLemmas.{put_same, put_other, has_not, has_yes, there_is, get_low}
+use Rattle.cn_log.proofs.BatchEntries.{places_after, with_cases, with_new, with_old}
 use Rattle.cn_log.proofs.Invariant.{IsNoted, IsCalled, IsRuns, IsPending, IsGathered, IsLooking, PhaseHolds, IsOther, IsBegun, Holds, HasGathered, Facts, IsMine, IsSeen, Stands, StandsBy, IsReply, in_order, fixed_begun}
 use Rattle.cn_log.proofs.EntryPositions.{of_entries, in_entries}
-
-module _ (batch : Batch) (q : ℕ) (other : Entry) where
-  with_new : q < length batch.entries → entry_at (with_entry batch q other) q ≡ Some other
-  with_new low = get_or-set_same batch.entries q (Some other) None low
-
-  with_old : (i : ℕ) → i ≢ q → entry_at (with_entry batch q other) i ≡ entry_at batch i
-  with_old i ne = get_or-set_other batch.entries q i (Some other) None ne
-
-  with_cases : q < length batch.entries → (i : ℕ) (e : Entry) → entry_at (with_entry batch q other) i ≡ Some e → ((i ≡ q) × (other ≡ e)) ⊎ (entry_at batch i ≡ Some e)
-  with_cases low i e h = elim (cases_eq i q) [
-    | inl same ↦ (let n = with_new low in let g : entry_at (with_entry batch q other) q ≡ Some e = subst (λ z. entry_at (with_entry batch q other) z ≡ Some e) same h in let s : other ≡ e = cc (n, g) in inl (same, s))
-    | inr ne ↦ inr (sym (with_old i ne) ∙ h)
-  ]
 
 module _ {R : Type 0} (L : Setting R) (Good : R → Type 0) (agrees : RoundsAgree L Good) (w : World R) (holds : Holds L Good w)
     (p : ℕ) (lt : p < L.processes) (mine : Entry) (q : ℕ) (batch : Batch) (is : (w.caller p).phase ≡ Looks mine q batch) where
@@ -44,8 +32,8 @@ module _ {R : Type 0} (L : Setting R) (Good : R → Type 0) (agrees : RoundsAgre
   looking : IsLooking L w p mine q batch
   looking = let h : PhaseHolds L w p (Looks mine q batch) = subst (PhaseHolds L w p) is (holds.phases p) in h
 
-  low_place : q < length batch.entries
-  low_place = let a = looking.next in let b = agrees.few in let c = looking.gathered.places in omega (arith, a, b, c)
+  low_place : q < 8
+  low_place = let a = looking.next in let b = agrees.few in omega (arith, a, b)
 
   -- an entry that is found is in a batch that was replayed; one that is not found is in none
   entry_seen : (e : Entry) → has_entry known e ≡ true → IsSeen here.seen e
@@ -75,16 +63,16 @@ module _ {R : Type 0} (L : Setting R) (Good : R → Type 0) (agrees : RoundsAgre
       go : (b : Bool) → has_entry known other ≡ b → IsGathered here.seen w.history (if b then batch else with_entry batch q other)
       go true h = looking.gathered
       go false h = record {
-        places = length-set batch.entries q (Some other) ∙ looking.gathered.places;
-        shaped = λ i f at. elim (with_cases batch q other low_place i f at) [
+        places = places_after batch q other looking.gathered.places;
+        shaped = λ i f at. elim (with_cases batch q other whose looking.gathered.places low_place i f at) [
           | inl new ↦ ap (λ (z : Entry). z.process) (sym new.1) ∙ whose ∙ sym new.0
           | inr old ↦ looking.gathered.shaped i f old
         ];
-        called = λ f has. elim (with_cases batch q other low_place f.process f has) [
+        called = λ f has. elim (with_cases batch q other whose looking.gathered.places low_place f.process f has) [
           | inl new ↦ new_called f new.1
           | inr old ↦ looking.gathered.called f old
         ];
-        unseen = λ f has. elim (with_cases batch q other low_place f.process f has) [
+        unseen = λ f has. elim (with_cases batch q other whose looking.gathered.places low_place f.process f has) [
           | inl new ↦ new_unseen h f new.1
           | inr old ↦ looking.gathered.unseen f old
         ];
@@ -118,7 +106,7 @@ module _ {R : Type 0} (L : Setting R) (Good : R → Type 0) (agrees : RoundsAgre
         look : (b : Bool) → has_entry known e ≡ b → w.announced q ≡ Some e → HoldsEntry v e ⊎ StandsBy L w e k0
         look true h a = let f = entry_seen e h in let l = get_low here.seen f.slot f.batch f.there in
             inr (record { slot = f.slot; low = omega (arith, l); stands = record { batch = f.batch; fixed = holds.seen p f.slot f.batch f.there; has = f.has } })
-        look false h a = inl (rw (a, h) (subst (λ z. entry_at (with_entry batch q e) z ≡ Some e) (sym whose) (with_new batch q e low_place)))
+        look false h a = inl (rw (a, h) (subst (λ z. entry_at (with_entry batch q e) z ≡ Some e) (sym whose) (with_new batch q e whose looking.gathered.places low_place)))
 
         announces : (mine' : Entry) → IsPending L w e.process mine' → mine' ≡ e → HoldsEntry v e ⊎ StandsBy L w e k0
         announces mine' pend same = look (has_entry known e) refl (ap w.announced (sym whose) ∙ pend.announced ∙ ap Some same)

@@ -1,5 +1,5 @@
 -- A step of a round, and the replay after a decision, keep the invariant.
-use Rattle.std.proofs.Common.{ℕ, zero, suc, ◌≡◌, ◌≢◌, ◌⊎◌, inl, inr, Bool, true, false, ◌+◌, ◌<◌, ◌≤◌, ◌==◌, List, [], ◌∷◌, ◌++◌, length, slice_get, Option, Some, None, refl, sym, ap, ◌∙◌, subst, arith, if◌then◌else◌, length-append, slice_index_or, replicate}
+use Rattle.std.proofs.Common.{ℕ, zero, suc, ◌≡◌, ◌≢◌, ◌⊎◌, inl, inr, Bool, true, false, ◌+◌, ◌<◌, ◌≤◌, ◌==◌, List, [], ◌∷◌, ◌++◌, length, slice_get, Option, Some, None, refl, sym, ap, ◌∙◌, subst, arith, if◌then◌else◌, length-append}
 use Rattle.std.proofs.lemmas.Bool.{cases_eq}
 use Rattle.std.proofs.lemmas.Bool.Decides.{nat_tests}
 use Rattle.cn_log.specs.declared.batch.Batch.{Batch}
@@ -11,16 +11,10 @@ use Rattle.cn_log.specs.declared.caller_state.Phase.TheVariants.{Idle, Looks, Ru
 use Rattle.cn_log.specs.Agreement.{RoundsAgree}
 use Rattle.cn_log.proofs.ListLemmas.{put_same, put_other, get_push_cases, get_push_old, get_push_new, there_is}
 use Rattle.cn_log.proofs.Having.{has_is, has_isnt}
-use Rattle.cn_log.proofs.Invariant.{IsNoted, IsCalled, IsRuns, IsPending, PhaseHolds, IsOther, IsBegun, Holds, HasGathered, Facts, IsMine, IsSeen, Stands, StandsBy, IsReply, IsOrdered}
+use Rattle.cn_log.proofs.Invariant.{none_gathered, IsNoted, IsCalled, IsRuns, IsPending, PhaseHolds, IsOther, IsBegun, Holds, HasGathered, Facts, IsMine, IsSeen, Stands, StandsBy, IsReply, IsOrdered}
 
 pub called_more : (e : Entry) (note : Note) (notes : List Note) → IsCalled e notes → IsCalled e (note ∷ notes)
 called_more e note notes c = record { since = c.since; noted = record { place = suc c.noted.place; there = c.noted.there } }
-
--- a new batch is empty
-pub none_at : (n i : ℕ) (f : Entry) → slice_index_or (replicate n (let o : Option Entry = None in o)) i None ≡ Some f → ⊥
-none_at zero i f h = cc
-none_at (suc n) zero f h = cc
-none_at (suc n) (suc i) f h = none_at n i f h
 
 module _ {R : Type 0} (L : Setting R) (Good : R → Type 0) (agrees : RoundsAgree L Good) (w : World R) (holds : Holds L Good w)
     (p : ℕ) (lt : p < L.processes) (mine : Entry) (is : (w.caller p).phase ≡ Runs mine) where
@@ -173,7 +167,7 @@ module _ {R : Type 0} (L : Setting R) (Good : R → Type 0) (agrees : RoundsAgre
                 room = rw (s, length_is) (omega arith);
               };
               next = let low = lt in grind arith;
-              gathered = record { places = refl; shaped = λ i f at. absurd (none_at 8 i f at); called = λ f at. absurd (none_at 8 f.process f at); unseen = λ f at. absurd (none_at 8 f.process f at) };
+              gathered = none_gathered _ _;
             }
 
     pub keeps_decided : Holds L Good w'

@@ -10,12 +10,21 @@ ghost use Rattle.cn_choice.specs.declared.limits.TheConstants.{MOST_PROCESSES};
 
 use crate::entry::Entry;
 use cn_choice::MOST_PROCESSES;
-use cn_table::{State, Table};
+use cn_table::{Operation, State, Table};
 
-/// The calls that a slot takes: at the place of each process its entry, or none.
+/// The calls that a slot takes: of each process one at most.
+///
+/// Rounds copy a batch to each register that it reaches, so it is small. The places of the other
+/// processes hold 0.
 #[derive(Clone, Copy, Debug, PartialEq, Eq)]
 pub struct Batch {
-    entries: [Option<Entry>; MOST_PROCESSES],
+    /// At the place of each process with a call here, the number of this call among those of the
+    /// process.
+    calls: [u16; MOST_PROCESSES],
+    /// The operation of this call.
+    operations: [Operation; MOST_PROCESSES],
+    /// The processes that have a call here, as bits.
+    callers: u8,
 }
 
 impl Batch {
@@ -24,7 +33,9 @@ impl Batch {
         ensures { result ≡ no_entries }
     {
         Batch {
-            entries: [None; MOST_PROCESSES],
+            calls: [0; MOST_PROCESSES],
+            operations: [Operation(0); MOST_PROCESSES],
+            callers: 0,
         }
     }
 
@@ -33,7 +44,15 @@ impl Batch {
         requires { p < MOST_PROCESSES }
         ensures { result ≡ entry_at self.now p }
     {
-        self.entries[usize::from(p)]
+        if self.callers >> p & 1 == 1 {
+            Some(Entry {
+                process: p,
+                operation: self.operations[usize::from(p)],
+                call: self.calls[usize::from(p)],
+            })
+        } else {
+            None
+        }
     }
 
     /// Whether the entry is in the batch.
@@ -47,12 +66,14 @@ impl Batch {
         }
     }
 
-    /// Makes this the entry of process `p`.
+    /// Makes this call the entry of process `p`.
     pub(crate) fn put(&mut self, p: u8, entry: Entry)
         requires { p < MOST_PROCESSES }
         ensures { self.new ≡ with_entry self.old p entry }
     {
-        self.entries[usize::from(p)] = Some(entry);
+        self.callers |= 1 << p;
+        self.operations[usize::from(p)] = entry.operation;
+        self.calls[usize::from(p)] = entry.call;
     }
 
     /// Reads the announcement of process `q`: the batch takes the call there, unless the process
