@@ -1,4 +1,5 @@
 pub mod AcceptedEntries
+pub mod FoldLemmas
 pub mod PairLemmas
 pub mod Pieces
 pub mod ReasonLemmas

@@ -1,5 +1,6 @@
--- Lists that are put together of a piece for each number of a range.
-use Rattle.std.proofs.Common.{◌≡◌, ℕ, zero, suc, ◌+◌, ◌<◌, List, ◌++◌, append-nil, append_assoc, ap, arith, flat_map, sym, ◌∙◌, All}
+-- Lists that are put together of pieces: one for each number of a range, or one more where a call succeeds.
+use Rattle.std.proofs.Common.{◌≡◌, ℕ, zero, suc, ◌+◌, ◌<◌, List, ◌++◌, append-nil, append_assoc, ap, arith, flat_map, sym, ◌∙◌, All, Result, Ok, Err}
+use Rattle.std.specs.Prelude.{is_ok, if◌then◌else◌, OnOk}
 use Rattle.std.specs.List.{range_with_len}
 use Rattle.std.proofs.lemmas.List.Elements.{All-append, All-nil}
 
@@ -23,3 +24,8 @@ module _ {A : Type 0} (piece : ℕ → List A) where
   All-pieces P from zero each = All-nil P
   All-pieces P from (suc n) each =
       All-append P (piece from) (flat_map piece (range_with_len (from + 1) n)) (each from (omega arith)) (All-pieces P (from + 1) n (λ k less. each k (omega (arith, less))))
+
+-- the list that a last call leaves
+pub on_ok : {T E : Type 0} {A : Type 0} (r : Result T E) (now done undone wanted : List A) → now ≡ (if is_ok r then done else undone) → done ≡ wanted → OnOk r (now ≡ wanted)
+on_ok (Ok x) now done undone wanted here same = here ∙ same
+on_ok (Err x) now done undone wanted here same = tt

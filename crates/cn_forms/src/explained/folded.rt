@@ -1,8 +1,7 @@
 //! Lines that are folded: a line that is too wide goes on in the next line.
-ghost use Rattle.std.specs.Prelude.{◌≡◌, ◌++◌, ◌==◌, flat_map, map, string_bytes, IfOk, OnOk};
-ghost use Rattle.std.specs.List.{slice_split};
+ghost use Rattle.std.specs.Prelude.{◌≡◌, ◌++◌, flat_map, map, string_bytes, IfOk, MatchOption, OnOk};
 ghost use Rattle.std.specs.Str.Lines.{lines};
-ghost use Rattle.cn_forms.specs.Folded.{fits, folded, folded_line, kept_together, laid, left_behind, placed};
+ghost use Rattle.cn_forms.specs.Folded.{ends_in_word, fits, fits_whole, folded, folded_line, kept_together, laid_as_word, laid_rest, margin, IsFront};
 
 use crate::grid::push_spaces;
 use crate::limits::{MARGIN, WIDEST_LINE};
@@ -27,53 +26,86 @@ fn fits(left: usize, gap: usize, rest: usize, word: &str) -> bool
     needed <= left && gap <= left - needed
 }
 
-/// The word behind a gap of spaces, or at the margin of the next line; answers the columns that are
-/// left of its line.
-fn push_word(
-    text: &mut String,
-    left: usize,
-    gap: usize,
-    rest: usize,
-    word: &str,
-) -> Result<usize, AllocError>
-    ensures written { OnOk result (string_bytes text.new
-        ≡ string_bytes text.old ++ placed left gap rest word.now) }
-    ensures left { IfOk result (λ behind. behind ≡ left_behind left gap rest word.now) }
+/// Whether the last byte of a text is of a word.
+fn ends_in_word(text: &str) -> bool
+    ensures { result ≡ ends_in_word text.now }
 {
-    if fits(left, gap, rest, word) {
-        push_spaces(text, gap)?;
-        text.push_str(word)?;
-        return Ok(left.saturating_sub(gap).saturating_sub(word.len()));
-    }
-    text.push_str("\n")?;
-    push_spaces(text, MARGIN)?;
-    text.push_str(word)?;
-    Ok((WIDEST_LINE - MARGIN).saturating_sub(word.len()))
+    let bytes = text.as_bytes();
+    !bytes.is_empty() && bytes[bytes.len() - 1] != b' '
 }
 
-/// The words of a line. There is an empty word between two spaces.
-fn push_words(text: &mut String, columns: usize, words: &[&str]) -> Result<(), AllocError>
-    ensures { OnOk result (string_bytes text.new ≡ string_bytes text.old
-        ++ laid WIDEST_LINE 0 columns (map (λ word. word.now) words.now)) }
+/// Whether the rest of a line fits, with the spaces before it, into the columns that are left, and
+/// has no space at its end.
+fn fits_whole(left: usize, gap: usize, rest: &str) -> bool
+    ensures { result ≡ fits_whole left gap rest.now }
 {
-    let (mut left, mut gap, mut rest) = (WIDEST_LINE, 0, columns);
-    for word in words {
+    gap <= left && rest.len() <= left - gap && ends_in_word(rest)
+}
+
+/// The first word of the rest of a line and what stands behind its space, unless the rest is laid as
+/// one word. There is an empty word between two spaces.
+fn first_word(left: usize, gap: usize, rest: &str) -> Option<(&str, &str)>
+    ensures { MatchOption result (laid_rest left gap rest.now ≡ laid_as_word left gap rest.now)
+        (λ cut. IsFront left gap rest.now cut.0.now cut.1.now) }
+{
+    if fits_whole(left, gap, rest) {
+        None
+    } else {
+        rest.split_once(' ')
+    }
+}
+
+/// The rest of a line as one word, if it is not empty.
+fn push_as_word(text: &mut String, left: usize, gap: usize, rest: &str) -> Result<(), AllocError>
+    ensures { OnOk result (string_bytes text.new
+        ≡ string_bytes text.old ++ laid_as_word left gap rest.now) }
+{
+    if rest.is_empty() {
+        return Ok(());
+    }
+    if fits(left, gap, rest.len(), rest) {
+        push_spaces(text, gap)?;
+    } else {
+        push_margin(text)?;
+    }
+    text.push_str(rest)
+}
+
+/// The end of a line, and the margin of the next one.
+fn push_margin(text: &mut String) -> Result<(), AllocError>
+    ensures { OnOk result (string_bytes text.new ≡ string_bytes text.old ++ margin) }
+{
+    text.push_str("\n")?;
+    push_spaces(text, MARGIN)
+}
+
+/// The words of a line, one by one until the rest fits. Those that stand side by side are copied in
+/// one piece: the first `len` bytes of `run`.
+fn push_words(text: &mut String, line: &str) -> Result<(), AllocError>
+    ensures { OnOk result (string_bytes text.new
+        ≡ string_bytes text.old ++ laid_rest WIDEST_LINE 0 line.now) }
+{
+    let (mut run, mut len) = (line, 0);
+    let (mut left, mut gap, mut rest) = (WIDEST_LINE, 0, line);
+    while let Some((word, behind)) = first_word(left, gap, rest) {
         if word.is_empty() {
             gap += 1;
         } else {
-            left = push_word(text, left, gap, rest, *word)?;
+            if fits(left, gap, rest.len(), word) {
+                len += gap + word.len();
+                left = left.saturating_sub(gap).saturating_sub(word.len());
+            } else {
+                text.push_str(&run[..len])?;
+                push_margin(text)?;
+                (run, len) = (rest, word.len());
+                left = (WIDEST_LINE - MARGIN).saturating_sub(word.len());
+            }
             gap = 1;
         }
-        rest = rest.saturating_sub(word.len()).saturating_sub(1);
+        rest = behind;
     }
-    Ok(())
-}
-
-fn words_of(alloc: Global, line: &str) -> Result<Vec<&str>, AllocError>
-    ensures { IfOk result (λ words. map (λ word. word.now) words.items
-        ≡ slice_split (λ byte. byte == 32) line.now) }
-{
-    line.split(' ').collect(alloc)
+    text.push_str(&run[..len])?;
+    push_as_word(text, left, gap, rest)
 }
 
 fn lines_of(alloc: Global, text: &str) -> Result<Vec<&str>, AllocError>
@@ -82,21 +114,20 @@ fn lines_of(alloc: Global, text: &str) -> Result<Vec<&str>, AllocError>
     text.lines().collect(alloc)
 }
 
-fn push_line(alloc: Global, text: &mut String, line: &str) -> Result<(), AllocError>
+fn push_line(text: &mut String, line: &str) -> Result<(), AllocError>
     ensures { OnOk result (string_bytes text.new
         ≡ string_bytes text.old ++ folded_line line.now) }
 {
-    let words = words_of(alloc, line)?;
-    push_words(text, line.len(), &words)?;
+    push_words(text, line)?;
     text.push_str("\n")
 }
 
-fn push_lines(alloc: Global, text: &mut String, lines: &[&str]) -> Result<(), AllocError>
+fn push_lines(text: &mut String, lines: &[&str]) -> Result<(), AllocError>
     ensures { OnOk result (string_bytes text.new ≡ string_bytes text.old
         ++ flat_map folded_line (map (λ line. line.now) lines.now)) }
 {
     for line in lines {
-        push_line(alloc, text, *line)?;
+        push_line(text, *line)?;
     }
     Ok(())
 }
@@ -107,5 +138,5 @@ pub(crate) fn push_folded(alloc: Global, text: &mut String, wide: &str) -> Resul
     ensures { OnOk result (string_bytes text.new ≡ string_bytes text.old ++ folded wide.now) }
 {
     let lines = lines_of(alloc, wide)?;
-    push_lines(alloc, text, &lines)
+    push_lines(text, &lines)
 }

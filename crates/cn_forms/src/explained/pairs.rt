@@ -63,9 +63,10 @@ pub(crate) fn push_pair_words(
     ensures { OnOk result (string_bytes text.new
         ≡ string_bytes text.old ++ pair_words table.now pair) }
 {
-    let response = table.response_name(Response(pair.0));
-    let state = table.state_name(State(pair.1));
-    write!(text, "got {response}, reads {state}")
+    text.push_str("got ")?;
+    text.push_str(table.response_name(Response(pair.0)))?;
+    text.push_str(", reads ")?;
+    text.push_str(table.state_name(State(pair.1)))
 }
 
 /// The words or the spaces before the pair on the left.

@@ -2,6 +2,7 @@
 //! tell which team was first.
 ghost use Rattle.std.specs.Prelude.{◌≡◌, ◌+◌, ◌≤◌, ◌<◌, ◌==◌, ◌++◌, length, not, string_bytes, slice_index, All, IfOk, IfSome, OnOk};
 ghost use Rattle.std.specs.List.{position};
+ghost use Rattle.std.specs.Fmt.{decimal};
 ghost use Rattle.cn_table.specs.TypeTable.{transition};
 ghost use Rattle.cn_choice.specs.Canonical.{FitsTable};
 ghost use Rattle.cn_choice.specs.RawChoices.{IsRawChoice};
@@ -29,18 +30,31 @@ fn alike(operations: &[u8], own: u8) -> usize
     first_other(operations, own).unwrap_or(operations.len())
 }
 
+/// The number in decimal. That of a process has one digit, and needs no formatter.
+fn push_decimal(text: &mut String, number: usize) -> Result<(), AllocError>
+    ensures { OnOk result (string_bytes text.new ≡ string_bytes text.old ++ decimal number) }
+{
+    if number < 10 {
+        text.push((b'0' + number as u8) as char)
+    } else {
+        write!(text, "{number}")
+    }
+}
+
 /// This number of processes, from this one on.
 fn push_processes(text: &mut String, process: u8, count: usize) -> Result<(), AllocError>
     requires { count ≤ 8 }
     ensures { OnOk result (string_bytes text.new
         ≡ string_bytes text.old ++ processes process count) }
 {
-    let last = process as usize + count.saturating_sub(1);
-    match count {
-        0 | 1 => write!(text, "p{process}"),
-        2 => write!(text, "p{process} and p{last}"),
-        _ => write!(text, "p{process} to p{last}"),
+    let first = process as usize;
+    text.push_str("p")?;
+    push_decimal(text, first)?;
+    if count <= 1 {
+        return Ok(());
     }
+    text.push_str(if count == 2 { " and p" } else { " to p" })?;
+    push_decimal(text, first + (count - 1))
 }
 
 fn does(count: usize) -> &'static str
@@ -87,7 +101,9 @@ fn push_member(
     let count = alike(&operations[process as usize..end as usize], own);
     let (does, operation) = (does(count), table.operation_name(Operation(own)));
     push_processes(text, process, count)?;
-    write!(text, "{team}{does}{operation}")
+    text.push_str(team)?;
+    text.push_str(does)?;
+    text.push_str(operation)
 }
 
 /// This number of processes, from the first on, with words for their team and their operations.
@@ -132,9 +148,13 @@ fn push_step(
 {
     let operation = Operation(choice.operations[process as usize]);
     let (response, next) = table.apply(operation, state);
-    let name = table.operation_name(operation);
-    let given = table.response_name(response);
-    write!(text, " --p{process} {name}/{given}--> ")?;
+    text.push_str(" --p")?;
+    push_decimal(text, process as usize)?;
+    text.push_str(" ")?;
+    text.push_str(table.operation_name(operation))?;
+    text.push_str("/")?;
+    text.push_str(table.response_name(response))?;
+    text.push_str("--> ")?;
     text.push_str(table.state_name(next))?;
     Ok(next)
 }
@@ -172,7 +192,9 @@ fn push_sight(
     let Some(pair) = pair else {
         return Ok(());
     };
-    write!(text, "     p{process} ")?;
+    text.push_str("     p")?;
+    push_decimal(text, process as usize)?;
+    text.push_str(" ")?;
     push_pair_words(text, table, pair)
 }
 
@@ -190,8 +212,10 @@ fn push_run(
     ensures { OnOk result (string_bytes text.new ≡ string_bytes text.old
         ++ run_line table.now choice.now team order.now process) }
 {
-    let (team, start) = (team.name(), table.state_name(choice.state));
-    write!(text, "       {team} first:  {start}")?;
+    text.push_str("       ")?;
+    text.push_str(team.name())?;
+    text.push_str(" first:  ")?;
+    text.push_str(table.state_name(choice.state))?;
     push_steps(text, table, choice, order)?;
     push_sight(
         text,
@@ -231,8 +255,9 @@ fn push_choice(text: &mut String, table: &Table, choice: &Choice) -> Result<(), 
     ensures { OnOk result (string_bytes text.new
         ≡ string_bytes text.old ++ choice_text table.now choice.now) }
 {
-    let start = table.state_name(choice.state);
-    write!(text, "start {start}; A: ")?;
+    text.push_str("start ")?;
+    text.push_str(table.state_name(choice.state))?;
+    text.push_str("; A: ")?;
     push_both_teams(text, table, choice, "", "; B: ", "")
 }
 
@@ -247,7 +272,9 @@ fn push_way_number(text: &mut String, number: usize) -> Result<(), AllocError>
 fn push_cannot_tell(text: &mut String, process: u8) -> Result<(), AllocError>
     ensures { OnOk result (string_bytes text.new ≡ string_bytes text.old ++ cannot_tell process) }
 {
-    write!(text, "        p{process} cannot tell:\n")
+    text.push_str("        p")?;
+    push_decimal(text, process as usize)?;
+    text.push_str(" cannot tell:\n")
 }
 
 /// A numbered choice, and a process of it that cannot tell.

@@ -1,11 +1,22 @@
-use Rattle.std.proofs.Common.{◌≡◌, ◌≤◌, ◌+◌, ◌++◌, drop, map, string_bytes}
-use Rattle.cn_forms.specs.Folded.{laid}
+use Rattle.std.proofs.Common.{◌≡◌, ◌≤◌, ◌++◌, length, string_bytes, take}
+use Rattle.std.specs.Str.{IsCharBoundary}
+use denote.Text.{Utf8}
+use denote.Shadow.{shadow}
+use Rattle.cn_forms.specs.Folded.{laid_rest}
+use Rattle.cn_forms.specs.Grid.{spaces}
 use Rattle.cn_forms.specs.declared.limits.TheConstants.{WIDEST_LINE}
 use Rattle.cn_forms.proofs.explained.folded.push_words.Given as goal
 
--- the words so far, and the others
+-- the words so far, those of the run, and the rest
 abbrev pub invariant-loop-word : goal.invariant-loop-word
 invariant-loop-word l = record {
-  gap : l.gap ≤ l.word-index + 1;
-  text : string_bytes l.text ++ laid l.left l.gap l.rest (map (λ word. word.now) (drop l.word-index l.words)) ≡ string_bytes l.initial.text ++ laid WIDEST_LINE 0 l.columns (map (λ word. word.now) l.words);
+  utf8_run : shadow (Utf8 l.run);
+  utf8_rest : shadow (Utf8 l.rest);
+  boundary : IsCharBoundary l.run l.len;
+  run : l.run ≡ take l.len l.run ++ (spaces l.gap ++ l.rest);
+  short : length l.run ≤ length l.line;
+  text : string_bytes l.text ++ (take l.len l.run ++ laid_rest l.left l.gap l.rest) ≡ string_bytes l.initial.text ++ laid_rest WIDEST_LINE 0 l.line;
 }
+
+abbrev pub decreases-loop-word : goal.decreases-loop-word
+decreases-loop-word l = length l.rest
