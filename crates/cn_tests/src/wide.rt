@@ -2,12 +2,14 @@
 //! states and operations, and none of these changes anything.
 ghost use Rattle.std.specs.Prelude.{◌≤◌, ◌<◌, ◌+◌, length};
 ghost use Rattle.cn_choice.specs.Canonical.{FitsTable};
+ghost use Rattle.cn_collisions.specs.Levels.{AreSetsFor};
 
 use crate::fixtures::{choice_of, table_of};
 use crate::types::*;
 use cn_choice::reference::raw_splits;
 use cn_choice::{Choice, RawChoice};
-use cn_outcomes::{Examined, examine, is_witness};
+use cn_collisions::{Examined, Sets, examine};
+use cn_outcomes::is_witness;
 use cn_table::Table;
 use std::alloc::Global;
 use std::process::Abort;
@@ -19,9 +21,11 @@ fn splits(
     rt: &impl Abort,
     alloc: Global,
     table: &Table,
+    sets: &Sets<'_>,
     choice: &Choice,
     n: u8,
 ) -> Result<bool, Fail>
+    requires sets { AreSetsFor table.now n sets.now }
     requires fits { FitsTable table.now choice.now }
     requires some { 2 ≤ length choice.now.a + length choice.now.b }
     requires few { length choice.now.a + length choice.now.b ≤ 8 }
@@ -30,7 +34,8 @@ fn splits(
     assert!(rt; raw.is_for(table, n));
     let splits = raw_splits(alloc, table, &raw)?;
     assert!(rt; is_witness(table, choice) == splits);
-    assert!(rt; matches!(examine(table, choice), Examined::Splits) == splits);
+    assert!(rt; choice.is_for(table, n));
+    assert!(rt; matches!(examine(sets, choice), Examined::Splits) == splits);
     Ok(splits)
 }
 
@@ -40,9 +45,11 @@ fn witnesses_from(
     rt: &impl Abort,
     alloc: Global,
     table: &Table,
+    sets: &Sets<'_>,
     state: u8,
     n: u8,
 ) -> Result<u32, Fail>
+    requires sets { AreSetsFor table.now n sets.now }
     requires state { state < 16 }
     requires some { 2 ≤ n }
     requires few { n ≤ 4 }
@@ -54,7 +61,7 @@ fn witnesses_from(
     for size in 1..n {
         let (a, b) = operations[..usize::from(n)].split_at(usize::from(size));
         let choice = choice_of(rt, table, state, a, b);
-        if splits(rt, alloc, table, &choice, n)? {
+        if splits(rt, alloc, table, sets, &choice, n)? {
             found = found.saturating_add(1);
         }
     }
@@ -65,9 +72,10 @@ fn witnesses_from(
 fn witnesses(rt: &impl Abort, alloc: Global, text: &str) -> Result<[u32; 3], Fail> {
     let table = table_of(alloc, text)?;
     let mut found = [0u32; 3];
-    for state in 0..table.states() {
-        for n in 2..5u8 {
-            let more = witnesses_from(rt, alloc, &table, state, n)?;
+    for n in 2..5u8 {
+        let sets = Sets::new(alloc, &table, n)?;
+        for state in 0..table.states() {
+            let more = witnesses_from(rt, alloc, &table, &sets, state, n)?;
             let place = &mut found[usize::from(n) - 2];
             *place = place.saturating_add(more);
         }

@@ -1,35 +1,49 @@
 //! A search to compare with: choice by choice, in one thread, with nothing left out.
 ghost use Rattle.std.specs.Prelude.{◌≤◌};
+ghost use Rattle.cn_collisions.specs.Levels.{AreSetsFor};
 
 use cn_choice::{Choice, Choices, Collision};
-use cn_outcomes::{Examined, examine};
+use cn_collisions::{Examined, Sets, examine};
 use cn_search::Finding;
 use cn_table::Table;
 use std::alloc::Global;
 use std::process::Abort;
 use std::test::Fail;
 
-/// The recorded collision of a choice, or none for a witness.
-fn recorded_collision(rt: &impl Abort, table: &Table, choice: &Choice) -> Option<Collision> {
-    let n = choice.a.len() + choice.b.len();
-    assert!(rt; 2 <= n && n <= 8 && choice.is_for(table, n as u8));
-    match examine(table, choice) {
+/// The recorded collision of a choice for n processes, or none for a witness.
+fn recorded_collision(
+    rt: &impl Abort,
+    table: &Table,
+    sets: &Sets<'_>,
+    choice: &Choice,
+    n: u8,
+) -> Option<Collision>
+    requires { AreSetsFor table.now n sets.now }
+{
+    assert!(rt; choice.is_for(table, n));
+    match examine(sets, choice) {
         Examined::Meets(collision) => Some(collision),
         Examined::Splits => None,
     }
 }
 
 /// The first live canonical witness for n processes, if there is one.
-fn first_witness(rt: &impl Abort, table: &Table, n: u8) -> Option<Choice>
+fn first_witness(
+    rt: &impl Abort,
+    alloc: Global,
+    table: &Table,
+    n: u8,
+) -> Result<Option<Choice>, Fail>
     requires some { 2 ≤ n }
     requires few { n ≤ 8 }
 {
+    let sets = Sets::new(alloc, table, n)?;
     for choice in Choices::new(table, n) {
-        if recorded_collision(rt, table, &choice).is_none() {
-            return Some(choice);
+        if recorded_collision(rt, table, &sets, &choice, n).is_none() {
+            return Ok(Some(choice));
         }
     }
-    None
+    Ok(None)
 }
 
 /// The recorded collision of each live canonical choice for n processes.
@@ -42,9 +56,11 @@ fn recorded_collisions(
     requires some { 2 ≤ n }
     requires few { n ≤ 8 }
 {
+    let sets = Sets::new(alloc, table, n)?;
     let mut collisions = Vec::new(alloc);
     for choice in Choices::new(table, n) {
-        collisions.push(recorded_collision(rt, table, &choice).ok_or("a witness")?)?;
+        let collision = recorded_collision(rt, table, &sets, &choice, n);
+        collisions.push(collision.ok_or("a witness")?)?;
     }
     Ok(collisions)
 }
@@ -60,7 +76,7 @@ pub(super) fn find(
     let mut number = None;
     let mut witness = None;
     for n in 2..limit + 1 {
-        let Some(choice) = first_witness(rt, table, n) else {
+        let Some(choice) = first_witness(rt, alloc, table, n)? else {
             let collisions = recorded_collisions(rt, alloc, table, n)?;
             return Ok(Finding {
                 limit,
