@@ -8,6 +8,7 @@ pub mod SplitLemmas
 pub mod Growing
 pub mod Zips
 pub mod PairLemmas
+pub mod EachLemmas
 pub mod Fewer
 pub mod Decisions
 pub mod Counting

@@ -1,14 +1,13 @@
 -- Sets of pairs.
-use Rattle.std.proofs.Common.{◌≡◌, ◌≢◌, ℕ, zero, suc, ◌^◌, ◌<◌, ◌↔◌, inl, inr, List, [], length, get_or, get_or-set_other, get_or-set_same, replicate, refl, sym, ap, ◌∙◌, subst, arith, Bool, true, false, not, nat_eq, true≢false}
+use Rattle.std.proofs.Common.{◌≡◌, ◌≢◌, ℕ, zero, suc, ◌^◌, ◌<◌, ◌≤◌, ◌↔◌, inl, inr, List, [], ◌∷◌, length, get_or, refl, sym, ◌∙◌, subst, arith, Bool, true, false, not, nat_eq, true≢false}
 use Rattle.std.specs.Prelude.{IsBitSet, IsTrue}
 use Rattle.std.specs.Int.{trailing_zeros, w16}
-use Rattle.std.proofs.Math.ListN.{set}
 use Rattle.std.proofs.lemmas.Bool.{eqb-true, eq-eqb}
 use Rattle.std.proofs.lemmas.Nat.Bits.{bit_at-trailing_zeros}
 use Rattle.cn_outcomes.proofs.LastProcess.{set_from, zero_has_none}
 use Rattle.cn_outcomes.proofs.Unions.{nothing_beyond}
 use Rattle.cn_stocks.specs.declared.pair_sets.PairSet.{PairSet}
-use Rattle.cn_stocks.specs.Pairs.{Has, set_at, set_in}
+use Rattle.cn_stocks.specs.Pairs.{Has, set_at}
 use Rattle.cn_stocks.proofs.StockLemmas.{before_or_behind}
 
 -- a number of a set that is not empty
@@ -26,20 +25,8 @@ is_some_set n l = cases (nat_eq n 0) refl
 pub inside : (row : List ℕ) (r q : ℕ) → length row ≡ 16 → IsBitSet (get_or row r 0) q → r < 16
 inside row r q l b = elim (before_or_behind r 16) [ inl u ↦ u | inr u ↦ absurd (nothing_beyond row 16 r q l u b) ]
 
--- where all sets are empty none has a pair
-pub none_at : (n o r q : ℕ) (set : PairSet) → ((r q : ℕ) → ¬ Has set r q) → ¬ Has (set_at (replicate n set) o) r q
-none_at zero o r q set none h = absurd (zero_has_none q h)
-none_at (suc n) zero r q set none h = none r q h
-none_at (suc n) (suc o) r q set none h = none_at n o r q set none h
-
-pub none_in : (m n o place r q : ℕ) (set : PairSet) → ((r q : ℕ) → ¬ Has set r q) → ¬ Has (set_in (replicate m (replicate n set)) o place) r q
-none_in zero n o place r q set none h = absurd (zero_has_none q h)
-none_in (suc m) n zero place r q set none h = none_at n place r q set none h
-none_in (suc m) n (suc o) place r q set none h = none_in m n o place r q set none h
-
--- one row written
-pub set_in_same : (rows : List (List PairSet)) (k place : ℕ) (row : List PairSet) → k < length rows → set_in (set rows k row) k place ≡ set_at row place
-set_in_same rows k place row l = ap (λ (r : List PairSet). set_at r place) (get_or-set_same rows k row [] l)
-
-pub set_in_other : (rows : List (List PairSet)) (k o place : ℕ) (row : List PairSet) → o ≢ k → set_in (set rows k row) o place ≡ set_in rows o place
-set_in_other rows k o place row n = ap (λ (r : List PairSet). set_at r place) (get_or-set_other rows k o row [] n)
+-- where there is no set there is no pair
+pub none_behind : (sets : List PairSet) (place r q : ℕ) → length sets ≤ place → ¬ Has (set_at sets place) r q
+none_behind [] place r q l h = absurd (zero_has_none q h)
+none_behind (s ∷ sets) zero r q l h = absurd (omega (arith, l))
+none_behind (s ∷ sets) (suc place) r q l h = none_behind sets place r q (omega (arith, l)) h

@@ -1,8 +1,6 @@
 -- What a search knows of all stocks of one number of operations.
 use Rattle.std.specs.Prelude.{◌≡◌, ◌↔◌, ℕ, ◌<◌, List, ◌∷◌, length, slice_index, slice_index_or, Some, None, IsBitSet}
 use Rattle.std.specs.List.{AllZip}
-use Rattle.std.specs.declared.alloc.Global.{Global}
-use Rattle.std.specs.declared.boxed.Box.{Box}
 use Rattle.cn_table.specs.TypeTable.{TypeTable}
 use Rattle.cn_stocks.specs.declared.levels.Level.{Level}
 use Rattle.cn_stocks.specs.declared.levels.Setting.{Setting}
@@ -30,8 +28,8 @@ abbrev pub AreAllEnds : TypeTable → List Stock → List Ends → Type 0
 AreAllEnds t stocks ends = AllZip (λ stock ends. AreEnds t stock.operations.items (length t.states) ends.states) stocks ends
 
 -- the pairs that words show, for each stock
-abbrev pub AreAllShown : TypeTable → List Stock → List (Box Shown Global) → Type 0
-AreAllShown t stocks shown = AllZip (λ stock shown. AreShown t stock.operations.items shown.value.pairs) stocks shown
+abbrev pub AreAllShown : TypeTable → List Stock → List Shown → Type 0
+AreAllShown t stocks shown = AllZip (λ stock shown. AreShown t stock.operations.items shown.pairs.items) stocks shown
 
 -- the start states and the sets of all stocks of the level; whether a stock records is found without the pairs
 pub record IsLevel (question : Question) (t : TypeTable) (level : Level) : Type 0 where
@@ -61,7 +59,7 @@ AreLessEnds t items x ends = (rest : List ℕ) × HaveSame items (x ∷ rest) ×
 
 -- the pairs of what is left of the list without one x
 abbrev pub AreLessShown : TypeTable → List ℕ → ℕ → Shown → Type 0
-AreLessShown t items x shown = (rest : List ℕ) × HaveSame items (x ∷ rest) × AreShown t rest shown.pairs
+AreLessShown t items x shown = (rest : List ℕ) × HaveSame items (x ∷ rest) × AreShown t rest shown.pairs.items
 
 -- the set has the start states of each stock that has one operation less
 abbrev pub HasLessStarts : Setting → ℕ → Type 0

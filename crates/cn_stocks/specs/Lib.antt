@@ -4,6 +4,7 @@ pub mod Records
 pub mod Questions
 pub mod Stocks
 pub mod Pairs
+pub mod Each
 pub mod Reach
 pub mod Levels
 pub mod Components

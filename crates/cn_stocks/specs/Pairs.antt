@@ -9,7 +9,3 @@ Has set response state = IsBitSet (slice_index set.states response) state
 -- the set at the place, the empty one where there is none
 abbrev pub set_at : List PairSet → ℕ → PairSet
 set_at sets place = slice_index_or sets place (record { states = [] })
-
--- the set at the place of a row
-abbrev pub set_in : List (List PairSet) → ℕ → ℕ → PairSet
-set_in rows row place = set_at (slice_index_or rows row []) place

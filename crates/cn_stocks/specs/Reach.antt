@@ -1,9 +1,12 @@
 -- What words within a stock lead to, whichever operation they begin with.
 use Rattle.std.specs.Prelude.{◌≡◌, ℕ, ◌<◌, ◌↔◌, List, ◌∷◌, ◌++◌, length, slice_index, IsBitSet}
+use Rattle.std.specs.declared.alloc.Global.{Global}
+use Rattle.std.specs.declared.vec.Vec.{Vec}
 use Rattle.cn_table.specs.TypeTable.{TypeTable, transition}
 use Rattle.cn_table.specs.Run.{state_after}
 use Rattle.cn_stocks.specs.declared.pair_sets.PairSet.{PairSet}
-use Rattle.cn_stocks.specs.Pairs.{Has, set_in}
+use Rattle.cn_stocks.specs.Each.{EachAt}
+use Rattle.cn_stocks.specs.Pairs.{Has, set_at}
 use Rattle.cn_stocks.specs.Words.{HaveSame, IsWithin}
 
 -- some word within the stock ends in the state, the empty word too
@@ -31,6 +34,10 @@ AreEnds t stock end ends = (start : ℕ) → start < end → (q : ℕ) → IsBit
 abbrev pub ArePairs : TypeTable → ℕ → List ℕ → ℕ → PairSet → Type 0
 ArePairs t start stock o set = (r q : ℕ) → Has set r q ↔ ShowsWithin t start stock o r q
 
+-- these pairs for each start state; where there is no set there are no pairs
+abbrev pub ArePairsTo : TypeTable → List ℕ → ℕ → List PairSet → Type 0
+ArePairsTo t stock o sets = (start : ℕ) → start < length t.states → ArePairs t start stock o (set_at sets start)
+
 -- the pairs that words within the stock show, for each operation and each start state
-abbrev pub AreShown : TypeTable → List ℕ → List (List PairSet) → Type 0
-AreShown t stock rows = (o : ℕ) → o < length t.operations → (start : ℕ) → start < length t.states → ArePairs t start stock o (set_in rows o start)
+abbrev pub AreShown : TypeTable → List ℕ → List (Vec PairSet Global) → Type 0
+AreShown t stock rows = EachAt (λ o row. ArePairsTo t stock o row.items) (length t.operations) rows

@@ -13,7 +13,7 @@ pub(crate) struct Level {
     pub starts: Vec<u16>,
     pub ends: Vec<Ends>,
     /// For each stock, where it is asked whether stocks split, and else empty.
-    pub shown: Vec<Box<Shown>>,
+    pub shown: Vec<Shown>,
 }
 
 /// A table, a stock, and the stocks of one operation less.
@@ -59,7 +59,7 @@ impl<'s> Setting<'s> {
         let _operations = self.table.operations();
         let level = self.level;
         match self.stock.less[operation as usize] {
-            Some(place) => Some(&*level.shown[place as usize]),
+            Some(place) => Some(&level.shown[place as usize]),
             None => None,
         }
     }

@@ -32,7 +32,7 @@ fn shown_by(setting: &Setting<'_>, start: u8, first: u8, asked: u8) -> PairSet
     };
     if let Some(shown) = setting.less_shown(first) {
         let (_, next) = setting.table.apply(Operation(first), State(start));
-        set.add_all(&shown.pairs[asked as usize][next.0 as usize]);
+        shown.add_to(asked, next.0, &mut set);
     }
     set
 }

@@ -3,8 +3,8 @@ ghost use Rattle.std.specs.Prelude.{◌≡◌, ◌<◌, ◌↔◌, ℕ, length, 
 ghost use Rattle.cn_stocks.specs.declared.question.Question.TheVariants.{Splitting};
 ghost use Rattle.cn_stocks.specs.Levels.{AreAllEnds, AreAllShown, IsNext, IsSetting, IsSomeNext, IsSomeSetting};
 ghost use Rattle.cn_stocks.specs.Meetings.{AreLeft};
-ghost use Rattle.cn_stocks.specs.Pairs.{Has, set_at};
-ghost use Rattle.cn_stocks.specs.Reach.{AreEnds, ArePairs, AreShown, EndsWithin, ShowsAtOnce};
+ghost use Rattle.cn_stocks.specs.Pairs.{Has};
+ghost use Rattle.cn_stocks.specs.Reach.{AreEnds, ArePairs, ArePairsTo, AreShown, EndsWithin, ShowsAtOnce};
 
 use crate::levels::{Level, Setting};
 use crate::meetings::StateSets;
@@ -26,10 +26,31 @@ pub(crate) struct Ends {
 }
 
 /// The pairs that words within a stock show.
-#[derive(Clone, Copy)]
+#[derive(Drop)]
 pub(crate) struct Shown {
-    /// For each operation and each start state the pairs that these words show the operation.
-    pub pairs: [[PairSet; MOST_STATES]; MOST_OPERATIONS],
+    /// For each operation and each start state the pairs that these words show the operation. The
+    /// row of an operation that the stock does not have is empty.
+    pub pairs: Vec<Vec<PairSet>>,
+}
+
+impl Shown {
+    ghost use Rattle.std.specs.Prelude.{◌≡◌, ◌<◌, ◌↔◌, ◌⊎◌, ℕ, List, length};
+    ghost use Rattle.cn_table.specs.TypeTable.{TypeTable};
+    ghost use Rattle.cn_stocks.specs.Pairs.{Has};
+    ghost use Rattle.cn_stocks.specs.Reach.{AreShown, ShowsWithin};
+
+    /// Puts the pairs that these words show the operation from the start state into the set.
+    pub fn add_to(&self, asked: u8, start: u8, set: &mut PairSet)
+        requires { asked < length self.now.pairs.items }
+        ensures { (t : TypeTable) (stock : List ℕ) → AreShown t stock self.now.pairs.items
+            → start < length t.states → (r q : ℕ) → Has set.new r q
+            ↔ (Has set.old r q ⊎ ShowsWithin t start stock asked r q) }
+    {
+        let sets = &self.pairs[asked as usize];
+        if (start as usize) < sets.len() {
+            set.add_all(&sets[start as usize]);
+        }
+    }
 }
 
 /// The states in which words within the stock end.
@@ -110,49 +131,46 @@ fn shown_from(setting: &Setting<'_>, asked: u8, start: u8) -> PairSet
     for operation in 0..setting.table.operations() {
         if let Some(shown) = setting.less_shown(operation) {
             let (_, next) = setting.table.apply(Operation(operation), State(start));
-            set.add_all(&shown.pairs[asked as usize][next.0 as usize]);
+            shown.add_to(asked, next.0, &mut set);
         }
     }
     set
 }
 
 /// These pairs for each start state.
-fn shown_to(setting: &Setting<'_>, asked: u8) -> [PairSet; MOST_STATES]
+fn shown_to(alloc: Global, setting: &Setting<'_>, asked: u8) -> Result<Vec<PairSet>, AllocError>
     requires setting { IsSetting Splitting setting.now }
     requires asked { asked < length setting.now.table.now.operations }
-    ensures { (start : ℕ) → start < length setting.now.table.now.states
-        → ArePairs setting.now.table.now start setting.now.stock.now.operations.items asked
-        (set_at result start) }
+    ensures { IfOk result (λ sets. ArePairsTo setting.now.table.now
+        setting.now.stock.now.operations.items asked sets.items) }
 {
-    let mut sets = [PairSet::none(); MOST_STATES];
-    for start in 0..setting.table.states() {
-        sets[start as usize] = shown_from(setting, asked, start);
+    let _operations = setting.table.operations();
+    // An operation that the stock does not have is shown nothing.
+    if !setting.stock.has(asked) {
+        return Ok(Vec::new(alloc));
     }
-    sets
+    let end = setting.table.states();
+    let mut sets = Vec::with_capacity(alloc, end as usize)?;
+    for start in 0..end {
+        let set = shown_from(setting, asked, start);
+        sets.push(set)?;
+    }
+    Ok(sets)
 }
 
 /// The pairs that words within the stock show.
-fn stock_pairs(setting: &Setting<'_>) -> Shown
-    requires { IsSetting Splitting setting.now }
-    ensures { AreShown setting.now.table.now setting.now.stock.now.operations.items result.pairs }
-{
-    let mut pairs = [[PairSet::none(); MOST_STATES]; MOST_OPERATIONS];
-    for asked in 0..setting.table.operations() {
-        // An operation that the stock does not have is shown nothing.
-        if setting.stock.has(asked) {
-            pairs[asked as usize] = shown_to(setting, asked);
-        }
-    }
-    Shown { pairs }
-}
-
-/// The pairs that words within the stock show, on the heap.
-fn boxed_pairs(alloc: Global, setting: &Setting<'_>) -> Result<Box<Shown>, AllocError>
+fn stock_pairs(alloc: Global, setting: &Setting<'_>) -> Result<Shown, AllocError>
     requires { IsSetting Splitting setting.now }
     ensures { IfOk result (λ shown. AreShown setting.now.table.now
-        setting.now.stock.now.operations.items shown.value.pairs) }
+        setting.now.stock.now.operations.items shown.pairs.items) }
 {
-    Ok(Box::new(alloc, stock_pairs(setting))?)
+    let end = setting.table.operations();
+    let mut pairs = Vec::with_capacity(alloc, end as usize)?;
+    for asked in 0..end {
+        let sets = shown_to(alloc, setting, asked)?;
+        pairs.push(sets)?;
+    }
+    Ok(Shown { pairs })
 }
 
 /// The states in which words within each of these stocks end. The threads share the stocks.
@@ -195,7 +213,7 @@ fn all_shown<T: Threads + Sync>(
     level: &Level,
     stocks: &[Stock],
     threading: Threading,
-) -> Result<Vec<Box<Shown>>, AllocError>
+) -> Result<Vec<Shown>, AllocError>
     requires { All (IsNext Splitting table.now level.now) stocks.now }
     ensures { IfOk result (λ shown. AreAllShown table.now stocks.now shown.items) }
 {
@@ -204,20 +222,20 @@ fn all_shown<T: Threads + Sync>(
         .par_iter()
         .with_min_len(threading.least_piece())
         .map(
-            |stock: &Stock| -> Result<Box<Shown>, AllocError>
+            |stock: &Stock| -> Result<Shown, AllocError>
                 requires { IsNext Splitting table.now level.now stock.now }
                 ensures { IfOk result (λ shown. AreShown table.entry.now
-                    stock.now.operations.items shown.value.pairs) }
+                    stock.now.operations.items shown.pairs.items) }
             {
                 let setting = Setting {
                     table,
                     level,
                     stock,
                 };
-                boxed_pairs(alloc, &setting)
+                stock_pairs(alloc, &setting)
             },
         )
-        .collect::<Result<Vec<Box<Shown>>, AllocError>>(rt, alloc)?
+        .collect::<Result<Vec<Shown>, AllocError>>(rt, alloc)?
 }
 
 /// The same where it is asked whether stocks split, and else nothing.
@@ -229,7 +247,7 @@ pub(crate) fn shown_for<T: Threads + Sync>(
     level: &Level,
     stocks: &[Stock],
     threading: Threading,
-) -> Result<Vec<Box<Shown>>, AllocError>
+) -> Result<Vec<Shown>, AllocError>
     requires { All (IsNext question table.now level.now) stocks.now }
     ensures { IfOk result (λ shown. question ≡ Splitting
         → AreAllShown table.now stocks.now shown.items) }

@@ -1,7 +1,7 @@
 use Rattle.std.proofs.Common.{ℕ, ◌≡◌, ◌↔◌, ap, arith, subst, sym}
 use Rattle.cn_table.specs.TypeTable.{transition}
 use Rattle.cn_stocks.specs.declared.pair_sets.PairSet.{PairSet}
-use Rattle.cn_stocks.specs.Pairs.{Has, set_in}
+use Rattle.cn_stocks.specs.Pairs.{Has}
 use Rattle.cn_stocks.specs.Reach.{ShowsAtOnce, ShowsWithin}
 use Rattle.cn_stocks.proofs.StockLemmas.{removal_of}
 use Rattle.cn_stocks.proofs.Steps.{shown_by_is, shown_by_none, shows_part_is}
@@ -25,10 +25,9 @@ returns-in-Some c r q =
     ] in
     let less = c.in-Some.ensures in
     let next : c.apply.result.1.0 ≡ (transition t f u).1 = ap (λ (p : ℕ × ℕ). p.1) c.apply.ensures.value in
-    let new : Type 0 = Has (set_in c.in-Some.shown.now.pairs a c.apply.result.1.0) r q in
-    let here = less.2 a c.requires.asked c.apply.result.1.0 c.apply.ensures.next r q in
-    shown_by_is t u items (removal_of s.level.now.stocks.list.items items s.stock.now.less c.requires.setting.stock_is.links) f a r q (Has c.if-first-asked.set r q) new (Has c.add_all.new.self r q) base
-    (shows_part_is t u items f less.0 less.1 a r q new (subst (λ (n : ℕ). new ↔ ShowsWithin t n less.0 a r q) next here)) (c.add_all.ensures r q)
+    let new : Type 0 = ShowsWithin t c.apply.result.1.0 less.0 a r q in
+    shown_by_is t u items (removal_of s.level.now.stocks.list.items items s.stock.now.less c.requires.setting.stock_is.links) f a r q (Has c.if-first-asked.set r q) new (Has c.add_to.new.set r q) base
+    (shows_part_is t u items f less.0 less.1 a r q new (subst (λ (n : ℕ). new ↔ ShowsWithin t n less.0 a r q) next (λ x. x, λ x. x))) (c.add_to.ensures t less.0 less.2 c.apply.ensures.next r q)
 
 pub returns-in_default : goal.returns-in_default
 returns-in_default c r q =
@@ -46,3 +45,6 @@ returns-in_default c r q =
           (λ h. absurd (w.none-set.ensures r q h), λ p. absurd (omega (arith, p.0, w.if-first-asked.false)))
     ] in
     shown_by_none t u items f a r q (Has c.if-first-asked.set r q) c.in_default.ensures base
+
+pub add_to-requires : goal.add_to-requires
+add_to-requires c = omega (arith, c.in-Some.ensures.2.0, c.requires.asked)

@@ -1,7 +1,7 @@
 use Rattle.std.proofs.Common.{ℕ, ◌≡◌, ◌+◌, ◌↔◌, ap, arith, length, subst, sym}
 use Rattle.cn_table.specs.TypeTable.{transition}
 use Rattle.cn_stocks.specs.declared.pair_sets.PairSet.{PairSet}
-use Rattle.cn_stocks.specs.Pairs.{Has, set_in}
+use Rattle.cn_stocks.specs.Pairs.{Has}
 use Rattle.cn_stocks.specs.Reach.{ShowsAtOnce, ShowsWithin}
 use Rattle.cn_stocks.proofs.StockLemmas.{removal_of}
 use Rattle.cn_stocks.proofs.Steps.{Gathered, ShowsPart, gathered_first, gathered_more, gathered_none, shown_all, shows_part_is, shows_part_none}
@@ -27,13 +27,12 @@ loop-operation-preserved c r q =
     elim c.match-less_shown.branch [
       | in-Some w ↦ (
           let less = w.in-Some.ensures in
-          let rows = w.in-Some.shown.now.pairs in
           let next : w.apply.result.1.0 ≡ (transition t o u).1 = ap (λ (p : ℕ × ℕ). p.1) w.apply.ensures.value in
-          let new : Type 0 = Has (set_in rows a w.apply.result.1.0) r q in
-          let here = less.2 a c.requires.asked w.apply.result.1.0 w.apply.ensures.next r q in
+          let new : Type 0 = ShowsWithin t w.apply.result.1.0 less.0 a r q in
+          let added = w.add_to.ensures t less.0 less.2 w.apply.ensures.next r q in
           subst (λ (set : PairSet). Gathered base part (o + 1) (Has set r q)) (sym w.set-is)
-          (gathered_more base part o (Has c.loop-operation.set r q) new (Has w.add_all.new.self r q) i (w.add_all.ensures r q)
-          (shows_part_is t u items o less.0 less.1 a r q new (subst (λ (n : ℕ). new ↔ ShowsWithin t n less.0 a r q) next here)))
+          (gathered_more base part o (Has c.loop-operation.set r q) new (Has w.add_to.new.set r q) i added
+          (shows_part_is t u items o less.0 less.1 a r q new (subst (λ (n : ℕ). new ↔ ShowsWithin t n less.0 a r q) next (λ x. x, λ x. x))))
           )
       | in_default w ↦ subst (λ (set : PairSet). Gathered base part (o + 1) (Has set r q)) (sym w.set-is)
           (gathered_none base part o (Has c.loop-operation.set r q) i (shows_part_none t u items o a r q w.in_default.ensures))
@@ -50,3 +49,6 @@ returns c r q =
     let end : c.loop-operation.operation ≡ length t.operations = omega (arith, c.operations-operation-end.ensures.number, c.loop-operation-test.false, c.loop-operation.auto.operation-end) in
     shown_all t c.args.start items (removal_of s.level.now.stocks.list.items items s.stock.now.less stock.links) (length t.operations) stock.known c.args.asked r q (Has c.loop-operation.set r q)
     (subst (λ (k : ℕ). Gathered base part k (Has c.loop-operation.set r q)) end (c.loop-operation.invariant r q))
+
+pub add_to-requires : goal.add_to-requires
+add_to-requires c = omega (arith, c.in-Some.ensures.2.0, c.requires.asked)
