@@ -28,11 +28,6 @@ module _ (t : TypeTable) (c : RawChoice) (j : ℕ) where
     pub none_collides : NoneInto t c A j set → (x y : List ℕ) → ¬ IsCollision t c j x y
     none_collides none x y k = none x k.alpha_order (into_set x y k)
 
-    pub some_from_b : (alpha : List ℕ) (pair : ℕ × ℕ) → IsFirstInto t c A j set alpha pair → (single : PairSet) → ((r q : ℕ) → Has single r q ↔ ((r ≡ pair.0) × (q ≡ pair.1))) → ¬ NoneInto t c B j single
-    some_from_b alpha pair first single only none =
-        let r = (from_b pair.0 pair.1).0 first.has in
-        none r.0 r.1 (pair, (r.2, r.3), (only pair.0 pair.1).1 (refl, refl))
-
   -- the first order into the set of one pair is the first with this pair
   pub first_of_pair : (team : Team) (pair : ℕ × ℕ) (single : PairSet) → ((r q : ℕ) → Has single r q ↔ ((r ≡ pair.0) × (q ≡ pair.1))) → (order : List ℕ) (again : ℕ × ℕ) → IsFirstInto t c team j single order again
       → IsFirstOfPair t c team j pair order

@@ -84,13 +84,14 @@ none_of_none t raw team j set k e x o long leads = o.someone (empty x (long ∙ 
     empty [] l = refl
     empty (p ∷ ps) l = absurd (omega (arith, l))
 
-pub team_ordered : (c : Choice) (team : Team) → team_from c team ≤ team_to c team
-team_ordered c A = omega arith
-team_ordered c B = omega arith
-
 -- how many processes the teams have
 pub team_few : (c : Choice) (raw : RawChoice) → raw ≡ raw_choice_of c → length c.a + length c.b ≡ length raw.operations
 team_few c raw same = sym (length-append c.a c.b) ∙ sym (ap (λ (r : RawChoice). length r.operations) same)
+
+-- the processes of a team are processes of the choice
+pub team_in : (c : Choice) (raw : RawChoice) → raw ≡ raw_choice_of c → (team : Team) → team_to c team ≤ length raw.operations
+team_in c raw same A = omega (arith, team_few c raw same)
+team_in c raw same B = omega (arith, team_few c raw same)
 
 module _ (t : TypeTable) (c : Choice) (raw : RawChoice) (same : raw ≡ raw_choice_of c) (team : Team) (j : ℕ) where
   long : length c.a + length c.b ≡ length raw.operations

@@ -1,5 +1,5 @@
 -- What holds for some number below an end, found number by number.
-use Rattle.std.proofs.Common.{ℕ, ◌+◌, ◌<◌, ◌≤◌, ◌⊎◌, inl, inr, ◌↔◌, arith, subst}
+use Rattle.std.proofs.Common.{ℕ, ◌+◌, ◌<◌, ◌⊎◌, inl, inr, ◌↔◌, arith, subst}
 use Rattle.cn_outcomes.proofs.Packing.{below_or_last}
 
 module _ (part : ℕ → Type 0) where
@@ -10,14 +10,4 @@ module _ (part : ℕ → Type 0) where
   below_more end here new more h m n = (
     λ x. elim (m.0 x) [ inl a ↦ (let r = h.0 a in (r.0, omega (arith, r.1), r.2)) | inr b ↦ (end, omega arith, n.0 b) ],
     λ x. m.1 (elim (below_or_last x.0 end x.1) [ inl l ↦ inl (h.1 (x.0, l, x.2)) | inr e ↦ inr (n.1 (subst part e x.2)) ]),
-  )
-
-  -- the same from some number on
-  pub from_first : (low : ℕ) (here : Type 0) → ¬ here → here ↔ ((k : ℕ) × (low ≤ k) × (k < low) × part k)
-  from_first low here n = (λ h. absurd (n h), λ h. absurd (omega (arith, h.1, h.2)))
-
-  pub from_more : (low end : ℕ) (here new more : Type 0) → low ≤ end → here ↔ ((k : ℕ) × (low ≤ k) × (k < end) × part k) → more ↔ (here ⊎ new) → new ↔ part end → more ↔ ((k : ℕ) × (low ≤ k) × (k < end + 1) × part k)
-  from_more low end here new more l h m n = (
-    λ x. elim (m.0 x) [ inl a ↦ (let r = h.0 a in (r.0, r.1, omega (arith, r.2), r.3)) | inr b ↦ (end, l, omega arith, n.0 b) ],
-    λ x. m.1 (elim (below_or_last x.0 end x.2) [ inl u ↦ inl (h.1 (x.0, x.1, u, x.3)) | inr e ↦ inr (n.1 (subst part e x.3)) ]),
   )

@@ -7,7 +7,7 @@ use Rattle.cn_stocks.specs.declared.stocks.Stock.{Stock}
 use Rattle.cn_stocks.specs.declared.stocks.Stocks.{Stocks}
 use Rattle.cn_stocks.specs.Stocks.{AreAll, SomeAll}
 use Rattle.cn_stocks.proofs.StockLemmas.{before_or_behind, count_push, get_before, get_behind}
-use Rattle.cn_collisions.specs.Each.{EachAt}
+use Rattle.cn_stocks.specs.Each.{EachAt}
 use Rattle.cn_collisions.specs.Levels.{AreBeside, AreLevels}
 
 pub some_at : {X : Type 0} (xs : List X) (i : ℕ) → i < length xs → (x : X) × (slice_get xs i ≡ Some x)

@@ -1,4 +1,3 @@
-pub mod EachLemmas
 pub mod ExactWords
 pub mod WayLemmas
 pub mod FirstOrders
@@ -9,3 +8,5 @@ pub mod StandLemmas
 pub mod PlaceLemmas
 pub mod PrefixLemmas
 pub mod Gathering
+pub mod OpeningLemmas
+pub mod OutcomeLemmas

@@ -1,8 +1,8 @@
 -- The stock of a list, operation by operation.
-use Rattle.std.proofs.Common.{◌≡◌, ℕ, suc, ◌+◌, ◌<◌, ◌≤◌, inl, inr, List, [], ◌∷◌, ◌++◌, length, get_or, map, take, refl, sym, ap, ◌∙◌, subst, arith, Some, All}
+use Rattle.std.proofs.Common.{◌≡◌, ℕ, suc, ◌+◌, ◌-◌, ◌<◌, ◌≤◌, inl, inr, List, [], ◌∷◌, ◌++◌, length, get_or, map, take, refl, sym, ap, ◌∙◌, subst, arith, Some, All}
 use Rattle.std.specs.Prelude.{slice_get, slice_index, slice_index_or}
 use Rattle.std.proofs.Math.Seq.{take-suc}
-use Rattle.std.proofs.lemmas.List.{length-map}
+use Rattle.std.proofs.lemmas.List.{length-map, take_all}
 use Rattle.cn_choice.proofs.ArrangementLemmas.{taken_long}
 use Rattle.cn_outcomes.proofs.Packing.{below_or_last}
 use Rattle.cn_stocks.specs.declared.stocks.Stocks.{Stocks}
@@ -10,11 +10,13 @@ use Rattle.cn_stocks.specs.Stocks.{UpTo, items_at}
 use Rattle.cn_stocks.specs.Words.{HaveSame, IsWithin, times}
 use Rattle.cn_stocks.proofs.Growing.{some_items}
 use Rattle.cn_stocks.proofs.StockLemmas.{before_or_behind, items_within, length_last}
-use Rattle.cn_stocks.proofs.Times.{one, one_at, one_else, place_in, same_or, times_last, times_none}
+use Rattle.cn_stocks.proofs.Times.{one, one_at, one_else, place_in, same_or, times_append, times_last, times_none}
 use Rattle.cn_stocks.proofs.WordOrders.{to_taken}
 use Rattle.cn_collisions.specs.Levels.{AreLevels}
 use Rattle.cn_collisions.specs.Places.{IsGathered, IsUpTo}
-use Rattle.cn_collisions.specs.Stands.{StandsIn}
+use Rattle.cn_collisions.specs.Stands.{StandsAt, StandsIn}
+use Rattle.cn_collisions.specs.declared.places.StockPlace.{StockPlace}
+use Rattle.cn_collisions.specs.declared.sets.Sets.{Sets}
 use Rattle.cn_collisions.proofs.LevelLemmas.{some_at}
 
 map_same : (xs : List ℕ) → map (λ (x : ℕ). x) xs ≡ xs
@@ -113,3 +115,78 @@ up_to_all list stock operations known u o = elim (before_or_behind o operations)
 
 pub up_to_none : (list : List ℕ) → IsUpTo list 0 []
 up_to_none list = record { below = λ o l. absurd (omega (arith, l)); none = λ o l. times_none o }
+
+-- the stock has what is taken of both lists, and no operation above the last one
+pub record IsMerged (a b : List ℕ) (from_a from_b last : ℕ) (stock : List ℕ) : Type 0 where
+  pub up : UpTo last stock
+  pub same : (o : ℕ) → times o stock ≡ times o (take from_a a) + times o (take from_b b)
+
+pub merged_none : (a b : List ℕ) → IsMerged a b 0 0 0 []
+merged_none a b = record { up = λ o l. absurd (omega (arith, l, times_none o)); same = λ o. omega (arith, times_none o) }
+
+module _ (a b : List ℕ) (from_a from_b last : ℕ) (stock : List ℕ) (is : IsMerged a b from_a from_b last stock) where
+  pub up_to_next : (x : ℕ) → last ≤ x → UpTo x stock
+  up_to_next x l o h = omega (arith, is.up o h, l)
+
+  up_to_pushed : (x : ℕ) → last ≤ x → UpTo x (stock ++ x ∷ [])
+  up_to_pushed x l o h = elim (same_or x o) [
+    | inl e ↦ omega (arith, e)
+    | inr n ↦ omega (arith, l, is.up o (omega (arith, h, times_last o x stock, one_else o x n)))
+  ]
+
+  -- with the next of either list
+  pub merged_first : (x : ℕ) → last ≤ x → from_a < length a → x ≡ get_or a from_a 0 → IsMerged a b (from_a + 1) from_b x (stock ++ x ∷ [])
+  merged_first x l inside e = record {
+    up = up_to_pushed x l;
+    same = λ o. (let more = subst (λ (y : ℕ). times o (take (from_a + 1) a) ≡ times o (take from_a a) + one o y) (sym e) (take_times o from_a a inside) in omega (arith, more, is.same o, times_last o x stock));
+  }
+
+  pub merged_second : (x : ℕ) → last ≤ x → from_b < length b → x ≡ get_or b from_b 0 → (next : ℕ) → next ≡ from_b + 1 → IsMerged a b from_a next x (stock ++ x ∷ [])
+  merged_second x l inside e next f = subst (λ (k : ℕ). IsMerged a b from_a k x (stock ++ x ∷ [])) (sym f) (record {
+    up = up_to_pushed x l;
+    same = λ o. (let more = subst (λ (y : ℕ). times o (take (from_b + 1) b) ≡ times o (take from_b b) + one o y) (sym e) (take_times o from_b b inside) in omega (arith, more, is.same o, times_last o x stock));
+  })
+
+  pub merged_whole : length a ≤ from_a → length b ≤ from_b → HaveSame (a ++ b) stock
+  merged_whole l m o =
+      let first : times o (take from_a a) ≡ times o a = ap (times o) (take_all from_a a l) in
+      let second : times o (take from_b b) ≡ times o b = ap (times o) (take_all from_b b m) in
+      omega (arith, is.same o, first, second, times_append o a b)
+
+-- so much is taken of both lists, of the first so many, and its stock stands there
+pub record IsWalked (sets : Sets) (a b : List ℕ) (taken from_a last : ℕ) (at : StockPlace) : Type 0 where
+  pub order : from_a ≤ taken
+  pub first : from_a ≤ length a
+  pub second : taken - from_a ≤ length b
+  pub size : at.size ≡ taken
+  pub stock : List ℕ
+  pub stands : StandsAt sets at.size at.place stock
+  pub merged : IsMerged a b from_a (taken - from_a) last stock
+
+module _ (sets : Sets) (a b : List ℕ) (taken from_a last : ℕ) (at : StockPlace) (is : IsWalked sets a b taken from_a last at) (x : ℕ) (l : last ≤ x) (next : StockPlace) (size : next.size ≡ at.size + 1)
+    (child : (stock : List ℕ) → StandsAt sets at.size at.place stock → UpTo x stock → StandsAt sets next.size next.place (stock ++ x ∷ [])) where
+  stands_next : StandsAt sets next.size next.place (is.stock ++ x ∷ [])
+  stands_next = child is.stock is.stands (up_to_next a b from_a (taken - from_a) last is.stock is.merged x l)
+
+  pub walked_first : (more : ℕ) → more ≡ from_a + 1 → from_a < length a → x ≡ get_or a from_a 0 → IsWalked sets a b (taken + 1) more x next
+  walked_first more f inside e = subst (λ (k : ℕ). IsWalked sets a b (taken + 1) k x next) (sym f) (record {
+    order = omega (arith, is.order);
+    first = omega (arith, inside);
+    second = omega (arith, is.second, is.order);
+    size = omega (arith, size, is.size);
+    stock = is.stock ++ x ∷ [];
+    stands = stands_next;
+    merged = (let same : taken - from_a ≡ taken + 1 - (from_a + 1) = omega (arith, is.order) in
+        subst (λ (k : ℕ). IsMerged a b (from_a + 1) k x (is.stock ++ x ∷ [])) same (merged_first a b from_a (taken - from_a) last is.stock is.merged x l inside e));
+  })
+
+  pub walked_second : (more : ℕ) → more ≡ from_a → taken - from_a < length b → x ≡ get_or b (taken - from_a) 0 → IsWalked sets a b (taken + 1) more x next
+  walked_second more f inside e = subst (λ (k : ℕ). IsWalked sets a b (taken + 1) k x next) (sym f) (record {
+    order = omega (arith, is.order);
+    first = is.first;
+    second = omega (arith, inside, is.order);
+    size = omega (arith, size, is.size);
+    stock = is.stock ++ x ∷ [];
+    stands = stands_next;
+    merged = merged_second a b from_a (taken - from_a) last is.stock is.merged x l inside e (taken + 1 - from_a) (omega (arith, is.order));
+  })

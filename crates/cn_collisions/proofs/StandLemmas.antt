@@ -8,10 +8,10 @@ use Rattle.cn_stocks.specs.declared.stocks.Stocks.{Stocks}
 use Rattle.cn_stocks.specs.Stocks.{items_at}
 use Rattle.cn_stocks.specs.Words.{HaveSame, times}
 use Rattle.cn_stocks.proofs.StockLemmas.{items_of, items_within, no_less, read_stock, same_items, stock_at}
-use Rattle.cn_collisions.specs.Each.{EachAt}
+use Rattle.cn_stocks.specs.Each.{EachAt}
 use Rattle.cn_collisions.specs.Levels.{AreLevels}
 use Rattle.cn_collisions.specs.Stands.{StandsIn}
-use Rattle.cn_collisions.proofs.EachLemmas.{each_read}
+use Rattle.cn_stocks.proofs.EachLemmas.{each_read}
 use Rattle.cn_collisions.proofs.LevelLemmas.{some_all, some_at}
 
 -- what is read at a place is what stands there

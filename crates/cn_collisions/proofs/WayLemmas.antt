@@ -7,17 +7,17 @@ use Rattle.std.specs.Cmp.{nat_cmp_is}
 use Rattle.std.specs.Cmp.Lexicographic.{slice_cmp}
 use Rattle.std.proofs.lemmas.Bool.{cases_order, ne_eqb}
 use Rattle.std.proofs.lemmas.List.{length-map}
-use Rattle.std.proofs.lemmas.Option.{none-some, same_Some}
+use Rattle.std.proofs.lemmas.Option.{same_Some}
 use Rattle.std.proofs.lemmas.Nat.Bits.{bit_at-pow_same}
 use Rattle.cn_table.specs.TypeTable.{TypeTable, transition}
 use Rattle.cn_stocks.specs.declared.pair_sets.PairSet.{PairSet}
 use Rattle.cn_stocks.specs.Pairs.{Has}
 use Rattle.cn_choice.specs.RawChoices.{RawChoice}
 use Rattle.cn_choice.specs.Moves.{answer_of, next_of}
-use Rattle.cn_collisions.specs.Ways.{BeginsWithin, Ends, Hits, IsFirstWay, IsFresh, IsTried, IsWay, LeadsNowhere, NoWay, WayTo, seen_after}
+use Rattle.cn_collisions.specs.Ways.{BeginsWithin, Ends, Hits, IsFirstWay, IsFresh, IsTried, IsWay, LeadsNowhere, NoWay, StepWay, WayTo, seen_after}
 use Rattle.cn_outcomes.proofs.BitSets.{pow_set, union_set}
 use Rattle.cn_outcomes.proofs.Exchange.{IsExchanged, exchange, exchange_first, exchange_other, exchange_second, exchange_twice, which}
-use Rattle.cn_outcomes.proofs.LastProcess.{same_or_not, set_from}
+use Rattle.cn_outcomes.proofs.LastProcess.{same_or_not, set_from, zero_has_none}
 
 pub in_pow : (k : ℕ) → IsBitSet (2 ^ k) k
 in_pow k = set_from (2 ^ k) k (bit_at-pow_same k)
@@ -95,6 +95,20 @@ module _ (t : TypeTable) (c : RawChoice) (p q : ℕ) (same : slice_index c.opera
       let here = ends_exchanged ys (next_of t c y state) (seen_after j y (answer_of t c y state) seen) pair h in
       let moved = subst (λ (o : ℕ). Ends t c j (transition t o state).1 (seen_after j y (transition t o state).0 seen) (map (exchange p q) ys) pair) (same_operation y) here in
       subst (λ (s : Option ℕ). Ends t c j (next_of t c (exchange p q y) state) s (map (exchange p q) ys) pair) (same_seen y (answer_of t c (exchange p q y) state) seen) moved
+
+-- a way to go on from a process is like one from another process with its operation
+pub step_exchanged : (t : TypeTable) (c : RawChoice) (j p q : ℕ) → slice_index c.operations p ≡ slice_index c.operations q → p ≢ j → q ≢ j → p < length c.operations → q < length c.operations → (r s : ℕ)
+    → StepWay t c j q r s → StepWay t c j p r s
+step_exchanged t c j p q same n m l u r s h =
+    let ps = h.2.0 in
+    let moved = map (exchange p q) ps in
+    let first : exchange p q q ≡ p = exchange_second p q q refl in
+    let fresh = fresh_exchanged p q (length c.operations) 0 0 l u (neither p q 0 (zero_has_none p) (zero_has_none q)) (q ∷ ps) (u, zero_has_none q, h.2.2) in
+    let ends = ends_exchanged t c p q same j n m (q ∷ ps) c.state None (r, s) h.2.3 in (
+      h.0,
+      h.1,
+      (moved, length-map ps (exchange p q) ∙ h.2.1, (subst (λ (k : ℕ). IsFresh (length c.operations) 0 (k ∷ moved)) first fresh).2, subst (λ (k : ℕ). Ends t c j c.state None (k ∷ moved) (r, s)) first ends),
+    )
 
 -- ---- the first process of a way
 
@@ -181,10 +195,6 @@ module _ (t : TypeTable) (c : RawChoice) (j : ℕ) (set : PairSet) (size low hig
           | inr apart ↦ elim apart [ inl less ↦ dead q way.begins.0 less qs way hits | inr more ↦ absurd (not_above q p qs tail more before) ]
         ]
 
-pub append_none : (xs : List ℕ) → xs ++ [] ≡ xs
-append_none [] = refl
-append_none (x ∷ xs) = ap (λ (l : List ℕ). x ∷ l) (append_none xs)
-
 -- ---- by the pairs with which ways end
 
 module _ (t : TypeTable) (c : RawChoice) (j : ℕ) (set : PairSet) (size n used state : ℕ) (seen : Option ℕ) (every : n ≡ length c.operations) where
@@ -206,9 +216,6 @@ module _ (t : TypeTable) (c : RawChoice) (j : ℕ) (set : PairSet) (size n used 
         by_list : (ps : List ℕ) → length ps ≡ 0 → Ends t c j state seen ps (r, q) → (seen ≡ Some r) × (state ≡ q)
         by_list [] l e = e
         by_list (p ∷ ps) l e = absurd (omega (arith, l))
-
-    pub is_seen : seen ≡ None → ⊥
-    is_seen e = none-some r (sym e ∙ at_end.0)
 
     pub first_end : Has set r q → (pair : ℕ × ℕ) → seen ≡ Some pair.0 → state ≡ pair.1 → IsFirstWay t c j set size 0 n used state seen [] pair
     first_end s pair e f = record {

@@ -1,5 +1,5 @@
 -- All stocks of up to so many operations, and their sets.
-use Rattle.std.specs.Prelude.{◌≡◌, ℕ, suc, ◌+◌, ◌-◌, ◌≤◌, List, [], length, slice_get, Some}
+use Rattle.std.specs.Prelude.{◌≡◌, ℕ, suc, ◌+◌, ◌-◌, ◌<◌, ◌≤◌, List, [], length, slice_get, Some}
 use Rattle.std.specs.declared.alloc.Global.{Global}
 use Rattle.std.specs.declared.vec.Vec.{Vec}
 use Rattle.cn_table.specs.TypeTable.{TypeTable}
@@ -7,11 +7,12 @@ use Rattle.cn_choice.specs.declared.limits.TheConstants.{MOST_PROCESSES}
 use Rattle.cn_stocks.specs.declared.stocks.Stock.{Stock}
 use Rattle.cn_stocks.specs.declared.stocks.Stocks.{Stocks}
 use Rattle.cn_stocks.specs.Stocks.{AreAll, AreLong, AreStocks}
+use Rattle.cn_collisions.specs.declared.sets.Level.{Level}
 use Rattle.cn_collisions.specs.declared.sets.Sets.{Sets}
 use Rattle.cn_collisions.specs.declared.word_sets.Ends.{Ends}
 use Rattle.cn_collisions.specs.declared.word_sets.Shown.{Shown}
-use Rattle.cn_collisions.specs.Each.{EachAt}
-use Rattle.cn_collisions.specs.WordSets.{AreEndsOf, AreShownOf}
+use Rattle.cn_stocks.specs.Each.{EachAt}
+use Rattle.cn_collisions.specs.WordSets.{AreEndsOf, AreShownOf, IsShown}
 
 -- for each number of operations below the count, all stocks of so many, each with links to those of one operation less
 pub record AreLevels (operations count : ℕ) (levels : List Stocks) : Type 0 where
@@ -31,6 +32,22 @@ AreAllShown t levels count shown = EachAt (λ m e. (s : Stocks) → slice_get le
 pub record AreBeside (operations m : ℕ) (before stocks : List Stock) : Type 0 where
   pub stocks_are : AreStocks operations before stocks
   pub long : AreLong stocks m
+
+-- the stocks of the level have their ends, and those of one operation less their pairs
+pub record IsLevel (level : Level) : Type 0 where
+  pub few : level.size < MOST_PROCESSES
+  pub before : List Stock
+  pub beside : AreBeside (length level.table.now.operations) level.size before level.stocks.now
+  pub below : AreShownOf level.table.now (level.size - 1) before level.below.now
+  pub ends : AreEndsOf level.table.now level.size level.stocks.now level.ends.now
+
+-- a stock of such a level stands there
+abbrev pub IsPlaceOf : Level → ℕ → Type 0
+IsPlaceOf level place = IsLevel level × (place < length level.stocks.now)
+
+-- the pairs of the stock that stands there
+abbrev pub IsShownAt : Level → ℕ → Shown → Type 0
+IsShownAt level place shown = (s : Stock) → slice_get level.stocks.now place ≡ Some s → IsShown level.table.now level.size s.operations.items shown
 
 -- the sets are those of their table for choices for their number of processes
 pub record AreSomeSets (s : Sets) : Type 0 where

@@ -1,5 +1,4 @@
 pub mod Exact
-pub mod Each
 pub mod WordSets
 pub mod Levels
 pub mod Ways

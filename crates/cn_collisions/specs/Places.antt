@@ -1,7 +1,7 @@
 -- How the stock of a list is found, operation by operation.
 use Rattle.std.specs.Prelude.{◌≡◌, ℕ, ◌+◌, ◌<◌, ◌≤◌, List}
 use Rattle.cn_stocks.specs.Stocks.{UpTo}
-use Rattle.cn_stocks.specs.Words.{times}
+use Rattle.cn_stocks.specs.Words.{HaveSame, times}
 use Rattle.cn_collisions.specs.declared.places.StockPlace.{StockPlace}
 use Rattle.cn_collisions.specs.declared.sets.Sets.{Sets}
 use Rattle.cn_collisions.specs.Stands.{StandsAt}
@@ -24,3 +24,7 @@ pub record IsGathered (list : List ℕ) (end count : ℕ) (stock : List ℕ) : T
 -- a stock that can have one more of the operation at its end stands there
 abbrev pub HasRoom : Sets → ℕ → StockPlace → Type 0
 HasRoom sets operation at = (stock : List ℕ) × StandsAt sets at.size at.place stock × UpTo operation stock × (at.size < sets.n)
+
+-- the stock of the list stands there
+abbrev pub HasPlace : Sets → List ℕ → ℕ → Type 0
+HasPlace sets list place = (stock : List ℕ) × StandsAt sets sets.n place stock × HaveSame list stock

@@ -56,7 +56,8 @@ NoWay t c j set size low high used state seen = (x : List ℕ) → IsWay (length
 
 -- no such way that begins with the process leads into it
 abbrev pub LeadsNowhere : TypeTable → RawChoice → ℕ → PairSet → ℕ → ℕ → ℕ → ℕ → ℕ → Option ℕ → ℕ → Type 0
-LeadsNowhere t c j set size low high used state seen p = (ps : List ℕ) → IsWay (length c.operations) size low high used (p ∷ ps) → ¬ Hits t c j set state seen (p ∷ ps)
+LeadsNowhere t c j set size low high used state seen p =
+    (ps : List ℕ) → IsWay (length c.operations) size low high used (p ∷ ps) → ¬ Hits t c j set state seen (p ∷ ps)
 
 -- the first way, in lexicographic order, that leads into the set, and its pair
 pub record IsFirstWay (t : TypeTable) (c : RawChoice) (j : ℕ) (set : PairSet) (size low high used state : ℕ) (seen : Option ℕ)
@@ -73,3 +74,7 @@ IsTried c j low end used operation = (p : ℕ) × (low ≤ p) × (p < end) × (p
 -- a process that need not move next: it has moved, or it is not j and its operation was tried
 abbrev pub IsPassed : RawChoice → ℕ → ℕ → ℕ → ℕ → Type 0
 IsPassed c j used tried p = IsBitSet used p ⊎ ((p ≢ j) × IsBitSet tried (slice_index c.operations p))
+
+-- a process that need not move next: it has moved, or it is not j and its operation is that of an earlier one from low on
+abbrev pub IsCovered : RawChoice → ℕ → ℕ → ℕ → ℕ → Type 0
+IsCovered c j low used p = IsBitSet used p ⊎ ((p ≢ j) × IsTried c j low p used (slice_index c.operations p))

@@ -11,7 +11,7 @@ use Rattle.cn_stocks.specs.Words.{HaveSame}
 use Rattle.cn_collisions.specs.declared.setting.Setting.{Setting}
 use Rattle.cn_collisions.specs.declared.word_sets.Ends.{Ends}
 use Rattle.cn_collisions.specs.declared.word_sets.Shown.{Shown}
-use Rattle.cn_collisions.specs.Each.{EachAt}
+use Rattle.cn_stocks.specs.Each.{EachAt}
 use Rattle.cn_collisions.specs.Exact.{AreEndsAfter, AreEndsUpTo, ArePairsAfter, ArePairsUpTo}
 
 -- the states in which words end, for each number of operations up to m

@@ -1,5 +1,5 @@
 //! The first collision of a process.
-ghost use Rattle.std.specs.Prelude.{◌≡◌, ◌<◌, ◌≤◌, ◌↔◌, ℕ, List, length, slice_get, IfNone, IfSome};
+ghost use Rattle.std.specs.Prelude.{◌≡◌, ◌<◌, ◌↔◌, [], ℕ, List, IsFalse, IsTrue};
 ghost use Rattle.cn_choice.specs.Canonical.{raw_choice_of};
 ghost use Rattle.cn_choice.specs.Collisions.{IsCollision};
 ghost use Rattle.cn_choice.specs.FirstCollision.{IsFirstCollision};
@@ -9,7 +9,7 @@ ghost use Rattle.cn_stocks.specs.Pairs.{Has};
 ghost use Rattle.cn_collisions.specs.Views.{IsAsked};
 
 use crate::asked::Asked;
-use crate::orders::{first_order_into, outcomes};
+use crate::orders::{first_order_into, outcomes, push_openings_of};
 use arrayvec::ArrayVec;
 use cn_choice::{MOST_PROCESSES, Team};
 use cn_outcomes::bits::with;
@@ -26,22 +26,32 @@ fn only(response: u8, state: u8) -> PairSet
     pairs
 }
 
-/// The first collision of the process, if it has one: the one with the least first order, and with it
-/// the least second order.
+/// Fills two empty lists with the first collision of the process, and answers whether it has one. It
+/// is the collision with the least first order, and with it the least second order.
 pub(crate) fn collision_of(
     asked: &Asked<'_>,
-) -> Option<(ArrayVec<u8, MOST_PROCESSES>, ArrayVec<u8, MOST_PROCESSES>)>
-    requires { IsAsked asked.now }
-    ensures none { IfNone result ((alpha beta : List ℕ)
+    alpha: &mut ArrayVec<u8, MOST_PROCESSES>,
+    beta: &mut ArrayVec<u8, MOST_PROCESSES>,
+) -> bool
+    requires asked { IsAsked asked.now }
+    requires empty { (alpha.old.items ≡ []) × (beta.old.items ≡ []) }
+    ensures none { IsFalse result → (x y : List ℕ)
         → ¬ IsCollision asked.now.view.sets.now.table.now asked.now.view.raw.now
-        asked.now.view.process alpha beta) }
-    ensures first { IfSome result (λ found.
-        IsFirstCollision asked.now.view.sets.now.table.now asked.now.view.raw.now
-        asked.now.view.process found.0.items found.1.items) }
+        asked.now.view.process x y }
+    ensures unchanged { IsFalse result → (alpha.new.items ≡ []) × (beta.new.items ≡ []) }
+    ensures first { IsTrue result → IsFirstCollision asked.now.view.sets.now.table.now
+        asked.now.view.raw.now asked.now.view.process alpha.new.items beta.new.items }
 {
-    let from_b = outcomes(asked, Team::B);
-    let (alpha, (response, state)) = first_order_into(asked, Team::A, &from_b)?;
+    let (mut from_a, mut from_b) = (ArrayVec::new(), ArrayVec::new());
+    push_openings_of(asked, Team::A, &mut from_a);
+    push_openings_of(asked, Team::B, &mut from_b);
+    let pairs = outcomes(asked, Team::B, &from_b);
+    let Some((response, state)) = first_order_into(asked, Team::A, &from_a, &pairs, alpha) else {
+        return false;
+    };
     let pair = only(response, state);
-    let (beta, _) = first_order_into(asked, Team::B, &pair)?;
-    Some((alpha, beta))
+    let Some(_pair) = first_order_into(asked, Team::B, &from_b, &pair, beta) else {
+        unreachable!()
+    };
+    true
 }

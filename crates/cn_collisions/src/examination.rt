@@ -5,7 +5,7 @@ ghost use Rattle.cn_choice.specs.Collisions.{IsRecordedCollision};
 ghost use Rattle.cn_choice.specs.Discerning.{IsWitness};
 ghost use Rattle.cn_choice.specs.RawChoices.{IsRawChoice};
 ghost use Rattle.cn_outcomes.specs.Twins.{AreTwins};
-ghost use Rattle.cn_collisions.specs.Examination.{IsExamined};
+ghost use Rattle.cn_collisions.specs.Examination.{AreRecordedOrders, IsExamined, collision_with};
 ghost use Rattle.cn_collisions.specs.Levels.{AreSomeSets};
 ghost use Rattle.cn_collisions.specs.Views.{IsAsked, IsSubject};
 
@@ -25,6 +25,34 @@ pub enum Examined {
     Splits,
     /// The choice is no witness. This is its recorded collision.
     Meets(Collision),
+}
+
+/// The process of a collision and its orders. With a choice they are a [`Collision`].
+#[derive(Drop)]
+pub struct RecordedOrders {
+    /// The process that cannot tell which team moved first.
+    pub process: u8,
+    /// The order that begins in team A.
+    pub alpha: ArrayVec<u8, MOST_PROCESSES>,
+    /// The order that begins in team B.
+    pub beta: ArrayVec<u8, MOST_PROCESSES>,
+}
+
+impl RecordedOrders {
+    /// The collision of a choice with this process and these orders.
+    pub fn into_collision(self, choice: &Choice) -> Collision
+        ensures { result ≡ collision_with choice.now self }
+    {
+        // The lists of a choice have room for no more.
+        let (a, b) = (choice.a.as_slice(), choice.b.as_slice());
+        prove!(a.len() <= MOST_PROCESSES && b.len() <= MOST_PROCESSES);
+        Collision {
+            choice: choice.copy(),
+            process: self.process,
+            alpha: self.alpha,
+            beta: self.beta,
+        }
+    }
 }
 
 /// A choice as a choice and as a raw choice, and the sets for it.
@@ -79,39 +107,58 @@ fn asked_of<'s>(subject: &Subject<'s>, process: u8) -> Asked<'s>
 }
 
 /// The first collision of the least process that has one.
-fn raw_collision(
-    subject: &Subject<'_>,
-) -> Option<
-    (
-        u8,
-        (ArrayVec<u8, MOST_PROCESSES>, ArrayVec<u8, MOST_PROCESSES>),
-    ),
->
+fn raw_collision(subject: &Subject<'_>) -> Option<RecordedOrders>
     requires { IsSubject subject.now }
     ensures none { IfNone result (IsWitness subject.now.sets.now.table.now subject.now.raw.now) }
     ensures recorded { IfSome result (λ found.
         IsRecordedCollision subject.now.sets.now.table.now subject.now.raw.now
-        found.0 found.1.0.items found.1.1.items) }
+        found.process found.alpha.items found.beta.items) }
 {
     collision_or_witness();
     process_of_pair();
+    let (mut alpha, mut beta) = (ArrayVec::new(), ArrayVec::new());
     let raw = subject.raw;
     for process in 0..raw.operations.len() as u8 {
         if is_twin(raw, process) {
             continue;
         }
         let asked = asked_of(subject, process);
-        let found = collision_of(&asked);
-        if let Some(found) = found {
-            return Some((process, found));
+        if collision_of(&asked, &mut alpha, &mut beta) {
+            return Some(RecordedOrders {
+                process,
+                alpha,
+                beta,
+            });
         }
     }
     None
 }
 
-/// Whether the choice is a witness, and the recorded collision of a choice that is none. That is
-/// the collision of the least process that has one. In list order its `alpha` is the first of this
-/// process, and its `beta` is the first with the pair of `alpha`.
+/// The process and the orders of the recorded collision of a choice, and none for a witness. The
+/// process is the least that has a collision. In list order its `alpha` is the first of this process,
+/// and its `beta` is the first with the pair of `alpha`.
+///
+/// The choice is one for as many processes as the sets.
+pub fn recorded_orders(sets: &Sets<'_>, choice: &Choice) -> Option<RecordedOrders>
+    requires sets { AreSomeSets sets.now }
+    requires fits { IsRawChoice sets.now.table.now sets.now.n (raw_choice_of choice.now) }
+    ensures none { IfNone result (IsWitness sets.now.table.now (raw_choice_of choice.now)) }
+    ensures recorded { IfSome result (AreRecordedOrders sets.now.table.now choice.now) }
+{
+    let raw = RawChoice::of(choice);
+    let (a, b) = (choice.a.as_slice(), choice.b.as_slice());
+    let place = place_of(sets, raw.operations.as_slice(), a, b);
+    let subject = Subject {
+        sets,
+        choice,
+        raw: &raw,
+        place,
+    };
+    raw_collision(&subject)
+}
+
+/// Whether the choice is a witness, and the recorded collision of a choice that is none
+/// ([`recorded_orders`]).
 ///
 /// The choice is one for as many processes as the sets.
 pub fn examine(sets: &Sets<'_>, choice: &Choice) -> Examined
@@ -119,21 +166,8 @@ pub fn examine(sets: &Sets<'_>, choice: &Choice) -> Examined
     requires fits { IsRawChoice sets.now.table.now sets.now.n (raw_choice_of choice.now) }
     ensures { IsExamined sets.now.table.now choice.now result }
 {
-    let raw = RawChoice::of(choice);
-    let place = place_of(sets, raw.operations.as_slice());
-    let subject = Subject {
-        sets,
-        choice,
-        raw: &raw,
-        place,
-    };
-    match raw_collision(&subject) {
-        Some((process, (alpha, beta))) => Examined::Meets(Collision {
-            choice: choice.copy(),
-            process,
-            alpha,
-            beta,
-        }),
+    match recorded_orders(sets, choice) {
+        Some(orders) => Examined::Meets(orders.into_collision(choice)),
         None => Examined::Splits,
     }
 }

@@ -5,7 +5,7 @@
 //! process, with no step back.
 //!
 //! ```text
-//! let sets = Sets::new(alloc, &table, 3)?;
+//! let sets = Sets::new(rt, alloc, &table, 3, Threading::Many)?;
 //! match examine(&sets, &choice) {
 //!     Examined::Splits => println!(rt; "a witness")?,
 //!     Examined::Meets(collision) => println!(rt; "process {} cannot tell", collision.process)?,
@@ -24,5 +24,5 @@ mod view;
 mod ways;
 mod word_sets;
 
-pub use examination::{Examined, examine};
+pub use examination::{Examined, RecordedOrders, examine, recorded_orders};
 pub use sets::Sets;

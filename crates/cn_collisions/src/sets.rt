@@ -3,20 +3,37 @@ ghost use Rattle.std.specs.Prelude.{◌≡◌, ◌≤◌, ◌<◌, ◌-◌, ◌+
 ghost use Rattle.cn_table.specs.declared.limits.TheConstants.{MOST_OPERATIONS};
 ghost use Rattle.cn_choice.specs.declared.limits.TheConstants.{MOST_PROCESSES};
 ghost use Rattle.cn_stocks.specs.declared.stocks.Stock.{Stock as StockOf};
+ghost use Rattle.cn_stocks.specs.declared.threading.Threading.TheVariants.{One};
 ghost use Rattle.std.specs.declared.vec.Vec.{Vec as VecOf};
 ghost use Rattle.cn_collisions.specs.declared.word_sets.Ends.{Ends as EndsOf};
 ghost use Rattle.cn_collisions.specs.declared.word_sets.Shown.{Shown as ShownOf};
-ghost use Rattle.cn_collisions.specs.Each.{EachAt};
-ghost use Rattle.cn_collisions.specs.Levels.{AreAllEnds, AreAllShown, AreBeside, AreLevels, AreSetsFor};
+ghost use Rattle.cn_stocks.specs.Each.{EachAt};
+ghost use Rattle.cn_collisions.specs.Levels.{AreAllEnds, AreAllShown, AreBeside, AreLevels, AreSetsFor, IsLevel, IsPlaceOf, IsShownAt};
 ghost use Rattle.cn_collisions.specs.WordSets.{AreEndsOf, AreShownOf};
 
 use crate::setting::Setting;
 use crate::word_sets::{Ends, Shown, stock_ends, stock_shown};
 use cn_choice::MOST_PROCESSES;
+use cn_stocks::Threading;
 use cn_stocks::pair_sets::PairSet;
 use cn_stocks::stocks::{Stock, Stocks, no_operation};
 use cn_table::{Operation, State, Table};
+use rayon::prelude::*;
 use std::alloc::{AllocError, Global};
+use std::thread::Threads;
+
+/// The fewest stocks whose pairs several threads make.
+const FEWEST_STOCKS: usize = 64;
+
+/// The stocks of so many operations and their ends, with the pairs of those of one operation less.
+#[derive(Clone, Copy)]
+pub(crate) struct Level<'s> {
+    pub table: &'s Table,
+    pub size: u8,
+    pub stocks: &'s [Stock],
+    pub ends: &'s [Ends],
+    pub below: &'s [Shown],
+}
 
 /// The sets of a table for all choices for one number of processes.
 #[derive(Drop)]
@@ -114,37 +131,63 @@ fn all_ends(
     Ok(ends)
 }
 
-/// The pairs of stocks of so many operations, from those of one operation less.
-fn level_shown(
-    alloc: Global,
-    table: &Table,
-    size: u8,
-    stocks: &[Stock],
-    ends: &[Ends],
-    shown: &[Shown],
-) -> Result<Vec<Shown>, AllocError>
-    requires few { size < MOST_PROCESSES }
-    requires beside { (before : List StockOf)
-        × AreBeside (length table.now.operations) size before stocks.now
-        × AreShownOf table.now (size - 1) before shown.now }
-    requires ends { AreEndsOf table.now size stocks.now ends.now }
-    ensures { IfOk result (λ level. AreShownOf table.now size stocks.now level.items) }
+/// In which threads the pairs of so many stocks are made. Those of a few are there sooner than a
+/// thread starts.
+fn threading_for(threading: Threading, count: usize) -> Threading
+    ensures one { threading ≡ One → result ≡ One }
+    ensures many { FEWEST_STOCKS ≤ count → result ≡ threading }
 {
-    let mut level = Vec::with_capacity(alloc, stocks.len())?;
-    for place in 0..stocks.len() {
-        let stock = &stocks[place];
-        let setting = Setting {
-            table,
-            size,
-            stock,
-            ends,
-            shown,
-        };
-        let mine = &ends[place];
-        let own = stock_shown(alloc, &setting, mine)?;
-        level.push(own)?;
+    if count < FEWEST_STOCKS {
+        return Threading::One;
     }
-    Ok(level)
+    threading
+}
+
+/// The pairs of the stock at the place.
+fn shown_at(alloc: Global, level: &Level<'_>, place: usize) -> Result<Shown, AllocError>
+    requires { IsPlaceOf level.now place }
+    ensures { IfOk result (IsShownAt level.now place) }
+{
+    let Level {
+        table,
+        size,
+        stocks,
+        ends,
+        below,
+    } = *level;
+    let setting = Setting {
+        table,
+        size,
+        stock: &stocks[place],
+        ends,
+        shown: below,
+    };
+    stock_shown(alloc, &setting, &ends[place])
+}
+
+/// The pairs of each stock of the level. The threads share the stocks.
+fn level_shown<T: Threads + Sync>(
+    rt: &T,
+    alloc: Global,
+    level: &Level<'_>,
+    threading: Threading,
+) -> Result<Vec<Shown>, AllocError>
+    requires { IsLevel level.now }
+    ensures { IfOk result (λ shown. AreShownOf level.now.table.now level.now.size
+        level.now.stocks.now shown.items) }
+{
+    let count = level.stocks.len();
+    let threading = threading_for(threading, count);
+    (0..count)
+        .into_par_iter()
+        .with_min_len(threading.least_piece())
+        .map(
+            |place: usize| -> Result<Shown, AllocError>
+                requires { IsPlaceOf level.now place }
+                ensures { IfOk result (IsShownAt level.entry.now place) }
+            { shown_at(alloc, level, place) },
+        )
+        .collect::<Result<Vec<Shown>, AllocError>>(rt, alloc)?
 }
 
 /// The pairs of the stocks of one operation less than so many.
@@ -162,12 +205,14 @@ fn shown_below(shown: &[Vec<Shown>], size: u8) -> &[Shown]
 }
 
 /// The pairs of all stocks of fewer than n - 1 operations.
-fn all_shown(
+fn all_shown<T: Threads + Sync>(
+    rt: &T,
     alloc: Global,
     table: &Table,
     stocks: &[Stocks],
     ends: &[Vec<Ends>],
     n: u8,
+    threading: Threading,
 ) -> Result<Vec<Vec<Shown>>, AllocError>
     requires some { 2 ≤ n }
     requires few { n ≤ MOST_PROCESSES }
@@ -183,8 +228,15 @@ fn all_shown(
         let below = shown_below(done, size);
         let row = &ends[size as usize];
         let own = row.as_slice();
-        let level = level_shown(alloc, table, size, list, own, below)?;
-        shown.push(level)?;
+        let level = Level {
+            table,
+            size,
+            stocks: list,
+            ends: own,
+            below,
+        };
+        let pairs = level_shown(rt, alloc, &level, threading)?;
+        shown.push(pairs)?;
     }
     Ok(shown)
 }
@@ -199,12 +251,19 @@ impl<'t> Sets<'t> {
     ghost use Rattle.cn_collisions.specs.Stands.{HasStock, HasStockWith, StandsAt};
 
     /// The sets for all choices of the table for n processes, from 2 to
-    /// [`MOST_PROCESSES`](cn_choice::MOST_PROCESSES).
+    /// [`MOST_PROCESSES`](cn_choice::MOST_PROCESSES). Where many stocks have one size, the threads
+    /// share them. The sets do not depend on the threading.
     ///
     /// # Errors
     ///
     /// Where memory is short.
-    pub fn new(alloc: Global, table: &'t Table, n: u8) -> Result<Sets<'t>, AllocError>
+    pub fn new<T: Threads + Sync>(
+        rt: &T,
+        alloc: Global,
+        table: &'t Table,
+        n: u8,
+        threading: Threading,
+    ) -> Result<Sets<'t>, AllocError>
         requires some { 2 ≤ n }
         requires few { n ≤ MOST_PROCESSES }
         ensures { IfOk result (AreSetsFor table.now n) }
@@ -213,7 +272,7 @@ impl<'t> Sets<'t> {
         let levels = stocks.as_slice();
         let ends = all_ends(alloc, table, levels, n)?;
         let rows = ends.as_slice();
-        let shown = all_shown(alloc, table, levels, rows, n)?;
+        let shown = all_shown(rt, alloc, table, levels, rows, n, threading)?;
         Ok(Sets {
             table,
             n,

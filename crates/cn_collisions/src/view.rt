@@ -26,8 +26,21 @@ pub(crate) struct Prefix {
     pub place: u32,
 }
 
+// What stands in the free places of a list of steps.
+impl Default for Prefix {
+    fn default() -> Prefix {
+        Prefix {
+            used: 0,
+            state: State(0),
+            seen: None,
+            size: 0,
+            place: 0,
+        }
+    }
+}
+
 impl<'s> View<'s> {
-    ghost use Rattle.std.specs.Prelude.{◌≡◌, ◌≢◌, ◌≤◌, ◌<◌, ◌+◌, ◌-◌, ◌^◌, ◌↔◌, ℕ, length, slice_index, IsBitSet, IsTrue};
+    ghost use Rattle.std.specs.Prelude.{◌≡◌, ◌≢◌, ◌≤◌, ◌<◌, ◌+◌, ◌-◌, ◌^◌, ◌⊎◌, ◌↔◌, ℕ, length, slice_index, IsBitSet, IsTrue};
     ghost use Rattle.std.specs.Int.Bits.{bit_or};
     ghost use Rattle.cn_choice.specs.Moves.{answer_of, next_of};
     ghost use Rattle.cn_stocks.specs.Pairs.{Has};
@@ -53,6 +66,7 @@ impl<'s> View<'s> {
     }
 
     /// The prefix after the move of the process itself.
+    #[inline(always)]
     fn after_own(&self, prefix: Prefix, process: u8) -> Prefix
         requires view { IsView self.now }
         requires prefix { IsPrefix self.now prefix }
@@ -82,6 +96,7 @@ impl<'s> View<'s> {
     }
 
     /// The prefix after a move of another process.
+    #[inline(always)]
     fn after_other(&self, prefix: Prefix, process: u8) -> Prefix
         requires view { IsView self.now }
         requires prefix { IsPrefix self.now prefix }
@@ -111,6 +126,7 @@ impl<'s> View<'s> {
     }
 
     /// The prefix after a move of the process, which has not moved.
+    #[inline(always)]
     pub fn after(&self, prefix: Prefix, process: u8) -> Prefix
         requires view { IsView self.now }
         requires prefix { IsPrefix self.now prefix }
@@ -132,33 +148,33 @@ impl<'s> View<'s> {
         self.after_other(prefix, process)
     }
 
-    /// The pairs with which ways to go on end, with any number of processes.
-    pub fn pairs_of_ways(&self, prefix: Prefix) -> PairSet
+    /// Puts the pairs with which ways to go on end, with any number of processes, into the set.
+    #[inline(always)]
+    pub fn add_pairs_of_ways(&self, prefix: Prefix, pairs: &mut PairSet)
         requires view { IsView self.now }
         requires prefix { IsPrefix self.now prefix }
         requires begun { IsBegun self.now prefix }
         requires room { moves_left prefix + 1 ≡ length self.now.raw.now.operations }
-        ensures { (r q : ℕ) → Has result r q
-            ↔ ((k : ℕ) × (k < length self.now.raw.now.operations)
+        ensures { (r q : ℕ) → Has pairs.new r q
+            ↔ (Has pairs.old r q ⊎ ((k : ℕ) × (k < length self.now.raw.now.operations)
             × WayTo self.now.sets.now.table.now self.now.raw.now self.now.process k prefix.used
-            prefix.state.0 prefix.seen r q) }
+            prefix.state.0 prefix.seen r q)) }
     {
         let sets = self.sets;
         let (size, place) = (prefix.size, prefix.place);
         match prefix.seen {
             Some(response) => {
-                let mut pairs = PairSet::none();
                 pairs.add_states(response, sets.ends_ever(size, place, prefix.state));
-                pairs
             }
             None => {
                 let asked = self.operation(self.process);
-                *sets.shown_ever(size, place, asked, prefix.state)
+                pairs.add_all(sets.shown_ever(size, place, asked, prefix.state));
             }
         }
     }
 
     /// Whether some way to go on with exactly so many processes ends with a pair of the set.
+    #[inline(always)]
     pub fn leads_into(&self, prefix: Prefix, left: u8, target: &PairSet) -> bool
         requires view { IsView self.now }
         requires prefix { IsPrefix self.now prefix }

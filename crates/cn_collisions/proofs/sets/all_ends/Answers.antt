@@ -7,7 +7,7 @@ use Rattle.cn_stocks.specs.declared.stocks.Stocks.{Stocks}
 use Rattle.cn_collisions.specs.declared.word_sets.Ends.{Ends}
 use Rattle.cn_collisions.specs.Levels.{AreAllEnds, AreBeside}
 use Rattle.cn_collisions.specs.WordSets.{AreEndsOf}
-use Rattle.cn_collisions.proofs.EachLemmas.{each_none, each_push}
+use Rattle.cn_stocks.proofs.EachLemmas.{each_none, each_push}
 use Rattle.cn_collisions.proofs.LevelLemmas.{beside, each_empty, same_at}
 use Rattle.cn_collisions.proofs.sets.all_ends.Goals as goal
 

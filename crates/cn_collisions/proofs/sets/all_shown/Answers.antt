@@ -8,21 +8,24 @@ use Rattle.cn_collisions.specs.declared.word_sets.Ends.{Ends}
 use Rattle.cn_collisions.specs.declared.word_sets.Shown.{Shown}
 use Rattle.cn_collisions.specs.Levels.{AreAllShown, AreBeside}
 use Rattle.cn_collisions.specs.WordSets.{AreEndsOf, AreShownOf}
-use Rattle.cn_collisions.proofs.EachLemmas.{each_none, each_push, each_read}
+use Rattle.cn_stocks.proofs.EachLemmas.{each_none, each_push, each_read}
 use Rattle.cn_collisions.proofs.LevelLemmas.{beside, each_empty, same_at}
 use Rattle.cn_collisions.proofs.sets.all_shown.Goals as goal
 
 pub loop-size-init : goal.loop-size-init
-loop-size-init c = each_none _ c.in_ok-shown.shown.items c.in_ok-shown.ensures.items
+loop-size-init g c = each_none _ c.in_ok-shown.shown.items c.in_ok-shown.ensures.items
 
 pub bounds-stocks-size : goal.bounds-stocks-size
-bounds-stocks-size c = omega (arith, c.requires.stocks.long, c.loop-size-test.true)
+bounds-stocks-size g c = omega (arith, c.requires.stocks.long, c.loop-size-test.true)
 
 pub shown_below-below-requires : goal.shown_below-below-requires
-shown_below-below-requires c = subst (λ (xs : List (Vec Shown Global)). c.loop-size.size ≤ length xs) (sym c.as_slice-done.ensures.value) (omega (arith, c.loop-size.invariant.0))
+shown_below-below-requires g c = subst (λ (xs : List (Vec Shown Global)). c.loop-size.size ≤ length xs) (sym c.as_slice-done.ensures.value) (omega (arith, c.loop-size.invariant.0))
 
-pub level_shown-requires-clause-beside : goal.level_shown-requires-clause-beside
-level_shown-requires-clause-beside c =
+pub bounds-ends-size : goal.bounds-ends-size
+bounds-ends-size g c = omega (arith, c.requires.ends.0, c.loop-size-test.true)
+
+pub level_shown-requires-after_bounds : goal.level_shown-requires-after_bounds
+level_shown-requires-after_bounds g c κs within =
     let t = c.args.table.now in
     let levels = c.args.stocks.now in
     let k = c.loop-size.size in
@@ -31,34 +34,28 @@ level_shown-requires-clause-beside c =
     let at = slice_get_read levels (length levels) k s refl (omega (arith, c.requires.stocks.long, c.loop-size-test.true)) c.index-stocks-size.is in
     let b = beside (length t.operations) of (λ xs l. each_empty _ xs l) (c.args.n + 1) k levels c.loop-size.shown.items c.shown_below-below.result.now s c.requires.stocks c.loop-size.invariant c.shown_below-below.ensures.none
     (λ m level e h. c.shown_below-below.ensures.some m level e (subst (λ (xs : List (Vec Shown Global)). slice_get xs m ≡ Some level) (sym c.as_slice-done.ensures.value) h)) at in
-    (b.0, subst (λ (xs : List Stock). AreBeside (length t.operations) k b.0 xs) (sym c.as_slice-list.ensures.value) b.1, b.2)
-
-pub bounds-ends-size : goal.bounds-ends-size
-bounds-ends-size c = omega (arith, c.requires.ends.0, c.loop-size-test.true)
-
-pub level_shown-requires-clause-ends : goal.level_shown-requires-clause-ends
-level_shown-requires-clause-ends c =
-    let t = c.args.table.now in
-    let levels = c.args.stocks.now in
-    let k = c.loop-size.size in
-    let s = c.index-stocks-size.result in
-    let at = slice_get_read levels (length levels) k s refl (omega (arith, c.requires.stocks.long, c.loop-size-test.true)) c.index-stocks-size.is in
     let row = each_read _ c.args.ends.now c.args.n k c.index-ends-size.result c.requires.ends (omega (arith, c.loop-size-test.true)) c.index-ends-size.is s at in
-    subst (λ (xs : List Stock). AreEndsOf t k xs c.as_slice-own.result.now) (sym c.as_slice-list.ensures.value) (subst (λ (xs : List Ends). AreEndsOf t k s.list.items xs) (sym c.as_slice-own.ensures.value) row)
+    record {
+      few = omega (arith, c.requires.few, c.loop-size-test.true);
+      before = b.0;
+      beside = subst (λ (xs : List Stock). AreBeside (length t.operations) k b.0 xs) (sym c.as_slice-list.ensures.value) b.1;
+      below = b.2;
+      ends = subst (λ (xs : List Stock). AreEndsOf t k xs c.as_slice-own.result.now) (sym c.as_slice-list.ensures.value) (subst (λ (xs : List Ends). AreEndsOf t k s.list.items xs) (sym c.as_slice-own.ensures.value) row);
+    }
 
 pub loop-size-preserved : goal.loop-size-preserved
-loop-size-preserved c =
+loop-size-preserved g c =
     let t = c.args.table.now in
     let levels = c.args.stocks.now in
     let k = c.loop-size.size in
     let s = c.index-stocks-size.result in
-    let level = c.in_ok-level.level in
+    let level = c.in_ok-pairs.pairs in
     let at = slice_get_read levels (length levels) k s refl (omega (arith, c.requires.stocks.long, c.loop-size-test.true)) c.index-stocks-size.is in
     let fits : ℕ → Vec Shown Global → Type 0 = λ m e. (s : Stocks) → slice_get levels m ≡ Some s → AreShownOf t m s.list.items e.items in
-    let here = subst (λ (xs : List Stock). AreShownOf t k xs level.items) c.as_slice-list.ensures.value c.in_ok-level.ensures in
+    let here = subst (λ (xs : List Stock). AreShownOf t k xs level.items) c.as_slice-list.ensures.value c.in_ok-pairs.ensures in
     each_push fits c.loop-size.shown.items c.push.new.self.items level k c.in_ok-push.ensures.items c.loop-size.invariant (λ r h. same_at (λ x. AreShownOf t k x.list.items level.items) levels k s r at here h)
 
 pub returns : goal.returns
-returns c =
+returns g c =
     let end : c.loop-size.size ≡ c.args.n - 1 = omega (arith, c.loop-size-test.false, c.loop-size.auto.size-end) in
     subst (λ (k : ℕ). AreAllShown c.args.table.now c.args.stocks.now k c.loop-size.shown.items) end c.loop-size.invariant

@@ -3,9 +3,9 @@ use Rattle.std.specs.Prelude.{slice_get}
 use Rattle.cn_stocks.specs.declared.stocks.Stock.{Stock}
 use Rattle.cn_stocks.proofs.StockLemmas.{items_of, read_stock}
 use Rattle.cn_collisions.specs.declared.word_sets.Ends.{Ends}
-use Rattle.cn_collisions.specs.Each.{EachAt}
+use Rattle.cn_stocks.specs.Each.{EachAt}
 use Rattle.cn_collisions.specs.WordSets.{IsEnds}
-use Rattle.cn_collisions.proofs.EachLemmas.{each_none, each_push}
+use Rattle.cn_stocks.proofs.EachLemmas.{each_none, each_push}
 use Rattle.cn_collisions.proofs.LevelLemmas.{same_at}
 use Rattle.cn_collisions.proofs.sets.level_ends.Goals as goal
 

@@ -1,7 +1,7 @@
 use Rattle.std.proofs.Common.{◌≡◌, Some}
 use Rattle.std.specs.Prelude.{slice_get}
 use Rattle.cn_stocks.specs.declared.stocks.Stock.{Stock}
-use Rattle.cn_collisions.specs.Each.{EachAt}
+use Rattle.cn_stocks.specs.Each.{EachAt}
 use Rattle.cn_collisions.specs.WordSets.{IsEnds}
 use Rattle.cn_collisions.proofs.sets.level_ends.Given as goal
 

@@ -1,4 +1,5 @@
 use Rattle.std.proofs.Common.{◌-◌, ◌^◌, ◌∙◌, inl, inr, length, refl, sym, true≢false}
+use Rattle.std.specs.Prelude.{IsBitSet}
 use Rattle.std.specs.Int.Bits.{bit_or}
 use Rattle.cn_choice.specs.Moves.{answer_of, next_of}
 use Rattle.cn_collisions.specs.Ways.{seen_after}
@@ -31,14 +32,14 @@ loop-process-preserved c =
     let p = c.loop-process.process in
     let i = c.loop-process.invariant in
     let next = c.after-next.ensures in
-    let free = c.if-not-is_open.ensures.open refl in
+    let free : ¬ IsBitSet a.prefix.used p = λ u. c.if-not-is_open.ensures.open refl (inl u) in
     let leads = rw (next.used, next.state, next.seen) at c.leads_into.ensures.1 in
     let none = no_way t raw j set (a.left - 1) (length raw.operations) (bit_or a.prefix.used (2 ^ p)) (next_of t raw p a.prefix.state.0) (seen_after j p (answer_of t raw p a.prefix.state.0) a.prefix.seen) refl
     (λ h. true≢false (sym (leads h) ∙ c.if-leads_into.false)) in
     let here = dead_here t raw j set a.left a.low a.high a.prefix.used a.prefix.state.0 a.prefix.seen p (length raw.operations) refl c.requires.some none in
     record {
       dead = dead_more t raw j set a.left a.low a.high a.prefix.used a.prefix.state.0 a.prefix.seen p i.dead here;
-      tried = tried_next raw j a.low p a.prefix.used c.loop-process.tried c.tried_after-tried.result c.loop-process.auto.process free i.tried c.tried_after-tried.ensures;
+      tried = tried_next raw j a.low p a.prefix.used c.loop-process.tried c.tried_after-tried.result c.loop-process.auto.process free i.tried (λ o s. (c.tried_after-tried.ensures o).0 s);
     }
 
 pub returns-clause-none : goal.returns-clause-none

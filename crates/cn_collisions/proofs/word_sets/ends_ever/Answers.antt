@@ -3,7 +3,7 @@ use Rattle.std.specs.Prelude.{IsBitSet}
 use Rattle.std.proofs.lemmas.List.{get_or_default}
 use Rattle.cn_outcomes.proofs.LastProcess.{zero_has_none}
 use Rattle.cn_collisions.specs.Exact.{AreEndsAfter, EndsAfter}
-use Rattle.cn_collisions.proofs.EachLemmas.{each_read}
+use Rattle.cn_stocks.proofs.EachLemmas.{each_read}
 use Rattle.cn_collisions.proofs.Gathering.{below_first, below_more}
 use Rattle.cn_collisions.proofs.word_sets.ends_ever.Goals as goal
 

@@ -1,8 +1,8 @@
 use Rattle.std.proofs.Common.{ℕ, ◌≡◌, arith, length, subst}
 use Rattle.cn_stocks.specs.declared.pair_sets.PairSet.{PairSet}
-use Rattle.cn_collisions.specs.Each.{EachAt}
+use Rattle.cn_stocks.specs.Each.{EachAt}
 use Rattle.cn_collisions.specs.Exact.{ArePairsAfter}
-use Rattle.cn_collisions.proofs.EachLemmas.{each_none, each_push}
+use Rattle.cn_stocks.proofs.EachLemmas.{each_none, each_push}
 use Rattle.cn_collisions.proofs.word_sets.shown_sets.Goals as goal
 
 pub loop-start-init : goal.loop-start-init

@@ -1,7 +1,7 @@
 use Rattle.std.proofs.Common.{ℕ, ◌+◌, ◌<◌, ◌≡◌, ◌↔◌, arith, subst}
 use Rattle.cn_stocks.specs.Pairs.{Has}
 use Rattle.cn_collisions.specs.Exact.{ShowsAfter}
-use Rattle.cn_collisions.proofs.EachLemmas.{each_read}
+use Rattle.cn_stocks.proofs.EachLemmas.{each_read}
 use Rattle.cn_collisions.proofs.Gathering.{below_first, below_more}
 use Rattle.cn_collisions.proofs.word_sets.shown_union.Goals as goal
 

@@ -1,8 +1,8 @@
 use Rattle.std.proofs.Common.{ℕ, List, ◌≡◌, ◌+◌, arith, length, subst, sym}
-use Rattle.cn_collisions.specs.Each.{EachAt}
+use Rattle.cn_stocks.specs.Each.{EachAt}
 use Rattle.cn_collisions.specs.Exact.{AreEndsAfter}
 use Rattle.cn_collisions.specs.WordSets.{AreEndRows}
-use Rattle.cn_collisions.proofs.EachLemmas.{each_none, each_push}
+use Rattle.cn_stocks.proofs.EachLemmas.{each_none, each_push}
 use Rattle.cn_collisions.proofs.word_sets.stock_ends.Goals as goal
 
 pub loop-count-init : goal.loop-count-init

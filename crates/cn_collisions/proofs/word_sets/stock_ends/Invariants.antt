@@ -1,5 +1,5 @@
 use Rattle.std.proofs.Common.{length}
-use Rattle.cn_collisions.specs.Each.{EachAt}
+use Rattle.cn_stocks.specs.Each.{EachAt}
 use Rattle.cn_collisions.specs.Exact.{AreEndsAfter}
 use Rattle.cn_collisions.proofs.word_sets.stock_ends.Given as goal
 

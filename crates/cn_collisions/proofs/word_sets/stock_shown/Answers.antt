@@ -1,9 +1,9 @@
 use Rattle.std.proofs.Common.{Global, ℕ, List, ◌≡◌, ◌+◌, arith, subst, sym}
 use Rattle.std.specs.declared.vec.Vec.{Vec}
 use Rattle.cn_stocks.specs.declared.pair_sets.PairSet.{PairSet}
-use Rattle.cn_collisions.specs.Each.{EachAt}
+use Rattle.cn_stocks.specs.Each.{EachAt}
 use Rattle.cn_collisions.specs.WordSets.{AreAllRows, AreRows}
-use Rattle.cn_collisions.proofs.EachLemmas.{each_none, each_push}
+use Rattle.cn_stocks.proofs.EachLemmas.{each_none, each_push}
 use Rattle.cn_collisions.proofs.word_sets.stock_shown.Goals as goal
 
 pub loop-count-init : goal.loop-count-init

@@ -1,4 +1,4 @@
-use Rattle.cn_collisions.specs.Each.{EachAt}
+use Rattle.cn_stocks.specs.Each.{EachAt}
 use Rattle.cn_collisions.specs.WordSets.{AreRows}
 use Rattle.cn_collisions.proofs.word_sets.stock_shown.Given as goal
 

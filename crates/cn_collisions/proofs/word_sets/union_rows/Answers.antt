@@ -1,9 +1,9 @@
 use Rattle.std.proofs.Common.{Global, ℕ, ◌≡◌, arith, length, subst}
 use Rattle.std.specs.declared.vec.Vec.{Vec}
 use Rattle.cn_stocks.specs.declared.pair_sets.PairSet.{PairSet}
-use Rattle.cn_collisions.specs.Each.{EachAt}
+use Rattle.cn_stocks.specs.Each.{EachAt}
 use Rattle.cn_collisions.specs.WordSets.{AreUnions}
-use Rattle.cn_collisions.proofs.EachLemmas.{each_none, each_push}
+use Rattle.cn_stocks.proofs.EachLemmas.{each_none, each_push}
 use Rattle.cn_collisions.proofs.word_sets.union_rows.Goals as goal
 
 pub loop-asked-init : goal.loop-asked-init

@@ -1,4 +1,4 @@
-use Rattle.cn_collisions.specs.Each.{EachAt}
+use Rattle.cn_stocks.specs.Each.{EachAt}
 use Rattle.cn_collisions.specs.WordSets.{AreUnions}
 use Rattle.cn_collisions.proofs.word_sets.union_rows.Given as goal
 

@@ -1,4 +1,4 @@
-use Rattle.cn_collisions.specs.Each.{EachAt}
+use Rattle.cn_stocks.specs.Each.{EachAt}
 use Rattle.cn_collisions.specs.Exact.{ArePairsUpTo}
 use Rattle.cn_collisions.proofs.word_sets.union_sets.Given as goal
 

@@ -3,10 +3,10 @@ use Rattle.cn_collisions.specs.Levels.{AreLevels}
 use Rattle.cn_collisions.proofs.sets.Sets.new.Goals as goal
 
 pub all_shown-requires-clause-ends : goal.all_shown-requires-clause-ends
-all_shown-requires-clause-ends c = rw c.as_slice-rows.ensures.value c.in_ok-ends.ensures
+all_shown-requires-clause-ends g c κs within = rw c.as_slice-rows.ensures.value c.in_ok-ends.ensures
 
 pub returns : goal.returns
-returns c =
+returns g c =
     let t = c.args.table.now in
     let n = c.args.n in (
       refl,

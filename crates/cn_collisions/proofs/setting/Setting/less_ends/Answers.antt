@@ -1,7 +1,7 @@
 use Rattle.std.proofs.Common.{ℕ, List, ◌-◌, arith, length, subst}
 use Rattle.cn_stocks.proofs.StockLemmas.{items_within, stock_at}
 use Rattle.cn_collisions.specs.WordSets.{IsEnds}
-use Rattle.cn_collisions.proofs.EachLemmas.{each_read}
+use Rattle.cn_stocks.proofs.EachLemmas.{each_read}
 use Rattle.cn_collisions.proofs.ExactWords.{has_some}
 use Rattle.cn_collisions.proofs.setting.Setting.less_ends.Goals as goal
 

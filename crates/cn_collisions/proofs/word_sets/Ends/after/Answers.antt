@@ -1,6 +1,6 @@
 use Rattle.std.proofs.Common.{arith, length}
 use Rattle.cn_collisions.specs.Exact.{AreEndsAfter}
-use Rattle.cn_collisions.proofs.EachLemmas.{each_read}
+use Rattle.cn_stocks.proofs.EachLemmas.{each_read}
 use Rattle.cn_collisions.proofs.word_sets.Ends.after.Goals as goal
 
 pub index-row-requires : goal.index-row-requires

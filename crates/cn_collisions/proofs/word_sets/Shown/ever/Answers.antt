@@ -1,5 +1,5 @@
 use Rattle.std.proofs.Common.{arith}
-use Rattle.cn_collisions.proofs.EachLemmas.{each_read}
+use Rattle.cn_stocks.proofs.EachLemmas.{each_read}
 use Rattle.cn_collisions.proofs.word_sets.Shown.ever.Goals as goal
 
 pub index-sets-requires : goal.index-sets-requires

@@ -1,5 +1,5 @@
 use Rattle.cn_collisions.specs.Places.{HasUpTo}
-use Rattle.cn_collisions.proofs.places.place_of.Given as goal
+use Rattle.cn_collisions.proofs.places.counted_place.Given as goal
 
 abbrev pub invariant-loop-operation : goal.invariant-loop-operation
 invariant-loop-operation l = HasUpTo l.sets l.list l.operation l.at

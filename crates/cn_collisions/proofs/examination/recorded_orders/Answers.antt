@@ -1,11 +1,8 @@
-use Rattle.std.proofs.Common.{ℕ, List, ◌≡◌, ◌∙◌, ap, arith, length, subst, sym}
+use Rattle.std.proofs.Common.{ℕ, IfNone, List, ◌≡◌, ◌∙◌, ap, arith, length, subst, sym}
 use Rattle.cn_choice.specs.RawChoices.{IsRawChoice, RawChoice}
 use Rattle.cn_stocks.specs.Words.{times}
 use Rattle.cn_choice.specs.Discerning.{IsWitness}
-use Rattle.cn_collisions.proofs.examination.examine.Goals as goal
-
-pub returns-in-None : goal.returns-in-None
-returns-in-None c = subst (λ (raw : RawChoice). IsWitness c.args.sets.now.table.now raw) c.of-raw.ensures c.in-None.ensures.none
+use Rattle.cn_collisions.proofs.examination.recorded_orders.Goals as goal
 
 pub raw_collision-requires : goal.raw_collision-requires
 raw_collision-requires c =
@@ -24,3 +21,6 @@ raw_collision-requires c =
       stands = place.1;
       all = λ o. omega (arith, place.2 o, ap (λ (xs : List ℕ). times o xs) c.as_slice.ensures.value, ap (λ (r : RawChoice). times o r.operations) c.raw.view_is);
     }
+
+pub returns-clause-none : goal.returns-clause-none
+returns-clause-none c = subst (λ (raw : RawChoice). IfNone c.raw_collision.result (IsWitness c.args.sets.now.table.now raw)) c.of-raw.ensures c.raw_collision.ensures.none
