@@ -4,9 +4,7 @@ use Rattle.std.specs.List.{AllByRecursion, AllZip, flat_map}
 use Rattle.std.proofs.lemmas.Grind.{flat_map-append}
 use Rattle.std.proofs.lemmas.List.Elements.{All-append, All-from_recursion, recursion_from_All}
 use Rattle.std.proofs.lemmas.List.{get_or_default}
-use Rattle.rayon.specs.Lists.{chunks_of}
 use Rattle.rayon.proofs.ListFacts.{AllZip-append}
-use Rattle.rayon.proofs.ToStd.{chunks_of-concat}
 use Rattle.cn_table.specs.TypeTable.{TypeTable}
 use Rattle.cn_choice.specs.Blocks.{Block, IsBlockOf}
 use Rattle.cn_choice.specs.Canonical.{Choice, raw_choice_of}
@@ -112,57 +110,17 @@ module _ (t : TypeTable) where
     pub keeps_none : (form : E) → keeps form [] → KeepsFor keeps t [] form
     keeps_none form k = record { kept = []; keeps_these = k; recorded = tt }
 
-    -- the form keeps the collisions of some items, and these forms keep the collisions of those behind them
-    pub record IsGathering {X : Type 0} (choices : X → List Choice) (all : List X) (form : E) (left : List E) : Type 0 where
-      pub before : List X
-      pub after : List X
-      pub whole : all ≡ before ++ after
-      pub done : KeepsFor keeps t (flat_map choices before) form
-      pub parts : AllZip (λ x part. KeepsFor keeps t (choices x) part) after left
-
-    module _ {X : Type 0} (choices : X → List Choice) (all : List X) where
-      pub gather_start : (form : E) (left : List E) → keeps form [] → AllZip (λ x part. KeepsFor keeps t (choices x) part) all left → IsGathering choices all form left
-      gather_start form left k h = record { before = []; after = all; whole = refl; done = keeps_none form k; parts = h }
-
+    module _ {X : Type 0} (choices : X → List Choice) where
       -- the collisions of one item more
-      more : (before : List X) (x : X) (form part next : E) → ((kept more : List Collision) → keeps form kept → keeps part more → keeps next (kept ++ more))
+      pub keeps_more : (before : List X) (x : X) (form part next : E) → ((kept more : List Collision) → keeps form kept → keeps part more → keeps next (kept ++ more))
           → KeepsFor keeps t (flat_map choices before) form → KeepsFor keeps t (choices x) part → KeepsFor keeps t (flat_map choices (before ++ x ∷ [])) next
-      more before x form part next joins done here = record {
+      keeps_more before x form part next joins done here = record {
         kept = done.kept ++ here.kept;
         keeps_these = joins done.kept here.kept done.keeps_these here.keeps_these;
         recorded =
             subst (λ l. AreRecordedFor t l (done.kept ++ here.kept)) (sym (flat_map-append choices before (x ∷ []) ∙ ap (λ l. flat_map choices before ++ l) (append-nil (choices x))))
             (AllZip-append (IsRecordedFor t) (flat_map choices before) (choices x) done.kept here.kept done.recorded here.recorded);
       }
-
-      pub gather_on : (form next : E) (left rest : List E) (part : E) → ((kept more : List Collision) → keeps form kept → keeps part more → keeps next (kept ++ more))
-          → IsGathering choices all form left → left ≡ part ∷ rest → IsGathering choices all next rest
-      gather_on form next left rest part joins g e = go g.after g.whole (subst (λ l. AllZip (λ x p. KeepsFor keeps t (choices x) p) g.after l) e g.parts)
-        where
-          go : (after : List X) → all ≡ g.before ++ after → AllZip (λ x p. KeepsFor keeps t (choices x) p) after (part ∷ rest) → IsGathering choices all next rest
-          go [] whole h = absurd h
-          go (x ∷ after) whole h = record {
-            before = g.before ++ x ∷ [];
-            after = after;
-            whole = whole ∙ sym (append_assoc g.before (x ∷ []) after);
-            done = more g.before x form part next joins g.done h.0;
-            parts = h.1;
-          }
-
-      pub gather_done : (form : E) (left : List E) → IsGathering choices all form left → left ≡ [] → KeepsFor keeps t (flat_map choices all) form
-      gather_done form left g e = go g.after g.whole (subst (λ l. AllZip (λ x p. KeepsFor keeps t (choices x) p) g.after l) e g.parts)
-        where
-          go : (after : List X) → all ≡ g.before ++ after → AllZip (λ x p. KeepsFor keeps t (choices x) p) after [] → KeepsFor keeps t (flat_map choices all) form
-          go [] whole h = subst (λ l. KeepsFor keeps t (flat_map choices l) form) (sym (whole ∙ append-nil g.before)) g.done
-          go (x ∷ after) whole h = absurd h
-
-  -- the choices of parts of a list of blocks, one part after the other, are those of the list
-  pub choices_by_part : (size : ℕ) (blocks : List Block) → 0 < size → flat_map (choices_of_all t) (chunks_of size blocks) ≡ choices_of_all t blocks
-  choices_by_part size blocks pos = by_list (chunks_of size blocks) ∙ ap (choices_of_all t) (chunks_of-concat size blocks pos)
-    where
-      by_list : (parts : List (List Block)) → flat_map (choices_of_all t) parts ≡ choices_of_all t (flat_map (λ l. l) parts)
-      by_list [] = refl
-      by_list (part ∷ parts) = ap (λ l. choices_of_all t part ++ l) (by_list parts) ∙ sym (flat_map-append (live_in t) part (flat_map (λ l. l) parts))
 
 -- an empty list
 pub nil_from_length : {X : Type 0} (xs : List X) → length xs ≡ 0 → xs ≡ []
@@ -172,15 +130,6 @@ nil_from_length (x ∷ xs) e = absurd (omega arith)
 pub parts_of : {X : Type 0} (P : X → Type 0) (xs ys : List X) → AllByRecursion P (xs ++ ys) → AllByRecursion P xs × AllByRecursion P ys
 parts_of P [] ys h = (tt, h)
 parts_of P (x ∷ xs) ys h = let r = parts_of P xs ys h.1 in ((h.0, r.0), r.1)
-
--- what holds of each item holds of each item of each part
-pub all_by_part : {X : Type 0} (P : X → Type 0) (size : ℕ) (xs : List X) → 0 < size → All P xs → All (λ (part : List X). All P part) (chunks_of size xs)
-all_by_part {X = X} P size xs pos h =
-    All-from_recursion (λ (part : List X). All P part) (chunks_of size xs) (go (chunks_of size xs) (subst (AllByRecursion P) (sym (chunks_of-concat size xs pos)) (recursion_from_All P xs h)))
-  where
-    go : (parts : List (List X)) → AllByRecursion P (flat_map (λ l. l) parts) → AllByRecursion (λ (part : List X). All P part) parts
-    go [] h = tt
-    go (part ∷ parts) h = let p = parts_of P part (flat_map (λ l. l) parts) h in (All-from_recursion P part p.0, go parts p.1)
 
 -- each block is listed, and where no choice is a witness each is refuted
 pub all_listed : (t : TypeTable) (n : ℕ) → 2 ≤ n → n ≤ 8 → ((k : Block) → n ≤ 8 → Contains (live_blocks t n) k → IsBlockOf t k × (k.n ≡ n)) → (blocks : List Block) → blocks ≡ live_blocks t n → All (IsListedBlock t) blocks

@@ -1,7 +1,8 @@
 //! Forms in which the collisions that a search records are kept.
 ghost use Rattle.std.specs.Prelude.{◌≡◌};
 
-use cn_choice::Collision;
+use cn_choice::{Choice, Collision};
+use cn_collisions::RecordedOrders;
 use std::alloc::{AllocError, Global};
 
 /// A form of the recorded collisions of choices, in the order of the choices: a list of values, or
@@ -9,6 +10,7 @@ use std::alloc::{AllocError, Global};
 pub trait Evidence: Drop + Sized {
     ghost use Rattle.std.specs.Prelude.{List, [], ◌∷◌, ◌++◌, OnOk};
     ghost use Rattle.cn_choice.specs.Collisions.{Collision as CollisionOf};
+    ghost use Rattle.cn_collisions.specs.Examination.{collision_with};
 
     /// These are the collisions that it keeps.
     ghost keeps: { Self → List CollisionOf → Type 0 };
@@ -17,10 +19,10 @@ pub trait Evidence: Drop + Sized {
     fn none(alloc: Global) -> Self
         ensures { keeps result [] };
 
-    /// Appends a collision.
-    fn add(&mut self, collision: Collision) -> Result<(), AllocError>
+    /// Appends the collision of a choice with these orders.
+    fn add(&mut self, choice: &Choice, orders: RecordedOrders) -> Result<(), AllocError>
         ensures { (kept : List CollisionOf) → keeps self.old kept
-            → OnOk result (keeps self.new (kept ++ collision ∷ [])) };
+            → OnOk result (keeps self.new (kept ++ collision_with choice.now orders ∷ [])) };
 
     /// Appends the collisions of another.
     fn append(&mut self, behind: Self) -> Result<(), AllocError>
@@ -35,8 +37,8 @@ impl Evidence for Vec<Collision> {
         Vec::new(alloc)
     }
 
-    fn add(&mut self, collision: Collision) -> Result<(), AllocError> {
-        self.push(collision)?;
+    fn add(&mut self, choice: &Choice, orders: RecordedOrders) -> Result<(), AllocError> {
+        self.push(orders.into_collision(choice))?;
         Ok(())
     }
 

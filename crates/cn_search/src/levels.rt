@@ -3,7 +3,8 @@ ghost use Rattle.std.specs.Prelude.{◌≡◌, ◌<◌, ◌≤◌, ◌⊎◌, �
 ghost use Rattle.cn_choice.specs.Discerning.{IsDiscerning, IsNumberUpTo};
 ghost use Rattle.cn_choice.specs.declared.limits.TheConstants.{MOST_PROCESSES};
 ghost use Rattle.cn_search.specs.Faults.{number_fault};
-ghost use Rattle.cn_search.specs.declared.levels.TheConstants.{LEAST_WITHOUT_TEAMS};
+ghost use Rattle.cn_search.specs.declared.levels.TheConstants.{LEAST_WITHOUT_TEAMS, MOST_IN_ONE_THREAD};
+ghost use Rattle.cn_stocks.specs.declared.threading.Threading.TheVariants.{One};
 ghost use Rattle.cn_search.specs.declared.limits.TheConstants.{GREATEST_LIMIT, LEAST_LIMIT};
 ghost use Rattle.cn_search.specs.declared.fault.FindFault.{FindFault};
 ghost use Rattle.cn_search.specs.declared.fault.FindFault.TheVariants.{OutOfMemory};
@@ -26,6 +27,21 @@ const FEW_CHOICES: u64 = 2_000;
 
 /// So many blocks of choices are looked at first, where there are more choices.
 pub(crate) const EARLY_BLOCKS: usize = 8;
+
+/// Choices for so many processes are gone through sooner than threads start.
+const MOST_IN_ONE_THREAD: u8 = 3;
+
+/// In which threads choices for n processes are gone through.
+pub(crate) fn threading_for(threading: Threading, n: u8) -> Threading
+    ensures one { n ≤ MOST_IN_ONE_THREAD → result ≡ One }
+    ensures as_asked { MOST_IN_ONE_THREAD < n → result ≡ threading }
+{
+    if n <= MOST_IN_ONE_THREAD {
+        Threading::One
+    } else {
+        threading
+    }
+}
 
 /// How many of the blocks are looked at: so many, or all.
 fn count_of_blocks(most: Option<usize>, blocks: usize) -> usize
@@ -57,7 +73,7 @@ pub(crate) fn has_witness<T: Threads + Sync>(
     laws::live_choices_decide();
     let blocks = blocks_for(alloc, table, n)?;
     let (first, _rest) = blocks.split_at(count_of_blocks(most, blocks.len()));
-    let witness = first_witness(rt, alloc, table, first, threading)?;
+    let witness = first_witness(rt, alloc, table, first, threading_for(threading, n))?;
     Ok(witness.is_some())
 }
 
