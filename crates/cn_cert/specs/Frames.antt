@@ -15,4 +15,5 @@ AreEntries bytes entries = codes "[" ++ (bytes ++ codes "]") ≡ compact_text (c
 -- whatever entries the second bytes are the text of, the first ones are read as the certificate with these entries in place of its own
 abbrev pub IsReadWith : List ℕ → Certificate → List ℕ → Type 0
 IsReadWith bytes c entries_text =
-    (entries : List Collision) → AreEntries entries_text entries → list_all is_collision_in_range entries ≡ true → reading bytes ≡ Ok (record c { collisions = entries })
+    (entries : List Collision) → AreEntries entries_text entries → list_all is_collision_in_range entries ≡ true
+    → reading bytes ≡ Ok (record c { collisions = entries })

@@ -1,10 +1,10 @@
 //! The entries of a certificate as their text.
 ghost use Rattle.std.specs.Prelude.{◌≡◌, string_bytes};
 
+use crate::line::Line;
 use crate::sink::Sink;
-use crate::write::push_collision;
-use cn_choice::Collision;
-use cn_search::Evidence;
+use cn_choice::Choice;
+use cn_search::{Evidence, RecordedOrders};
 use std::alloc::{AllocError, Global};
 
 /// The text of entries, each with a comma behind it.
@@ -24,9 +24,12 @@ impl Evidence for EntriesText {
         }
     }
 
-    fn add(&mut self, collision: Collision) -> Result<(), AllocError> {
-        push_collision(&mut self.text, &collision)?;
-        Sink::push(&mut self.text, b',')?;
+    fn add(&mut self, choice: &Choice, orders: RecordedOrders) -> Result<(), AllocError> {
+        let (alpha, beta) = (orders.alpha.as_slice(), orders.beta.as_slice());
+        let mut line = Line::new();
+        let end = line.put_entry(choice, orders.process, alpha, beta);
+        let behind = line.put(end, b',');
+        Sink::push_str(&mut self.text, line.text(behind))?;
         Ok(())
     }
 

@@ -64,9 +64,9 @@ fn text_of(
         ≡ certificate_text (certificate_of table.now.name (finding_of outline kept))) }
 {
     let frame = frame_of(alloc, table, outline)?;
-    let mut text = String::new(alloc);
-    Sink::push_str(&mut text, "{\"collisions\":[")?;
-    Sink::push_str(&mut text, array_body(entries).as_str())?;
+    // The entries are nearly all of the text: they are not copied.
+    let mut text = array_body(entries);
+    text.insert_str(0, "{\"collisions\":[")?;
     Sink::push(&mut text, b']')?;
     push_rest(alloc, &mut text, &frame)?;
     Ok(text)

@@ -302,10 +302,13 @@ impl<'a, O: Original> Sink for Comparison<'a, O> {
     }
 
     fn push_str(&mut self, piece: &str) -> Result<(), Different> {
-        for byte in piece.as_bytes() {
-            self.pass(*byte)?;
+        let left = &self.bytes[self.agreed..];
+        if left.starts_with(piece.as_bytes()) {
+            self.agreed += piece.len();
+            Ok(())
+        } else {
+            Err(Different)
         }
-        Ok(())
     }
 }
 

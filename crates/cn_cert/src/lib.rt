@@ -25,6 +25,7 @@ mod frame;
 mod guess;
 mod kind;
 pub mod laws;
+mod line;
 mod number;
 mod object;
 mod ranges;

@@ -3,14 +3,15 @@ ghost use Rattle.std.specs.Prelude.{◌≡◌, ◌++◌, true, false, decimal, s
 ghost use Rattle.serde_json.specs.Written.{compact_text, members_text};
 ghost use Rattle.serde_json.specs.Data.{string};
 ghost use Rattle.cn_cert.specs.Certificate.{is_version};
-ghost use Rattle.cn_cert.specs.CertificateText.{numbers_data, number_or_null, witness_data, collision_data};
-ghost use Rattle.cn_cert.specs.CertificateText.{collisions_data, other_members, triple_text, certificate_text};
+ghost use Rattle.cn_cert.specs.CertificateText.{number_or_null, witness_data, collision_data};
+ghost use Rattle.cn_cert.specs.CertificateText.{collisions_data, other_members, certificate_text};
 ghost use Rattle.cn_cert.specs.Ranges.{is_in_range};
 ghost use Rattle.cn_cert.specs.Reading.{reading};
 
 use crate::certificate::Certificate;
 use crate::fault::CertFault;
 use crate::laws;
+use crate::line::Line;
 use crate::sink::Sink;
 use cn_choice::{Choice, Collision};
 use cn_table::is_name;
@@ -28,22 +29,6 @@ fn push_number<S: Sink>(out: &mut S, n: u8) -> Result<(), S::Error>
     }
 }
 
-fn push_numbers<S: Sink>(out: &mut S, list: &[u8]) -> Result<(), S::Error>
-    ensures { OnOk result (S.text out.new
-        ≡ S.text out.old ++ compact_text (numbers_data list.now)) }
-{
-    out.push(b'[')?;
-    let mut later = false;
-    for n in list {
-        if later {
-            out.push(b',')?;
-        }
-        push_number(out, *n)?;
-        later = true;
-    }
-    out.push(b']')
-}
-
 fn push_number_or_null<S: Sink>(out: &mut S, number: Option<u8>) -> Result<(), S::Error>
     ensures { OnOk result (S.text out.new
         ≡ S.text out.old ++ compact_text (number_or_null number)) }
@@ -54,57 +39,28 @@ fn push_number_or_null<S: Sink>(out: &mut S, number: Option<u8>) -> Result<(), S
     }
 }
 
-/// Writes a number and two lists: a state with its teams, or a process with its orders.
-fn push_triple<S: Sink>(out: &mut S, n: u8, a: &[u8], b: &[u8]) -> Result<(), S::Error>
-    ensures { OnOk result (S.text out.new
-        ≡ S.text out.old ++ triple_text n a.now b.now) }
-{
-    push_number(out, n)?;
-    out.push(b',')?;
-    push_numbers(out, a)?;
-    out.push(b',')?;
-    push_numbers(out, b)
-}
-
 fn push_witness<S: Sink>(out: &mut S, witness: &Option<Choice>) -> Result<(), S::Error>
     ensures { OnOk result (S.text out.new
         ≡ S.text out.old ++ compact_text (witness_data witness.now)) }
 {
     match witness {
         Some(choice) => {
-            out.push(b'[')?;
-            push_triple(
-                out,
-                choice.state.0,
-                choice.a.as_slice(),
-                choice.b.as_slice(),
-            )?;
-            out.push(b']')
+            let mut line = Line::new();
+            let end = line.put_choice(choice);
+            out.push_str(line.text(end))
         }
         None => out.push_str("null"),
     }
 }
 
-pub(crate) fn push_collision<S: Sink>(out: &mut S, collision: &Collision) -> Result<(), S::Error>
+fn push_collision<S: Sink>(out: &mut S, collision: &Collision) -> Result<(), S::Error>
     ensures { OnOk result (S.text out.new
         ≡ S.text out.old ++ compact_text (collision_data collision.now)) }
 {
-    let choice = &collision.choice;
-    out.push(b'[')?;
-    push_triple(
-        out,
-        choice.state.0,
-        choice.a.as_slice(),
-        choice.b.as_slice(),
-    )?;
-    out.push(b',')?;
-    push_triple(
-        out,
-        collision.process,
-        collision.alpha.as_slice(),
-        collision.beta.as_slice(),
-    )?;
-    out.push(b']')
+    let (alpha, beta) = (collision.alpha.as_slice(), collision.beta.as_slice());
+    let mut line = Line::new();
+    let end = line.put_entry(&collision.choice, collision.process, alpha, beta);
+    out.push_str(line.text(end))
 }
 
 fn push_collisions<S: Sink>(out: &mut S, list: &[Collision]) -> Result<(), S::Error>
