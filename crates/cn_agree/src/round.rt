@@ -103,6 +103,7 @@ impl<V: Copy> Round<V> {
 
     /// One atomic step of process `p`, which has begun and not decided, in a round of this plan.
     /// Answers the value if `p` decides by this step.
+    #[inline(always)]
     pub fn step(&mut self, plan: &Plan, p: u8) -> Option<V>
         requires of_plan { RunsBy plan.now self.old }
         requires process { p < processes_of plan.now }

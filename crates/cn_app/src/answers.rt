@@ -41,6 +41,7 @@ fn come(core: &mut LogCore, event: Event, ends: &mut Vec<CallEnd>) -> Result<(),
 }
 
 /// Takes the events, one after the other, into a new log of this opening.
+#[inline(never)]
 pub(crate) fn answers_of(
     alloc: Global,
     opening: Opening,

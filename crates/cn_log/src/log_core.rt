@@ -117,6 +117,7 @@ impl LogCore {
     /// Process `p`, which is in a call, takes one step. `Answered` answers its call, with its slot
     /// and a response of the object. `Full` ends the call without an answer, since every slot is
     /// fixed and none holds the call.
+    #[inline(always)]
     pub fn step(&mut self, p: u8) -> StepAnswer
         requires { MayCome (setting self.old) (state_of (setting self.old) self.old.schedule)
             (Step p) }

@@ -110,6 +110,7 @@ impl LogState {
     }
 
     /// One step of process p, which is in a call.
+    #[inline(always)]
     pub fn step(&mut self, opening: &Opening, p: u8) -> StepAnswer
         requires room { HasRoom opening.now self.old }
         requires may { (s : List EventOf) × IsStateAfter opening.now s self.old
@@ -156,7 +157,7 @@ impl LogState {
     /// The process takes one atomic step in the round of its next slot, and replays the batch if it
     /// decides.
     // A function of its own, so that a look does not pay for its locals on the stack.
-    #[inline(never)]
+    #[inline(always)]
     fn run(&mut self, opening: &Opening, p: u8, mine: Entry) -> StepAnswer
         requires room { HasRoom opening.now self.old }
         requires at { (s : List EventOf) × IsStateAt opening.now s self.old p (Runs mine) }
@@ -243,6 +244,7 @@ fn enter(
 }
 
 /// The process, with this call of its own pending, replays the batch of its next slot.
+#[inline(never)]
 fn replay_batch(opening: &Opening, here: &mut CallerState, mine: Entry, batch: &Batch) -> StepAnswer
     requires slot { here.old.applied_slots < opening.now.capacity }
     requires few { opening.now.capacity ≤ MOST_SLOTS }
