@@ -10,10 +10,12 @@ use cn_choice::reference::raw_splits;
 use cn_choice::{Choice, RawChoice};
 use cn_collisions::{Examined, Sets, examine};
 use cn_outcomes::is_witness;
+use cn_stocks::Threading;
 use cn_table::Table;
 use std::alloc::Global;
 use std::process::Abort;
 use std::test::Fail;
+use std::thread::Threads;
 
 /// Whether the choice for n processes is a witness, by the definition. The outcome sets and the
 /// examination have to say the same.
@@ -69,11 +71,15 @@ fn witnesses_from(
 }
 
 /// The numbers of witnesses for two, three and four processes, over all start states.
-fn witnesses(rt: &impl Abort, alloc: Global, text: &str) -> Result<[u32; 3], Fail> {
+fn witnesses<T: Abort + Threads + Sync>(
+    rt: &T,
+    alloc: Global,
+    text: &str,
+) -> Result<[u32; 3], Fail> {
     let table = table_of(alloc, text)?;
     let mut found = [0u32; 3];
     for n in 2..5u8 {
-        let sets = Sets::new(alloc, &table, n)?;
+        let sets = Sets::new(rt, alloc, &table, n, Threading::Many)?;
         for state in 0..table.states() {
             let more = witnesses_from(rt, alloc, &table, &sets, state, n)?;
             let place = &mut found[usize::from(n) - 2];

@@ -4,11 +4,12 @@ ghost use Rattle.cn_collisions.specs.Levels.{AreSetsFor};
 
 use cn_choice::{Choice, Choices, Collision};
 use cn_collisions::{Examined, Sets, examine};
-use cn_search::Finding;
+use cn_search::{Finding, Threading};
 use cn_table::Table;
 use std::alloc::Global;
 use std::process::Abort;
 use std::test::Fail;
+use std::thread::Threads;
 
 /// The recorded collision of a choice for n processes, or none for a witness.
 fn recorded_collision(
@@ -28,8 +29,8 @@ fn recorded_collision(
 }
 
 /// The first live canonical witness for n processes, if there is one.
-fn first_witness(
-    rt: &impl Abort,
+fn first_witness<T: Abort + Threads + Sync>(
+    rt: &T,
     alloc: Global,
     table: &Table,
     n: u8,
@@ -37,7 +38,7 @@ fn first_witness(
     requires some { 2 ≤ n }
     requires few { n ≤ 8 }
 {
-    let sets = Sets::new(alloc, table, n)?;
+    let sets = Sets::new(rt, alloc, table, n, Threading::One)?;
     for choice in Choices::new(table, n) {
         if recorded_collision(rt, table, &sets, &choice, n).is_none() {
             return Ok(Some(choice));
@@ -47,8 +48,8 @@ fn first_witness(
 }
 
 /// The recorded collision of each live canonical choice for n processes.
-fn recorded_collisions(
-    rt: &impl Abort,
+fn recorded_collisions<T: Abort + Threads + Sync>(
+    rt: &T,
     alloc: Global,
     table: &Table,
     n: u8,
@@ -56,7 +57,7 @@ fn recorded_collisions(
     requires some { 2 ≤ n }
     requires few { n ≤ 8 }
 {
-    let sets = Sets::new(alloc, table, n)?;
+    let sets = Sets::new(rt, alloc, table, n, Threading::One)?;
     let mut collisions = Vec::new(alloc);
     for choice in Choices::new(table, n) {
         let collision = recorded_collision(rt, table, &sets, &choice, n);
@@ -66,8 +67,8 @@ fn recorded_collisions(
 }
 
 /// The number up to the limit, with its evidence.
-pub(super) fn find(
-    rt: &impl Abort,
+pub(super) fn find<T: Abort + Threads + Sync>(
+    rt: &T,
     alloc: Global,
     table: &Table,
     limit: u8,
