@@ -15,14 +15,14 @@ def names(them, most):
     demand(all(re.fullmatch("[a-z0-9_]{1,32}", it) for it in them), f"a name that is none: {them}")
     return them
 
-class Type:
+class Type:  # states, operations, processes and entries have numbers, from 0
     def __init__(self, table):
         rows, self.states, responses = table["operation"], names(table["states"], 16), names(table["responses"], 16)
         demand(len(table) == 4 and all(len(row) == 3 for row in rows), "the table has another key")
         [self.name], self.operations, n = names([table["name"]], 1), names([it["name"] for it in rows], 8), len(self.states)
         for key, row in itertools.product(("response", "next"), rows):
             demand(type(row[key]) is list and len(row[key]) == n, f"a row is not as long as the states: {row[key]}")
-        # act[o][s] is what operation o does in state s: its response and the next state. All are numbers from 0.
+        # act[o][s] is what operation o does in state s: its response and the next state.
         self.act = [[(responses.index(r), self.states.index(s)) for r, s in zip(it["response"], it["next"])] for it in rows]
     def run(self, state, operations, order):  # the processes of an order do their operations, one after the other
         responses = {}
@@ -39,13 +39,13 @@ class Type:
         orders = all(set(it) <= set(range(len(a + b))) and len(set(it)) == len(it) and p in it for it in (alpha, beta))
         (one, last), (two, end) = (self.run(start, a + b, it if orders else []) for it in (alpha, beta))
         return orders and alpha[0] < len(a) <= beta[0] and (one[p], last) == (two[p], end)
-    def choices(self, n, version):  # the ways for n processes; other numbers or names of the teams make no other way
+    def choices(self, n, version):  # for n processes; other numbers of them, or names of teams, make no other choice
         for start, size in itertools.product(range(len(self.states)), range(1, n // 2 + 1)):
-            # No witness has an operation that keeps the start state. Version 1 lists such ways too.
+            # No witness has an operation that keeps the start state. Version 1 lists these choices too.
             some = [o for o, row in enumerate(self.act) if version == 1 or row[start][1] != start]
             teams = (itertools.combinations_with_replacement(some, it) for it in (size, n - size))
             yield from ([start, [*a], [*b]] for a, b in itertools.product(*teams) if size < n - size or a <= b)
-    def check(self, certificate):
+    def check(self, certificate):  # a witness for the number; none for one process more, and so none for still more
         demand([*sorted(certificate)] == "collisions limit number type version witness".split(), "another key")
         entries, limit, number, name, version, witness = (certificate[key] for key in sorted(certificate))
         demand(name == self.name and type(entries) is list, "the type, or the collisions")
@@ -54,12 +54,12 @@ class Type:
         demand((number is None) == (witness is None), "a number without a witness, or a witness without a number")
         start, a, b = witness or (0, [], [])
         known = are_numbers([start], a, b) and start < len(self.states) and max(a + b, default=0) < len(self.act)
-        demand(known and len(a + b) == (number or 0), "the witness is no way for so many processes")
+        demand(known and len(a + b) == (number or 0), "the witness is no choice for so many processes")
         demand(number is None or a and b and self.is_witness(start, a, b), "in the witness some process cannot tell")
-        choices = self.choices((number or 1) + 1, version) if number != limit else []  # for one process more
+        choices = self.choices((number or 1) + 1, version) if number != limit else []
         for i, (choice, entry) in enumerate(itertools.zip_longest(choices, entries)):
-            demand(type(entry) is list and entry[:3] == choice, f"entry {i} is not of the next way, {choice}")
-            demand(are_numbers(entry[:6:3], *entry[1:3], *entry[4:]) and self.is_collision(*entry), f"entry {i}")
+            demand(type(entry) is list and entry[:3] == choice, f"entry {i} is not of the next choice, {choice}")
+            demand(are_numbers(entry[:6:3], *entry[1:3], *entry[4:]) and self.is_collision(*entry), f"entry {i}: no collision")
     def check_infinite(self, start, one, many):  # the last state tells if `one` was first, however many do `many`
         start, one, many = self.states.index(start), self.operations.index(one), self.operations.index(many)
         times = [[many] * k for k in range(len(self.states) + 1)]  # one more leads to no other state
