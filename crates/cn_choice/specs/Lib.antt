@@ -1,7 +1,6 @@
 pub mod Arrangements
 pub mod Blocks
 pub mod Canonical
-pub mod ChoicesLeft
 pub mod Collisions
 pub mod Counting
 pub mod Discerning

@@ -30,7 +30,8 @@ pub record IsLiveIn (t : TypeTable) (k : Block) (c : Choice) : Type 0 where
 
 -- whether each of the operations, applied in the state, leads to another state
 abbrev pub all_move : TypeTable → ℕ → List ℕ → Bool
-all_move t state operations = list_all (λ operation. not ((transition t operation state).1 == state)) operations
+all_move t state operations =
+    list_all (λ operation. not ((transition t operation state).1 == state)) operations
 
 -- whether the choice is live
 abbrev pub is_live : TypeTable → Choice → Bool
@@ -44,6 +45,8 @@ live_choices t n = filter (is_live t) (canonical_choices (length t.states) (leng
 abbrev pub live_in : TypeTable → Block → List Choice
 live_in t k = filter (is_live t) (choices_of_block (length t.operations) k)
 
--- the blocks of a table for n processes in which each operation of team A leads away from the start state, in their order
+-- the blocks of a table for n processes in which each operation of team A leads away from the start
+-- state, in their order
 unfoldable pub live_blocks : TypeTable → ℕ → List Block
-live_blocks t n = filter (λ k. all_move t k.state k.a) (canonical_blocks (length t.states) (length t.operations) n)
+live_blocks t n = filter (λ k. all_move t k.state k.a)
+    (canonical_blocks (length t.states) (length t.operations) n)

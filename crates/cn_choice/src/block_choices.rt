@@ -1,16 +1,34 @@
 //! The live choices of one block, one after another.
-ghost use Rattle.std.specs.Prelude.{◌≡◌, ◌<◌, true, length, All, IsTrue};
+ghost use Rattle.std.specs.Prelude.{◌≡◌, ◌<◌, ◌≤◌, ◌+◌, true, length, All, IsTrue};
 ghost use Rattle.cn_table.specs.declared.limits.TheConstants.{MOST_OPERATIONS};
 ghost use Rattle.cn_choice.specs.Live.{all_move, is_live};
-ghost use Rattle.cn_choice.specs.LiveLeft.{AreMoving, live_after, live_from};
+ghost use Rattle.cn_choice.specs.LiveLeft.{AreMoving, first_choice, live_after, live_from};
+ghost use Rattle.cn_choice.specs.declared.limits.TheConstants.{MOST_PROCESSES};
 
-use crate::choices::first_with;
 use crate::live::{are_marked, moving_operations};
-use crate::rising::advance_rising;
+use crate::rising::{advance_rising, copies_of};
 use crate::short_list::list_of;
 use crate::{Block, Choice};
+use cn_table::laws::tables_are_valid;
 use cn_table::{MOST_OPERATIONS, Table};
 use std::marker::Model;
+
+/// The first choice of the block.
+fn first_of(block: &Block) -> Choice
+    requires few { block.now.n ≤ MOST_PROCESSES }
+    requires at_most_half { length block.now.a + length block.now.a ≤ block.now.n }
+    ensures { result ≡ first_choice block.now.n block.now.state block.now.a }
+{
+    let a = list_of(block.a.as_slice());
+    let others = block.n as usize - a.len();
+    let b = if a.len() < others {
+        copies_of(0, others)
+    } else {
+        list_of(a.as_slice())
+    };
+    let state = block.state;
+    Choice { state, a, b }
+}
 
 /// Turns the choice into the next live one of its block, and answers whether there is one. Each of
 /// its operations of team A leads away from the start state.
@@ -32,8 +50,8 @@ fn advance_live(table: &Table, moving: &[bool; MOST_OPERATIONS], choice: &mut Ch
     false
 }
 
-/// Turns the choice into the first live one of its block from this one on, and answers whether there
-/// is one.
+/// Turns the choice into the first live one of its block from this one on, and answers whether
+/// there is one.
 fn find_live(table: &Table, moving: &[bool; MOST_OPERATIONS], choice: &mut Choice) -> bool
     requires moving { AreMoving table.now choice.old.state moving.now }
     requires a { All (λ operation. operation < length table.now.operations) choice.old.a }
@@ -43,7 +61,7 @@ fn find_live(table: &Table, moving: &[bool; MOST_OPERATIONS], choice: &mut Choic
     ensures known { All (λ operation. operation < length table.now.operations) choice.new.b }
     ensures same { choice.new.state ≡ choice.old.state }
 {
-    let _operations = table.operations();
+    tables_are_valid(table);
     if !are_marked(moving, choice.a.as_slice()) {
         return false;
     }
@@ -53,9 +71,9 @@ fn find_live(table: &Table, moving: &[bool; MOST_OPERATIONS], choice: &mut Choic
     advance_live(table, moving, choice)
 }
 
-/// The live choices of a block of the table: the live canonical choices with its start state and its
-/// operations of team A, which do not fall. It yields each choice once, in their order, holds the
-/// current one, and takes no memory.
+/// The live choices of a block of the table: the live canonical choices with its start state and
+/// its operations of team A, which do not fall. It yields each choice once, in their order, holds
+/// the current one, and takes no memory.
 ///
 /// Contracts see it as the list of the choices from the current one on.
 ///
@@ -101,9 +119,9 @@ impl<'t> BlockChoices<'t> {
         requires is_block { IsBlockOf table.now block.now }
         ensures { result ≡ live_in table.now block.now }
     {
-        let _operations = table.operations();
+        tables_are_valid(table);
         let moving = moving_operations(table, block.state);
-        let mut choice = first_with(block.state, list_of(block.a.as_slice()), block.n);
+        let mut choice = first_of(block);
         let left = find_live(table, &moving, &mut choice);
         BlockChoices {
             table,

@@ -2,10 +2,9 @@
 ghost use Rattle.std.specs.Prelude.{◌≡◌, ◌<◌, false, get_or, length, All};
 ghost use Rattle.std.specs.List.{list_all};
 ghost use Rattle.cn_table.specs.declared.limits.TheConstants.{MOST_OPERATIONS};
-ghost use Rattle.cn_choice.specs.Live.{all_move, is_live};
+ghost use Rattle.cn_choice.specs.Live.{all_move};
 ghost use Rattle.cn_choice.specs.LiveLeft.{AreMoving};
 
-use crate::Choice;
 use cn_table::{MOST_OPERATIONS, Operation, State, Table};
 
 /// Whether each of the operations, applied in the state, leads to another state.
@@ -22,17 +21,6 @@ pub(crate) fn all_move(table: &Table, state: State, operations: &[u8]) -> bool
         }
     }
     true
-}
-
-/// Whether the choice is live: each of its operations leads away from its start state.
-pub(crate) fn is_live(table: &Table, choice: &Choice) -> bool
-    requires state { choice.now.state < length table.now.states }
-    requires a { All (λ operation. operation < length table.now.operations) choice.now.a }
-    requires b { All (λ operation. operation < length table.now.operations) choice.now.b }
-    ensures { result ≡ is_live table.now choice.now }
-{
-    all_move(table, choice.state, choice.a.as_slice())
-        && all_move(table, choice.state, choice.b.as_slice())
 }
 
 /// For each operation, by its number, whether it leads from the state to another one.

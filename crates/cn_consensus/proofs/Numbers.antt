@@ -2,7 +2,7 @@
 use Rattle.std.proofs.Common.{◌≡◌, ℕ, zero, suc, ◌+◌, ◌-◌, ◌<◌, ◌≤◌, Some, None, subst, arith}
 use Rattle.cn_table.specs.TypeTable.{TypeTable}
 use Rattle.cn_choice.specs.Discerning.{IsDiscerning, IsNumberUpTo}
-use Rattle.cn_choice.proofs.Monotone.{discerning_below}
+use Rattle.cn_choice.proofs.NumberLemmas.FewerProcesses.{discerning_below}
 use Rattle.cn_consensus.specs.Consensus.{IsConsensusProtocol}
 use Rattle.cn_consensus.specs.Protocol.{IsProtocolOf, Protocol}
 use Rattle.cn_consensus.specs.Types.{IsClosed, all_of}

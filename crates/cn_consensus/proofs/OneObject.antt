@@ -6,8 +6,8 @@ use Rattle.std.proofs.lemmas.Bool.{eqb-true}
 use Rattle.cn_table.specs.Run.{responses_along, state_after}
 use Rattle.cn_table.specs.TypeTable.{TypeTable, transition}
 use Rattle.cn_choice.specs.OutcomeSets.{response_of}
-use Rattle.cn_choice.proofs.ArrangementLemmas.{Differ}
-use Rattle.cn_choice.proofs.Members.{IsIn, each_at}
+use Rattle.cn_choice.proofs.ListLemmas.Arrangements.{Differ}
+use Rattle.cn_choice.proofs.ListLemmas.Members.{IsIn, each_at}
 use Rattle.cn_consensus.specs.Protocol.{Protocol}
 use Rattle.cn_consensus.specs.Protocol.Action.{ApplyOperation}
 use Rattle.cn_consensus.specs.Configuration.{Configuration, perform, step, after}

@@ -18,8 +18,8 @@ use Rattle.cn_choice.specs.Discerning.{IsDiscerning, IsWitness}
 use Rattle.cn_choice.specs.Orders.{IsOrder}
 use Rattle.cn_choice.specs.OutcomeSets.{BeginsIn, operations_of, pair_of, response_of}
 use Rattle.cn_choice.specs.RawChoices.{IsRawChoice, RawChoice}
-use Rattle.cn_choice.proofs.Listing.{differ_from}
-use Rattle.cn_choice.proofs.Walks.{pair_of-response_of, pair_takes_part}
+use Rattle.cn_choice.proofs.OrderLemmas.AllOrders.{differ_from}
+use Rattle.cn_choice.proofs.OrderLemmas.Walks.{pair_of-response_of, pair_takes_part}
 use Rattle.cn_consensus.specs.Protocol.{Action, IsActionOf, IsProtocolOf, Protocol}
 use Rattle.cn_consensus.specs.Protocol.Action.{Decide, ReadRegister, WriteRegister, ApplyOperation}
 use Rattle.cn_consensus.specs.Protocol.Action.{ReadObject}

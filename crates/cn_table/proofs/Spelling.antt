@@ -9,7 +9,7 @@ use Rattle.cn_table.specs.Faults.{has_bad_count, has_bad_length, has_bad_name, h
 use Rattle.cn_table.specs.Faults.{has_repeated_name, has_unknown_key, reading}
 use Rattle.cn_table.specs.Numbering.{rows_from, table_from}
 use Rattle.cn_table.specs.Reads.{document_reading, draft_reading}
-use Rattle.cn_table.specs.TypeTable.{IsTypeTable, Row, TypeTable}
+use Rattle.cn_table.specs.TypeTable.{IsTypeTable, TypeTable}
 use Rattle.cn_table.specs.declared.fault.TableFault.{TableFault}
 use Rattle.cn_table.specs.declared.fault.TableFault.TheVariants.{NotToml, UnknownKey, MissingKey, WrongKind, BadName}
 use Rattle.cn_table.specs.declared.fault.TableFault.TheVariants.{Count, Repeated, RowLength, UnknownName}

@@ -2,8 +2,10 @@
 use Rattle.std.specs.Prelude.{ℕ, List, ◌++◌, Option, Some, None, codes}
 use Rattle.std.specs.Fmt.{decimal}
 use Rattle.cn_table.specs.declared.fault.TableFault.{TableFault}
-use Rattle.cn_table.specs.declared.fault.TableFault.TheVariants.{NotToml, UnknownKey, MissingKey, WrongKind, BadName}
-use Rattle.cn_table.specs.declared.fault.TableFault.TheVariants.{Count, Repeated, RowLength, UnknownName, OutOfMemory}
+use Rattle.cn_table.specs.declared.fault.TableFault.TheVariants.{NotToml, UnknownKey, MissingKey}
+use Rattle.cn_table.specs.declared.fault.TableFault.TheVariants.{WrongKind, BadName}
+use Rattle.cn_table.specs.declared.fault.TableFault.TheVariants.{Count, Repeated, RowLength}
+use Rattle.cn_table.specs.declared.fault.TableFault.TheVariants.{UnknownName, OutOfMemory}
 
 -- a fault's number, its name, and the number that it carries, if any, with one space between two
 abbrev pub numbered_text : ℕ → List ℕ → Option ℕ → List ℕ

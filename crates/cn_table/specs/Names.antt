@@ -1,5 +1,6 @@
 -- Names of types, states, responses and operations.
-use Rattle.std.specs.Prelude.{◌≤◌, codes, ℕ, List, [], ◌∷◌, length, Bool, false, IsTrue, ◌&&◌, ◌||◌, ◌==◌, not, nat_le, Option, position, slice_get, unwrap_or}
+use Rattle.std.specs.Prelude.{◌≤◌, codes, ℕ, List, [], ◌∷◌, length, Bool, false, IsTrue, ◌&&◌, ◌||◌}
+use Rattle.std.specs.Prelude.{◌==◌, not, nat_le, Option, position, slice_get, unwrap_or}
 use Rattle.std.specs.List.{list_all, list_any}
 use Rattle.std.specs.Str.{bytes_eq}
 use Rattle.cn_table.specs.declared.limits.TheConstants.{LONGEST_NAME}
@@ -20,7 +21,8 @@ is_name_byte b = (is_from (codes "az") b || is_from (codes "09") b) || is_letter
 
 -- 1 to this many such bytes
 abbrev pub is_name : List ℕ → Bool
-is_name text = (nat_le 1 (length text) && nat_le (length text) LONGEST_NAME) && list_all is_name_byte text
+is_name text =
+    (nat_le 1 (length text) && nat_le (length text) LONGEST_NAME) && list_all is_name_byte text
 
 -- some text stands twice
 abbrev pub has_repeat : List (List ℕ) → Bool

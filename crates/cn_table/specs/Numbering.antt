@@ -21,4 +21,9 @@ rows_from states responses rows = all_some (map (row_from states responses) rows
 unfoldable pub table_from : Draft → Option TypeTable
 table_from draft = do
   operations ← rows_from draft.states draft.responses draft.operations
-  Some (record { name = draft.name; states = draft.states; responses = draft.responses; operations = operations })
+  Some (record {
+    name = draft.name;
+    states = draft.states;
+    responses = draft.responses;
+    operations = operations;
+  })

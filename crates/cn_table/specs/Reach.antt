@@ -1,5 +1,6 @@
 -- Where the operations of a type lead.
-use Rattle.std.specs.Prelude.{◌≡◌, ◌↔◌, ℕ, ◌<◌, ◌+◌, ◌==◌, ◌&&◌, List, [], ◌∷◌, length, get_or, Bool, true, false, slice_index_or}
+use Rattle.std.specs.Prelude.{◌≡◌, ◌↔◌, ℕ, ◌<◌, ◌+◌, ◌==◌, ◌&&◌, List, [], ◌∷◌, length, get_or}
+use Rattle.std.specs.Prelude.{Bool, true, false, slice_index_or}
 use Rattle.std.specs.List.{AllByRecursion}
 use Rattle.cn_table.specs.TypeTable.{TypeTable, no_row}
 use Rattle.cn_table.specs.Run.{state_after}

@@ -5,7 +5,8 @@ use Rattle.cn_table.specs.TypeTable.{TypeTable, transition}
 -- the response to each of the operations, in order
 abbrev pub responses_along : TypeTable → ℕ → List ℕ → List ℕ
 responses_along t state [] = []
-responses_along t state (o ∷ os) = (transition t o state).0 ∷ responses_along t (transition t o state).1 os
+responses_along t state (o ∷ os) =
+    (transition t o state).0 ∷ responses_along t (transition t o state).1 os
 
 -- the state after the last of them
 abbrev pub state_after : TypeTable → ℕ → List ℕ → ℕ

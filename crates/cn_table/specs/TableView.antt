@@ -7,7 +7,8 @@ use Rattle.cn_table.specs.declared.table.Transitions.{Transitions}
 use Rattle.cn_table.specs.declared.table.Table.TheInside.{Inside}
 
 abbrev pub transitions_view : Transitions → Row
-transitions_view r = record { name = string_bytes r.name; response = r.response.items; next = r.next.items }
+transitions_view r =
+    record { name = string_bytes r.name; response = r.response.items; next = r.next.items }
 
 abbrev pub transitions_views : Vec Transitions Global → List Row
 transitions_views v = map transitions_view v.items

@@ -1,9 +1,12 @@
--- A finite shared object type: names, and for each operation the response and the next state of each state.
-use Rattle.std.specs.Prelude.{◌≡◌, ℕ, ◌<◌, List, [], length, map, IsTrue, refl, slice_index, slice_index_or}
+-- A finite shared object type: names, and for each operation the response and the next state of
+-- each state.
+use Rattle.std.specs.Prelude.{◌≡◌, ℕ, ◌<◌, List, [], length, map, IsTrue, refl, slice_index}
+use Rattle.std.specs.Prelude.{slice_index_or}
 use Rattle.std.specs.Coded.{Coded, code_by, coded×, coded_ℕ, coded_list}
 use Rattle.std.specs.List.{AllByRecursion}
 use Rattle.cn_table.specs.Names.{is_name, IsNameList}
-use Rattle.cn_table.specs.declared.limits.TheConstants.{MOST_OPERATIONS, MOST_RESPONSES, MOST_STATES}
+use Rattle.cn_table.specs.declared.limits.TheConstants.{MOST_OPERATIONS, MOST_RESPONSES}
+use Rattle.cn_table.specs.declared.limits.TheConstants.{MOST_STATES}
 
 -- an operation: its name, and for each state the numbers of the response and of the next state
 pub record Row : Type 0 where
@@ -22,7 +25,8 @@ no_row = record { name = []; response = []; next = [] }
 
 -- the response that an operation gives in a state, and the next state
 abbrev pub transition : TypeTable → ℕ → ℕ → ℕ × ℕ
-transition t operation state = let row = slice_index_or t.operations operation no_row in (slice_index row.response state, slice_index row.next state)
+transition t operation state = let row = slice_index_or t.operations operation no_row in
+    (slice_index row.response state, slice_index row.next state)
 
 abbrev pub operation_names : TypeTable → List (List ℕ)
 operation_names t = map (λ row. row.name) t.operations
@@ -48,12 +52,15 @@ texts_code = coded_list (coded_list coded_ℕ)
 
 abbrev pub row_code : Coded Row
 row_code =
-    code_by (List ℕ × (List ℕ × List ℕ)) (coded× (coded_list coded_ℕ) (coded× (coded_list coded_ℕ) (coded_list coded_ℕ)))
-    (λ r. (r.name, (r.response, r.next))) (λ p. record { name = p.0; response = p.1.0; next = p.1.1 }) (λ _. refl)
+    code_by (List ℕ × (List ℕ × List ℕ))
+    (coded× (coded_list coded_ℕ) (coded× (coded_list coded_ℕ) (coded_list coded_ℕ)))
+    (λ r. (r.name, (r.response, r.next)))
+    (λ p. record { name = p.0; response = p.1.0; next = p.1.1 }) (λ _. refl)
 
 abbrev pub table_code : Coded TypeTable
 table_code =
     code_by (List ℕ × (List (List ℕ) × (List (List ℕ) × List Row)))
     (coded× (coded_list coded_ℕ) (coded× texts_code (coded× texts_code (coded_list row_code))))
     (λ t. (t.name, (t.states, (t.responses, t.operations))))
-    (λ p. record { name = p.0; states = p.1.0; responses = p.1.1.0; operations = p.1.1.1 }) (λ _. refl)
+    (λ p. record { name = p.0; states = p.1.0; responses = p.1.1.0; operations = p.1.1.1 })
+    (λ _. refl)

@@ -1,8 +1,7 @@
 use Rattle.std.proofs.Common.{◌≡◌, ◌∙◌, ℕ, List, false, get_or, ap, sym}
 use Rattle.std.specs.List.{list_all}
 use Rattle.cn_choice.specs.Live.{is_live}
-use Rattle.cn_choice.proofs.BlockWalk.{fewer_left, live_next, marked_live, none_live_after, passed_over}
-use Rattle.cn_choice.proofs.Successors.{choice_of}
+use Rattle.cn_choice.proofs.ChoiceLemmas.BlockWalk.{choice_of, fewer_left, live_next, marked_live, none_live_after, passed_over}
 use Rattle.cn_choice.proofs.block_choices.advance_live.Goals as goal
 
 pub returns-then-are_marked-clause-next : goal.returns-then-are_marked-clause-next

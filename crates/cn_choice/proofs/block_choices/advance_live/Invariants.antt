@@ -1,7 +1,6 @@
 use Rattle.std.proofs.Common.{◌≡◌, ◌<◌, All, length}
-use Rattle.cn_choice.specs.ChoicesLeft.{block_after}
-use Rattle.cn_choice.specs.LiveLeft.{live_after}
-use Rattle.cn_choice.proofs.Successors.{choice_of}
+use Rattle.cn_choice.specs.LiveLeft.{block_after, live_after}
+use Rattle.cn_choice.proofs.ChoiceLemmas.BlockWalk.{choice_of}
 use Rattle.cn_choice.proofs.block_choices.advance_live.Given as goal
 
 -- the search has passed only choices that are not live

@@ -1,4 +1,4 @@
-use Rattle.cn_choice.proofs.CanonicalForms.{IsRawChoice-choice, choice-IsRawChoice}
+use Rattle.cn_choice.proofs.ChoiceLemmas.CanonicalForms.{IsRawChoice-choice, choice-IsRawChoice}
 use Rattle.cn_choice.proofs.laws.choice_by_teams.Goals as goal
 
 pub returns : goal.returns

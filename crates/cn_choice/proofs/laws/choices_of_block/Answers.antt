@@ -1,4 +1,4 @@
-use Rattle.cn_choice.proofs.LiveLemmas.{live_in_ascends, live_in_listed}
+use Rattle.cn_choice.proofs.ChoiceLemmas.LiveChoices.{live_in_ascends, live_in_listed}
 use Rattle.cn_choice.proofs.laws.choices_of_block.Goals as goal
 
 pub returns : goal.returns

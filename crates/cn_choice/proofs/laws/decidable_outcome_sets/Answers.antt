@@ -1,4 +1,4 @@
-use Rattle.cn_choice.proofs.Deciding.{in_outcome_set_or_not}
+use Rattle.cn_choice.proofs.WitnessLemmas.Collisions.{in_outcome_set_or_not}
 use Rattle.cn_choice.proofs.laws.decidable_outcome_sets.Goals as goal
 
 pub returns : goal.returns

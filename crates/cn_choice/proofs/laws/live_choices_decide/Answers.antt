@@ -1,4 +1,4 @@
-use Rattle.cn_choice.proofs.LiveLemmas.{live_discerning, live_not_discerning}
+use Rattle.cn_choice.proofs.ChoiceLemmas.LiveChoices.{live_discerning, live_not_discerning}
 use Rattle.cn_choice.proofs.laws.live_choices_decide.Goals as goal
 
 pub returns : goal.returns

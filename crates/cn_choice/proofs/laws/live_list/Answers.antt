@@ -1,4 +1,4 @@
-use Rattle.cn_choice.proofs.LiveLemmas.{live_ascend, live_listed}
+use Rattle.cn_choice.proofs.ChoiceLemmas.LiveChoices.{live_ascend, live_listed}
 use Rattle.cn_choice.proofs.laws.live_list.Goals as goal
 
 pub returns : goal.returns

@@ -1,5 +1,5 @@
 use Rattle.std.proofs.Common.{length}
-use Rattle.cn_choice.proofs.Walks.{pair_takes_part}
+use Rattle.cn_choice.proofs.OrderLemmas.Walks.{pair_takes_part}
 use Rattle.cn_choice.proofs.laws.process_of_pair.Goals as goal
 
 pub returns : goal.returns

@@ -1,4 +1,4 @@
-use Rattle.cn_choice.proofs.LiveLemmas.{witness_is_live}
+use Rattle.cn_choice.proofs.ChoiceLemmas.LiveChoices.{witness_is_live}
 use Rattle.cn_choice.proofs.laws.witnesses_are_live.Goals as goal
 
 pub returns : goal.returns

@@ -1,7 +1,7 @@
 use Rattle.std.proofs.Common.{ℕ, suc, ◌≡◌, ◌+◌, ◌++◌, ◌∷◌, [], List, ap, arith, length, ◌∙◌, sym}
 use Rattle.std.specs.List.{range_with_len}
 use Rattle.std.proofs.lemmas.List.FromFn.{length-range_with_len}
-use Rattle.cn_choice.proofs.OrderSteps.{range_more}
+use Rattle.cn_choice.proofs.OrderLemmas.NextOrders.{range_more}
 use Rattle.cn_choice.proofs.ranks.numbers_below.Goals as goal
 
 pub push-requires : goal.push-requires

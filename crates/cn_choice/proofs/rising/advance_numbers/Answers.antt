@@ -1,6 +1,6 @@
 use Rattle.std.proofs.Common.{◌≡◌, ◌+◌, ◌-◌, ◌<◌, ◌∙◌, ℕ, List, length, get_or, suc, drop, None, Some, ap, sym, subst, arith}
 use Rattle.cn_choice.specs.Rising.{next_rising}
-use Rattle.cn_choice.proofs.RisingLemmas.{next_rising-here}
+use Rattle.cn_choice.proofs.ListLemmas.NextLists.{next_rising-here}
 use Rattle.cn_choice.proofs.rising.advance_numbers.Goals as goal
 
 pub returns-then-value-limit-clause-next : goal.returns-then-value-limit-clause-next

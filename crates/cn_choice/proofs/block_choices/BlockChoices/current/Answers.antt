@@ -1,6 +1,6 @@
 use Rattle.std.proofs.Common.{◌∙◌, ap, sym, Bool}
 use Rattle.cn_choice.specs.LiveLeft.{live_after, live_from}
-use Rattle.cn_choice.proofs.BlockWalk.{stopped_at}
+use Rattle.cn_choice.proofs.ChoiceLemmas.BlockWalk.{stopped_at}
 use Rattle.cn_choice.proofs.block_choices.BlockChoices.current.Goals as goal
 
 pub returns-then-self-clause-some : goal.returns-then-self-clause-some

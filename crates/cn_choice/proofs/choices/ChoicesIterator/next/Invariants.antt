@@ -1,17 +1,18 @@
-use Rattle.std.proofs.Common.{◌≡◌, length, IfSome}
-use Rattle.cn_choice.specs.ChoicesLeft.{IsWellFormed}
-use Rattle.cn_choice.specs.LiveLeft.{all_left, live_left}
+use Rattle.std.proofs.Common.{◌≡◌, ◌≤◌, ◌++◌, [], All, length}
+use Rattle.std.specs.List.{flat_map}
+use Rattle.std.specs.Option.{unwrap_or}
+use Rattle.cn_choice.specs.Blocks.{Block, IsBlockOf}
+use Rattle.cn_choice.specs.Live.{live_in}
 use Rattle.cn_choice.proofs.choices.ChoicesIterator.next.Given as goal
 
--- the search has skipped only choices that are not live
+-- the blocks passed have no choice left
 abbrev pub invariant-loop-choice : goal.invariant-loop-choice
 invariant-loop-choice l = record {
-  same_table : l.self-inside.table.now ≡ l.table;
-  same_n : l.self-inside.n ≡ l.initial.self-inside.n;
-  same_block : l.self-inside.in_block ≡ l.initial.self-inside.in_block;
-  on_the_way : IfSome l.self-inside.next (IsWellFormed l.states l.operations l.self-inside.n);
-  left : live_left l.table l.self-inside.in_block l.self-inside.n l.initial.self-inside.next ≡ live_left l.table l.self-inside.in_block l.self-inside.n l.self-inside.next;
+  same_table : l.self-inside.table.now ≡ l.initial.self-inside.table.now;
+  blocks : All (λ (k : Block). (2 ≤ k.n) × IsBlockOf l.self-inside.table.now k) l.self-inside.blocks;
+  left : unwrap_or l.initial.self-inside.current [] ++ flat_map (live_in l.self-inside.table.now) l.initial.self-inside.blocks
+      ≡ unwrap_or l.self-inside.current [] ++ flat_map (live_in l.self-inside.table.now) l.self-inside.blocks;
 }
 
 abbrev pub decreases-loop-choice : goal.decreases-loop-choice
-decreases-loop-choice l = length (all_left l.table l.self-inside.in_block l.self-inside.n l.self-inside.next)
+decreases-loop-choice l = length l.self-inside.blocks

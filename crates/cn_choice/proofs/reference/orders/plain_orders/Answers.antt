@@ -2,7 +2,7 @@ use Rattle.std.proofs.Common.{arith, ◌≡◌, ◌∙◌, ◌+◌, ◌-◌, ℕ
 use Rattle.std.specs.List.{range_with_len, flat_map}
 use Rattle.cn_choice.specs.Arrangements.{arrangements}
 use Rattle.cn_choice.specs.Orders.{lists_of}
-use Rattle.cn_choice.proofs.Listing.{listing_is, listing_more}
+use Rattle.cn_choice.proofs.OrderLemmas.AllOrders.{listing_is, listing_more}
 use Rattle.cn_choice.proofs.reference.orders.plain_orders.Goals as goal
 use Rattle.cn_choice.proofs.reference.orders.plain_orders.Goals.{else-loop-k-test, then-loop-k-test+in_ok-push_orders+else-k-n}
 use Rattle.cn_choice.specs.OrdersLeft.{all_orders}

@@ -2,7 +2,7 @@ use Rattle.std.proofs.Common.{rules, arith, ◌≡◌, ◌++◌, ◌∷◌, ◌�
 use Rattle.std.proofs.lemmas.List.{map-append}
 use Rattle.itertools.specs.Pool.{permutation_left}
 use Rattle.cn_choice.specs.Orders.{lists_of}
-use Rattle.cn_choice.proofs.Permutations.{all_ways, next_taken, pushed, range_items}
+use Rattle.cn_choice.proofs.ListLemmas.Permutations.{all_ways, next_taken, pushed, range_items}
 use Rattle.cn_choice.proofs.reference.orders.push_orders.Goals as goal
 
 pub loop-order-init : goal.loop-order-init

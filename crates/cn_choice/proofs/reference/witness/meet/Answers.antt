@@ -1,5 +1,5 @@
 use Rattle.std.proofs.Common.{below_more, ℕ, ◌<◌, ap, arith, length, true≢false, sym}
-use Rattle.cn_choice.proofs.Walks.{pair_takes_part}
+use Rattle.cn_choice.proofs.OrderLemmas.Walks.{pair_takes_part}
 use Rattle.cn_choice.proofs.reference.witness.meet.Goals as goal
 
 pub loop-process-preserved : goal.loop-process-preserved

@@ -1,5 +1,5 @@
 use Rattle.std.proofs.Common.{arith}
-use Rattle.cn_choice.proofs.Walks.{walk_end}
+use Rattle.cn_choice.proofs.OrderLemmas.Walks.{walk_end}
 use Rattle.cn_choice.proofs.reference.witness.raw_pair.Goals as goal
 
 pub returns-in-Some-clause-pair : goal.returns-in-Some-clause-pair

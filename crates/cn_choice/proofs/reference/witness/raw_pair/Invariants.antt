@@ -1,5 +1,5 @@
 use Rattle.std.proofs.Common.{◌<◌, IfSome, length}
-use Rattle.cn_choice.proofs.Walks.{Walked}
+use Rattle.cn_choice.proofs.OrderLemmas.Walks.{Walked}
 use Rattle.cn_choice.proofs.reference.witness.raw_pair.Given as goal
 
 -- the pair so far, and its response is one of the type's

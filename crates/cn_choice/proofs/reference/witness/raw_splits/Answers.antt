@@ -1,6 +1,6 @@
 use Rattle.std.proofs.Common.{◌∙◌, ℕ, List, length, ap, subst, Contains, ◌↔◌}
 use Rattle.cn_choice.specs.Orders.{IsOrder, lists_of}
-use Rattle.cn_choice.proofs.Witnesses.{IsWitness-from_none, an_order, not_a_witness, splits_iff}
+use Rattle.cn_choice.proofs.WitnessLemmas.Witnesses.{IsWitness-from_none, an_order, not_a_witness, splits_iff}
 use Rattle.cn_choice.proofs.reference.witness.raw_splits.Goals as goal
 
 pub any_collide-requires-clause-orders_known : goal.any_collide-requires-clause-orders_known
