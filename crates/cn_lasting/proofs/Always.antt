@@ -5,7 +5,7 @@ use Rattle.std.proofs.lemmas.Bool.{eqb-true, eq-eqb, ne_eqb}
 use Rattle.cn_outcomes.proofs.Packing.{below_or_last}
 use Rattle.cn_table.specs.TypeTable.{IsTypeTable, TypeTable}
 use Rattle.cn_choice.specs.Discerning.{IsDiscerning}
-use Rattle.cn_stocks.specs.Splits.{AreJoined, Splits}
+use Rattle.cn_stocks.specs.Splits.{AreJoined, StockSplits}
 use Rattle.cn_stocks.specs.Words.{IsKnown, IsWithin, Shows, times}
 use Rattle.cn_stocks.proofs.Steps.{shows_first}
 use Rattle.cn_stocks.proofs.Times.{one_some, same_or, times_at}
@@ -24,7 +24,7 @@ module _ (t : TypeTable) (start many single : ℕ) (l : Lasts t start many singl
     | inr n ↦ inr (sym (one_some x single (omega (arith, some, times_stock x single many k, times_other x many k n))))
   ]
 
-  splits : (k : ℕ) → Splits t start (single_and single many (suc k))
+  splits : (k : ℕ) → StockSplits t start (single_and single many (suc k))
   splits k = record {
     chosen = λ f. nat_eq f many;
     inside = (many, omega (arith, times_stock many single many (suc k), times_same many (suc k)), eq-eqb many many refl);
@@ -96,7 +96,7 @@ module _ (t : TypeTable) (start : ℕ) where
 
   -- where each two operations end at k, a long stock does not split
   no_splits : (k : ℕ) (stock : List ℕ) → IsKnown (length t.operations) stock → length t.operations * k < length stock
-      → ((many : ℕ) → many < length t.operations → (single : ℕ) → single < length t.operations → many ≢ single → EndsAt t start many single (k + 1)) → ¬ Splits t start stock
+      → ((many : ℕ) → many < length t.operations → (single : ℕ) → single < length t.operations → many ≢ single → EndsAt t start many single (k + 1)) → ¬ StockSplits t start stock
   no_splits k stock known long ends s = by_part (s.chosen o.0) refl
     where
       o : (o : ℕ) × (o < length t.operations) × (k < times o stock)

@@ -7,7 +7,7 @@ use Rattle.cn_outcomes.proofs.LastProcess.{state_last}
 use Rattle.cn_stocks.specs.Splits.{AreJoined}
 use Rattle.cn_stocks.specs.Words.{BeginsWith, EndsIn, IsWithin, Shows, times}
 use Rattle.cn_stocks.proofs.Times.{one, one_at, one_else, one_of, same_or, times_at, times_between, times_cons, times_last, times_none}
-use Rattle.cn_lasting.specs.Lasting.{EndsAt, Meet, ManyFirst, SingleFirst, single_and}
+use Rattle.cn_lasting.specs.Lasting.{EndsAt, HaveCommonState, ManyFirst, SingleFirst, single_and}
 use Rattle.cn_lasting.proofs.Counts.{times_other, times_same, times_stock, within_more, zero_or_one}
 
 -- where a word shows something it ends
@@ -160,7 +160,7 @@ module _ (many single : ℕ) (d : many ≢ single) where
     once_shows q h = (times many ((single ∷ replicate h.0 many) ++ many ∷ []), λ l u. asked_last single q (single ∷ replicate h.0 many) refl (few_once h.0) h.1 l u)
 
     -- where the states meet, the next operation sees the same
-    pub joined : Meet t start many single → (k : ℕ) × EndsAt t start many single k
+    pub joined : HaveCommonState t start many single → (k : ℕ) × EndsAt t start many single k
     joined m =
         let a = often_shows m.0 m.1 in
         let b = once_shows m.0 m.2 in

@@ -5,7 +5,7 @@ use Rattle.cn_table.specs.TypeTable.{IsTypeTable, TypeTable, transition}
 use Rattle.cn_table.specs.Run.{state_after}
 use Rattle.cn_table.proofs.ReachLemmas.{next_below}
 use Rattle.cn_outcomes.proofs.LastProcess.{state_last}
-use Rattle.cn_stocks.specs.Splits.{Splits}
+use Rattle.cn_stocks.specs.Splits.{StockSplits}
 use Rattle.cn_stocks.specs.Words.{IsKnown, Shows, times}
 use Rattle.cn_stocks.proofs.Times.{one, one_at, one_else, same_or, times_at, times_cons, times_last, times_none}
 use Rattle.cn_lasting.specs.Lasting.{NoneLast, ManyFirst, SingleFirst}
@@ -76,7 +76,7 @@ record Reached (t : TypeTable) (start : ℕ) (stock : List ℕ) (chosen : ℕ �
   within : (o : ℕ) → times o (first ∷ rest) + (times o pool + times o further) ≤ times o stock
   ends : state_after t start (first ∷ rest) ≡ state
 
-module _ (t : TypeTable) (valid : IsTypeTable t) (start : ℕ) (start_known : start < length t.states) (stock : List ℕ) (known : IsKnown (length t.operations) stock) (s : Splits t start stock) where
+module _ (t : TypeTable) (valid : IsTypeTable t) (start : ℕ) (start_known : start < length t.states) (stock : List ℕ) (known : IsKnown (length t.operations) stock) (s : StockSplits t start stock) where
   abbrev next : ℕ → ℕ → ℕ
   next z q = (transition t z q).1
 

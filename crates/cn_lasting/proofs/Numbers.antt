@@ -2,8 +2,8 @@
 use Rattle.std.proofs.Common.{◌≡◌, ◌≢◌, ℕ, zero, suc, ◌+◌, ◌-◌, ◌<◌, ◌≤◌, ◌⊎◌, inl, inr, List, length, ap, subst, arith, Option, Some, None, true, false}
 use Rattle.cn_table.specs.TypeTable.{IsTypeTable, TypeTable}
 use Rattle.cn_choice.specs.Discerning.{IsDiscerning, IsNumberUpTo}
-use Rattle.cn_choice.proofs.Monotone.{discerning_below}
-use Rattle.cn_stocks.specs.Splits.{Splits}
+use Rattle.cn_choice.proofs.NumberLemmas.FewerProcesses.{discerning_below}
+use Rattle.cn_stocks.specs.Splits.{StockSplits}
 use Rattle.cn_stocks.specs.Words.{times}
 use Rattle.cn_lasting.specs.Lasting.{NoneLast, IsAlwaysDiscerning}
 use Rattle.cn_lasting.specs.Numbers.{IsNumber}
@@ -37,8 +37,8 @@ no_number t None always is = is 2 (omega arith) (always 2 (omega arith))
 no_number t (Some n) always is = is.2 (n + 1) (omega arith) (always (n + 1) (omega (arith, is.0)))
 
 -- some of a stock that splits, with operations of both parts, splits
-pub fewer : (t : TypeTable) (start : ℕ) (small stock : List ℕ) (s : Splits t start stock) → ((o : ℕ) → times o small ≤ times o stock)
-    → (f : ℕ) × (1 ≤ times f small) × (s.chosen f ≡ true) → (g : ℕ) × (1 ≤ times g small) × (s.chosen g ≡ false) → Splits t start small
+pub fewer : (t : TypeTable) (start : ℕ) (small stock : List ℕ) (s : StockSplits t start stock) → ((o : ℕ) → times o small ≤ times o stock)
+    → (f : ℕ) × (1 ≤ times f small) × (s.chosen f ≡ true) → (g : ℕ) × (1 ≤ times g small) × (s.chosen g ≡ false) → StockSplits t start small
 fewer t start small stock s less inside outside = record {
   chosen = s.chosen;
   inside = inside;

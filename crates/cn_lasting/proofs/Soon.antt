@@ -5,7 +5,7 @@ use Rattle.cn_table.specs.TypeTable.{IsTypeTable, TypeTable, transition}
 use Rattle.cn_table.specs.Run.{state_after}
 use Rattle.cn_table.proofs.ReachLemmas.{next_below}
 use Rattle.cn_stocks.proofs.Times.{one_at, one_else, times_between, times_cons, times_last}
-use Rattle.cn_lasting.specs.Lasting.{EndsAt, Meet, ManyFirst}
+use Rattle.cn_lasting.specs.Lasting.{EndsAt, HaveCommonState, ManyFirst}
 use Rattle.cn_lasting.proofs.Counts.{times_same}
 use Rattle.cn_lasting.proofs.Cuts.{AloneSoon, MixedSoon, alone_soon, mixed_soon, times_on}
 use Rattle.cn_lasting.proofs.Forms.{asked_last, begins_same, few_mixed, few_once, few_same, state_join}
@@ -76,7 +76,7 @@ module _ (t : TypeTable) (valid : IsTypeTable t) (start many single : ℕ) (star
             (omega (arith, times_last many many (single ∷ replicate r.2 many), one_at many, times_cons many single (replicate r.2 many), one_else many single apart, times_same many r.2, r.5)),
       )
 
-  pub ends_soon : Meet t start many single → EndsAt t start many single (length t.states)
+  pub ends_soon : HaveCommonState t start many single → EndsAt t start many single (length t.states)
   ends_soon m = by_first m.1
     where
       by_first : ManyFirst t start many single m.0 → EndsAt t start many single (length t.states)

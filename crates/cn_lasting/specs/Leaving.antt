@@ -10,7 +10,8 @@ use Rattle.cn_lasting.specs.declared.search.First.TheVariants.{Single, Many}
 abbrev pub IsLasting : TypeTable → Lasting → Type 0
 IsLasting t l = Lasts t l.start.0 l.many.0 l.single.0
 
--- an order in which this came first leaves the state; where nobody has moved yet, the single operation did not come first
+-- an order in which this came first leaves the state; where nobody has moved yet, the single
+-- operation did not come first
 abbrev pub Leaves : TypeTable → Lasting → First → ℕ → Type 0
 Leaves t l Single q = SingleFirst t l.start.0 l.many.0 l.single.0 q
 Leaves t l Many q = ManyFirst t l.start.0 l.many.0 l.single.0 q

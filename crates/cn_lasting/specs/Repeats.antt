@@ -5,8 +5,10 @@ use Rattle.cn_table.specs.Run.{state_after}
 
 -- the operation, any number of times, leads to the state from one of these
 abbrev pub Onward : TypeTable → ℕ → (ℕ → Type 0) → ℕ → Type 0
-Onward t many from q = (found : ℕ) × from found × ((k : ℕ) × (state_after t found (replicate k many) ≡ q))
+Onward t many from q =
+    (found : ℕ) × from found × ((k : ℕ) × (state_after t found (replicate k many) ≡ q))
 
 -- the first operation, and then the other any number of times, lead to the state from one of these
 abbrev pub FirstOnward : TypeTable → ℕ → ℕ → (ℕ → Type 0) → ℕ → Type 0
-FirstOnward t first many from q = (found : ℕ) × from found × ((k : ℕ) × (state_after t found (first ∷ replicate k many) ≡ q))
+FirstOnward t first many from q =
+    (found : ℕ) × from found × ((k : ℕ) × (state_after t found (first ∷ replicate k many) ≡ q))

@@ -4,7 +4,7 @@
 ghost use Rattle.std.specs.Prelude.{◌≤◌, ◌<◌, ◌≡◌, ◌≢◌, ◌*◌, ◌-◌, ℕ, List, Option, Some, false, length, true};
 ghost use Rattle.cn_table.specs.TypeTable.{IsTypeTable, TypeTable};
 ghost use Rattle.cn_choice.specs.Discerning.{IsDiscerning, IsNumberUpTo};
-ghost use Rattle.cn_stocks.specs.Splits.{Splits};
+ghost use Rattle.cn_stocks.specs.Splits.{StockSplits};
 ghost use Rattle.cn_stocks.specs.Words.{times};
 ghost use Rattle.cn_lasting.specs.Lasting.{IsAlwaysDiscerning, Lasts, NoneLast};
 ghost use Rattle.cn_lasting.specs.Numbers.{IsNumber};
@@ -19,8 +19,8 @@ pub fn lasting_operations_decide()
     ensures never { (t : TypeTable) → NoneLast t → (n : ℕ) × (2 ≤ n) × ¬ IsDiscerning t n }
 {}
 
-/// A type with s states and m operations, no two of which last, is n-discerning for no n above both 2
-/// and m (s - 1).
+/// A type with s states and m operations, no two of which last, is n-discerning for no n above both
+/// 2 and m (s - 1).
 pub fn finite_numbers_are_bounded()
     ensures { (t : TypeTable) → IsTypeTable t → NoneLast t → (n : ℕ) → 3 ≤ n
         → length t.operations * (length t.states - 1) < n → ¬ IsDiscerning t n }
@@ -51,8 +51,8 @@ pub fn numbers_without_limit()
 
 /// What is left of a stock that splits, with operations of both parts, splits too.
 pub fn smaller_stocks_split()
-    ensures { (t : TypeTable) (start : ℕ) (small stock : List ℕ) (s : Splits t start stock)
+    ensures { (t : TypeTable) (start : ℕ) (small stock : List ℕ) (s : StockSplits t start stock)
         → ((o : ℕ) → times o small ≤ times o stock)
         → ((f : ℕ) × (1 ≤ times f small) × (s.chosen f ≡ true))
-        → ((g : ℕ) × (1 ≤ times g small) × (s.chosen g ≡ false)) → Splits t start small }
+        → ((g : ℕ) × (1 ≤ times g small) × (s.chosen g ≡ false)) → StockSplits t start small }
 {}

@@ -4,8 +4,8 @@
 //! where one process does the single one and any number of processes do the other. [`find_lasting`]
 //! looks for two such operations, and [`is_lasting`] checks them. By
 //! [`laws::lasting_operations_decide`] a type has such operations exactly if it is n-discerning for
-//! every n. By [`laws::finite_numbers_are_few`] the number of any other type is at most the number of
-//! its states.
+//! every n. By [`laws::finite_numbers_are_few`] the number of any other type is at most the number
+//! of its states.
 //!
 //! ```text
 //! match find_lasting(&table) {

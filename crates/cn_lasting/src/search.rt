@@ -1,10 +1,11 @@
 //! The search for two operations that last.
 ghost use Rattle.std.specs.Prelude.{◌≡◌, ◌≢◌, ◌<◌, ◌↔◌, ℕ, length, IfSome, IsBitSet, IsTrue, None};
-ghost use Rattle.cn_lasting.specs.Lasting.{IsAlwaysDiscerning, Lasts, Meet, NoneLast};
+ghost use Rattle.cn_lasting.specs.Lasting.{IsAlwaysDiscerning, Lasts, HaveCommonState, NoneLast};
 ghost use Rattle.cn_lasting.specs.Leaving.{IsLasting, Leaves};
 
 use crate::laws;
 use crate::onward::{lasts, many_first, single_first};
+use cn_outcomes::Bits;
 use cn_table::{Operation, State, Table};
 
 /// A start state and two operations, as evidence for a type that is n-discerning for every n: where
@@ -35,7 +36,7 @@ fn lasting_single(table: &Table, start: u8, many: u8) -> Option<u8>
     requires many { many < length table.now.operations }
     ensures found { IfSome result (Lasts table.now start many) }
     ensures none { result ≡ None → (single : ℕ) → single < length table.now.operations
-        → many ≢ single → Meet table.now start many single }
+        → many ≢ single → HaveCommonState table.now start many single }
 {
     for single in 0..table.operations() {
         if single != many && lasts(table, start, many, single) {
@@ -51,7 +52,7 @@ fn lasting_from(table: &Table, start: u8) -> Option<(u8, u8)>
     ensures found { IfSome result (λ pair. Lasts table.now start pair.0 pair.1) }
     ensures none { result ≡ None → (many : ℕ) → many < length table.now.operations
         → (single : ℕ) → single < length table.now.operations → many ≢ single
-        → Meet table.now start many single }
+        → HaveCommonState table.now start many single }
 {
     for many in 0..table.operations() {
         if let Some(single) = lasting_single(table, start, many) {
@@ -99,8 +100,8 @@ pub fn is_always_discerning(table: &Table) -> bool
     find_lasting(table).is_some()
 }
 
-/// The states that orders leave in which this operation came first: bit q says whether state q is one.
-pub fn left_states(table: &Table, lasting: Lasting, first: First) -> u16
+/// The states that orders leave in which this operation came first.
+pub fn left_states(table: &Table, lasting: Lasting, first: First) -> Bits
     requires { IsLasting table.now lasting }
     ensures { (q : ℕ) → IsBitSet result q ↔ Leaves table.now lasting first q }
 {

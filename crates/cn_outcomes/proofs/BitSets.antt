@@ -5,7 +5,7 @@ use Rattle.std.proofs.Common.{Bool, true, false, not, nat_eq, true≢false}
 use Rattle.std.proofs.lemmas.Bool.{eqb-true, eq-eqb}
 use Rattle.std.specs.Int.{bit_at, w16, trailing_zeros}
 use Rattle.std.proofs.lemmas.Nat.{one_shl, or_disjoint, and_le_l}
-use Rattle.std.proofs.lemmas.Nat.Bits.{bit_at_or, bit_at_and, bit_at_lowest, bit_at-pow_same, bit_at-pow_other, bit_at-lt, bit_at-zero, same_from_bits, bit_at_clear_same, bit_at_clear_other, bit_at_above, bit_at-suc, bit_at-trailing_zeros, bit_at_not}
+use Rattle.std.proofs.lemmas.Nat.Bits.{bit_at_or, bit_at_and, bit_at-pow_same, bit_at-pow_other, bit_at-lt, bit_at-zero, same_from_bits, bit_at_clear_same, bit_at_clear_other, bit_at_above, bit_at-suc, bit_at-trailing_zeros, bit_at_not}
 use Rattle.cn_outcomes.specs.Subsets.{IsWithout}
 use Rattle.cn_outcomes.proofs.LastProcess.{bit_from, set_from, same_or_not}
 
@@ -67,16 +67,6 @@ cleared_is subset p l u i = (
   ],
   λ h. set_from (cleared subset p) i (cleared_other subset p i l u h.1 ∙ bit_from subset i h.0),
 )
-
--- the even numbers are the sets without 0
-pub even_not : (k : ℕ) → ¬ IsBitSet (2 * k) 0
-even_not k s = omega (arith, bit_from (2 * k) 0 s, bit_at_lowest (2 * k))
-
-pub odd_has : (k : ℕ) → IsBitSet (2 * k + 1) 0
-odd_has k = set_from (2 * k + 1) 0 (omega (arith, bit_at_lowest (2 * k + 1)))
-
-pub even_half : (set : ℕ) → ¬ IsBitSet set 0 → 2 * (set / 2) ≡ set
-even_half set n = elim (by_bit set 0) [ inl z ↦ omega (arith, z, bit_at_lowest set) | inr o ↦ absurd (n (set_from set 0 o)) ]
 
 -- the subset without p, together with p, is the subset
 pub filled : (subset p rest : ℕ) → IsBitSet subset p → IsWithout subset p rest → bit_or rest (2 ^ p) ≡ subset

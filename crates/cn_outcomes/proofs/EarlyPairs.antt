@@ -11,9 +11,9 @@ use Rattle.cn_choice.specs.OutcomeSets.{InOutcomeSet}
 use Rattle.cn_choice.specs.RawChoices.{RawChoice}
 use Rattle.cn_choice.specs.Moves.{answer_of, next_of}
 use Rattle.cn_outcomes.proofs.LastAnswers.{last_other}
-use Rattle.cn_choice.proofs.LastMoves.{last_self, pair_whole}
-use Rattle.cn_choice.proofs.LastMoves.{order_from}
-use Rattle.cn_choice.proofs.EarlyLists.{alone_gets, known_two, second_gets}
+use Rattle.cn_choice.proofs.OrderLemmas.LastMoves.{last_self, pair_whole}
+use Rattle.cn_choice.proofs.OrderLemmas.LastMoves.{order_from}
+use Rattle.cn_choice.proofs.OrderLemmas.ShortOrders.{alone_gets, known_two, second_gets}
 
 module _ (t : TypeTable) (c : RawChoice) (team : Team) (j : ℕ) (l : j < length c.operations) where
   first_gets : (k : ℕ) → k < length c.operations → k ≢ j → slice_get c.marks j ≡ Some team → InOutcomeSet t c team j (answer_of t c j c.state, next_of t c k (next_of t c j c.state))

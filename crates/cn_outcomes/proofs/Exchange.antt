@@ -11,10 +11,10 @@ use Rattle.cn_choice.specs.Renumbering.{Embeds}
 use Rattle.cn_choice.specs.OutcomeSets.{InOutcomeSet, pair_of}
 use Rattle.cn_outcomes.specs.Subsets.{FindsState, GivesPair, IsOrderOf, IsWithout, LeavesState}
 use Rattle.cn_outcomes.specs.Twins.{AreTwins}
-use Rattle.cn_choice.proofs.Embedding.{begins_embeds, operations_embed, order_embeds, pair_embeds, result_embeds}
+use Rattle.cn_choice.proofs.ChoiceLemmas.Embeddings.{begins_embeds, operations_embed, order_embeds, pair_embeds, result_embeds}
 use Rattle.cn_outcomes.proofs.LastProcess.{same_or_not, zero_has_none}
-use Rattle.cn_choice.proofs.Members.{Contains-from_IsIn, IsIn, IsIn-from_Contains, IsIn-map, IsIn-map_from}
-use Rattle.cn_choice.proofs.Walks.{pair_takes_part}
+use Rattle.cn_choice.proofs.ListLemmas.Members.{Contains-from_IsIn, IsIn, IsIn-from_Contains, IsIn-map, IsIn-map_from}
+use Rattle.cn_choice.proofs.OrderLemmas.Walks.{pair_takes_part}
 
 -- p and q exchanged
 abbrev pub exchange : ℕ → ℕ → ℕ → ℕ

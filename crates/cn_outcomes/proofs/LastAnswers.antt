@@ -14,11 +14,11 @@ use Rattle.cn_choice.specs.RawChoices.{RawChoice}
 use Rattle.cn_choice.specs.OutcomeSets.{BeginsIn, InOutcomeSet, operations_of, pair_of}
 use Rattle.cn_outcomes.specs.Subsets.{GivesPair, IsWithout, GivesLast}
 use Rattle.cn_choice.specs.Moves.{answer_of, next_of}
-use Rattle.cn_choice.proofs.Members.{IsIn}
-use Rattle.cn_choice.proofs.Walks.{first_some, pair_of-response_of}
+use Rattle.cn_choice.proofs.ListLemmas.Members.{IsIn}
+use Rattle.cn_choice.proofs.OrderLemmas.Walks.{first_some, pair_of-response_of}
 use Rattle.cn_choice.specs.OutcomeSets.{response_of}
 use Rattle.cn_outcomes.proofs.LastProcess.{Exactly, ending, with_last, alone, order_before, begins_more, state_along, finds_from, exactly_from, exactly_to, known_from, same_or_not, bit_from, set_from}
-use Rattle.cn_choice.proofs.LastMoves.{Known, after, along, last_self, pair_whole, response_along_last}
+use Rattle.cn_choice.proofs.OrderLemmas.LastMoves.{Known, after, along, last_self, pair_whole, response_along_last}
 
 map_some : {X Y : Type 0} (f : X → Y) (k : Option X) (y : Y) → option_map f k ≡ Some y → (x : X) × (k ≡ Some x) × (f x ≡ y)
 map_some f None y e = absurd (cc e)
@@ -137,9 +137,6 @@ gets_in t c j (p ∷ ps) (s ∷ rs) r e = by_test (nat_eq p j) refl (gets_in t c
     by_test : (b : Bool) → nat_eq p j ≡ b → (response_of j ps rs ≡ Some r → IsIn j ps) → cond b (Some s) (response_of j ps rs) ≡ Some r → (p ≡ j) ⊎ IsIn j ps
     by_test true f later g = inl (eqb-true p j f)
     by_test false f later g = inr (later g)
-
-pub pair_in : (t : TypeTable) (c : RawChoice) (j : ℕ) (order : List ℕ) (pair : ℕ × ℕ) → pair_of t c order j ≡ Some pair → IsIn j order
-pair_in t c j order pair e = gets_in t c j order (responses_along t c.state (operations_of c order)) pair.0 (pair_parts t c j order pair.0 pair.1 e).0
 
 -- a pair is in the outcome set exactly if some subset that contains j gives it
 pub outcome_subset : (t : TypeTable) (c : RawChoice) (team : Team) (j r q : ℕ)

@@ -16,10 +16,10 @@ use Rattle.cn_choice.specs.Orders.{IsOrder}
 use Rattle.cn_choice.specs.OutcomeSets.{BeginsIn, operations_of}
 use Rattle.cn_outcomes.specs.Subsets.{IsOrderOf, LeavesState, IsWithout, FindsState}
 use Rattle.cn_choice.specs.Moves.{next_of}
-use Rattle.cn_choice.proofs.Members.{IsIn, IsIn-append_left, IsIn-append_right, IsIn-append_cases, each_from, each_at, Contains-from_IsIn, IsIn-from_Contains}
-use Rattle.cn_choice.proofs.ArrangementLemmas.{Differ}
-use Rattle.cn_choice.proofs.Listing.{differ_from}
-use Rattle.cn_choice.proofs.LastMoves.{Known, known_last, order_from}
+use Rattle.cn_choice.proofs.ListLemmas.Members.{IsIn, IsIn-append_left, IsIn-append_right, IsIn-append_cases, each_from, each_at, Contains-from_IsIn, IsIn-from_Contains}
+use Rattle.cn_choice.proofs.ListLemmas.Arrangements.{Differ}
+use Rattle.cn_choice.proofs.OrderLemmas.AllOrders.{differ_from}
+use Rattle.cn_choice.proofs.OrderLemmas.LastMoves.{Known, known_last, order_from}
 
 -- ---- bits
 

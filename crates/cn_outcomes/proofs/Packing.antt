@@ -10,7 +10,7 @@ use Rattle.cn_choice.specs.RawChoices.{RawChoice}
 use Rattle.cn_choice.specs.OutcomeSets.{InOutcomeSet}
 use Rattle.cn_outcomes.specs.Subsets.{FindsState, GivesPair, IsWithout}
 use Rattle.cn_choice.specs.Moves.{next_of}
-use Rattle.cn_outcomes.specs.Twins.{AreLinks, AreTwins, IsMover, IsPacked, IsRun}
+use Rattle.cn_outcomes.specs.Twins.{AreTwinLinks, AreTwins, IsMover, IsPacked, IsRun}
 use Rattle.cn_outcomes.proofs.BitSets.{by_bit, cleared, cleared_is, member_below, pow_set, union_set, without_less}
 use Rattle.cn_outcomes.proofs.Exchange.{IsExchanged, exchange_first, exchange_other, exchange_second, finds_before, finds_next, gives_exchanged, twin_results, which, without_exchanged}
 use Rattle.cn_outcomes.proofs.LastProcess.{LeavesLast, bit_from, set_from}
@@ -142,7 +142,7 @@ rest_packed links subset p rest packed mover w i a s =
 next_same : (t : TypeTable) (c : RawChoice) (p : ℕ) → AreTwins c p → (found : ℕ) → next_of t c (p + 1) found ≡ next_of t c p found
 next_same t c p twins found = ap (λ (o : ℕ). (transition t o found).1) (sym twins.operation)
 
-module _ (t : TypeTable) (c : RawChoice) (team : Team) (links : ℕ) (linked : AreLinks c links) where
+module _ (t : TypeTable) (c : RawChoice) (team : Team) (links : ℕ) (linked : AreTwinLinks c links) where
   without : (subset p : ℕ) → subset < 2 ^ 16 → IsBitSet subset p → IsWithout subset p (cleared subset p)
   without subset p u s = cleared_is subset p (member_below 16 subset p u s) u
 
@@ -202,14 +202,14 @@ module _ (t : TypeTable) (c : RawChoice) (team : Team) (links : ℕ) (linked : A
         fuel subset l u g
 
 -- all twins of a run get the same pairs
-pub run_results : (t : TypeTable) (c : RawChoice) (team : Team) (links : ℕ) → AreLinks c links → (first j : ℕ) (pair : ℕ × ℕ) → first ≤ j → IsRun links first j → InOutcomeSet t c team first pair ↔ InOutcomeSet t c team j pair
+pub run_results : (t : TypeTable) (c : RawChoice) (team : Team) (links : ℕ) → AreTwinLinks c links → (first j : ℕ) (pair : ℕ × ℕ) → first ≤ j → IsRun links first j → InOutcomeSet t c team first pair ↔ InOutcomeSet t c team j pair
 run_results t c team links linked first j pair l run = (
   run_up (λ p. InOutcomeSet t c team p pair) links first (j - first) j (omega (arith, l)) (λ p a b m h. (twin_results t c p (linked.twins p m) team pair).0 h) run,
   run_down (λ p. InOutcomeSet t c team p pair) links first (j - first) j (omega (arith, l)) (λ p a b m h. (twin_results t c p (linked.twins p m) team pair).1 h) run,
 )
 
 -- a linked process gets the pairs of the one before it
-pub linked_outcomes : (t : TypeTable) (c : RawChoice) (links : ℕ) → AreLinks c links
+pub linked_outcomes : (t : TypeTable) (c : RawChoice) (links : ℕ) → AreTwinLinks c links
     → (j : ℕ) → IsBitSet links j → (before : ℕ) × (before < j) × ((team : Team) (pair : ℕ × ℕ) → InOutcomeSet t c team j pair → InOutcomeSet t c team before pair)
 linked_outcomes t c links linked zero s = absurd (linked.not_first s)
 linked_outcomes t c links linked (suc p) s =

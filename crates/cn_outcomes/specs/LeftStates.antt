@@ -10,4 +10,5 @@ use Rattle.cn_choice.specs.OutcomeSets.{BeginsIn, operations_of}
 -- some order that begins in the team, run from the start state, leaves the object in this state
 abbrev pub LeavesIn : TypeTable → RawChoice → Team → ℕ → Type 0
 LeavesIn t c team state =
-    (order : List ℕ) × IsOrder (length c.operations) order × BeginsIn c team order × (state_after t c.state (operations_of c order) ≡ state)
+    (order : List ℕ) × IsOrder (length c.operations) order × BeginsIn c team order
+    × (state_after t c.state (operations_of c order) ≡ state)

@@ -1,3 +1,4 @@
+pub mod Bits
 pub mod EarlyPairs
 pub mod LeftStates
 pub mod PairSets

@@ -9,13 +9,14 @@ pub record AreTwins (c : RawChoice) (p : ℕ) : Type 0 where
   pub team : slice_get c.marks p ≡ slice_get c.marks (p + 1)
 
 -- each process of the set is a twin of the one before it
-pub record AreLinks (c : RawChoice) (links : ℕ) : Type 0 where
+pub record AreTwinLinks (c : RawChoice) (links : ℕ) : Type 0 where
   pub twins : (p : ℕ) → IsBitSet links (p + 1) → AreTwins c p
   pub not_first : ¬ IsBitSet links 0
 
 -- the subset contains, for each linked process in it, the process before it
 abbrev pub IsPacked : ℕ → ℕ → Type 0
-IsPacked links subset = (p : ℕ) → IsBitSet links (p + 1) → IsBitSet subset (p + 1) → IsBitSet subset p
+IsPacked links subset = (p : ℕ) → IsBitSet links (p + 1)
+    → IsBitSet subset (p + 1) → IsBitSet subset p
 
 -- a process of the subset that no linked process of it follows
 abbrev pub IsMover : ℕ → ℕ → ℕ → Type 0

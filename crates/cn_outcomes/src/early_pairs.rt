@@ -5,7 +5,6 @@ ghost use Rattle.cn_choice.specs.RawChoices.{IsRawChoice};
 ghost use Rattle.cn_outcomes.specs.EarlyPairs.{AreOutcomePairs};
 ghost use Rattle.cn_choice.specs.declared.limits.TheConstants.{MOST_PROCESSES};
 
-use crate::bits::contains;
 use crate::outcome_sets::OutcomeSet;
 use crate::subset_rows::{is_in, operation_of};
 use crate::twins::links;
@@ -79,7 +78,7 @@ pub(crate) fn some_meet_soon(table: &Table, choice: &RawChoice) -> bool
 {
     let links = links(choice);
     for j in 0..choice.operations.len() as u8 {
-        if !contains(links, j) && meets_soon(table, choice, j) {
+        if !links.has(j) && meets_soon(table, choice, j) {
             return true;
         }
     }

@@ -17,9 +17,12 @@ mod limits;
 mod outcome_sets;
 mod row_setting;
 mod state_sets;
+mod subset_pairs;
 mod subset_rows;
 mod twins;
 
+pub use bits::{Bits, Members};
+pub use limits::WIDTH;
 pub use outcome_sets::{OutcomeSet, is_witness, outcomes};
-pub use state_sets::{StateSet, left_states};
+pub use state_sets::left_states;
 pub use subset_rows::image;

@@ -11,21 +11,22 @@ ghost use Rattle.cn_choice.specs.OutcomeSets.{InOutcomeSet};
 ghost use Rattle.cn_outcomes.specs.RowSettings.{HasRows, IsRowSetting, subset_count};
 ghost use Rattle.cn_choice.specs.declared.limits.TheConstants.{MOST_PROCESSES};
 
-use crate::bits::{contains, least, share, union, with, without};
+use crate::bits::Bits;
 use crate::early_pairs::some_meet_soon;
 use crate::limits::SUBSETS;
 use crate::row_setting::RowSetting;
-use crate::subset_rows::{answer_row, images, outcome_row, row_union, rows};
+use crate::subset_pairs::outcomes_from;
+use crate::subset_rows::rows;
 use crate::twins::{first_twin, links};
 use cn_choice::{Choice, RawChoice, Team};
 use cn_table::{MOST_RESPONSES, MOST_STATES, Operation, Response, State, Table};
 use std::marker::Model;
 
 /// A set of pairs of a response and a state.
-#[derive(Drop)]
+#[derive(Clone, Copy)]
 pub struct OutcomeSet {
     /// For each state the set of the responses.
-    row: [u16; MOST_STATES],
+    row: [Bits; MOST_STATES],
 }
 
 impl Model for OutcomeSet {
@@ -37,6 +38,8 @@ impl Model for OutcomeSet {
     ghost view = { λ s. s.row };
 
     ghost invariant = { λ s. length s.row ≡ MOST_STATES };
+
+    ghost inverse = { λ row. record { row = row } };
 }
 
 impl OutcomeSet {
@@ -45,7 +48,7 @@ impl OutcomeSet {
         ensures { (r q : ℕ) → ¬ Has result r q }
     {
         OutcomeSet {
-            row: [0; MOST_STATES],
+            row: [Bits::new(); MOST_STATES],
         }
     }
 
@@ -57,7 +60,7 @@ impl OutcomeSet {
             ↔ (Has self.old r q ⊎ ((r ≡ response) × (q ≡ state))) }
     {
         let place = state as usize;
-        self.row[place] = with(self.row[place], response);
+        self.row[place] = self.row[place].with(response);
     }
 
     /// The set of one pair.
@@ -66,27 +69,24 @@ impl OutcomeSet {
         requires state { state < MOST_STATES }
         ensures { (r q : ℕ) → Has result r q ↔ ((r ≡ response) × (q ≡ state)) }
     {
-        let mut row = [0; MOST_STATES];
-        row[state as usize] = with(0, response);
-        OutcomeSet { row }
+        let mut set = OutcomeSet::none();
+        set.add(response, state);
+        set
     }
 
     /// Puts the pairs of the response and each of the states into the set.
-    pub(crate) fn add_states(&mut self, response: u8, states: u16)
+    pub(crate) fn add_states(&mut self, response: u8, states: Bits)
         requires { response < MOST_RESPONSES }
         ensures { (r q : ℕ) → Has self.new r q
             ↔ (Has self.old r q ⊎ ((r ≡ response) × IsBitSet states q)) }
     {
-        let mut left = states;
-        while left != 0 {
-            let state = least(left);
-            left = without(left, state);
+        for state in states.iter() {
             self.add(response, state);
         }
     }
 
     /// The pairs of response and next state of the operation from one of these states.
-    pub fn of_answers(table: &Table, operation: Operation, from: u16) -> OutcomeSet
+    pub fn of_answers(table: &Table, operation: Operation, from: Bits) -> OutcomeSet
         requires operation { operation.0 < length table.now.operations }
         requires known { Below (length table.now.states) from }
         ensures { (r q : ℕ) → Has result r q
@@ -94,8 +94,60 @@ impl OutcomeSet {
             × ((transition table.now operation.0 found).0 ≡ r)
             × ((transition table.now operation.0 found).1 ≡ q)) }
     {
-        let row = answer_row(table, operation, from);
+        let (_responses, _states) = (table.responses(), table.states());
+        let mut set = OutcomeSet::none();
+        for state in from.iter() {
+            let (response, next) = table.apply(operation, State(state));
+            set.add(response.0, next.0);
+        }
+        set
+    }
+
+    /// Puts the pairs of each of the responses and the state into the set.
+    fn add_responses(&mut self, responses: Bits, state: u8)
+        requires { state < MOST_STATES }
+        ensures { (r q : ℕ) → Has self.new r q
+            ↔ (Has self.old r q ⊎ (IsBitSet responses r × (q ≡ state))) }
+    {
+        let place = state as usize;
+        self.row[place] = self.row[place].union(responses);
+    }
+
+    /// The responses of the pairs with the state.
+    fn responses_with(&self, state: u8) -> Bits
+        requires { state < MOST_STATES }
+        ensures { (r : ℕ) → IsBitSet result r ↔ Has self.now r state }
+    {
+        self.row[state as usize]
+    }
+
+    /// The pairs of both sets together.
+    pub fn union(&self, other: &OutcomeSet) -> OutcomeSet
+        ensures { (r q : ℕ) → Has result r q ↔ (Has self.now r q ⊎ Has other.now r q) }
+    {
+        let mut row = [Bits::new(); MOST_STATES];
+        for q in 0..MOST_STATES {
+            row[q] = self.row[q].union(other.row[q]);
+        }
         OutcomeSet { row }
+    }
+
+    /// The pairs after the operation: each keeps its response, and its state, which is one of
+    /// these, becomes the next state.
+    pub fn moved(&self, table: &Table, operation: Operation, from: Bits) -> OutcomeSet
+        requires operation { operation.0 < length table.now.operations }
+        requires known { Below (length table.now.states) from }
+        requires among { (r q : ℕ) → Has self.now r q → IsBitSet from q }
+        ensures { (r q : ℕ) → Has result r q ↔ ((found : ℕ) × Has self.now r found
+            × ((transition table.now operation.0 found).1 ≡ q)) }
+    {
+        let _states = table.states();
+        let mut moved = OutcomeSet::none();
+        for state in from.iter() {
+            let (_, next) = table.apply(operation, State(state));
+            moved.add_responses(self.responses_with(state), next.0);
+        }
+        moved
     }
 
     /// The set together with the pairs of another set after the operation: each keeps its response,
@@ -105,7 +157,7 @@ impl OutcomeSet {
         table: &Table,
         operation: Operation,
         other: &OutcomeSet,
-        from: u16,
+        from: Bits,
     ) -> OutcomeSet
         requires operation { operation.0 < length table.now.operations }
         requires known { Below (length table.now.states) from }
@@ -114,13 +166,11 @@ impl OutcomeSet {
             ⊎ ((found : ℕ) × Has other.now r found
             × ((transition table.now operation.0 found).1 ≡ q))) }
     {
-        let moved = images(table, operation, &other.row, from);
-        let row = row_union(table, &self.row, &moved);
-        OutcomeSet { row }
+        self.union(&other.moved(table, operation, from))
     }
 
     /// The set of the pairs of the response and one of the states.
-    pub(crate) fn of_response(response: u8, states: u16) -> OutcomeSet
+    pub(crate) fn of_response(response: u8, states: Bits) -> OutcomeSet
         requires { response < MOST_RESPONSES }
         ensures { (r q : ℕ) → Has result r q ↔ ((r ≡ response) × IsBitSet states q) }
     {
@@ -138,32 +188,28 @@ impl OutcomeSet {
         if state.0 as usize >= MOST_STATES {
             return false;
         }
-        let responses = row[state.0 as usize];
-        if response.0 as usize >= MOST_RESPONSES {
-            return false;
-        }
-        contains(responses, response.0)
+        row[state.0 as usize].contains(response.0)
     }
 
     /// The responses of the pairs.
-    pub(crate) fn responses(&self) -> u16
+    pub(crate) fn responses(&self) -> Bits
         ensures { (r q : ℕ) → Has self.now r q → IsBitSet result r }
     {
-        let mut all = 0;
+        let mut all = Bits::new();
         for q in 0..MOST_STATES {
-            all = union(all, self.row[q]);
+            all = all.union(self.row[q]);
         }
         all
     }
 
     /// The states of the pairs.
-    pub(crate) fn states(&self) -> u16
+    pub(crate) fn states(&self) -> Bits
         ensures { (r q : ℕ) → Has self.now r q → IsBitSet result q }
     {
-        let mut all = 0;
+        let mut all = Bits::new();
         for q in 0..MOST_STATES {
-            if self.row[q] != 0 {
-                all = with(all, q as u8);
+            if !self.row[q].is_empty() {
+                all.insert(q as u8);
             }
         }
         all
@@ -174,30 +220,11 @@ impl OutcomeSet {
         ensures { IsTrue result ↔ HaveCommonPair self.now other.now }
     {
         for q in 0..MOST_STATES {
-            if share(self.row[q], other.row[q]) {
+            if self.row[q].meets(other.row[q]) {
                 return true;
             }
         }
         false
-    }
-}
-
-/// The outcome set of the setting's team for process j, the first of its twins, from the rows.
-pub(crate) fn outcomes_from(
-    setting: &RowSetting<'_>,
-    j: u8,
-    rows: &[u16; SUBSETS],
-    pairs: &mut [[u16; MOST_STATES]; SUBSETS],
-) -> OutcomeSet
-    requires setting { IsRowSetting setting.now }
-    requires j { j < length setting.now.choice.now.operations }
-    requires first { ¬ IsBitSet setting.now.links j }
-    requires rows { HasRows setting.now (subset_count setting.now) rows.now }
-    ensures { (r q : ℕ) → Has result r q
-        ↔ InOutcomeSet setting.now.table.now setting.now.choice.now setting.now.team j (r, q) }
-{
-    OutcomeSet {
-        row: outcome_row(setting, j, rows, pairs),
     }
 }
 
@@ -222,7 +249,7 @@ pub fn outcomes(table: &Table, choice: &Choice, team: Team, process: u8) -> Outc
     };
     let rows = rows(&setting);
     let first = first_twin(links, process);
-    outcomes_from(&setting, first, &rows, &mut [[0; MOST_STATES]; SUBSETS])
+    outcomes_from(&setting, first, &rows, &mut [OutcomeSet::none(); SUBSETS])
 }
 
 /// Whether the raw choice is a witness, by the outcome sets of each process that is the first of
@@ -245,9 +272,9 @@ fn is_witness_by_rows(table: &Table, choice: &RawChoice) -> bool
     };
     let rows_a = rows(&setting_a);
     let rows_b = rows(&setting_b);
-    let mut pairs = [[0; MOST_STATES]; SUBSETS];
+    let mut pairs = [OutcomeSet::none(); SUBSETS];
     for j in 0..choice.operations.len() as u8 {
-        if contains(links, j) {
+        if links.has(j) {
             continue;
         }
         let from_a = outcomes_from(&setting_a, j, &rows_a, &mut pairs);

@@ -1,4 +1,5 @@
 //! The setting of rows.
+use crate::bits::Bits;
 use cn_choice::{RawChoice, Team};
 use cn_table::Table;
 
@@ -9,5 +10,5 @@ pub(crate) struct RowSetting<'s> {
     pub table: &'s Table,
     pub choice: &'s RawChoice,
     pub team: Team,
-    pub links: u16,
+    pub links: Bits,
 }

@@ -42,6 +42,3 @@ module _ {X : Type 0} (P : ℕ → X → Type 0) where
 
   pub each_of_range : (n : ℕ) (xs : List X) → AllZip P (range_with_len 0 n) xs → EachAt P n xs
   each_of_range n xs h = let all = from 0 n xs h in (all.0, λ i x e. (let same : 0 + i ≡ i = omega arith in subst (λ (j : ℕ). P j x) same (all.1 i x e)))
-
-pub each_long : {X : Type 0} (P : ℕ → X → Type 0) (xs : List X) (n : ℕ) → EachAt P n xs → length xs ≡ n
-each_long P xs n each = each.0

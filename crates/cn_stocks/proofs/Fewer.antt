@@ -6,13 +6,13 @@ use Rattle.cn_stocks.specs.declared.question.Question.TheVariants.{Recording, Sp
 use Rattle.cn_stocks.specs.Greatest.{NoneFrom}
 use Rattle.cn_stocks.specs.Questions.{Holds, HoldsFrom, SomeHolds}
 use Rattle.cn_stocks.specs.Records.{HasTwoOf, Records}
-use Rattle.cn_stocks.specs.Splits.{SomeSplits, Splits}
+use Rattle.cn_stocks.specs.Splits.{SomeSplits, StockSplits}
 use Rattle.cn_stocks.specs.Words.{EndsIn, HaveSame, IsWithin, Shows, times}
 use Rattle.cn_stocks.proofs.Steps.{shows_same}
 use Rattle.cn_stocks.proofs.Times.{one_else, same_or, same_sym, times_at, times_cons, times_none, within_same}
 
 -- the same operations split alike
-pub splits_same : (t : TypeTable) (start : ℕ) (a b : List ℕ) → HaveSame a b → Splits t start a → Splits t start b
+pub splits_same : (t : TypeTable) (start : ℕ) (a b : List ℕ) → HaveSame a b → StockSplits t start a → StockSplits t start b
 splits_same t start a b same s = record {
   chosen = s.chosen;
   inside = (s.inside.0, omega (arith, s.inside.1, same s.inside.0), s.inside.2);
@@ -65,7 +65,7 @@ more_shows t start stock rest x f o r q same s = record {
 }
 
 -- a stock of three operations or more that splits does so with some operation less
-pub less_splits : (t : TypeTable) (start : ℕ) (stock : List ℕ) → 3 ≤ length stock → Splits t start stock → (x : ℕ) × (rest : List ℕ) × HaveSame stock (x ∷ rest) × (length stock ≡ suc (length rest)) × Splits t start rest
+pub less_splits : (t : TypeTable) (start : ℕ) (stock : List ℕ) → 3 ≤ length stock → StockSplits t start stock → (x : ℕ) × (rest : List ℕ) × HaveSame stock (x ∷ rest) × (length stock ≡ suc (length rest)) × StockSplits t start rest
 less_splits t start stock l s =
     let apart : s.inside.0 ≢ s.outside.0 = λ e. true≢false (sym s.inside.2 ∙ (ap s.chosen e ∙ s.outside.2)) in
     let r = beside s.inside.0 s.outside.0 stock l s.inside.1 s.outside.1 apart in

@@ -5,13 +5,12 @@ use Rattle.std.proofs.Math.ListN.{set}
 use Rattle.std.proofs.lemmas.List.{get_or_append_left}
 use Rattle.std.proofs.lemmas.Option.{none-some, same_Some}
 use Rattle.cn_stocks.specs.declared.stocks.Stock.{Stock}
-use Rattle.cn_stocks.specs.declared.stocks.Stocks.{Stocks}
-use Rattle.cn_stocks.specs.Stocks.{AreAll, AreChildren, AreLinks, AreLong, AreStocks, GoesOn, HasChildren, HasLess, IsGreatest, IsStock, UpTo, items_at}
+use Rattle.cn_stocks.specs.Stocks.{AreChildren, AreSmallerStocks, GoesOn, HasChildren, HasLess, IsGreatest, IsStock, UpTo, items_at}
 use Rattle.cn_stocks.specs.Words.{IsKnown, times}
 use Rattle.cn_stocks.proofs.Times.{one_else, same_or, times_last}
-use Rattle.cn_stocks.proofs.StockLemmas.{before_or_behind, children_more, count_push, get_seam, greatest_of_child, items_before, items_last, items_of, known_of_child, less_of_self, same_items, stocks_push}
+use Rattle.cn_stocks.proofs.StockLemmas.{before_or_behind, children_more, count_push, get_seam, greatest_of_child, items_before, items_last, items_of, known_of_child, less_of_self, same_items}
 
--- ---- the links of a child
+-- ---- the smaller stocks of a child
 
 nones_at : (n x : ℕ) → get_or {A = Option ℕ} (replicate n None) x None ≡ None
 nones_at zero x = refl
@@ -44,7 +43,7 @@ set_none less k v x l e = elim (same_or x k) [
 
 pub links_of_child : (operations operation : ℕ) (stocks : List Stock) (place : ℕ) (items : List ℕ) (less : List (Option ℕ)) → items_at stocks place ≡ Some items → IsKnown operations items → operation < length less
     → ((x j : ℕ) → get_or less x None ≡ Some j → HasLess stocks (items ++ operation ∷ []) x j) → ((x : ℕ) → x < operations → get_or less x None ≡ None → times x items ≡ 0)
-    → AreLinks stocks (items ++ operation ∷ []) (set less operation (Some place))
+    → AreSmallerStocks stocks (items ++ operation ∷ []) (set less operation (Some place))
 links_of_child operations operation stocks place items less at known l old none = record {
   some = set_some (HasLess stocks (items ++ operation ∷ [])) less operation place l (less_of_self operation stocks place items at) old;
   none = λ x e.
@@ -59,14 +58,14 @@ links_of_child operations operation stocks place items less at known l old none 
     ]
 
 pub stock_of_child : (operations operation : ℕ) (stocks : List Stock) (child : Stock) (items : List ℕ) → child.operations.items ≡ items ++ operation ∷ [] → child.greatest ≡ operation → operation < operations → IsKnown operations items
-    → UpTo operation items → AreLinks stocks (items ++ operation ∷ []) child.less → IsStock operations stocks child
-stock_of_child operations operation stocks child items e g l known up links = record {
+    → UpTo operation items → AreSmallerStocks stocks (items ++ operation ∷ []) child.less → IsStock operations stocks child
+stock_of_child operations operation stocks child items e g l known up smaller = record {
   known = subst (λ (list : List ℕ). IsKnown operations list) (sym e) (known_of_child operations operation items l known);
   greatest = record {
     up_to = λ o h. (let r = (greatest_of_child operation items up).up_to o (subst (λ (list : List ℕ). 1 ≤ times o list) e h) in omega (arith, r, g));
     least = λ x h. (let r = (greatest_of_child operation items up).least x (subst (λ (list : List ℕ). UpTo x list) e h) in omega (arith, r, g));
   };
-  links = subst (λ (list : List ℕ). AreLinks stocks list child.less) (sym e) links;
+  smaller = subst (λ (list : List ℕ). AreSmallerStocks stocks list child.less) (sym e) smaller;
 }
 
 -- ---- the children of a stock
@@ -115,20 +114,3 @@ children_push operations before stocks children new row place e count old is i l
           (subst (λ (r : List ℕ). HasChildren before stocks place operations r) (sym (get_seam children row [])) is))
           )
     ])
-
-pub all_none : (operations : ℕ) (s : Stock) (list : List Stock) (stocks : Stocks) → list ≡ s ∷ [] → stocks.list.items ≡ list → stocks.children.items ≡ [] → IsStock operations [] s → s.operations.items ≡ [] → AreAll operations 0 [] stocks
-all_none operations s list stocks e here none is items = record {
-  stocks = subst (λ (all : List Stock). AreStocks operations [] all) (sym (here ∙ e)) (stocks_push operations [] [] s (λ i r h. absurd (none-some r h)) is);
-  children = λ i l. absurd (omega (arith, l, ap length none));
-  count = ap length none;
-  long = subst (λ (all : List Stock). AreLong all 0) (sym (here ∙ e)) one_long;
-  all = λ rest known l. (0, (s.operations.items, ap (λ (all : List Stock). items_at all 0) (here ∙ e), λ o. ap (times o) (items ∙ sym (empty rest l))));
-}
-  where
-    empty : (list : List ℕ) → length list ≡ 0 → list ≡ []
-    empty [] l = refl
-    empty (x ∷ xs) l = absurd (omega (arith, l))
-
-    one_long : (i : ℕ) (items : List ℕ) → items_at (s ∷ []) i ≡ Some items → length items ≡ 0
-    one_long zero list at = ap length (sym (same_Some _ _ at) ∙ items)
-    one_long (suc i) list at = absurd (none-some list at)

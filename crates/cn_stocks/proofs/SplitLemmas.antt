@@ -13,7 +13,7 @@ use Rattle.cn_table.specs.TypeTable.{TypeTable}
 use Rattle.cn_table.specs.Run.{state_after}
 use Rattle.cn_outcomes.proofs.LastProcess.{bit_from, set_from}
 use Rattle.cn_stocks.specs.Meetings.{AreLeft, HasAt}
-use Rattle.cn_stocks.specs.Splits.{AreJoined, Splits}
+use Rattle.cn_stocks.specs.Splits.{AreJoined, StockSplits}
 use Rattle.cn_stocks.specs.Words.{BeginsWith, EndsIn, IsKnown, IsWithin, Shows, times}
 use Rattle.cn_stocks.proofs.Steps.{shows_first}
 
@@ -74,7 +74,7 @@ module _ (t : TypeTable) (start : ℕ) (items : List ℕ) where
 
   -- a set that is closed and has some operation of the stock but not all
   pub splits_by : (k : ℕ) → IsKnown k items → (first set : ℕ) → 1 ≤ times first items → IsBitSet set first → ((f g : ℕ) → f < k → g < k → IsBitSet set f → AreJoined t start items f g → IsBitSet set g)
-      → (g : ℕ) × (1 ≤ times g items) × (¬ IsBitSet set g) → Splits t start items
+      → (g : ℕ) × (1 ≤ times g items) × (¬ IsBitSet set g) → StockSplits t start items
   splits_by k known first set some has closed out = record {
     chosen = in_set set;
     inside = (first, some, yes_in set first has);
@@ -90,7 +90,7 @@ module _ (t : TypeTable) (start : ℕ) (items : List ℕ) where
       no_in false e = refl
 
   -- where all operations are reached from one
-  pub whole : (first set : ℕ) → AreReached t start items first set → ((g : ℕ) → 1 ≤ times g items → IsBitSet set g) → ¬ Splits t start items
+  pub whole : (first set : ℕ) → AreReached t start items first set → ((g : ℕ) → 1 ≤ times g items → IsBitSet set g) → ¬ StockSplits t start items
   whole first set r covers s = elim (either (s.chosen first)) [
     | inl sure ↦ true≢false (sym (r s.chosen sure (λ f g e j. closed f g e j) s.outside.0 (covers s.outside.0 s.outside.1)) ∙ s.outside.2)
     | inr unsure ↦ true≢false (sym s.inside.2 ∙ not_false (s.chosen s.inside.0)

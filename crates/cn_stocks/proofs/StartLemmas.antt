@@ -24,9 +24,9 @@ less_has question s set is has l q below holds =
     let x = less.0 in
     let there = same_has x items less.1 less.2 in
     elim (by_option (slice_index_or s.stock.now.less x None)) [
-      | inl e ↦ absurd (omega (arith, there, is.stock_is.links.none x e))
+      | inl e ↦ absurd (omega (arith, there, is.stock_is.smaller.none x e))
       | inr j ↦ (
-          let link = is.stock_is.links.some x j.0 j.1 in
+          let link = is.stock_is.smaller.some x j.0 j.1 in
           let stock = stock_at level.stocks.list.items j.0 link.0 link.1 in
           let starts = zip_at fit level.stocks.list.items level.starts.items is.level_is.starts j.0 stock.0 stock.1 in
           let same : HaveSame less.1 stock.0.operations.items = λ o. same_rest x x items less.1 link.0 refl less.2 link.2 o ∙ ap (times o) (sym stock.2) in

@@ -4,32 +4,32 @@ use Rattle.std.specs.Prelude.{slice_get, slice_index, slice_index_or}
 use Rattle.std.specs.Option.{option_map}
 use Rattle.std.proofs.lemmas.Option.{none-some, same_Some, slice_get_read, slice_get_within}
 use Rattle.cn_stocks.specs.declared.stocks.Stock.{Stock}
-use Rattle.cn_stocks.specs.Stocks.{AreChildren, AreLinks, AreLong, AreStocks, GoesOn, HasLess, HaveAll, IsGreatest, IsStock, UpTo, items_at}
+use Rattle.cn_stocks.specs.Stocks.{AreChildren, AreSmallerStocks, AreLong, AreStocks, GoesOn, HasLess, HaveAll, IsGreatest, IsStock, UpTo, items_at}
 use Rattle.cn_stocks.specs.Words.{HaveSame, IsKnown, times}
 use Rattle.cn_stocks.proofs.Times.{one, one_at, one_some, same_has, same_or, times_at, times_cons, times_last, times_none}
 
--- ---- links
+-- ---- smaller stocks
 
 pub by_option : {A : Type 0} (o : Option A) → (o ≡ None) ⊎ ((x : A) × (o ≡ Some x))
 by_option None = inl refl
 by_option (Some x) = inr (x, refl)
 
-module _ (before : List Stock) (items : List ℕ) (less : List (Option ℕ)) (links : AreLinks before items less) where
+module _ (before : List Stock) (items : List ℕ) (less : List (Option ℕ)) (smaller : AreSmallerStocks before items less) where
   pub removal_of : (x : ℕ) → 1 ≤ times x items → (rest : List ℕ) × HaveSame items (x ∷ rest)
   removal_of x l = elim (by_option (slice_index_or less x None)) [
-    | inl e ↦ absurd (omega (arith, l, links.none x e))
-    | inr j ↦ (let h = links.some x j.0 j.1 in (h.0, h.2))
+    | inl e ↦ absurd (omega (arith, l, smaller.none x e))
+    | inr j ↦ (let h = smaller.some x j.0 j.1 in (h.0, h.2))
   ]
 
   pub has_iff : (x : ℕ) (b : Bool) → b ≡ is_some (slice_index_or less x None) → IsTrue b ↔ (1 ≤ times x items)
   has_iff x b e = elim (by_option (slice_index_or less x None)) [
-    | inl n ↦ (λ t. absurd (true≢false (sym t ∙ (e ∙ ap is_some n))), λ l. absurd (omega (arith, l, links.none x n)))
-    | inr j ↦ (λ t. (let h = links.some x j.0 j.1 in same_has x items h.0 h.2), λ l. e ∙ ap is_some j.1)
+    | inl n ↦ (λ t. absurd (true≢false (sym t ∙ (e ∙ ap is_some n))), λ l. absurd (omega (arith, l, smaller.none x n)))
+    | inr j ↦ (λ t. (let h = smaller.some x j.0 j.1 in same_has x items h.0 h.2), λ l. e ∙ ap is_some j.1)
   ]
 
   -- where no place is known the operation does not stand in the list
   pub no_less : (x : ℕ) → ((j : ℕ) → slice_index_or less x None ≡ Some j → ⊥) → times x items ≡ 0
-  no_less x n = elim (by_option (slice_index_or less x None)) [ inl e ↦ links.none x e | inr j ↦ absurd (n j.0 j.1) ]
+  no_less x n = elim (by_option (slice_index_or less x None)) [ inl e ↦ smaller.none x e | inr j ↦ absurd (n j.0 j.1) ]
 
 -- ---- places
 

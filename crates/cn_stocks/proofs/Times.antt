@@ -77,9 +77,3 @@ same_rest a x stock us vs e s u o =
 
 pub same_has : (x : ℕ) (stock rest : List ℕ) → HaveSame stock (x ∷ rest) → 1 ≤ times x stock
 same_has x stock rest s = omega (arith, s x, times_at x rest)
-
-pub within_last : (x : ℕ) (stock rest word : List ℕ) → HaveSame stock (x ∷ rest) → IsWithin rest word → IsWithin stock (word ++ x ∷ [])
-within_last x stock rest word s w o = omega (arith, s o, w o, times_cons o x rest, times_last o x word)
-
-pub within_before : (x : ℕ) (stock rest word : List ℕ) → HaveSame stock (x ∷ rest) → IsWithin stock (word ++ x ∷ []) → IsWithin rest word
-within_before x stock rest word s w o = omega (arith, s o, w o, times_cons o x rest, times_last o x word)

@@ -10,9 +10,9 @@ use Rattle.cn_choice.specs.Discerning.{IsDiscerning, IsWitness}
 use Rattle.cn_choice.specs.Orders.{IsOrder}
 use Rattle.cn_choice.specs.OutcomeSets.{InOutcomeSet, operations_of, pair_of}
 use Rattle.cn_choice.specs.RawChoices.{IsRawChoice, RawChoice}
-use Rattle.cn_choice.proofs.LastMoves.{last_self, pair_whole}
+use Rattle.cn_choice.proofs.OrderLemmas.LastMoves.{last_self, pair_whole}
 use Rattle.std.proofs.lemmas.List.{map-append}
-use Rattle.cn_stocks.specs.Splits.{SomeSplits, Splits, SplitsFrom}
+use Rattle.cn_stocks.specs.Splits.{SomeSplits, StockSplits, SplitsFrom}
 use Rattle.cn_stocks.specs.Words.{BeginsWith, IsWithin, Shows}
 use Rattle.cn_stocks.proofs.Teams.{choice_of, chosen_a, chosen_b, in_a, is_choice, operations_known, some_in_a, some_in_b, team_a, team_at, team_b, team_of}
 use Rattle.cn_stocks.proofs.Times.{place_in, times_between, one_at}
@@ -26,14 +26,6 @@ third zero (suc (suc q)) n l = (1, omega arith, λ e. absurd (omega (arith, e)),
 third (suc zero) zero n l = (2, omega arith, λ e. absurd (omega (arith, e)), λ e. absurd (omega (arith, e)))
 third (suc (suc p)) zero n l = (1, omega arith, λ e. absurd (omega (arith, e)), λ e. absurd (omega (arith, e)))
 third (suc p) (suc q) n l = (0, omega arith, λ e. absurd (omega (arith, e)), λ e. absurd (omega (arith, e)))
-
--- where a word begins
-first_of : (f : ℕ) (word : List ℕ) → BeginsWith f word → (rest : List ℕ) × (word ≡ f ∷ rest)
-first_of f [] b = absurd b
-first_of f (x ∷ xs) b = (xs, ap (λ (y : ℕ). y ∷ xs) b)
-
-begins_of : (f : ℕ) (word rest : List ℕ) → word ≡ f ∷ rest → BeginsWith f word
-begins_of f word rest e = subst (λ (w : List ℕ). BeginsWith f w) (sym e) refl
 
 -- the first process of an order that is a word
 head_of : (f : ℕ → ℕ) (x : ℕ) (order : List ℕ) → order ≢ [] → BeginsWith x (map f order) → (p : ℕ) × (rest : List ℕ) × (order ≡ p ∷ rest) × (f p ≡ x)
@@ -81,7 +73,7 @@ module _ (t : TypeTable) (n : ℕ) (some : 3 ≤ n) (c : RawChoice) (is : IsRawC
         sees c t j s.before s.after o r q e order s.answer s.ends,
       )
 
-  pub split_by : Splits t c.state c.operations
+  pub split_by : StockSplits t c.state c.operations
   split_by = record {
     chosen = in_a c.operations c.marks;
     inside = some_in_a t n c is twins;
@@ -108,7 +100,7 @@ begins_at : (f : ℕ → ℕ) (order : List ℕ) (p : ℕ) → slice_get order 0
 begins_at f [] p e = absurd (cc e)
 begins_at f (x ∷ xs) p e = ap f (same_Some x p e)
 
-module _ (t : TypeTable) (start : ℕ) (stock : List ℕ) (s : Splits t start stock) where
+module _ (t : TypeTable) (start : ℕ) (stock : List ℕ) (s : StockSplits t start stock) where
   abbrev witness : RawChoice
   witness = choice_of start stock s.chosen
 

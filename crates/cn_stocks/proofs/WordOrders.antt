@@ -13,11 +13,11 @@ use Rattle.cn_table.specs.Run.{responses_along, state_after}
 use Rattle.cn_choice.specs.Orders.{IsOrder}
 use Rattle.cn_choice.specs.OutcomeSets.{operations_of, pair_of, response_of}
 use Rattle.cn_choice.specs.RawChoices.{RawChoice}
-use Rattle.cn_choice.proofs.ArrangementLemmas.{Differ, IsTaken, differ_taken, taken_differ, taken_known}
-use Rattle.cn_choice.proofs.Listing.{differ_from, distinct_from}
-use Rattle.cn_choice.proofs.LastMoves.{pair_whole}
-use Rattle.cn_choice.proofs.Members.{IsIn, IsIn-append_cases, IsIn-append_left, IsIn-append_right, each_at, each_from}
-use Rattle.cn_choice.proofs.Permutations.{in_range, range_in, range_rises}
+use Rattle.cn_choice.proofs.ListLemmas.Arrangements.{Differ, IsTaken, differ_taken, taken_differ, taken_known}
+use Rattle.cn_choice.proofs.OrderLemmas.AllOrders.{differ_from, distinct_from}
+use Rattle.cn_choice.proofs.OrderLemmas.LastMoves.{pair_whole}
+use Rattle.cn_choice.proofs.ListLemmas.Members.{IsIn, IsIn-append_cases, IsIn-append_left, IsIn-append_right, each_at, each_from}
+use Rattle.cn_choice.proofs.ListLemmas.Permutations.{in_range, range_in, range_rises}
 use Rattle.cn_stocks.specs.Words.{IsWithin, times}
 use Rattle.cn_outcomes.proofs.LastAnswers.{pair_parts}
 use Rattle.cn_stocks.proofs.Times.{one, one_of, times_append, times_between, times_cons, times_none}

@@ -7,7 +7,8 @@ use Rattle.cn_stocks.specs.Splits.{AreJoined}
 abbrev pub IsJoinedWithSome : TypeTable → ℕ → List ℕ → ℕ → ℕ → Type 0
 IsJoinedWithSome t start stock set g = (f : ℕ) × IsBitSet set f × AreJoined t start stock f g
 
--- each choice of operations that has the first one and is closed under being joined has those of the set
+-- each choice of operations that has the first one and is closed under being joined has those of
+-- the set
 abbrev pub AreReached : TypeTable → ℕ → List ℕ → ℕ → ℕ → Type 0
 AreReached t start stock first set =
     (chosen : ℕ → Bool) → chosen first ≡ true

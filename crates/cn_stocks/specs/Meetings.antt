@@ -15,14 +15,16 @@ AreLeft t start stock sets = (f q : ℕ) → HasAt sets f q ↔ EndsIn t start s
 abbrev pub IsClosed : List ℕ → ℕ → Type 0
 IsClosed sets set = (f q r : ℕ) → HasAt sets f q → IsBitSet set q → HasAt sets f r → IsBitSet set r
 
--- each choice of places that has the first one, and with a place each whose set meets its set, has for each element of the set a place that has it
+-- each choice of places that has the first one, and with a place each whose set meets its set, has
+-- for each element of the set a place that has it
 abbrev pub AreGathered : List ℕ → ℕ → ℕ → Type 0
 AreGathered sets first set =
     (chosen : ℕ → Bool) → chosen first ≡ true
     → ((f g q : ℕ) → chosen f ≡ true → HasAt sets f q → HasAt sets g q → chosen g ≡ true)
     → (q : ℕ) → IsBitSet set q → (f : ℕ) × (chosen f ≡ true) × HasAt sets f q
 
--- the sets that are not empty fall into those that are chosen and the others, there are some of both, and none of these meets one of those
+-- the sets that are not empty fall into those that are chosen and the others, there are some of
+-- both, and none of these meets one of those
 pub record FallApart (sets : List ℕ) : Type 0 where
   pub chosen : ℕ → Bool
   pub inside : (f : ℕ) × (chosen f ≡ true) × ((q : ℕ) × HasAt sets f q)
@@ -39,7 +41,8 @@ pub record IsOutside (sets : List ℕ) (set place : ℕ) : Type 0 where
   pub some : (q : ℕ) × HasAt sets place q
   pub apart : (q : ℕ) → HasAt sets place q → ¬ IsBitSet set q
 
--- the operation stands once in the stock, its set does not have the start state, and it meets no other one
+-- the operation stands once in the stock, its set does not have the start state, and it meets no
+-- other one
 pub record IsSingle (stock sets : List ℕ) (start f : ℕ) : Type 0 where
   pub once : times f stock ≡ 1
   pub no_way_back : ¬ HasAt sets f start

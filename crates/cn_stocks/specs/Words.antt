@@ -1,4 +1,5 @@
--- Words: operations that are applied one after the other. What a word shows where it begins with some operation.
+-- Words: operations that are applied one after the other. What a word shows where it begins with
+-- some operation.
 use Rattle.std.specs.Prelude.{◌≡◌, ℕ, ◌≤◌, ◌<◌, List, [], ◌∷◌, ◌++◌, nat_eq}
 use Rattle.std.specs.List.{count_by}
 use Rattle.cn_table.specs.TypeTable.{TypeTable, transition}
@@ -26,10 +27,13 @@ BeginsWith f (x ∷ xs) = x ≡ f
 
 -- some word within the stock that begins with f ends in the state
 abbrev pub EndsIn : TypeTable → ℕ → List ℕ → ℕ → ℕ → Type 0
-EndsIn t start stock f state = (rest : List ℕ) × IsWithin stock (f ∷ rest) × (state_after t start (f ∷ rest) ≡ state)
+EndsIn t start stock f state =
+    (rest : List ℕ) × IsWithin stock (f ∷ rest) × (state_after t start (f ∷ rest) ≡ state)
 
--- some word within the stock that begins with f has o at a place where o gets the response, and ends in the state
-pub record Shows (t : TypeTable) (start : ℕ) (stock : List ℕ) (f o response state : ℕ) : Type 0 where
+-- some word within the stock that begins with f has o at a place where o gets the response, and
+-- ends in the state
+pub record Shows (t : TypeTable) (start : ℕ) (stock : List ℕ)
+    (f o response state : ℕ) : Type 0 where
   pub before : List ℕ
   pub after : List ℕ
   pub within : IsWithin stock (before ++ o ∷ after)

@@ -39,9 +39,9 @@ fn split_up_to(n: u8) -> GreatestSplit
     GreatestSplit::Size(n)
 }
 
-/// The greatest number of operations, from 3 to the most, of which some stock splits from some state.
-/// It is the greatest such n for which the type is n-discerning ([`laws::splits_decide`]). The most
-/// is from 3 to [`MOST_SIZE`](crate::limits::MOST_SIZE).
+/// The greatest number of operations, from 3 to the most, of which some stock splits from some
+/// state. It is the greatest such n for which the type is n-discerning ([`laws::splits_decide`]).
+/// The most is from 3 to [`MOST_SIZE`](crate::limits::MOST_SIZE).
 ///
 /// The search goes up by one operation until no stock splits. It ends early at nine operations or
 /// more, where some stock splits and there are more than
@@ -108,8 +108,8 @@ pub fn is_discerning<T: Threads + Sync>(
 }
 
 /// The states from which some stock of n operations splits, as a set of their numbers. n is at most
-/// [`MOST_SIZE`](crate::limits::MOST_SIZE). For n of at least 3 the start state of each witness for n
-/// processes is one of them ([`laws::starts_of_witnesses`]). The threads share the stocks.
+/// [`MOST_SIZE`](crate::limits::MOST_SIZE). For n of at least 3 the start state of each witness for
+/// n processes is one of them ([`laws::starts_of_witnesses`]). The threads share the stocks.
 ///
 /// # Errors
 ///

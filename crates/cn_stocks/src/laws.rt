@@ -7,9 +7,9 @@ ghost use Rattle.cn_choice.specs.Discerning.{IsDiscerning, IsWitness};
 ghost use Rattle.cn_choice.specs.RawChoices.{IsRawChoice, RawChoice};
 ghost use Rattle.cn_stocks.specs.Splits.{SomeSplits, SplitsFrom};
 
-/// For n of at least 3 a type is n-discerning exactly where some stock of n of its operations splits
-/// from some state. Two processes with one operation are in one team of each witness, so that teams
-/// are teams of operations, and an order of the processes is a word within the stock.
+/// For n of at least 3 a type is n-discerning exactly where some stock of n of its operations
+/// splits from some state. Two processes with one operation are in one team of each witness, so
+/// that teams are teams of operations, and an order of the processes is a word within the stock.
 pub fn splits_decide()
     ensures { (t : TypeTable) (n : ℕ) → 3 ≤ n → IsDiscerning t n ↔ SomeSplits t n }
 {}

@@ -2,9 +2,10 @@
 //!
 //! [`is_discerning`] looks for a start state and a list of n operations, the stock, that falls into
 //! two parts: nothing that a process can see comes both from orders that begin in the one and from
-//! orders that begin in the other. By [`laws::splits_decide`] the type is n-discerning exactly where
-//! there is such a stock. [`greatest_split`] answers the greatest number of operations of such a
-//! stock, and [`splitting_starts`] the start states of the stocks of one number of operations.
+//! orders that begin in the other. By [`laws::splits_decide`] the type is n-discerning exactly
+//! where there is such a stock. [`greatest_split`] answers the greatest number of operations of
+//! such a stock, and [`splitting_starts`] the start states of the stocks of one number of
+//! operations.
 //!
 //! ```text
 //! if is_discerning(rt, alloc, &table, 3, Threading::Many)? {

@@ -44,8 +44,8 @@ fn some_single(setting: &Setting<'_>, sets: &StateSets, start: u8) -> bool
     false
 }
 
-/// Whether the stock records from the start state: whether one of its operations is the one part, or
-/// no word leaves the start state and its operations fall into two parts in some other way.
+/// Whether the stock records from the start state: whether one of its operations is the one part,
+/// or no word leaves the start state and its operations fall into two parts in some other way.
 pub(crate) fn records_from(setting: &Setting<'_>, start: u8) -> bool
     requires setting { IsSetting Recording setting.now }
     requires start { start < length setting.now.table.now.states }

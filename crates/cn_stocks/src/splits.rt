@@ -5,7 +5,7 @@ ghost use Rattle.cn_stocks.specs.Components.{AreReached, IsJoinedWithSome};
 ghost use Rattle.cn_stocks.specs.Levels.{IsSetting};
 ghost use Rattle.cn_stocks.specs.Meetings.{AreLeft};
 ghost use Rattle.cn_stocks.specs.Pairs.{Has};
-ghost use Rattle.cn_stocks.specs.Splits.{AreJoined, Splits};
+ghost use Rattle.cn_stocks.specs.Splits.{AreJoined, StockSplits};
 ghost use Rattle.cn_stocks.specs.Words.{Shows, times};
 
 use crate::levels::Setting;
@@ -83,7 +83,8 @@ fn touches(setting: &Setting<'_>, start: u8, left: &StateSets, reached: u16, ope
     false
 }
 
-/// The operations that are reached, and each operation of the stock that is joined with one of them.
+/// The operations that are reached, and each operation of the stock that is joined with one of
+/// them.
 fn grow(setting: &Setting<'_>, start: u8, left: &StateSets, first: u8, reached: u16) -> u16
     requires setting { IsSetting Splitting setting.now }
     requires start { start < length setting.now.table.now.states }
@@ -130,7 +131,7 @@ pub(crate) fn splits_from(setting: &Setting<'_>, start: u8) -> bool
     requires setting { IsSetting Splitting setting.now }
     requires start { start < length setting.now.table.now.states }
     requires some { 1 ≤ length setting.now.stock.now.operations.items }
-    ensures { IsTrue result ↔ Splits setting.now.table.now start
+    ensures { IsTrue result ↔ StockSplits setting.now.table.now start
         setting.now.stock.now.operations.items }
 {
     let _operations = setting.table.operations();

@@ -29,8 +29,8 @@ fn holds_from(question: Question, setting: &Setting<'_>, start: u8) -> bool
     }
 }
 
-/// The states from which the stock has what is asked for with one operation less. Where it has three
-/// operations or more it has it from no other one.
+/// The states from which the stock has what is asked for with one operation less. Where it has
+/// three operations or more it has it from no other one.
 fn less_starts(setting: &Setting<'_>) -> u16
     requires { IsSomeSetting setting.now }
     ensures { HasLessStarts setting.now result }

@@ -2,7 +2,7 @@
 ghost use Rattle.std.specs.Prelude.{◌≡◌, ◌<◌, ◌≤◌, ◌+◌, ◌++◌, ℕ, List, [], ◌∷◌, length, IfOk, Some, slice_index, slice_index_or};
 ghost use Rattle.cn_table.specs.declared.limits.TheConstants.{MOST_OPERATIONS};
 ghost use Rattle.cn_stocks.specs.declared.limits.TheConstants.{MOST_SIZE};
-ghost use Rattle.cn_stocks.specs.Stocks.{AreAll, AreChildren, AreLinks, AreStocks, GoesOn, HasChildren, IsStock, UpTo, items_at};
+ghost use Rattle.cn_stocks.specs.Stocks.{AreAll, AreChildren, AreSmallerStocks, AreStocks, GoesOn, HasChildren, IsStock, UpTo, items_at};
 
 use crate::counts::stock_count;
 use crate::limits::MOST_SIZE;
@@ -25,13 +25,13 @@ pub struct Stock {
 impl Stock {
     ghost use Rattle.std.specs.Prelude.{◌≤◌, ◌<◌, ◌↔◌, IsTrue};
     ghost use Rattle.cn_table.specs.declared.limits.TheConstants.{MOST_OPERATIONS};
-    ghost use Rattle.cn_stocks.specs.Stocks.{IsLinked};
+    ghost use Rattle.cn_stocks.specs.Stocks.{HasSmallerStocks};
     ghost use Rattle.cn_stocks.specs.Words.{times};
 
     /// Whether the operation stands in the stock.
     pub fn has(&self, operation: u8) -> bool
         requires operation { operation < MOST_OPERATIONS }
-        requires linked { IsLinked self.now }
+        requires linked { HasSmallerStocks self.now }
         ensures { IsTrue result ↔ (1 ≤ times operation self.now.operations.items) }
     {
         self.less[operation as usize].is_some()
@@ -96,7 +96,7 @@ impl Stocks {
     ghost use Rattle.std.specs.Prelude.{◌≡◌, ◌<◌, ◌≤◌, ◌+◌, ◌++◌, ℕ, List, [], ◌∷◌, length, IfOk, Some, vec_len};
     ghost use Rattle.cn_table.specs.declared.limits.TheConstants.{MOST_OPERATIONS};
     ghost use Rattle.cn_stocks.specs.declared.limits.TheConstants.{MOST_SIZE};
-    ghost use Rattle.cn_stocks.specs.Stocks.{AreAll, AreLinks, AreStocks, GoesOn, HasChildren, IsStock, SomeAll, UpTo, items_at};
+    ghost use Rattle.cn_stocks.specs.Stocks.{AreAll, AreSmallerStocks, AreStocks, GoesOn, HasChildren, IsStock, SomeAll, UpTo, items_at};
 
     /// For each operation the place of the stock with one of it less than the stock at the place
     /// has with one more of the given operation.
@@ -114,7 +114,7 @@ impl Stocks {
         requires up_to { (items : List ℕ) → items_at self.now.list.items place ≡ Some items
             → UpTo operation items }
         ensures { (items : List ℕ) → items_at self.now.list.items place ≡ Some items
-            → AreLinks self.now.list.items (items ++ operation ∷ []) result }
+            → AreSmallerStocks self.now.list.items (items ++ operation ∷ []) result }
     {
         let _n = n;
         let stock = &self.list[place as usize];

@@ -84,7 +84,8 @@ fn stock_ends(setting: &Setting<'_>) -> Ends
     Ends { states }
 }
 
-/// For each operation of the stock the states that words within the stock leave which begin with it.
+/// For each operation of the stock the states that words within the stock leave which begin with
+/// it.
 pub(crate) fn left_states(setting: &Setting<'_>, start: u8) -> StateSets
     requires setting { IsSomeSetting setting.now }
     requires start { start < length setting.now.table.now.states }

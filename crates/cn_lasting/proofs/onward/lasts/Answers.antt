@@ -1,7 +1,9 @@
-use Rattle.std.proofs.Common.{◌∙◌, bit_and, eq-eqb, sym, true≢false}
-use Rattle.std.proofs.lemmas.Bool.{eqb-true}
-use Rattle.cn_outcomes.proofs.BitSets.{common_none, common_some}
+use Rattle.std.proofs.Common.{◌≡◌, Bool, true, false, not, refl, subst, sym, true≢false}
 use Rattle.cn_lasting.proofs.onward.lasts.Goals as goal
+
+is_true : (b : Bool) → not b ≡ false → b ≡ true
+is_true true f = refl
+is_true false f = absurd (true≢false f)
 
 pub returns-clause-yes : goal.returns-clause-yes
 returns-clause-yes c h = record {
@@ -9,10 +11,12 @@ returns-clause-yes c h = record {
   many_known = c.requires.many;
   single_known = c.requires.single;
   different = c.requires.different;
-  apart = λ q many single. common_none c.single_first.result c.many_first.result q (eqb-true (bit_and c.single_first.result c.many_first.result) 0 h) ((c.single_first.ensures q).1 single) ((c.many_first.ensures q).1 many);
+  apart = λ q many single.
+      let meet = c.meets.ensures.1 (q, (c.single_first.ensures q).1 single, (c.many_first.ensures q).1 many) in
+      true≢false (sym (subst (λ (b : Bool). not b ≡ true) meet h));
 }
 
 pub returns-clause-no : goal.returns-clause-no
 returns-clause-no c h =
-    let r = common_some c.single_first.result c.many_first.result c.single_first.type_inv (λ z. true≢false (sym (eq-eqb (bit_and c.single_first.result c.many_first.result) 0 z) ∙ h)) in
+    let r = c.meets.ensures.0 (is_true c.meets.result h) in
     (r.0, (c.many_first.ensures r.0).0 r.2, (c.single_first.ensures r.0).0 r.1)

@@ -1,4 +1,4 @@
-use Rattle.std.proofs.Common.{◌≡◌, ◌-◌, ◌<◌, ◌⊎◌, ◌↔◌, ℕ, length}
+use Rattle.std.proofs.Common.{◌≡◌, ◌-◌, ◌⊎◌, ◌↔◌, ℕ, length}
 use Rattle.std.specs.Prelude.{IsBitSet}
 use Rattle.cn_outcomes.specs.Subsets.{Below}
 use Rattle.cn_table.specs.TypeTable.{transition}
@@ -6,15 +6,14 @@ use Rattle.cn_lasting.specs.Repeats.{Onward}
 use Rattle.cn_lasting.proofs.onward.onward.Given as goal
 
 -- all of these states are in the set, and the operation leads to each of the set; the grown set has where it leads next, too
-abbrev pub invariant-loop-grown : goal.invariant-loop-grown
-invariant-loop-grown l = record {
+abbrev pub invariant-loop-set : goal.invariant-loop-set
+invariant-loop-set l = record {
   has : (q : ℕ) → IsBitSet l.fn.from q → IsBitSet l.set q;
   led : (q : ℕ) → IsBitSet l.set q → Onward l.table l.fn.many (IsBitSet l.fn.from) q;
   known : Below (length l.table.states) l.set;
   next : (q : ℕ) → IsBitSet l.grown q ↔ (IsBitSet l.set q ⊎ ((found : ℕ) × IsBitSet l.set found × ((transition l.table l.fn.many found).1 ≡ q)));
   grown_known : Below (length l.table.states) l.grown;
-  small : l.grown < 65536;
 }
 
-abbrev pub decreases-loop-grown : goal.decreases-loop-grown
-decreases-loop-grown l = 65536 - l.set
+abbrev pub decreases-loop-set : goal.decreases-loop-set
+decreases-loop-set l = 65536 - l.set

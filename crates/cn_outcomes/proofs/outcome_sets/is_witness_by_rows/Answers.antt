@@ -2,7 +2,7 @@ use Rattle.std.proofs.Common.{arith, ℕ, ◌<◌, ap, length, sym, true≢false
 use Rattle.cn_choice.specs.RawChoices.{RawChoice}
 use Rattle.cn_choice.specs.declared.team.Team.TheVariants.{A, B}
 use Rattle.cn_outcomes.proofs.Packing.{linked_outcomes}
-use Rattle.cn_choice.proofs.Walks.{pair_takes_part}
+use Rattle.cn_choice.proofs.OrderLemmas.Walks.{pair_takes_part}
 use Rattle.cn_outcomes.proofs.outcome_sets.is_witness_by_rows.Goals as goal
 
 pub loop-j-preserved : goal.loop-j-preserved
@@ -22,7 +22,7 @@ returns-then-meets c = (
   λ w. (let h = c.meets.ensures.0 c.if-meets.true in absurd (w c.loop-j.j (h.0, h.1) ((c.outcomes_from-from_a.ensures h.0 h.1).0 h.2) ((c.outcomes_from-from_b.ensures h.0 h.1).0 h.3))),
 )
 
-pub loop-j-preserved-then-contains : goal.loop-j-preserved-then-contains
-loop-j-preserved-then-contains c = below_more _ _ c.loop-j.invariant (λ r q a b.
-    let before = linked_outcomes c.args.table.now c.args.choice.now c.links-links.result c.links-links.ensures c.loop-j.j (c.contains.ensures.0 c.if-contains.true) in
+pub loop-j-preserved-then-has : goal.loop-j-preserved-then-has
+loop-j-preserved-then-has c = below_more _ _ c.loop-j.invariant (λ r q a b.
+    let before = linked_outcomes c.args.table.now c.args.choice.now c.links-links.result c.links-links.ensures c.loop-j.j (c.has.ensures.0 c.if-has.true) in
     c.loop-j.invariant before.0 before.1 r q (before.2 A (r, q) a) (before.2 B (r, q) b))

@@ -16,7 +16,7 @@ index-requires c =
     let s = c.args.setting.now in
     let level = s.level.now in
     let fit : Stock → ℕ → Type 0 = λ stock starts. AreStarts c.requires.question s.table.now stock.operations.items starts in
-    let h = c.requires.next.stock_is.links.some c.loop-operation.operation c.in-Some.place c.in-Some.is in
+    let h = c.requires.next.stock_is.smaller.some c.loop-operation.operation c.in-Some.place c.in-Some.is in
     omega (arith, items_within level.stocks.list.items c.in-Some.place h.0 h.1, zip_long fit level.stocks.list.items level.starts.items c.requires.next.level_is.starts, level.starts.ok.0)
 
 read_at : (starts : List ℕ) (place j x : ℕ) → x ≡ get_or starts place x → place ≡ j → j < length starts → x ≡ get_or starts j 0
@@ -28,28 +28,28 @@ loop-operation-preserved c x j q l e b =
     let s = c.args.setting.now in
     let level = s.level.now in
     let starts = level.starts.items in
-    let links = s.stock.now.less in
+    let smaller = s.stock.now.less in
     let fit : Stock → ℕ → Type 0 = λ stock starts. AreStarts c.requires.question s.table.now stock.operations.items starts in
-    let less = c.requires.next.stock_is.links.some x j e in
+    let less = c.requires.next.stock_is.smaller.some x j e in
     let inside : j < length starts = omega (arith, items_within level.stocks.list.items j less.0 less.1, zip_long fit level.stocks.list.items starts c.requires.next.level_is.starts) in
     elim c.match-setting-operation.branch [
       | in-Some w ↦ subst (λ (set : ℕ). IsBitSet set q) (sym w.set-is) ((w.union-set.ensures q).1 (elim (below_or_last x k l) [
         | inl u ↦ inl (c.loop-operation.invariant x j q u e b)
         | inr same ↦ (
-            let place : w.in-Some.place ≡ j = same_Some w.in-Some.place j (sym w.in-Some.is ∙ subst (λ (y : ℕ). slice_index_or links y None ≡ Some j) same e) in
+            let place : w.in-Some.place ≡ j = same_Some w.in-Some.place j (sym w.in-Some.is ∙ subst (λ (y : ℕ). slice_index_or smaller y None ≡ Some j) same e) in
             let read : w.index.result.now ≡ get_or starts j 0 = read_at starts w.in-Some.place j w.index.result.now w.index.ensures place inside in
             inr (subst (λ (set : ℕ). IsBitSet set q) (sym read) b)
             )
       ]))
       | in_default w ↦ subst (λ (set : ℕ). IsBitSet set q) (sym w.set-is) (elim (below_or_last x k l) [
         | inl u ↦ c.loop-operation.invariant x j q u e b
-        | inr same ↦ absurd (w.in_default.not-Some j (subst (λ (y : ℕ). slice_index_or links y None ≡ Some j) same e))
+        | inr same ↦ absurd (w.in_default.not-Some j (subst (λ (y : ℕ). slice_index_or smaller y None ≡ Some j) same e))
       ])
     ]
 
 pub returns : goal.returns
 returns c x j q e b =
     let stock = c.requires.next.stock_is in
-    let link = stock.links.some x j e in
+    let link = stock.smaller.some x j e in
     let known = stock.known x (same_has x c.args.setting.now.stock.now.operations.items link.0 link.2) in
     c.loop-operation.invariant x j q (omega (arith, known, c.loop-operation-test.false, c.operations-operation-end.ensures.number)) e b

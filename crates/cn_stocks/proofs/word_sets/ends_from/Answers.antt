@@ -42,5 +42,5 @@ returns c q =
     let items = s.stock.now.operations.items in
     let stock = c.requires.setting.next.stock_is in
     let end : c.loop-operation.operation ≡ length t.operations = omega (arith, c.operations-operation-end.ensures.number, c.loop-operation-test.false, c.loop-operation.auto.operation-end) in
-    ends_all t c.args.start items (removal_of s.level.now.stocks.list.items items s.stock.now.less stock.links) (length t.operations) stock.known q (IsBitSet c.loop-operation.set q)
+    ends_all t c.args.start items (removal_of s.level.now.stocks.list.items items s.stock.now.less stock.smaller) (length t.operations) stock.known q (IsBitSet c.loop-operation.set q)
     (subst (λ (k : ℕ). Gathered (q ≡ c.args.start) (EndsPart t c.args.start items q) k (IsBitSet c.loop-operation.set q)) end (c.loop-operation.invariant q))

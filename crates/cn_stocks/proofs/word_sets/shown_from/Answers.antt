@@ -47,7 +47,7 @@ returns c r q =
     let base = ShowsAtOnce t c.args.start items c.args.asked r q in
     let part = ShowsPart t c.args.start items c.args.asked r q in
     let end : c.loop-operation.operation ≡ length t.operations = omega (arith, c.operations-operation-end.ensures.number, c.loop-operation-test.false, c.loop-operation.auto.operation-end) in
-    shown_all t c.args.start items (removal_of s.level.now.stocks.list.items items s.stock.now.less stock.links) (length t.operations) stock.known c.args.asked r q (Has c.loop-operation.set r q)
+    shown_all t c.args.start items (removal_of s.level.now.stocks.list.items items s.stock.now.less stock.smaller) (length t.operations) stock.known c.args.asked r q (Has c.loop-operation.set r q)
     (subst (λ (k : ℕ). Gathered base part k (Has c.loop-operation.set r q)) end (c.loop-operation.invariant r q))
 
 pub add_to-requires : goal.add_to-requires

@@ -1,32 +1,42 @@
-use Rattle.std.proofs.Common.{ℕ, ◌≡◌, arith, inl, inr, subst, sym}
-use Rattle.std.specs.Prelude.{IsBitSet}
-use Rattle.cn_outcomes.proofs.LastProcess.{same_or_not, zero_has_none}
+use Rattle.std.proofs.Common.{inl, inr, subst, sym, refl}
+use Rattle.cn_choice.proofs.ListLemmas.Members.{IsIn, Contains-from_IsIn, IsIn-from_Contains}
 use Rattle.cn_outcomes.proofs.outcome_sets.OutcomeSet.add_states.Goals as goal
 
-pub loop-left-init : goal.loop-left-init
-loop-left-init c = ((λ q b. b), λ r q. ((λ h. inl h), λ h. elim h [ inl a ↦ a | inr a ↦ absurd (a.2 a.1) ]))
-
-pub loop-left-preserved : goal.loop-left-preserved
-loop-left-preserved c =
-    let i = c.loop-left.invariant in
-    let w = c.without-left.ensures.others in (
-      (λ q b. i.0 q ((w q).0 b).0),
+pub loop-state-init : goal.loop-state-init
+loop-state-init c =
+    let same = c.iter-state-items.ensures.same in
+    let items = c.iter-state-items.result in
+    rw c.into_iter-state-iterator.ensures.into_iter_gives (
+      λ q i. (same q).0 (Contains-from_IsIn q items i),
       λ r q. (
-        λ h. elim ((c.add.ensures r q).0 h) [
-          | inl a ↦ elim ((i.1 r q).0 a) [ inl b ↦ inl b | inr x ↦ inr (x.0, x.1, λ b. x.2 ((w q).0 b).0) ]
-          | inr a ↦ inr (a.0, subst (IsBitSet c.args.states) (sym a.1) (i.0 c.least-state.result c.least-state.ensures.member), λ b. ((w q).0 b).1 a.1)
-        ],
-        λ h. (c.add.ensures r q).1 (elim h [
-          | inl a ↦ inl ((i.1 r q).1 (inl a))
-          | inr x ↦ elim (same_or_not q c.least-state.result) [ inl e ↦ inr (x.0, e) | inr n ↦ inl ((i.1 r q).1 (inr (x.0, x.1, λ b. x.2 ((w q).1 (b, n))))) ]
+        λ h. elim h [ inl a ↦ inl a | inr b ↦ inr (b.0, (same q).0 (Contains-from_IsIn q items b.1)) ],
+        λ h. elim h [ inl a ↦ inl a | inr b ↦ inr (b.0, IsIn-from_Contains q items ((same q).1 b.1)) ],
+      ),
+    )
+
+pub add-requires-clause-state : goal.add-requires-clause-state
+add-requires-clause-state c = c.iter-state-items.ensures.below c.in-Some.state (c.loop-state.invariant.0 c.in-Some.state (subst (IsIn c.in-Some.state) (sym c.in-Some.ensures.steps) (inl refl)))
+
+pub loop-state-preserved : goal.loop-state-preserved
+loop-state-preserved c =
+    let i = c.loop-state.invariant in
+    let e = c.in-Some.ensures.steps in (
+      λ q b. i.0 q (subst (IsIn q) (sym e) (inr b)),
+      λ r q. (
+        λ h. (i.1 r q).0 (elim h [
+          | inl s ↦ elim ((c.add.ensures r q).0 s) [ inl a ↦ inl a | inr x ↦ inr (x.0, subst (IsIn q) (sym e) (inl (sym x.1))) ]
+          | inr b ↦ inr (b.0, subst (IsIn q) (sym e) (inr b.1))
         ]),
+        λ h. elim ((i.1 r q).1 h) [
+          | inl a ↦ inl ((c.add.ensures r q).1 (inl a))
+          | inr b ↦ elim (subst (IsIn q) e b.1) [ inl f ↦ inl ((c.add.ensures r q).1 (inr (b.0, sym f))) | inr rest ↦ inr (b.0, rest) ]
+        ],
       ),
     )
 
 pub returns : goal.returns
 returns c r q =
-    let x = c.loop-left.invariant.1 r q in
-    let e : c.loop-left.left ≡ 0 = omega (arith, c.loop-left-test.false) in (
-      λ h. elim (x.0 h) [ inl a ↦ inl a | inr y ↦ inr (y.0, y.1) ],
-      λ h. x.1 (elim h [ inl a ↦ inl a | inr y ↦ inr (y.0, y.1, λ b. zero_has_none q (subst (λ (s : ℕ). IsBitSet s q) e b)) ]),
+    let x = c.loop-state.invariant.1 r q in (
+      λ h. x.0 (inl h),
+      λ h. elim (x.1 h) [ inl s ↦ s | inr b ↦ absurd (subst (IsIn q) c.in-None.ensures.steps.0 b.1) ],
     )

@@ -12,7 +12,7 @@ index-requires c =
     let level = s.level.now in
     let is = c.requires.setting.next in
     let fit : Stock → Ends → Type 0 = λ stock ends. AreEnds s.table.now stock.operations.items (length s.table.now.states) ends.states in
-    let h = is.stock_is.links.some c.args.operation c.in-Some.place c.in-Some.is in
+    let h = is.stock_is.smaller.some c.args.operation c.in-Some.place c.in-Some.is in
     omega (arith, items_within level.stocks.list.items c.in-Some.place h.0 h.1, zip_long fit level.stocks.list.items level.ends.items is.level_is.ends, level.ends.ok.0)
 
 pub returns-in-Some : goal.returns-in-Some
@@ -21,10 +21,10 @@ returns-in-Some c =
     let level = s.level.now in
     let is = c.requires.setting.next in
     let fit : Stock → Ends → Type 0 = λ stock ends. AreEnds s.table.now stock.operations.items (length s.table.now.states) ends.states in
-    let h = is.stock_is.links.some c.args.operation c.in-Some.place c.in-Some.is in
+    let h = is.stock_is.smaller.some c.args.operation c.in-Some.place c.in-Some.is in
     let stock = stock_at level.stocks.list.items c.in-Some.place h.0 h.1 in
     let ends = zip_read fit level.stocks.list.items level.ends.items is.level_is.ends c.in-Some.place stock.0 c.index.result.now stock.1 c.index.ensures in
     (h.0, h.2, subst (λ (items : List ℕ). AreEnds s.table.now items (length s.table.now.states) c.index.result.now.states) stock.2 ends)
 
 pub returns-in-None : goal.returns-in-None
-returns-in-None c = c.requires.setting.next.stock_is.links.none c.args.operation c.in-None.is
+returns-in-None c = c.requires.setting.next.stock_is.smaller.none c.args.operation c.in-None.is

@@ -23,7 +23,7 @@ child_place-requires-clause-place c =
     let all = c.requires.all.1 in
     let s = c.index-stock.result.now in
     let inside : place < length stocks = omega (arith, c.requires.place, c.args.self.now.list.ok.0) in
-    let less = (all.stocks place s (read_stock stocks place s inside c.index-stock.ensures)).links.some c.loop-other.other c.in-Some.rest c.in-Some.is in
+    let less = (all.stocks place s (read_stock stocks place s inside c.index-stock.ensures)).smaller.some c.loop-other.other c.in-Some.rest c.in-Some.is in
     omega (arith, items_within c.requires.all.0 c.in-Some.rest less.0 less.1, all.count, ap length c.as_slice-children.ensures.value)
 
 pub loop-other-preserved : goal.loop-other-preserved
@@ -40,7 +40,7 @@ loop-other-preserved c =
     let children = c.args.self.now.children.items in
     elim c.match-stock-other.branch [
       | in-Some w ↦ (
-          let less = is.links.some k w.in-Some.rest w.in-Some.is in
+          let less = is.smaller.some k w.in-Some.rest w.in-Some.is in
           let child : w.child_place.result ≡ slice_index (slice_index_or children w.in-Some.rest []) c.args.operation =
           w.child_place.ensures ∙ ap (λ (rows : List (List ℕ)). slice_index (slice_index_or rows w.in-Some.rest []) c.args.operation) c.as_slice-children.ensures.value in
           let room : k < length c.loop-other.less = omega (arith, i.long, c.loop-other-test.true, c.requires.few) in
@@ -65,7 +65,7 @@ loop-other-preserved c =
           | inl u ↦ i.none items at x u (sym (ap (λ (l : List (Option ℕ)). get_or l x None) w.less-is) ∙ e)
           | inr same ↦ (
               let list = same_items stocks place s.operations.items items (items_of stocks place s here) at in
-              subst (λ (list : List ℕ). times x list ≡ 0) list (subst (λ (y : ℕ). times y s.operations.items ≡ 0) (sym same) (no_less c.requires.all.0 s.operations.items s.less is.links k w.in_default.not-Some))
+              subst (λ (list : List ℕ). times x list ≡ 0) list (subst (λ (y : ℕ). times y s.operations.items ≡ 0) (sym same) (no_less c.requires.all.0 s.operations.items s.less is.smaller k w.in_default.not-Some))
               )
         ];
       }

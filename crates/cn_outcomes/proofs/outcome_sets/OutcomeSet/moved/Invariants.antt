@@ -1,0 +1,10 @@
+use Rattle.std.proofs.Common.{ℕ}
+use Rattle.std.specs.Prelude.{IsBitSet}
+use Rattle.cn_table.specs.TypeTable.{transition}
+use Rattle.cn_outcomes.specs.PairSets.{Has}
+use Rattle.cn_outcomes.proofs.Unions.{GathersFrom, moved_part}
+use Rattle.cn_outcomes.proofs.outcome_sets.OutcomeSet.moved.Given as goal
+
+-- the moved pairs of the states so far
+abbrev pub invariant-loop-state : goal.invariant-loop-state
+invariant-loop-state l = GathersFrom (moved_part (transition l.table l.operation.0) l.self) (IsBitSet l.fn.from) l.state-iterator (λ (x : ℕ × ℕ). Has l.moved x.0 x.1)
