@@ -12,7 +12,7 @@ use Rattle.cn_agree.specs.declared.local.Stage.TheVariants.{Write, Apply, Read, 
 use Rattle.cn_agree.specs.declared.local.Local.{Local}
 use Rattle.cn_agree.specs.declared.local.Local.TheVariants.{NotBegun, Active}
 use Rattle.cn_proto.specs.Order.{after, IsAnswered}
-use Rattle.cn_proto.specs.Protocol.{Protocol, place_of}
+use Rattle.cn_proto.specs.Protocol.{ProtocolOfRounds, place_of}
 use Rattle.cn_agree.specs.World.{World, node_at, local_at, input_at, register, with_register, fresh_node}
 use Rattle.cn_agree.specs.Steps.{after_action, local_after, first_recorded, onward}
 use Rattle.cn_proto.specs.Sound.{IsSound, IsPlace, IsFedAlike}
@@ -24,7 +24,7 @@ use Rattle.cn_agree.proofs.Growing.{brings_grows, local_grows}
 use Rattle.cn_agree.proofs.Changing.{Changes, Extends, changes_grow, keeps_on}
 
 -- a write of one node and one local state
-pub changes_both : {V : Type 0} (P : Protocol) (w : World V) (first : Option Team) (p : ℕ) (mine : Local V) (v : ℕ) (node : Node V) → v < length w.nodes → p < length w.locals
+pub changes_both : {V : Type 0} (P : ProtocolOfRounds) (w : World V) (first : Option Team) (p : ℕ) (mine : Local V) (v : ℕ) (node : Node V) → v < length w.nodes → p < length w.locals
     → Changes P w (record w { nodes = slice_set w.nodes v node; locals = slice_set w.locals p mine; first = first }) p mine v node
 changes_both P w first p mine v node lv lp = record {
   nodes_are = length-set w.nodes v node;
@@ -37,11 +37,11 @@ changes_both P w first p mine v node lv lp = record {
 }
 
 -- a read leaves the nodes
-read_world : {V : Type 0} (P : Protocol) (w : World V) (v : ℕ) (locals : List (Local V)) → record w { nodes = slice_set w.nodes v (node_at P w v); locals = locals; first = w.first } ≡ record w { locals = locals }
+read_world : {V : Type 0} (P : ProtocolOfRounds) (w : World V) (v : ℕ) (locals : List (Local V)) → record w { nodes = slice_set w.nodes v (node_at P w v); locals = locals; first = w.first } ≡ record w { locals = locals }
 read_world P w v locals = λ d. record { nodes = set-get_or w.nodes v (fresh_node P.start) d; locals = locals; inputs = w.inputs; first = w.first }
 
 -- a write of one local state
-changes_local : {V : Type 0} (P : Protocol) (w : World V) (p : ℕ) (mine : Local V) (v : ℕ) → p < length w.locals
+changes_local : {V : Type 0} (P : ProtocolOfRounds) (w : World V) (p : ℕ) (mine : Local V) (v : ℕ) → p < length w.locals
     → Changes P w (record w { locals = slice_set w.locals p mine }) p mine v (node_at P w v)
 changes_local P w p mine v lp = record {
   nodes_are = refl;
@@ -105,7 +105,7 @@ noted_later None v side = refl
 noted_later (Some f) v side = refl
 
 -- places that are fed alike get one value
-brings_same : {V : Type 0} (P : Protocol) (team : ℕ → Team) (w : World V) (order : ℕ → List ℕ) (p i q j : ℕ) (x y : V)
+brings_same : {V : Type 0} (P : ProtocolOfRounds) (team : ℕ → Team) (w : World V) (order : ℕ → List ℕ) (p i q j : ℕ) (x y : V)
     → IsFedAlike P p i q j → Brings P team w order p i x → Brings P team w order q j y → x ≡ y
 brings_same P team w order p zero q zero x y fed bx by = let e : input_at w p ≡ input_at w q = ap (input_at w) fed in cc
 brings_same P team w order p zero q (suc j) x y fed bx by = elim fed [ ]
@@ -113,7 +113,7 @@ brings_same P team w order p (suc i) q zero x y fed bx by = elim fed [ ]
 brings_same P team w order p (suc i) q (suc j) x y fed bx by =
     let e : fixed_at P team w order (place_of P p i).node ≡ fixed_at P team w order (place_of P q j).node = ap (fixed_at P team w order) fed in cc
 
-module _ {V : Type 0} (P : Protocol) (n nodes : ℕ) (team : ℕ → Team) (sound : IsSound P n nodes team) (w : World V) (order : ℕ → List ℕ)
+module _ {V : Type 0} (P : ProtocolOfRounds) (n nodes : ℕ) (team : ℕ → Team) (sound : IsSound P n nodes team) (w : World V) (order : ℕ → List ℕ)
     (holds : Holds P n nodes team w order) (p i : ℕ) (lt : p < n) (x : V) where
   pub keeps_write : local_at w p ≡ Active i x Write → Holds P n nodes team (after_action P p w i x Write (place_of P p i)) order
   keeps_write e =

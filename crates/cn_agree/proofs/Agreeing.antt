@@ -2,7 +2,7 @@
 use Rattle.std.proofs.Common.{ℕ, zero, suc, ◌≡◌, ◌-◌, ◌<◌, ◌≤◌, List, [], ◌∷◌, ◌++◌, length, map, slice_get, slice_index_or, Option, Some, None, IsSome, refl, sym, ap, ◌∙◌, arith, append_assoc, append-nil, subst, true≢false}
 use Rattle.std.proofs.lemmas.List.{length-map}
 use Rattle.cn_choice.specs.declared.team.Team.{Team}
-use Rattle.cn_proto.specs.Protocol.{Protocol}
+use Rattle.cn_proto.specs.Protocol.{ProtocolOfRounds}
 use Rattle.cn_proto.specs.Sound.{IsSound}
 use Rattle.cn_agree.specs.declared.local.Local.{Local}
 use Rattle.cn_agree.specs.declared.local.Local.TheVariants.{NotBegun}
@@ -34,11 +34,11 @@ given [] p y h = absurd cc
 given (x ∷ inputs) zero y h = h
 given (x ∷ inputs) (suc p) y h = given inputs p y h
 
-inputs_schedule : {V : Type 0} (P : Protocol) (schedule : List ℕ) (w : World V) → (after_schedule P schedule w).inputs ≡ w.inputs
+inputs_schedule : {V : Type 0} (P : ProtocolOfRounds) (schedule : List ℕ) (w : World V) → (after_schedule P schedule w).inputs ≡ w.inputs
 inputs_schedule P [] w = refl
 inputs_schedule P (p ∷ schedule) w = inputs_schedule P schedule (after_step P p w) ∙ inputs_step P p w
 
-module _ {V : Type 0} (P : Protocol) (n nodes : ℕ) (team : ℕ → Team) (sound : IsSound P n nodes team) where
+module _ {V : Type 0} (P : ProtocolOfRounds) (n nodes : ℕ) (team : ℕ → Team) (sound : IsSound P n nodes team) where
   -- a round in which all have begun reaches the world after any schedule
   pub reached_after : (before schedule : List ℕ) (w : World V) → IsReached P n nodes before w → ((p : ℕ) → p < n → HasBegun w p) → IsSchedule n schedule → IsReached P n nodes (before ++ schedule) (after_schedule P schedule w)
   reached_after before [] w r begun all = let T : List ℕ → Type 0 = λ s. IsReached P n nodes s w in subst T (sym (append-nil before)) r
@@ -76,9 +76,9 @@ module _ {V : Type 0} (P : Protocol) (n nodes : ℕ) (team : ℕ → Team) (soun
       decides p lt None e s = absurd (true≢false (sym s))
       decides p lt (Some y) e s = (y, entry_at w.locals p (rw (locals_are P n nodes team sound r) lt) ∙ ap Some e)
 
-  pub every_schedule : (inputs : List V) (schedule : List ℕ) → length inputs ≡ n → IsSchedule n schedule → ((p : ℕ) → p < n → length (P.path p) ≤ nodes) → nodes ≡ n - 1
+  pub schedules_reach_consensus : (inputs : List V) (schedule : List ℕ) → length inputs ≡ n → IsSchedule n schedule → ((p : ℕ) → p < n → length (P.path p) ≤ nodes) → nodes ≡ n - 1
       → IsConsensus P n inputs schedule (decisions_of (after_schedule P schedule (all_begun P nodes inputs)))
-  every_schedule inputs schedule many all short one_fewer =
+  schedules_reach_consensus inputs schedule many all short one_fewer =
       consensus_of inputs schedule (after_schedule P schedule (all_begun P nodes inputs))
       (reached_after [] schedule (all_begun P nodes inputs) (reached_all P n nodes inputs many) (begun_all P n nodes inputs many) all)
       (inputs_schedule P schedule (all_begun P nodes inputs)) short one_fewer

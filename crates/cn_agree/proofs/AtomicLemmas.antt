@@ -3,7 +3,7 @@ use Rattle.std.proofs.Common.{ℕ, zero, suc, ◌≡◌, ◌≢◌, ◌⊎◌, i
 use Rattle.cn_table.specs.declared.elements.State.{State as StateOf}
 use Rattle.cn_choice.specs.declared.team.Team.{Team}
 use Rattle.cn_choice.specs.declared.team.Team.TheVariants.{A, B}
-use Rattle.cn_proto.specs.Protocol.{Protocol, place_of}
+use Rattle.cn_proto.specs.Protocol.{ProtocolOfRounds, place_of}
 use Rattle.cn_proto.specs.declared.place.Place.{Place}
 use Rattle.cn_agree.specs.declared.node.Node.{Node}
 use Rattle.cn_agree.specs.declared.local.Stage.{Stage}
@@ -30,14 +30,14 @@ apply_leaves node state Object ne = absurd (ne refl)
 apply_leaves node state (Register A) ne = refl
 apply_leaves node state (Register B) ne = refl
 
-leaves : {V : Type 0} (P : Protocol) (here : Place) (x : V) (stage : Stage) (node : Node V) (part : SharedPart) → part ≢ part_touched P here stage → content (node_after P here x stage node) part ≡ content node part
+leaves : {V : Type 0} (P : ProtocolOfRounds) (here : Place) (x : V) (stage : Stage) (node : Node V) (part : SharedPart) → part ≢ part_touched P here stage → content (node_after P here x stage node) part ≡ content node part
 leaves P here x Write node part ne = write_leaves node here.team x part ne
 leaves P here x Apply node part ne = apply_leaves node (record { 0 = (P.act here.role node.state.0).1 }) part ne
 leaves P here x (Read response) node part ne = refl
 leaves P here x (Take response state) node part ne = refl
 
 -- two nodes with the same content of the part touched lead to the same local state
-reads_alike : {V : Type 0} (P : Protocol) (places i : ℕ) (here : Place) (x : V) (stage : Stage) (node other : Node V) → content node (part_touched P here stage) ≡ content other (part_touched P here stage)
+reads_alike : {V : Type 0} (P : ProtocolOfRounds) (places i : ℕ) (here : Place) (x : V) (stage : Stage) (node other : Node V) → content node (part_touched P here stage) ≡ content other (part_touched P here stage)
     → local_after P places i here x stage node ≡ local_after P places i here x stage other
 reads_alike P places i here x Write node other e = refl
 reads_alike P places i here x Apply node other e =
@@ -51,7 +51,7 @@ reads_alike P places i here x (Take response state) node other e =
     ap (onward_if_found places i (Active i x (Take response state))) same
 
 -- two nodes with the same content of the part touched have the same content there afterwards
-leaves_alike : {V : Type 0} (P : Protocol) (here : Place) (x : V) (stage : Stage) (node other : Node V) → content node (part_touched P here stage) ≡ content other (part_touched P here stage)
+leaves_alike : {V : Type 0} (P : ProtocolOfRounds) (here : Place) (x : V) (stage : Stage) (node other : Node V) → content node (part_touched P here stage) ≡ content other (part_touched P here stage)
     → content (node_after P here x stage node) (part_touched P here stage) ≡ content (node_after P here x stage other) (part_touched P here stage)
 leaves_alike P here x Write node other e = ap (λ r. Value r) (register_mine node here.team x ∙ sym (register_mine other here.team x))
 leaves_alike P here x Apply node other e =
@@ -67,7 +67,7 @@ written_part [] v d node part e = refl
 written_part (n ∷ nodes) zero d node part e = e
 written_part (n ∷ nodes) (suc v) d node part e = written_part nodes v d node part e
 
-module _ {V : Type 0} (P : Protocol) (p : ℕ) where
+module _ {V : Type 0} (P : ProtocolOfRounds) (p : ℕ) where
   -- an active process is one of the processes
   active_within : (locals : List (Local V)) (q i : ℕ) (x : V) (stage : Stage) → slice_index_or locals q NotBegun ≡ Active i x stage → q < length locals
   active_within [] q i x stage e = absurd cc

@@ -2,7 +2,7 @@
 use Rattle.std.proofs.Common.{ℕ, zero, suc, ◌≡◌, ◌+◌, ◌<◌, ◌≤◌, List, [], ◌∷◌, length, map, set, replicate, get_or, slice_index_or, Some, None, refl, ap, sym, ◌∙◌, subst, arith}
 use Rattle.std.proofs.lemmas.Option.{get_or_from_slice_get}
 use Rattle.cn_table.proofs.Lists.{there_is}
-use Rattle.cn_proto.specs.Protocol.{Protocol}
+use Rattle.cn_proto.specs.Protocol.{ProtocolOfRounds}
 use Rattle.cn_agree.specs.declared.local.Stage.TheVariants.{Write}
 use Rattle.cn_agree.specs.declared.local.Local.TheVariants.{NotBegun, Active}
 use Rattle.cn_agree.specs.World.{World, fresh_node, local_at}
@@ -29,7 +29,7 @@ front_all f d (suc n) [] e = absurd (omega arith)
 front_all f d zero (x ∷ xs) e = absurd (omega arith)
 front_all f d (suc n) (x ∷ xs) e = ap (λ r. f x ∷ r) (front_all f d n xs (omega arith))
 
-module _ {V : Type 0} (P : Protocol) (n nodes : ℕ) (inputs : List V) (many : length inputs ≡ n) where
+module _ {V : Type 0} (P : ProtocolOfRounds) (n nodes : ℕ) (inputs : List V) (many : length inputs ≡ n) where
   -- the next process has not begun
   pub next_waits : (i : ℕ) → i < n → local_at (some_begun P n nodes inputs i) i ≡ NotBegun
   next_waits i lt = front_next (λ x. Active 0 x Write) NotBegun n inputs i many lt

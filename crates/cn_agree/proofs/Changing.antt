@@ -6,14 +6,14 @@ use Rattle.cn_agree.specs.declared.node.Node.{Node}
 use Rattle.cn_choice.specs.declared.team.Team.{Team}
 use Rattle.cn_agree.specs.declared.local.Local.{Local}
 use Rattle.cn_proto.specs.Order.{after}
-use Rattle.cn_proto.specs.Protocol.{Protocol}
+use Rattle.cn_proto.specs.Protocol.{ProtocolOfRounds}
 use Rattle.cn_agree.specs.World.{World, node_at, local_at, register}
 use Rattle.cn_agree.proofs.Invariant.{first_team, LocalHolds, Grows, Holds, IsBrought, IsDone}
 use Rattle.cn_agree.specs.Rounds.{steps_taken}
 use Rattle.cn_agree.proofs.Growing.{brings_grows, local_grows}
 
 -- from w to w' process p gets this local state, and node v becomes this node; all else stays
-pub record Changes {V : Type 0} (P : Protocol) (w w' : World V) (p : ℕ) (mine : Local V) (v : ℕ) (node : Node V) : Type 0 where
+pub record Changes {V : Type 0} (P : ProtocolOfRounds) (w w' : World V) (p : ℕ) (mine : Local V) (v : ℕ) (node : Node V) : Type 0 where
   pub nodes_are : length w'.nodes ≡ length w.nodes
   pub locals_are : length w'.locals ≡ length w.locals
   pub local_mine : local_at w' p ≡ mine
@@ -27,7 +27,7 @@ pub record Extends (order order' : ℕ → List ℕ) (v : ℕ) (more : List ℕ)
   pub this : order' v ≡ order v ++ more
   pub other : (u : ℕ) → u ≢ v → order' u ≡ order u
 
-module _ {V : Type 0} (P : Protocol) (n nodes : ℕ) (team : ℕ → Team) (w w' : World V) (order order' : ℕ → List ℕ)
+module _ {V : Type 0} (P : ProtocolOfRounds) (n nodes : ℕ) (team : ℕ → Team) (w w' : World V) (order order' : ℕ → List ℕ)
     (holds : Holds P n nodes team w order) (p : ℕ) (mine : Local V) (v : ℕ) (node : Node V) (more : List ℕ)
     (changes : Changes P w w' p mine v node) (extends : Extends order order' v more)
     (registers : (side : Team) (y : V) → register (node_at P w v) side ≡ Some y → register node side ≡ Some y) where

@@ -5,7 +5,7 @@ use Rattle.std.proofs.lemmas.List.{set-get_or}
 use Rattle.std.proofs.lemmas.List.Elements.{Contains-append_left, Contains-append_right}
 use Rattle.cn_choice.specs.declared.team.Team.{Team}
 use Rattle.cn_choice.specs.declared.team.Team.TheVariants.{A, B}
-use Rattle.cn_proto.specs.Protocol.{Protocol, place_of}
+use Rattle.cn_proto.specs.Protocol.{ProtocolOfRounds, place_of}
 use Rattle.cn_proto.specs.Sound.{IsSound, IsPlace}
 use Rattle.cn_agree.specs.declared.local.Stage.{Stage}
 use Rattle.cn_agree.specs.declared.local.Stage.TheVariants.{Write, Apply, Read, Take}
@@ -24,7 +24,7 @@ use Rattle.cn_agree.proofs.Values.{AreOf, step_of, are_more}
 use Rattle.cn_agree.proofs.Reaching.{same_anywhere, empty_register, reached_kept, reached_steps, no_input, input_now, local_now}
 
 -- the registers do not depend on the state in which an object starts
-root_same : {V : Type 0} (P : Protocol) (w : World V) (team : Team) → register (slice_index_or w.nodes 0 (fresh_node 0)) team ≡ register (node_at P w 0) team
+root_same : {V : Type 0} (P : ProtocolOfRounds) (w : World V) (team : Team) → register (slice_index_or w.nodes 0 (fresh_node 0)) team ≡ register (node_at P w 0) team
 root_same {V = V} P w team = go w.nodes team
   where
     go : (nodes : List (Node V)) (team : Team) → register (slice_index_or nodes 0 (fresh_node 0)) team ≡ register (slice_index_or nodes 0 (fresh_node P.start)) team
@@ -32,7 +32,7 @@ root_same {V = V} P w team = go w.nodes team
     go [] B = refl
     go (node ∷ nodes) team = refl
 
-module _ {V : Type 0} (P : Protocol) (n nodes : ℕ) (team : ℕ → Team) (sound : IsSound P n nodes team) where
+module _ {V : Type 0} (P : ProtocolOfRounds) (n nodes : ℕ) (team : ℕ → Team) (sound : IsSound P n nodes team) where
   registers_step : (w : World V) → Kept P n nodes team w → (p : ℕ) → p < n → (v : ℕ) (side : Team) (y : V) → register (node_at P w v) side ≡ Some y → register (node_at P (after_step P p w) v) side ≡ Some y
   registers_step w kept p lt v side y h = go (local_at w p) refl
     where

@@ -8,7 +8,7 @@ use Rattle.cn_agree.specs.declared.local.Stage.TheVariants.{Write, Apply, Read, 
 use Rattle.cn_agree.specs.declared.local.Local.{Local}
 use Rattle.cn_agree.specs.declared.local.Local.TheVariants.{NotBegun, Active, Decided}
 use Rattle.cn_proto.specs.Order.{after}
-use Rattle.cn_proto.specs.Protocol.{Protocol, place_of}
+use Rattle.cn_proto.specs.Protocol.{ProtocolOfRounds, place_of}
 use Rattle.cn_agree.specs.World.{World, node_at, input_at, register}
 use Rattle.cn_agree.proofs.OrderLemmas.{answers_append}
 use Rattle.cn_agree.proofs.Invariant.{first_value, fixed_at, Brings, IsOfFirst, StageHolds, LocalHolds, Grows}
@@ -19,7 +19,7 @@ first_value_grows : {V : Type 0} (team : ℕ → Team) (node node' : Node V) (or
 first_value_grows team node node' [] order' more y kept e h = absurd cc
 first_value_grows team node node' (head ∷ rest) order' more y kept e h = rw e (kept (team head) y h)
 
-module _ {V : Type 0} (P : Protocol) (n : ℕ) (team : ℕ → Team) (w : World V) (order : ℕ → List ℕ) (w' : World V) (order' : ℕ → List ℕ) (grows : Grows P w order w' order') where
+module _ {V : Type 0} (P : ProtocolOfRounds) (n : ℕ) (team : ℕ → Team) (w : World V) (order : ℕ → List ℕ) (w' : World V) (order' : ℕ → List ℕ) (grows : Grows P w order w' order') where
   pub fixed_grows : (v : ℕ) (y : V) → fixed_at P team w order v ≡ Some y → fixed_at P team w' order' v ≡ Some y
   fixed_grows v y h =
       first_value_grows team (node_at P w v) (node_at P w' v) (order v) (order' v) (grows.orders v).0 y (grows.registers v) (grows.orders v).1 h

@@ -9,7 +9,7 @@ use Rattle.cn_agree.specs.declared.local.Stage.TheVariants.{Write, Apply, Read, 
 use Rattle.cn_agree.specs.declared.local.Local.{Local}
 use Rattle.cn_agree.specs.declared.local.Local.TheVariants.{NotBegun, Active, Decided}
 use Rattle.cn_proto.specs.Order.{after, IsAnswered, IsRun}
-use Rattle.cn_proto.specs.Protocol.{Protocol, place_of}
+use Rattle.cn_proto.specs.Protocol.{ProtocolOfRounds, place_of}
 use Rattle.cn_agree.specs.World.{World, node_at, local_at, input_at, register}
 use Rattle.cn_agree.specs.Rounds.{steps_taken}
 use Rattle.cn_proto.specs.Sound.{IsPlace}
@@ -20,7 +20,7 @@ first_value team node [] = None
 first_value team node (role ∷ roles) = register node (team role)
 
 -- the value that a node has fixed, after these roles were applied there in this order
-abbrev pub fixed_at : {V : Type 0} → Protocol → (ℕ → Team) → World V → (ℕ → List ℕ) → ℕ → Option V
+abbrev pub fixed_at : {V : Type 0} → ProtocolOfRounds → (ℕ → Team) → World V → (ℕ → List ℕ) → ℕ → Option V
 fixed_at P team w order v = first_value team (node_at P w v) (order v)
 
 -- the team that came first
@@ -29,7 +29,7 @@ first_team team [] = None
 first_team team (role ∷ roles) = Some (team role)
 
 -- y is the value with which p comes to place i of its path
-abbrev pub Brings : {V : Type 0} → Protocol → (ℕ → Team) → World V → (ℕ → List ℕ) → ℕ → ℕ → V → Type 0
+abbrev pub Brings : {V : Type 0} → ProtocolOfRounds → (ℕ → Team) → World V → (ℕ → List ℕ) → ℕ → ℕ → V → Type 0
 Brings P team w order p zero y = input_at w p ≡ Some y
 Brings P team w order p (suc i) y = fixed_at P team w order (place_of P p i).node ≡ Some y
 
@@ -41,25 +41,25 @@ pub record IsResult (act : ℕ → ℕ → ℕ × ℕ) (start : ℕ) (team : ℕ
   pub ends : after act start order ≡ state
 
 -- the pair belongs to the team that came first
-abbrev pub IsOfFirst : Protocol → ℕ → (ℕ → Team) → List ℕ → ℕ → ℕ → ℕ → Type 0
+abbrev pub IsOfFirst : ProtocolOfRounds → ℕ → (ℕ → Team) → List ℕ → ℕ → ℕ → ℕ → Type 0
 IsOfFirst P n team [] role response state = ⊥
 IsOfFirst P n team (head ∷ rest) role response state = IsResult P.act P.start team n (team head) role response state
 
-abbrev pub StageHolds : {V : Type 0} → Protocol → ℕ → (ℕ → Team) → World V → (ℕ → List ℕ) → Place → V → Stage → Type 0
+abbrev pub StageHolds : {V : Type 0} → ProtocolOfRounds → ℕ → (ℕ → Team) → World V → (ℕ → List ℕ) → Place → V → Stage → Type 0
 StageHolds P n team w order here x Write = Unit {0}
 StageHolds P n team w order here x Apply = register (node_at P w here.node) here.team ≡ Some x
 StageHolds P n team w order here x (Read response) =
     (register (node_at P w here.node) here.team ≡ Some x) × IsAnswered P.act P.start (order here.node) here.role response.0
 StageHolds P n team w order here x (Take response state) = IsOfFirst P n team (order here.node) here.role response.0 state.0
 
-abbrev pub LocalHolds : {V : Type 0} → Protocol → ℕ → (ℕ → Team) → World V → (ℕ → List ℕ) → ℕ → Local V → Type 0
+abbrev pub LocalHolds : {V : Type 0} → ProtocolOfRounds → ℕ → (ℕ → Team) → World V → (ℕ → List ℕ) → ℕ → Local V → Type 0
 LocalHolds P n team w order p NotBegun = input_at w p ≡ None
 LocalHolds P n team w order p (Active i x stage) =
     IsPlace P n p i × Brings P team w order p i x × StageHolds P n team w order (place_of P p i) x stage
 LocalHolds P n team w order p (Decided y) = fixed_at P team w order 0 ≡ Some y
 
 -- the role was applied at the node by its holder
-pub record IsDone {V : Type 0} (P : Protocol) (n : ℕ) (w : World V) (v : ℕ) (role : ℕ) : Type 0 where
+pub record IsDone {V : Type 0} (P : ProtocolOfRounds) (n : ℕ) (w : World V) (v : ℕ) (role : ℕ) : Type 0 where
   pub by : ℕ
   pub at : ℕ
   pub place : IsPlace P n by at
@@ -68,7 +68,7 @@ pub record IsDone {V : Type 0} (P : Protocol) (n : ℕ) (w : World V) (v : ℕ) 
   pub applied : 4 * at + 2 ≤ steps_taken P by (local_at w by)
 
 -- a process of this team brought y to the register of the team at this node
-pub record IsBrought {V : Type 0} (P : Protocol) (n : ℕ) (team : ℕ → Team) (w : World V) (order : ℕ → List ℕ) (v : ℕ) (side : Team) (y : V) : Type 0 where
+pub record IsBrought {V : Type 0} (P : ProtocolOfRounds) (n : ℕ) (team : ℕ → Team) (w : World V) (order : ℕ → List ℕ) (v : ℕ) (side : Team) (y : V) : Type 0 where
   pub by : ℕ
   pub at : ℕ
   pub place : IsPlace P n by at
@@ -76,7 +76,7 @@ pub record IsBrought {V : Type 0} (P : Protocol) (n : ℕ) (team : ℕ → Team)
   pub team_is : (place_of P by at).team ≡ side
   pub brings : Brings P team w order by at y
 
-pub record Holds {V : Type 0} (P : Protocol) (n : ℕ) (nodes : ℕ) (team : ℕ → Team) (w : World V) (order : ℕ → List ℕ) : Type 0 where
+pub record Holds {V : Type 0} (P : ProtocolOfRounds) (n : ℕ) (nodes : ℕ) (team : ℕ → Team) (w : World V) (order : ℕ → List ℕ) : Type 0 where
   pub nodes_are : length w.nodes ≡ nodes
   pub locals_are : length w.locals ≡ n
   pub inputs_are : length w.inputs ≡ n
@@ -91,7 +91,7 @@ pub record Holds {V : Type 0} (P : Protocol) (n : ℕ) (nodes : ℕ) (team : ℕ
   pub local_holds : (p : ℕ) → p < n → LocalHolds P n team w order p (local_at w p)
 
 -- all that only grows: written registers, inputs, and the orders
-pub record Grows {V : Type 0} (P : Protocol) (w : World V) (order : ℕ → List ℕ) (w' : World V) (order' : ℕ → List ℕ) : Type 0 where
+pub record Grows {V : Type 0} (P : ProtocolOfRounds) (w : World V) (order : ℕ → List ℕ) (w' : World V) (order' : ℕ → List ℕ) : Type 0 where
   pub registers : (v : ℕ) (side : Team) (y : V) → register (node_at P w v) side ≡ Some y → register (node_at P w' v) side ≡ Some y
   pub inputs : (p : ℕ) (y : V) → input_at w p ≡ Some y → input_at w' p ≡ Some y
   pub orders : (v : ℕ) → (more : List ℕ) × (order' v ≡ order v ++ more)

@@ -13,5 +13,4 @@ pub mod Agreeing
 pub mod AtomicLemmas
 pub mod PlanRounds
 pub mod Running
-pub mod Turning
 pub mod Telling

@@ -8,7 +8,7 @@ use Rattle.cn_agree.specs.declared.local.Stage.TheVariants.{Write}
 use Rattle.cn_agree.specs.declared.local.Local.{Local}
 use Rattle.cn_agree.specs.declared.local.Local.TheVariants.{NotBegun, Active}
 use Rattle.cn_agree.specs.declared.node.Node.{Node}
-use Rattle.cn_proto.specs.Protocol.{Protocol}
+use Rattle.cn_proto.specs.Protocol.{ProtocolOfRounds}
 use Rattle.cn_agree.specs.World.{World, node_at, local_at, input_at, register, fresh_node}
 use Rattle.cn_agree.specs.Steps.{after_step, after_begin}
 use Rattle.cn_proto.specs.Order.{after}
@@ -30,7 +30,7 @@ pub empty_register : {V : Type 0} (start : ℕ) (side : Team) (y : V) → regist
 empty_register start A y h = cc
 empty_register start B y h = cc
 
-module _ {V : Type 0} (P : Protocol) (n nodes : ℕ) (team : ℕ → Team) (sound : IsSound P n nodes team) where
+module _ {V : Type 0} (P : ProtocolOfRounds) (n nodes : ℕ) (team : ℕ → Team) (sound : IsSound P n nodes team) where
   keeps_begun : (w : World V) (order : ℕ → List ℕ) → Holds P n nodes team w order → (p : ℕ) → p < n → local_at w p ≡ NotBegun → (x : V) → Holds P n nodes team (after_begin p x w) order
   keeps_begun w order holds p lt e x = record {
     nodes_are = holds.nodes_are;

@@ -6,7 +6,7 @@ use Rattle.cn_agree.specs.declared.local.Stage.{Stage}
 use Rattle.cn_agree.specs.declared.local.Stage.TheVariants.{Write, Apply, Read, Take}
 use Rattle.cn_agree.specs.declared.local.Local.{Local}
 use Rattle.cn_agree.specs.declared.local.Local.TheVariants.{NotBegun, Active, Decided}
-use Rattle.cn_proto.specs.Protocol.{Protocol, place_of}
+use Rattle.cn_proto.specs.Protocol.{ProtocolOfRounds, place_of}
 use Rattle.cn_agree.specs.World.{World, local_at}
 use Rattle.cn_agree.specs.Steps.{after_action, first_after, onward, after_step, after_step_from}
 use Rattle.cn_proto.specs.Sound.{IsSound}
@@ -15,11 +15,11 @@ use Rattle.cn_agree.specs.Rounds.{steps_taken, actions_done}
 use Rattle.cn_agree.proofs.Actions.{extended, keeps_write, keeps_apply, keeps_read, keeps_take, found_is, onward_steps}
 
 -- the invariant holds with some orders
-abbrev pub Kept : {V : Type 0} → Protocol → ℕ → ℕ → (ℕ → Team) → World V → Type 0
+abbrev pub Kept : {V : Type 0} → ProtocolOfRounds → ℕ → ℕ → (ℕ → Team) → World V → Type 0
 Kept P n nodes team w = (order : ℕ → List ℕ) × Holds P n nodes team w order
 
 -- a step of another process keeps a local state
-pub other_local : {V : Type 0} (P : Protocol) (w : World V) (p q : ℕ) → q ≢ p → local_at (after_step P p w) q ≡ local_at w q
+pub other_local : {V : Type 0} (P : ProtocolOfRounds) (w : World V) (p q : ℕ) → q ≢ p → local_at (after_step P p w) q ≡ local_at w q
 other_local P w p q ne = go (local_at w p)
   where
     staged : (i : ℕ) (x : _) (stage : Stage) → local_at (after_action P p w i x stage (place_of P p i)) q ≡ local_at w q
@@ -34,7 +34,7 @@ other_local P w p q ne = go (local_at w p)
     go (Decided y) = refl
 
 -- a step keeps the inputs
-pub inputs_step : {V : Type 0} (P : Protocol) (p : ℕ) (w : World V) → (after_step P p w).inputs ≡ w.inputs
+pub inputs_step : {V : Type 0} (P : ProtocolOfRounds) (p : ℕ) (w : World V) → (after_step P p w).inputs ≡ w.inputs
 inputs_step P p w = go (local_at w p)
   where
     go : (here : Local _) → (after_step_from P p w here).inputs ≡ w.inputs
@@ -43,7 +43,7 @@ inputs_step P p w = go (local_at w p)
     go (Decided y) = refl
 
 -- a step keeps the record of the first application
-pub first_step : {V : Type 0} (P : Protocol) (p : ℕ) (w : World V) (team : Team) → w.first ≡ Some team → (after_step P p w).first ≡ Some team
+pub first_step : {V : Type 0} (P : ProtocolOfRounds) (p : ℕ) (w : World V) (team : Team) → w.first ≡ Some team → (after_step P p w).first ≡ Some team
 first_step P p w team h = go (local_at w p)
   where
     staged : (stage : Stage) (here : Place) → first_after w.first here stage ≡ Some team
@@ -57,7 +57,7 @@ first_step P p w team h = go (local_at w p)
     go (Active i x stage) = staged stage (place_of P p i)
     go (Decided y) = h
 
-module _ {V : Type 0} (P : Protocol) (n nodes : ℕ) (team : ℕ → Team) (sound : IsSound P n nodes team) where
+module _ {V : Type 0} (P : ProtocolOfRounds) (n nodes : ℕ) (team : ℕ → Team) (sound : IsSound P n nodes team) where
   pub keeps_step : (w : World V) → Kept P n nodes team w → (p : ℕ) → p < n → Kept P n nodes team (after_step P p w)
   keeps_step w kept p lt = go (local_at w p) refl
     where

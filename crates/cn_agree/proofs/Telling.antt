@@ -1,10 +1,11 @@
 -- The action of a step before the step.
-use Rattle.std.proofs.Common.{ℕ, zero, suc, ◌≡◌, ◌⊎◌, inl, inr, ◌+◌, ◌<◌, ◌↔◌, List, [], ◌∷◌, ◌++◌, length, drop, get_or, slice_index_or, IsNone, IsSome, Option, None, option_map, refl, sym, ap, ◌∙◌, subst, arith, append_assoc}
+use Rattle.std.proofs.Common.{ℕ, zero, suc, ◌≡◌, ◌+◌, ◌<◌, ◌↔◌, List, [], ◌∷◌, ◌++◌, length, drop, get_or, IsNone, IsSome, Option, None, option_map, refl, sym, ap, ◌∙◌, subst, arith, append_assoc}
 use Rattle.cn_choice.specs.declared.team.Team.{Team}
 use Rattle.cn_proto.specs.Plan.{Plan, processes_of, nodes_of, protocol_of}
-use Rattle.cn_proto.specs.Protocol.{nowhere, place_of}
+use Rattle.cn_proto.specs.Protocol.{place_of}
 use Rattle.cn_proto.specs.Tournament.{team_of}
 use Rattle.cn_proto.specs.declared.place.Place.{Place}
+use Rattle.cn_agree.specs.declared.action.Turn.{Turn}
 use Rattle.cn_agree.specs.declared.local.Stage.{Stage}
 use Rattle.cn_agree.specs.declared.local.Stage.TheVariants.{Write, Apply, Read, Take}
 use Rattle.cn_agree.specs.declared.local.Local.{Local}
@@ -16,34 +17,17 @@ use Rattle.cn_agree.specs.Actions.{action_at, action_from, action_of, records_fr
 use Rattle.cn_agree.specs.Reached.{HasBegun}
 use Rattle.cn_agree.specs.Rounds.{IsRoundOf, decision_at, decision_of}
 use Rattle.cn_agree.specs.Steps.{after_step}
-use Rattle.cn_agree.specs.World.{World, fresh_node, local_at, node_at}
+use Rattle.cn_agree.specs.World.{World, local_at, node_at}
 use Rattle.cn_agree.proofs.Actions.{found_is}
+use Rattle.cn_agree.proofs.PlanRounds.{IsTurn}
 use Rattle.cn_agree.proofs.Reaching.{reached_kept}
-use Rattle.std.proofs.lemmas.List.{get_or_default}
 
--- the action of an active process is that of its next step
-pub action_is : {V : Type 0} (plan : Plan) (self w : World V) (p q v i : ℕ) (x : V) (stage : Stage) (path : List Place) (node : Node V) (found : Local V) (told : Option (Action V)) → w ≡ self → p < length w.locals → v < length w.nodes
-    → q ≡ p → found ≡ slice_index_or w.locals q found → found ≡ Active i x stage → path ≡ (protocol_of plan).path p → v ≡ (slice_index_or path i nowhere).node → node ≡ slice_index_or w.nodes v node
-    → told ≡ action_at plan (length path) i (slice_index_or path i nowhere) x stage node → told ≡ action_of plan self p
-action_is {V = V} plan self w p q v i x stage path node found told is within there e read f g h n a =
-    let here : local_at w p ≡ Active i x stage = get_or_default w.locals p NotBegun found within ∙ ap (λ k. slice_index_or w.locals k found) (sym e) ∙ sym read ∙ f in
-    let node_is : node ≡ node_at (protocol_of plan) w v = n ∙ sym (get_or_default w.nodes v (fresh_node (protocol_of plan).start) node there) in
-    let acts : told ≡ action_from plan w p (Active i x stage) = rw (a, node_is, h, g) refl in
-    acts ∙ sym (ap (action_from plan w p) here) ∙ ap (λ (u : World V). action_of plan u p) is
-
--- a process that has not begun, or has decided, takes no step
-pub no_action : {V : Type 0} (plan : Plan) (self w : World V) (p q : ℕ) (found : Local V) → w ≡ self → p < length w.locals → q ≡ p → found ≡ slice_index_or w.locals q found
-    → (found ≡ NotBegun) ⊎ ((y : V) × (found ≡ Decided y)) → None ≡ action_of plan self p
-no_action {V = V} plan self w p q found is within e read cases =
-    let here : local_at w p ≡ found = get_or_default w.locals p NotBegun found within ∙ ap (λ k. slice_index_or w.locals k found) (sym e) ∙ sym read in
-    let none : None ≡ action_from plan w p found = go found cases in
-    none ∙ sym (ap (action_from plan w p) here) ∙ ap (λ (u : World V). action_of plan u p) is
-  where
-    go : (found : Local V) → (found ≡ NotBegun) ⊎ ((y : V) × (found ≡ Decided y)) → None ≡ action_from plan w p found
-    go NotBegun cases = refl
-    go (Active i x stage) (inl h) = absurd cc
-    go (Active i x stage) (inr h) = let f = h.1 in absurd cc
-    go (Decided y) cases = refl
+-- the action at a turn is that of the next step
+pub action_is : {V : Type 0} (plan : Plan) {self : World V} {p : ℕ} {x : V} {turn : Turn} (t : IsTurn plan self p x turn) {node : Node V} {told : Option (Action V)} → node ≡ node_at (protocol_of plan) self turn.here.node
+    → told ≡ action_at plan turn.places turn.place turn.here x turn.stage node → told ≡ action_of plan self p
+action_is plan {self = self} {p = p} {x = x} {turn = turn} t {told = told} n a =
+    let acts : told ≡ action_from plan self p (Active turn.place x turn.stage) = rw (a, n, t.places, t.here) refl in
+    acts ∙ sym (ap (action_from plan self p) t.local)
 
 -- a process that has begun has no action exactly if it has decided
 pub none_if_decided : {V : Type 0} (plan : Plan) (schedule : List ℕ) (w : World V) → IsRoundOf plan schedule w → (p : ℕ) → p < processes_of plan → HasBegun w p

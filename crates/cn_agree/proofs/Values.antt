@@ -10,7 +10,7 @@ use Rattle.cn_agree.specs.declared.local.Stage.{Stage}
 use Rattle.cn_agree.specs.declared.local.Stage.TheVariants.{Write, Apply, Read, Take}
 use Rattle.cn_agree.specs.declared.local.Local.{Local}
 use Rattle.cn_agree.specs.declared.local.Local.TheVariants.{NotBegun, Active, Decided}
-use Rattle.cn_proto.specs.Protocol.{Protocol, place_of}
+use Rattle.cn_proto.specs.Protocol.{ProtocolOfRounds, place_of}
 use Rattle.cn_agree.specs.World.{World, node_at, local_at, register, with_register, fresh_node}
 use Rattle.cn_agree.specs.Steps.{node_after, local_after, after_action, onward_if_found, onward, after_step, after_step_from}
 
@@ -27,7 +27,7 @@ IsOfLocal Q own p NotBegun = Unit {0}
 IsOfLocal Q own p (Active i x stage) = own p x ⊎ Q x
 IsOfLocal Q own p (Decided y) = Q y
 
-pub record AreOf {V : Type 0} (P : Protocol) (Q : V → Type 0) (own : ℕ → V → Type 0) (w : World V) : Type 0 where
+pub record AreOf {V : Type 0} (P : ProtocolOfRounds) (Q : V → Type 0) (own : ℕ → V → Type 0) (w : World V) : Type 0 where
   pub registers : (v : ℕ) (team : Team) (y : V) → register (node_at P w v) team ≡ Some y → Q y
   pub locals : (p : ℕ) → IsOfLocal Q own p (local_at w p)
 
@@ -41,7 +41,7 @@ moved_of : {V : Type 0} (Q : V → Type 0) (node : Node V) (state : State) (team
 moved_of Q node state A y old h = old A y h
 moved_of Q node state B y old h = old B y h
 
-module _ {V : Type 0} (P : Protocol) (Q : V → Type 0) (own : ℕ → V → Type 0) (w : World V) (are : AreOf P Q own w) (p : ℕ) (owned : (x : V) → own p x → Q x) where
+module _ {V : Type 0} (P : ProtocolOfRounds) (Q : V → Type 0) (own : ℕ → V → Type 0) (w : World V) (are : AreOf P Q own w) (p : ℕ) (owned : (x : V) → own p x → Q x) where
   mine_of : (i : ℕ) (x : V) (stage : Stage) → local_at w p ≡ Active i x stage → Q x
   mine_of i x stage e = let h : own p x ⊎ Q x = rw e at (are.locals p) in elim h [ inl o ↦ owned x o | inr q ↦ q ]
 
@@ -91,7 +91,7 @@ module _ {V : Type 0} (P : Protocol) (Q : V → Type 0) (own : ℕ → V → Typ
       go (Decided y) e = are
 
 -- the same for larger Q and larger sets of own values
-pub are_more : {V : Type 0} (P : Protocol) (Q Q' : V → Type 0) (own own' : ℕ → V → Type 0) (w : World V) → ((y : V) → Q y → Q' y) → ((q : ℕ) (y : V) → own q y → own' q y) → AreOf P Q own w → AreOf P Q' own' w
+pub are_more : {V : Type 0} (P : ProtocolOfRounds) (Q Q' : V → Type 0) (own own' : ℕ → V → Type 0) (w : World V) → ((y : V) → Q y → Q' y) → ((q : ℕ) (y : V) → own q y → own' q y) → AreOf P Q own w → AreOf P Q' own' w
 are_more {V = V} P Q Q' own own' w more more_own are = record {
   registers = λ v team y h. more y (are.registers v team y h);
   locals = λ q. local_more q (local_at w q) (are.locals q);

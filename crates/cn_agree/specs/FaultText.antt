@@ -2,7 +2,8 @@
 use Rattle.std.specs.Prelude.{ℕ, List, codes, Option, Some, None}
 use Rattle.cn_table.specs.FaultText.{numbered_text}
 use Rattle.cn_agree.specs.declared.fault.ScheduleFault.{ScheduleFault}
-use Rattle.cn_agree.specs.declared.fault.ScheduleFault.TheVariants.{InputCount, NoSuchProcess, OutOfMemory}
+use Rattle.cn_agree.specs.declared.fault.ScheduleFault.TheVariants.{InputCount, NoSuchProcess}
+use Rattle.cn_agree.specs.declared.fault.ScheduleFault.TheVariants.{OutOfMemory}
 
 abbrev pub schedule_fault_number : ScheduleFault → ℕ
 schedule_fault_number InputCount = 1
@@ -20,4 +21,5 @@ schedule_fault_place (NoSuchProcess place) = Some place
 schedule_fault_place OutOfMemory = None
 
 abbrev pub schedule_fault_text : ScheduleFault → List ℕ
-schedule_fault_text fault = numbered_text (schedule_fault_number fault) (schedule_fault_name fault) (schedule_fault_place fault)
+schedule_fault_text fault = numbered_text (schedule_fault_number fault) (schedule_fault_name fault)
+    (schedule_fault_place fault)

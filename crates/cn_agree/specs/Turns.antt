@@ -1,14 +1,7 @@
 -- The next action of a process at its place.
-use Rattle.std.specs.Prelude.{ℕ, Option, Some, None}
 use Rattle.cn_agree.specs.declared.local.Stage.{Stage}
 use Rattle.cn_agree.specs.declared.local.Local.{Local}
 use Rattle.cn_agree.specs.declared.local.Local.TheVariants.{NotBegun, Active, Decided}
-
--- its place and its next action, if it is at a place
-abbrev pub turn_of : {V : Type 0} → Local V → Option (ℕ × Stage)
-turn_of NotBegun = None
-turn_of (Active i x stage) = Some (i, stage)
-turn_of (Decided y) = None
 
 -- the same local state with this next action
 abbrev pub with_next : {V : Type 0} → Stage → Local V → Local V

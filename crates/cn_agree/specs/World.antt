@@ -2,13 +2,13 @@
 use Rattle.std.specs.Prelude.{ℕ, List, slice_index_or, Option, Some, None}
 use Rattle.cn_choice.specs.declared.team.Team.{Team}
 use Rattle.cn_choice.specs.declared.team.Team.TheVariants.{A, B}
-use Rattle.cn_proto.specs.Protocol.{Protocol}
+use Rattle.cn_proto.specs.Protocol.{ProtocolOfRounds}
 use Rattle.cn_agree.specs.declared.node.Node.{Node}
 use Rattle.cn_agree.specs.declared.local.Local.{Local}
 use Rattle.cn_agree.specs.declared.local.Local.TheVariants.{NotBegun}
 
--- the object and the registers of each node, the local state of each process, the value that each process began with, and the team of the first application at
--- the root
+-- the object and the registers of each node, the local state of each process, the value that each
+-- process began with, and the team of the first application at the root
 pub record World (V : Type 0) : Type 0 where
   pub nodes : List (Node V)
   pub locals : List (Local V)
@@ -19,7 +19,7 @@ pub record World (V : Type 0) : Type 0 where
 abbrev pub fresh_node : {V : Type 0} → ℕ → Node V
 fresh_node start = record { state = record { 0 = start }; register_a = None; register_b = None }
 
-abbrev pub node_at : {V : Type 0} → Protocol → World V → ℕ → Node V
+abbrev pub node_at : {V : Type 0} → ProtocolOfRounds → World V → ℕ → Node V
 node_at P w v = slice_index_or w.nodes v (fresh_node P.start)
 
 abbrev pub local_at : {V : Type 0} → World V → ℕ → Local V

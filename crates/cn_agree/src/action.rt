@@ -25,7 +25,6 @@ pub(crate) fn act<V: Copy>(plan: &Plan, turn: Turn, node: &mut Node<V>, local: &
     requires role { turn.here.role < processes_of plan.now }
     requires place { turn.place < turn.places }
     requires state { node.old.state.0 < length plan.now.table.states }
-    requires local { (x : V) × (local.old ≡ Active turn.place x turn.stage) }
     ensures node { (x : V) → local.old ≡ Active turn.place x turn.stage
         → node.new ≡ node_after (protocol_of plan.now) turn.here x turn.stage node.old }
     ensures local { (x : V) → local.old ≡ Active turn.place x turn.stage

@@ -2,7 +2,7 @@
 ghost use Rattle.std.specs.Prelude.{◌≡◌, ◌-◌, ◌<◌, ◌≤◌, ◌↔◌, ℕ, List, length, None, Some};
 ghost use Rattle.cn_choice.specs.declared.team.Team.{Team as TeamOf};
 ghost use Rattle.cn_proto.specs.Plan.{IsPlan, Plan as PlanOf, protocol_of, processes_of};
-ghost use Rattle.cn_proto.specs.Protocol.{Protocol};
+ghost use Rattle.cn_proto.specs.Protocol.{ProtocolOfRounds};
 ghost use Rattle.cn_proto.specs.Sound.{IsSound};
 ghost use Rattle.cn_agree.specs.AtomicStep.{IsAtomic};
 ghost use Rattle.cn_agree.specs.Consensus.{IsConsensus, IsSchedule};
@@ -15,19 +15,19 @@ ghost use Rattle.cn_agree.specs.declared.local.Local.TheVariants.{NotBegun};
 
 use crate::round::Round;
 use cn_proto::Plan;
-use cn_proto::laws::{every_plan, plans_are_sound};
+use cn_proto::laws::{plan_protocols_are_sound, plans_are_sound};
 
 /// A step is atomic: one action touches one object or one register. All else stays, except the
 /// local state of the process and the record of the first application at the root. The next local
 /// state, and the new content of what the action touched, depend only on the old local state and on
 /// the old content.
 pub fn atomic_steps<V>()
-    ensures { (P : Protocol) (p : ℕ) → IsAtomic V P p }
+    ensures { (P : ProtocolOfRounds) (p : ℕ) → IsAtomic V P p }
 {}
 
 /// Every schedule of a plan, with any inputs, ends in consensus: agreement, validity, and
 /// wait-freedom within 4(n-1) steps of a process.
-pub fn every_schedule<V>(plan: &Plan)
+pub fn schedules_reach_consensus<V>(plan: &Plan)
     ensures { (inputs : List V) (schedule : List ℕ) → length inputs ≡ processes_of plan.now
         → IsSchedule (processes_of plan.now) schedule
         → IsConsensus (protocol_of plan.now) (processes_of plan.now) inputs schedule
@@ -44,13 +44,13 @@ pub fn plans_reach_consensus<V>()
         → IsConsensus (protocol_of plan) (processes_of plan) inputs schedule
         (decisions_after plan inputs schedule) }
 {
-    every_plan();
+    plan_protocols_are_sound();
 }
 
 /// The same law, for each sound protocol whose paths have no more places than there are nodes, one
 /// fewer than processes: for any number of processes.
-pub fn every_sound_protocol<V>()
-    ensures { (P : Protocol) (n : ℕ) (team : ℕ → TeamOf) → IsSound P n (n - 1) team
+pub fn sound_protocols_reach_consensus<V>()
+    ensures { (P : ProtocolOfRounds) (n : ℕ) (team : ℕ → TeamOf) → IsSound P n (n - 1) team
         → ((p : ℕ) → p < n → length (P.path p) ≤ n - 1)
         → (inputs : List V) (schedule : List ℕ) → length inputs ≡ n → IsSchedule n schedule
         → IsConsensus P n inputs schedule
@@ -65,27 +65,28 @@ pub fn every_sound_protocol<V>()
 /// - `fixed`: the fixed value stays.
 /// - `begun`, `stays_begun`: a process that has begun stays so, and has a value on record.
 /// - `sizes`: a round has an entry for each node and each process.
-pub fn every_round<V>()
-    ensures consensus { (P : Protocol) (n nodes : ℕ) (team : ℕ → TeamOf) (schedule : List ℕ)
+pub fn rounds_keep_consensus<V>()
+    ensures consensus { (P : ProtocolOfRounds) (n nodes : ℕ) (team : ℕ → TeamOf) (schedule : List ℕ)
         (w : World V) → IsSound P n nodes team → IsReached P n nodes schedule w
         → KeepsConsensus P n schedule w }
-    ensures fixed { (P : Protocol) (n nodes : ℕ) (team : ℕ → TeamOf) (schedule : List ℕ)
+    ensures fixed { (P : ProtocolOfRounds) (n nodes : ℕ) (team : ℕ → TeamOf) (schedule : List ℕ)
         (w : World V) → IsSound P n nodes team → IsReached P n nodes schedule w
         → (p : ℕ) (x : V) → p < n → fixed_value w ≡ Some x
         → fixed_value (after_step P p w) ≡ Some x }
-    ensures begun { (P : Protocol) (n nodes : ℕ) (team : ℕ → TeamOf) (schedule : List ℕ)
+    ensures begun { (P : ProtocolOfRounds) (n nodes : ℕ) (team : ℕ → TeamOf) (schedule : List ℕ)
         (w : World V) → IsSound P n nodes team → IsReached P n nodes schedule w
         → (p : ℕ) → p < n → (local_at w p ≡ NotBegun) ↔ (input_at w p ≡ None) }
-    ensures stays_begun { (P : Protocol) (n nodes : ℕ) (team : ℕ → TeamOf) (schedule : List ℕ)
+    ensures stays_begun { (P : ProtocolOfRounds) (n nodes : ℕ) (team : ℕ
+        → TeamOf) (schedule : List ℕ)
         (w : World V) → IsSound P n nodes team → IsReached P n nodes schedule w
         → (p q : ℕ) → p < n → HasBegun w q → HasBegun (after_step P p w) q }
-    ensures sizes { (P : Protocol) (n nodes : ℕ) (team : ℕ → TeamOf) (schedule : List ℕ)
+    ensures sizes { (P : ProtocolOfRounds) (n nodes : ℕ) (team : ℕ → TeamOf) (schedule : List ℕ)
         (w : World V) → IsSound P n nodes team → IsReached P n nodes schedule w
         → (length w.nodes ≡ nodes) × (length w.locals ≡ n) × (length w.inputs ≡ n) }
 {}
 
 /// Every round in memory is a round of a plan, after beginnings and the steps of a schedule. So
-/// [`every_round`] holds for it.
+/// [`rounds_keep_consensus`] holds for it.
 pub fn rounds_are_of_plans<V: Copy>(round: &Round<V>)
     ensures { IsRound round.now }
 {

@@ -1,7 +1,7 @@
 //! The local state of a process of a round.
 ghost use Rattle.std.specs.Prelude.{◌≡◌};
 ghost use Rattle.cn_agree.specs.Rounds.{decision_of};
-ghost use Rattle.cn_agree.specs.Turns.{with_next, turn_of};
+ghost use Rattle.cn_agree.specs.Turns.{with_next};
 
 use cn_table::{Response, State};
 
@@ -35,16 +35,6 @@ pub enum Local<V> {
 }
 
 impl<V: Copy> Local<V> {
-    /// Its place and its next action, if it is at a place.
-    pub(crate) fn turn(&self) -> Option<(usize, Stage)>
-        ensures { result ≡ turn_of self.now }
-    {
-        match self {
-            Local::Active { place, stage, .. } => Some((*place, *stage)),
-            Local::NotBegun | Local::Decided(_) => None,
-        }
-    }
-
     /// Sets its next action, if it is at a place.
     pub(crate) fn go_on(&mut self, next: Stage)
         ensures { self.new ≡ with_next next self.old }

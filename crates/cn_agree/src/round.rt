@@ -116,8 +116,8 @@ impl<V: Copy> Round<V> {
         ensures fixed { (x : V) → fixed_value self.old ≡ Some x → fixed_value self.new ≡ Some x }
     {
         plans_are_sound(plan);
-        match self.locals[usize::from(p)].turn() {
-            Some((place, stage)) => {
+        match self.locals[usize::from(p)] {
+            Local::Active { place, stage, .. } => {
                 let path = plan.path(p);
                 let here = path[place];
                 let turn = Turn {
@@ -133,7 +133,7 @@ impl<V: Copy> Round<V> {
                 local.decision()
             }
             // The process has begun and not decided.
-            None => unreachable!(),
+            Local::NotBegun | Local::Decided(_) => unreachable!(),
         }
     }
 
@@ -182,7 +182,7 @@ impl<V: Copy> Round<V> {
 
     /// The value that the round has fixed: that of the team that came first at the root. It is
     /// there from the first application at the root on.
-    pub fn fixed_value(&self) -> Option<V>
+    pub fn fixed(&self) -> Option<V>
         ensures value { result ≡ fixed_value self.now }
         ensures valid { (plan : PlanOf) (schedule : List ℕ) → IsRoundOf plan schedule self.now
             → IfSome result (λ x. (q : ℕ) × IsParticipant schedule q

@@ -18,15 +18,15 @@ use std::marker::Model;
 
 /// The decisions after a schedule.
 #[derive(Drop)]
-pub struct Decisions {
+pub struct Decided {
     /// For each process its decision, or none.
     pub decisions: Vec<Option<u64>>,
 }
 
-impl Model for Decisions {
-    ghost use Rattle.cn_agree.specs.Schedules.{Decisions};
+impl Model for Decided {
+    ghost use Rattle.cn_agree.specs.Schedules.{Decided};
 
-    ghost Value = { Decisions };
+    ghost Value = { Decided };
 
     ghost view = { λ d. record { decisions = d.decisions.items } };
 }
@@ -197,7 +197,7 @@ pub fn run_schedule(
     plan: &Plan,
     inputs: &[u64],
     schedule: &[u8],
-) -> Result<Decisions, ScheduleFault>
+) -> Result<Decided, ScheduleFault>
     ensures decisions { IfOk result (λ d. d.decisions
         ≡ decisions_after plan.now inputs.now schedule.now) }
     ensures consensus { IfOk result (λ d. IsConsensus (protocol_of plan.now) (processes_of plan.now)
@@ -209,10 +209,10 @@ pub fn run_schedule(
     ensures refused { IfErr result (λ e. (e ≡ OutOfMemory)
         ⊎ (schedule_fault (processes_of plan.now) inputs.now schedule.now ≡ Some e)) }
 {
-    laws::every_schedule::<u64>(plan);
+    laws::schedules_reach_consensus::<u64>(plan);
     let mut round = begun_round(alloc, plan, inputs, schedule)?;
     step_all(plan, &mut round, schedule);
-    Ok(Decisions {
+    Ok(Decided {
         decisions: decisions_of(alloc, &round, plan.processes())?,
     })
 }
@@ -245,7 +245,7 @@ pub fn run_steps(
     ensures refused { IfErr result (λ e. (e ≡ OutOfMemory)
         ⊎ (schedule_fault (processes_of plan.now) inputs.now schedule.now ≡ Some e)) }
 {
-    laws::every_schedule::<u64>(plan);
+    laws::schedules_reach_consensus::<u64>(plan);
     let mut round = begun_round(alloc, plan, inputs, schedule)?;
     let records = record_all(alloc, plan, &mut round, schedule)?;
     Ok(Course {

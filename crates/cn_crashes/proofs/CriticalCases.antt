@@ -7,7 +7,7 @@ use Rattle.cn_table.specs.TypeTable.{TypeTable}
 use Rattle.cn_choice.specs.RawChoices.{RawChoice}
 use Rattle.cn_choice.specs.Renumbering.{other}
 use Rattle.cn_choice.specs.declared.team.Team.TheVariants.{A, B}
-use Rattle.cn_choice.proofs.Members.{IsIn}
+use Rattle.cn_choice.proofs.ListLemmas.Members.{IsIn}
 use Rattle.cn_consensus.specs.Protocol.{IsProtocolOf, Protocol}
 use Rattle.cn_consensus.proofs.Counting.{first_or_all}
 use Rattle.cn_consensus.proofs.Witnesses.{team_by}

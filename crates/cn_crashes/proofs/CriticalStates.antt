@@ -12,9 +12,9 @@ use Rattle.cn_choice.specs.RawChoices.{IsRawChoice, RawChoice}
 use Rattle.cn_choice.specs.Renumbering.{other}
 use Rattle.cn_choice.specs.declared.team.Team.{Team}
 use Rattle.cn_choice.specs.declared.team.Team.TheVariants.{A, B}
-use Rattle.cn_choice.proofs.ArrangementLemmas.{Differ}
-use Rattle.cn_choice.proofs.Listing.{differ_from}
-use Rattle.cn_choice.proofs.Members.{IsIn}
+use Rattle.cn_choice.proofs.ListLemmas.Arrangements.{Differ}
+use Rattle.cn_choice.proofs.OrderLemmas.AllOrders.{differ_from}
+use Rattle.cn_choice.proofs.ListLemmas.Members.{IsIn}
 use Rattle.cn_consensus.specs.Protocol.{IsProtocolOf, Protocol}
 use Rattle.cn_consensus.specs.Configuration.{Configuration, after, decision, step}
 use Rattle.cn_consensus.specs.Consensus.{IsSchedule}

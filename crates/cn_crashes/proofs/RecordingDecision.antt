@@ -12,8 +12,8 @@ use Rattle.cn_choice.specs.RawChoices.{RawChoice}
 use Rattle.cn_choice.specs.Renumbering.{other}
 use Rattle.cn_choice.specs.declared.team.Team.{Team}
 use Rattle.cn_choice.specs.declared.team.Team.TheVariants.{A, B}
-use Rattle.cn_choice.proofs.Listing.{listed, to_listed}
-use Rattle.cn_choice.proofs.Members.{IsIn-at, place_of}
+use Rattle.cn_choice.proofs.OrderLemmas.AllOrders.{listed, to_listed}
+use Rattle.cn_choice.proofs.ListLemmas.Members.{IsIn-at, place_of}
 use Rattle.cn_outcomes.specs.LeftStates.{LeavesIn}
 use Rattle.cn_consensus.proofs.Counting.{first_or_all}
 use Rattle.cn_recover.specs.Recording.{HasTwo, IsRecordingWitness}

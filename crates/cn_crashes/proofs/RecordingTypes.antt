@@ -10,7 +10,7 @@ use Rattle.cn_choice.specs.OutcomeSets.{BeginsIn}
 use Rattle.cn_choice.specs.RawChoices.{IsRawChoice, RawChoice}
 use Rattle.cn_choice.specs.Renumbering.{Embeds, with_other_teams}
 use Rattle.cn_choice.specs.declared.team.Team.TheVariants.{A, B}
-use Rattle.cn_choice.proofs.Embedding.{begins_embeds, operations_embed, order_embeds}
+use Rattle.cn_choice.proofs.ChoiceLemmas.Embeddings.{begins_embeds, operations_embed, order_embeds}
 use Rattle.cn_outcomes.specs.LeftStates.{LeavesIn}
 use Rattle.cn_recover.specs.Recording.{IsRecording, IsRecordingWitness}
 use Rattle.cn_recover.proofs.TeamSizes.{two_in_b}

@@ -5,7 +5,7 @@ use Rattle.std.specs.List.{AllByRecursion}
 use Rattle.std.proofs.lemmas.Bool.{cases_eq}
 use Rattle.std.proofs.lemmas.List.Quantifiers.{all_pairs_push}
 use Rattle.cn_choice.specs.declared.team.Team.{Team}
-use Rattle.cn_choice.proofs.Members.{IsIn, IsIn-at}
+use Rattle.cn_choice.proofs.ListLemmas.Members.{IsIn, IsIn-at}
 use Rattle.cn_proto.specs.Order.{after, BeginsIn, IsRun}
 
 pub after_push : (act : ℕ → ℕ → ℕ × ℕ) (start : ℕ) (order : List ℕ) (role : ℕ)

@@ -4,7 +4,7 @@ use Rattle.std.proofs.Common.{Option, Some}
 use Rattle.cn_table.specs.TypeTable.{TypeTable, transition}
 use Rattle.cn_choice.specs.declared.team.Team.{Team}
 use Rattle.cn_choice.specs.declared.team.Team.TheVariants.{A, B}
-use Rattle.cn_choice.proofs.Members.{IsIn}
+use Rattle.cn_choice.proofs.ListLemmas.Members.{IsIn}
 use Rattle.cn_proto.specs.Order.{after, IsRun}
 use Rattle.cn_proto.specs.Protocol.{place_of}
 use Rattle.cn_proto.specs.Sound.{IsFedAlike, IsPlace, IsSound}

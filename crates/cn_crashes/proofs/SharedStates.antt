@@ -10,8 +10,8 @@ use Rattle.cn_choice.specs.OutcomeSets.{BeginsIn, operations_of}
 use Rattle.cn_choice.specs.RawChoices.{RawChoice}
 use Rattle.cn_choice.specs.Renumbering.{other}
 use Rattle.cn_choice.specs.declared.team.Team.{Team}
-use Rattle.cn_choice.proofs.ArrangementLemmas.{Differ}
-use Rattle.cn_choice.proofs.Members.{IsIn}
+use Rattle.cn_choice.proofs.ListLemmas.Arrangements.{Differ}
+use Rattle.cn_choice.proofs.ListLemmas.Members.{IsIn}
 use Rattle.cn_consensus.specs.Protocol.{IsProtocolOf, Protocol}
 use Rattle.cn_consensus.specs.Configuration.{Configuration, after, step}
 use Rattle.cn_consensus.specs.Consensus.{IsSchedule}

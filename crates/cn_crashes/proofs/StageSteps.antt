@@ -6,7 +6,7 @@ use Rattle.std.proofs.lemmas.Bool.{cases_eq}
 use Rattle.cn_table.specs.TypeTable.{transition}
 use Rattle.cn_choice.specs.declared.team.Team.{Team}
 use Rattle.cn_choice.specs.declared.team.Team.TheVariants.{B}
-use Rattle.cn_choice.proofs.Members.{IsIn, IsIn-append_cases}
+use Rattle.cn_choice.proofs.ListLemmas.Members.{IsIn, IsIn-append_cases}
 use Rattle.cn_proto.specs.Order.{after}
 use Rattle.cn_proto.specs.declared.place.Place.{Place}
 use Rattle.cn_consensus.specs.Types.{all_of}

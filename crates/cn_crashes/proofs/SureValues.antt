@@ -5,8 +5,8 @@ use Rattle.std.proofs.Common.{sym, ap, ◌∙◌, subst, arith, Bool, true, fals
 use Rattle.std.proofs.Common.{Some, None, replicate}
 use Rattle.std.proofs.lemmas.Bool.{cases_eq, lt-ltb}
 use Rattle.cn_table.specs.TypeTable.{TypeTable}
-use Rattle.cn_choice.proofs.ArrangementLemmas.{Differ}
-use Rattle.cn_choice.proofs.Members.{IsIn, each_at}
+use Rattle.cn_choice.proofs.ListLemmas.Arrangements.{Differ}
+use Rattle.cn_choice.proofs.ListLemmas.Members.{IsIn, each_at}
 use Rattle.cn_consensus.specs.Protocol.{Protocol}
 use Rattle.cn_consensus.specs.Configuration.{Configuration, after, decided_by, decision, put, step}
 use Rattle.cn_consensus.specs.Consensus.{IsSchedule}

@@ -4,7 +4,7 @@ use Rattle.std.specs.Prelude.{ℕ, suc, Bool, true, false, cond, nat_eq, nat_lt,
 use Rattle.std.specs.Prelude.{Some}
 use Rattle.cn_choice.specs.declared.team.Team.{Team}
 use Rattle.cn_choice.specs.declared.team.Team.TheVariants.{A, B}
-use Rattle.cn_proto.specs.Protocol.{Protocol, place_of}
+use Rattle.cn_proto.specs.Protocol.{ProtocolOfRounds, place_of}
 use Rattle.cn_proto.specs.declared.place.Place.{Place}
 use Rattle.cn_consensus.specs.Protocol.{Action, Protocol as ModelProtocol}
 use Rattle.cn_consensus.specs.Protocol.Action.{Decide, ReadRegister, WriteRegister, ApplyOperation}
@@ -46,7 +46,7 @@ onward_if places i l (Some z) = onward places i z
 -- a round; the operation of each role; for each state of an object, which team moved first; and
 -- whether team A is one process alone
 pub record RecoverablePlan : Type 0 where
-  pub round : Protocol
+  pub round : ProtocolOfRounds
   pub operation : ℕ → ℕ
   pub judge : ℕ → Team
   pub lone : Bool

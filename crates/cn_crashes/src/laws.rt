@@ -26,7 +26,7 @@ ghost use Rattle.cn_crashes.specs.RecoverableWaitFreedom.{IsRecoverablyWaitFree}
 
 use cn_choice::laws::coverage;
 use cn_consensus::laws::consensus_needs_a_witness;
-use cn_proto::laws::every_tournament;
+use cn_proto::laws::tournaments_are_sound;
 use cn_recover::laws::{
     at_least_the_number_less_two, number_below_the_limit, recording_witness_is_witness, renumbering,
 };
@@ -38,7 +38,7 @@ pub fn recording_is_enough()
     ensures { (t : TypeTable) (n : ℕ) → 2 ≤ n → IsRecording t n → SolvesRecoverableConsensus t n }
 {
     coverage();
-    every_tournament();
+    tournaments_are_sound();
     renumbering();
 }
 

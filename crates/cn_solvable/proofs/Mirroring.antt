@@ -7,7 +7,7 @@ use Rattle.cn_table.specs.TypeTable.{TypeTable, transition}
 use Rattle.cn_table.specs.declared.elements.State.{State}
 use Rattle.cn_choice.specs.declared.team.Team.{Team}
 use Rattle.cn_choice.specs.declared.team.Team.TheVariants.{A, B}
-use Rattle.cn_proto.specs.Protocol.{Protocol as ProtocolOfRounds, place_of}
+use Rattle.cn_proto.specs.Protocol.{ProtocolOfRounds, place_of}
 use Rattle.cn_agree.specs.Rounds.{decision_of}
 use Rattle.cn_agree.specs.Steps.{after_schedule, after_step, after_step_from, local_after}
 use Rattle.cn_agree.specs.Steps.{node_after, onward_if_found}

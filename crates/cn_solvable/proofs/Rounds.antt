@@ -12,7 +12,7 @@ use Rattle.std.proofs.lemmas.Option.{slice_get-get_or, slice_get-map, slice_get_
 use Rattle.cn_table.specs.TypeTable.{TypeTable, transition}
 use Rattle.cn_choice.specs.declared.team.Team.{Team}
 use Rattle.cn_choice.specs.declared.team.Team.TheVariants.{A, B}
-use Rattle.cn_proto.specs.Protocol.{Protocol as ProtocolOfRounds, nowhere, place_of}
+use Rattle.cn_proto.specs.Protocol.{ProtocolOfRounds, nowhere, place_of}
 use Rattle.cn_proto.specs.Sound.{IsSound}
 use Rattle.cn_proto.specs.declared.place.Place.{Place}
 use Rattle.cn_agree.specs.Consensus.{Decides, IsConsensus as IsConsensusOfRound}

@@ -9,7 +9,7 @@ use Rattle.cn_choice.specs.OutcomeSets.{InOutcomeSet}
 use Rattle.cn_choice.specs.RawChoices.{IsRawChoice, RawChoice}
 use Rattle.cn_choice.specs.declared.team.Team.{Team}
 use Rattle.cn_choice.specs.declared.team.Team.TheVariants.{A, B}
-use Rattle.cn_proto.specs.Protocol.{Protocol as ProtocolOfRounds}
+use Rattle.cn_proto.specs.Protocol.{ProtocolOfRounds}
 use Rattle.cn_proto.specs.Sound.{IsSound}
 use Rattle.cn_proto.specs.Tournament.{team_of, tournament}
 use Rattle.cn_proto.specs.Witnesses.{JudgesOutcomes, tournament_protocol}

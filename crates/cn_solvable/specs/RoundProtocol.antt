@@ -8,7 +8,7 @@ use Rattle.cn_choice.specs.declared.team.Team.{Team}
 use Rattle.cn_choice.specs.declared.team.Team.TheVariants.{A, B}
 use Rattle.cn_choice.specs.Canonical.{raw_choice_of}
 use Rattle.cn_proto.specs.Plan.{Plan, nodes_of, protocol_of}
-use Rattle.cn_proto.specs.Protocol.{Protocol as ProtocolOfRounds, place_of}
+use Rattle.cn_proto.specs.Protocol.{ProtocolOfRounds, place_of}
 use Rattle.cn_proto.specs.declared.place.Place.{Place}
 use Rattle.cn_agree.specs.Schedules.{all_begun}
 use Rattle.cn_agree.specs.Steps.{after_schedule, onward_if_found}

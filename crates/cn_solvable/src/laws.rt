@@ -16,10 +16,10 @@ ghost use Rattle.cn_solvable.specs.RoundProtocol.{Mirrors, listed, plan_protocol
 ghost use Rattle.cn_solvable.specs.Solving.{IsConsensusNumber, SolvesConsensus};
 
 use cn_agree::Local;
-use cn_agree::laws::every_sound_protocol;
+use cn_agree::laws::sound_protocols_reach_consensus;
 use cn_choice::laws::{coverage, decidable_outcome_sets};
 use cn_consensus::laws::{consensus_needs_a_witness, none_above_the_number};
-use cn_proto::laws::{every_plan, every_tournament};
+use cn_proto::laws::{plan_protocols_are_sound, tournaments_are_sound};
 
 /// A witness is enough: an n-discerning type solves consensus for n processes, for each n from 2 on
 /// (Ruppert, 2000).
@@ -28,8 +28,8 @@ pub fn witness_is_enough()
 {
     decidable_outcome_sets();
     coverage();
-    every_tournament();
-    every_sound_protocol::<bool>();
+    tournaments_are_sound();
+    sound_protocols_reach_consensus::<bool>();
 }
 
 /// A type solves consensus for n processes exactly if it is n-discerning, for each n from 2 on
@@ -82,8 +82,8 @@ pub fn plans_are_protocols()
     ensures consensus { (plan : Plan) → IsPlan plan
         → IsConsensusProtocol (all_of plan.table) (processes_of plan) (plan_protocol plan) }
 {
-    every_plan();
-    every_sound_protocol::<bool>();
+    plan_protocols_are_sound();
+    sound_protocols_reach_consensus::<bool>();
 }
 
 /// The protocol of a plan steps as the rounds of the plan do, with all inputs and under every
@@ -104,5 +104,5 @@ pub fn plans_step_as_rounds()
         ≡ listed (processes_of plan) (decision (plan_protocol plan) (after (all_of plan.table)
         (plan_protocol plan) (initial (plan_protocol plan) inputs) schedule)) }
 {
-    every_plan();
+    plan_protocols_are_sound();
 }

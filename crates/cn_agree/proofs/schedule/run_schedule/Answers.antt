@@ -26,5 +26,5 @@ returns-clause-consensus c =
     let Q : List (Option ℕ) → Type 0 = IsConsensus (protocol_of c.args.plan.now) (processes_of c.args.plan.now) c.args.inputs.now c.args.schedule.now in
     let none = c.in_ok-round.ensures.run in
     subst Q (sym (returns-clause-decisions c))
-    (c.every_schedule.ensures c.args.inputs.now c.args.schedule.now (right_count (processes_of c.args.plan.now) c.args.inputs.now c.args.schedule.now none)
+    (c.schedules_reach_consensus.ensures c.args.inputs.now c.args.schedule.now (right_count (processes_of c.args.plan.now) c.args.inputs.now c.args.schedule.now none)
     (no_stranger (processes_of c.args.plan.now) c.args.inputs.now c.args.schedule.now none))

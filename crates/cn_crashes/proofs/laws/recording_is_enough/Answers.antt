@@ -4,7 +4,7 @@ use Rattle.cn_crashes.proofs.laws.recording_is_enough.Goals as goal
 
 pub returns : goal.returns
 returns c =
-    let laws = c.every_tournament.ensures in
+    let laws = c.tournaments_are_sound.ensures in
     let tournaments : Tournaments = record {
       outcomes = laws.outcomes;
       sound = laws.sound;

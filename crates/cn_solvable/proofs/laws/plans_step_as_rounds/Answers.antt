@@ -3,6 +3,6 @@ use Rattle.cn_solvable.proofs.laws.plans_step_as_rounds.Goals as goal
 
 pub returns : goal.returns
 returns c = record {
-  mirrors = plans.mirrors c.every_plan.ensures.sound;
-  decisions = plans.decisions c.every_plan.ensures.sound;
+  mirrors = plans.mirrors c.plan_protocols_are_sound.ensures.sound;
+  decisions = plans.decisions c.plan_protocols_are_sound.ensures.sound;
 }

@@ -5,7 +5,7 @@ pub returns : goal.returns
 returns c = discerning_solves (record {
   decided = c.decidable_outcome_sets.ensures;
   canonical = c.coverage.ensures;
-  sound = c.every_tournament.ensures.sound;
-  short = c.every_tournament.ensures.short;
-  agree = c.every_sound_protocol.ensures;
+  sound = c.tournaments_are_sound.ensures.sound;
+  short = c.tournaments_are_sound.ensures.short;
+  agree = c.sound_protocols_reach_consensus.ensures;
 })

@@ -12,11 +12,7 @@ index_mut-requires-2 g c =
     omega arith
 
 pub invariant_of-self : goal.invariant_of-self
-invariant_of-self g c =
-    let w : World g.row.V.Denot = record { nodes = c.self.inside.nodes.items; locals = c.self.inside.locals.items; inputs = c.self.inside.inputs.items; first = c.self.inside.first } in
-    begins_round w c.args.self.now c.args.p c.from.result c.from-2.result c.args.value c.self.view_is c.from.ensures c.from-2.ensures c.requires.process c.requires.not_begun c.self.invariant
+invariant_of-self g c = begins_round c.args.value c.self.view_is c.from.ensures c.from-2.ensures c.requires.process c.requires.not_begun c.self.invariant
 
 pub returns-clause-of_plan : goal.returns-clause-of_plan
-returns-clause-of_plan g c =
-    let w : World g.row.V.Denot = record { nodes = c.self.inside.nodes.items; locals = c.self.inside.locals.items; inputs = c.self.inside.inputs.items; first = c.self.inside.first } in
-    begins_of w c.args.self.now c.args.p c.from.result c.from-2.result c.args.value c.self.view_is c.from.ensures c.from-2.ensures c.requires.process c.requires.not_begun
+returns-clause-of_plan g c = begins_of c.args.value c.self.view_is c.from.ensures c.from-2.ensures c.requires.process c.requires.not_begun

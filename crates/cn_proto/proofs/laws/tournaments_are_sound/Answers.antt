@@ -1,5 +1,5 @@
 use Rattle.cn_proto.proofs.WitnessTournaments as tournaments
-use Rattle.cn_proto.proofs.laws.every_tournament.Goals as goal
+use Rattle.cn_proto.proofs.laws.tournaments_are_sound.Goals as goal
 
 pub returns : goal.returns
 returns c = record {

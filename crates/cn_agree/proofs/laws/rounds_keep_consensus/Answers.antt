@@ -1,6 +1,6 @@
 use Rattle.cn_agree.proofs.Reaching.{nodes_are, locals_are, inputs_are, no_input, not_begun, begun_stays}
 use Rattle.cn_agree.proofs.Fixing.{keeps_consensus, fixed_stays}
-use Rattle.cn_agree.proofs.laws.every_round.Goals as goal
+use Rattle.cn_agree.proofs.laws.rounds_keep_consensus.Goals as goal
 
 pub returns-clause-consensus : goal.returns-clause-consensus
 returns-clause-consensus g c = λ P n nodes team schedule w sound r. keeps_consensus P n nodes team sound r
