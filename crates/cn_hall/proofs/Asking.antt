@@ -18,7 +18,7 @@ use Rattle.cn_hall.specs.declared.call.Go.{Go}
 use Rattle.cn_hall.specs.declared.call.Go.TheVariants.{On}
 use Rattle.cn_hall.proofs.Callers.{begins_again}
 use Rattle.cn_hall.proofs.Calling.{same_again}
-use Rattle.cn_log.proofs.OwnLemmas.{steps_cons}
+use Rattle.cn_log.proofs.ListLemmas.OwnLists.{steps_cons}
 
 drop_front : {A : Type 0} (xs ys : List A) → drop (length xs) (xs ++ ys) ≡ ys
 drop_front [] [] = refl

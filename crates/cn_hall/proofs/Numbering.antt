@@ -6,11 +6,11 @@ use Rattle.cn_log.specs.declared.event.Event.TheVariants.{Invoke}
 use Rattle.cn_table.proofs.Lists.{get_front, get_low, get_push_new}
 use Rattle.cn_proto.specs.Plan.{processes_of}
 use Rattle.cn_log.specs.Batches.{entries_in, members}
-use Rattle.cn_log.proofs.EntryPositions.{in_entries}
+use Rattle.cn_log.proofs.ListLemmas.EntryPositions.{in_entries}
 use Rattle.cn_hall.specs.Calls.{IsUnseen, next_call}
 use Rattle.cn_hall.specs.Seats.{SeatState, IsLog, caller, own_entries_seen, entries_seen, slots_seen}
 use Rattle.cn_hall.proofs.LogLaws.{Called, Owned}
-use Rattle.cn_log.proofs.OwnLemmas.{number_at, to_own}
+use Rattle.cn_log.proofs.ListLemmas.OwnLists.{number_at, to_own}
 
 pub next_unseen : Owned → Called → (s : SeatState) (operation : ℕ) → IsLog s.core → s.process < processes_of s.core.opening.plan → IsUnseen (next_call s operation) s
 next_unseen owned called s operation log lt k b at has =

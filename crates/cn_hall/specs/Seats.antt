@@ -1,5 +1,6 @@
 -- Halls and seats, as contracts see them.
-use Rattle.std.specs.Prelude.{◌≡◌, ◌≤◌, ℕ, Bool, true, false, List, [], ◌∷◌, length, Option, Some, None}
+use Rattle.std.specs.Prelude.{◌≡◌, ◌≤◌, ℕ, Bool, true, false, List, [], ◌∷◌, length, Option, Some}
+use Rattle.std.specs.Prelude.{None}
 use Rattle.atomic_table.specs.Seated.{TableId}
 use Rattle.cn_table.specs.TypeTable.{TypeTable}
 use Rattle.cn_proto.specs.Plan.{Plan}
@@ -23,7 +24,8 @@ use Rattle.cn_hall.specs.Rule.{Carries, later_core, pair, view_of}
 abbrev pub HallId : Type 0
 HallId = TableId
 
--- a seat: its hall, its process, the core as it was when the seat last put an event in, at first as it was opened, and whether the seat holds the hall's core
+-- a seat: its hall, its process, the core as it was when the seat last put an event in, at first as
+-- it was opened, and whether the seat holds the hall's core
 pub record SeatState : Type 0 where
   pub hall : HallId
   pub process : ℕ
@@ -50,7 +52,7 @@ is_in_call (Runs mine) = true
 abbrev pub caller : SeatState → Caller
 caller s = caller_at s.core s.process
 
--- the batches of the slots that the seat has seen, which its process has applied
+-- the batches of the slots that the seat has seen, which its process has replayed
 abbrev pub slots_seen : SeatState → List Batch
 slots_seen s = (caller s).seen
 
@@ -80,7 +82,8 @@ abbrev pub no_table : TypeTable
 no_table = record { name = []; states = []; responses = []; operations = [] }
 
 abbrev pub no_plan : Plan
-no_plan = record { table = no_table; choice = record { state = 0; a = []; b = [] }; judged_pairs = [] }
+no_plan =
+    record { table = no_table; choice = record { state = 0; a = []; b = [] }; judged_pairs = [] }
 
 abbrev pub no_log : Log
 no_log = record { opening = opening_of no_plan no_table 0 0; schedule = [] }
@@ -106,16 +109,19 @@ SitsAs v p core = v ≡ view_of Live (pair p core ∷ []) v.notes None
 
 -- the progress of a process in the core
 abbrev pub IsStanding : Log → ℕ → Standing → Type 0
-IsStanding core p x = (x.entries ≡ length (seen_of (setting core) core.schedule p)) × (x.slots ≡ length (caller_at core p).seen)
+IsStanding core p x = (x.entries ≡ length (seen_of (setting core) core.schedule p))
+    × (x.slots ≡ length (caller_at core p).seen)
     × (x.slots ≤ core.opening.capacity) × (x.in_call ≡ is_in_call (caller_at core p).phase)
 
 -- the process took a step in a later core, without an event of its own between
 abbrev pub IsStep : ℕ → Log → StepAnswer → Log → Type 0
-IsStep p core given now = (s : Log) × Carries p core s × (now ≡ later_core s (Step p ∷ [])) × (given ≡ answer (setting s) s.schedule p) × IsLog now
+IsStep p core given now = (s : Log) × Carries p core s × (now ≡ later_core s (Step p ∷ []))
+    × (given ≡ answer (setting s) s.schedule p) × IsLog now
 
 -- the process made a call in a later core, without an event of its own between
 abbrev pub IsInvoke : ℕ → ℕ → Log → Log → Type 0
-IsInvoke p operation core now = (s : Log) × Carries p core s × (now ≡ later_core s (Invoke p operation ∷ [])) × IsLog now
+IsInvoke p operation core now =
+    (s : Log) × Carries p core s × (now ≡ later_core s (Invoke p operation ∷ [])) × IsLog now
 
 -- the pass knows one core, and has no pair
 abbrev pub KnowsOnly : View → Log → Type 0

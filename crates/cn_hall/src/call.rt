@@ -1,9 +1,8 @@
-//! The gate of a call, and the answer of a call.
+//! The gate of a call, and why a call has no reply.
 ghost use Rattle.std.specs.Prelude.{◌≡◌};
 ghost use Rattle.cn_hall.specs.FaultText.{call_fault_name, call_fault_number};
 
 use crate::seat::Seat;
-use cn_table::Response;
 use std::error::Error;
 use std::fmt;
 
@@ -36,7 +35,7 @@ pub trait Gate {
         ensures asked { asks self.old seat.now step self.new };
 
     /// The last answer, or `On`. A caller tells by it whether a call may begin with the gate.
-    fn last_answer(&self) -> Go
+    fn said(&self) -> Go
         ensures { result ≡ says self.now };
 }
 
@@ -55,18 +54,9 @@ impl Gate for AlwaysOn {
         Go::On
     }
 
-    fn last_answer(&self) -> Go {
+    fn said(&self) -> Go {
         Go::On
     }
-}
-
-/// The slot in which a call stands, from 0, and its response.
-#[derive(Clone, Copy, Debug, PartialEq, Eq)]
-pub struct Reply {
-    /// The slot in which the call stands, from 0.
-    pub slot: u16,
-    /// The response of the object.
-    pub response: Response,
 }
 
 /// Why a call has no reply.

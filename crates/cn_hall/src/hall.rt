@@ -16,13 +16,16 @@ ghost use Rattle.std.specs.Ordering.{nat_cmp};
 ghost use Rattle.cn_hall.specs.declared.call.CallFault.TheVariants.{LogFull};
 ghost use Rattle.cn_hall.specs.declared.call.Go.TheVariants.{On};
 
-use crate::call::{CallFault, Gate, Go, Reply};
+use crate::call::{CallFault, Gate, Go};
 use crate::laws::seats_have_their_calls;
 use crate::rule::{Item, Joins, Queue};
 use crate::seat::Seat;
 use crate::{events, transfers};
-use cn_log::laws::{every_call, every_caller, every_log, logs_are_linearized};
-use cn_log::{LogCore, StepAnswer};
+use cn_log::laws::{
+    callers_change_by_own_events, calls_are_in_order, event_lists_are_linearized,
+    logs_are_linearized,
+};
+use cn_log::{LogCore, Reply, StepAnswer};
 use cn_table::Operation;
 use std::cmp::Ordering;
 use std::marker::Model;
@@ -107,9 +110,9 @@ impl Hall {
             gate.old gate.new }
     {
         seats_have_their_calls(seat);
-        every_log();
-        every_caller();
-        every_call();
+        event_lists_are_linearized();
+        callers_change_by_own_events();
+        calls_are_in_order();
         let mut step: u32 = 0;
         for _ in rt.forever() {
             step += 1;
@@ -162,8 +165,8 @@ impl Hall {
             gate.new }
     {
         seats_have_their_calls(seat);
-        every_caller();
-        every_call();
+        callers_change_by_own_events();
+        calls_are_in_order();
         if seat.standing.slots == seat.capacity {
             return Err(CallFault::LogFull);
         }
@@ -187,13 +190,13 @@ impl Hall {
         let (one, two) = (first.process, second.process);
         events::look(rt, &self.queue, &mut first.pass, &mut second.pass, one);
         events::look(rt, &self.queue, &mut second.pass, &mut first.pass, two);
-        every_caller();
-        every_call();
+        callers_change_by_own_events();
+        calls_are_in_order();
         first.standing.entries.cmp(&second.standing.entries)
     }
 
     /// Takes the core out for good. The core carries each seat's core further, without an event of
-    /// the seat's process since. So the process has applied there exactly what the seat has seen,
+    /// the seat's process since. So the process has replayed there exactly what the seat has seen,
     /// and the log begins with this. The log of all threads is linearized, and keeps the bypass
     /// bound and the bound on own steps.
     pub fn close<R: Wait>(self, rt: &R, seats: Vec<Seat>) -> LogCore
@@ -226,7 +229,7 @@ impl Hall {
         }
         let Item { core, .. } = transfers::take(rt, &queue, &mut pass);
         logs_are_linearized(&core);
-        every_caller();
+        callers_change_by_own_events();
         core
     }
 }

@@ -54,15 +54,15 @@ impl Seat {
         self.standing.in_call
     }
 
-    /// The number of entries that the seat has seen, in the slots that its process has applied.
+    /// The number of entries that the seat has seen, in the slots that its process has replayed.
     /// `Hall::meet` compares this number.
-    pub fn seen_entries(&self) -> u16
+    pub fn seen_len(&self) -> u16
         ensures number { result ≡ length (entries_seen self.now) }
     {
         self.standing.entries
     }
 
-    /// The number of slots that the seat has seen, which its process has applied. At the capacity
+    /// The number of slots that the seat has seen, which its process has replayed. At the capacity
     /// of the log, `Hall::call` answers `LogFull` at once.
     pub fn seen_slots(&self) -> u16
         ensures number { result ≡ length (slots_seen self.now) }

@@ -24,8 +24,8 @@ impl Standing {
     {
         cores_are_logs(core);
         Standing {
-            entries: core.applied_entries(process),
-            slots: core.applied_slots(process),
+            entries: core.replayed_entries(process),
+            slots: core.replayed(process),
             in_call: !core.is_idle(process),
         }
     }

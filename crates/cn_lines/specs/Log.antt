@@ -8,29 +8,35 @@ use Rattle.cn_log.specs.declared.event.CallEnd.{CallEnd}
 use Rattle.cn_log.specs.declared.event.CallEnd.TheVariants.{Answered, Full}
 use Rattle.cn_log.specs.declared.entry.Entry.{Entry}
 
--- the line of a call that ended
-abbrev pub answer_line : TypeTable → CallEnd → List ℕ
-answer_line object (Answered p slot response) = codes "answer " ++ decimal p ++ codes " " ++ decimal slot ++ codes " " ++ name_at object.responses response.0
-    ++ codes "\n"
-answer_line object (Full p) = codes "full " ++ decimal p ++ codes "\n"
+-- the line of a call of process p that ended
+abbrev pub answer_line : TypeTable → ℕ → CallEnd → List ℕ
+answer_line object p (Answered reply) =
+    codes "answer " ++ decimal p ++ codes " " ++ decimal reply.slot
+    ++ codes " " ++ name_at object.responses reply.response.0 ++ codes "\n"
+answer_line object p Full = codes "full " ++ decimal p ++ codes "\n"
 
-abbrev pub answer_lines : TypeTable → List CallEnd → List ℕ
+-- the lines of calls that ended, each with its process
+abbrev pub answer_lines : TypeTable → List (ℕ × CallEnd) → List ℕ
 answer_lines object [] = []
-answer_lines object (end ∷ ends) = answer_line object end ++ answer_lines object ends
+answer_lines object (end ∷ ends) = answer_line object end.0 end.1 ++ answer_lines object ends
 
 -- each response is one of the object's
-abbrev pub HaveResponses : TypeTable → List CallEnd → Type 0
-HaveResponses object ends = All (EndsWithResponse object) ends
+abbrev pub HaveResponses : TypeTable → List (ℕ × CallEnd) → Type 0
+HaveResponses object ends = All (λ end. EndsWithResponse object end.1) ends
 
--- the line of an entry: its slot, process and operation, the response of the object, and the state after it
+-- the line of an entry: its slot, process and operation, the response of the object, and the state
+-- after it
 abbrev pub entry_line : TypeTable → ℕ → Entry → ℕ × ℕ → List ℕ
 entry_line object slot e given =
-    codes "entry " ++ decimal slot ++ codes " " ++ decimal e.process ++ codes " " ++ name_at (operation_names object) e.operation.0
-    ++ codes " " ++ name_at object.responses given.0 ++ codes " " ++ name_at object.states given.1 ++ codes "\n"
+    codes "entry " ++ decimal slot ++ codes " " ++ decimal e.process ++ codes " "
+    ++ name_at (operation_names object) e.operation.0
+    ++ codes " " ++ name_at object.responses given.0 ++ codes " "
+    ++ name_at object.states given.1 ++ codes "\n"
 
 -- the lines of entries, each with its slot; the object is in this state before the first
 abbrev pub entry_lines : TypeTable → ℕ → List Entry → List ℕ → List ℕ
 entry_lines object state [] slots = []
 entry_lines object state (e ∷ es) [] = []
 entry_lines object state (e ∷ es) (slot ∷ slots) =
-    entry_line object slot e (transition object e.operation.0 state) ++ entry_lines object (transition object e.operation.0 state).1 es slots
+    entry_line object slot e (transition object e.operation.0 state)
+    ++ entry_lines object (transition object e.operation.0 state).1 es slots

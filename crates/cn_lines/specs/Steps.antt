@@ -10,11 +10,15 @@ use Rattle.cn_agree.specs.declared.next_action.StepRecord.{StepRecord}
 
 -- an action in words
 abbrev pub action_text : TypeTable → Action ℕ → List ℕ
-action_text t (Write node team value) = codes "writes " ++ decimal value ++ codes " to " ++ team_name team ++ codes " of node " ++ decimal node
-action_text t (Apply node operation response) = codes "applies " ++ name_at (operation_names t) operation.0 ++ codes " at node " ++ decimal node
+action_text t (Write node team value) = codes "writes " ++ decimal value ++ codes " to "
+    ++ team_name team ++ codes " of node " ++ decimal node
+action_text t (Apply node operation response) =
+    codes "applies " ++ name_at (operation_names t) operation.0 ++ codes " at node " ++ decimal node
     ++ codes ": " ++ name_at t.responses response.0
-action_text t (Read node state team) = codes "reads " ++ name_at t.states state.0 ++ codes " at node " ++ decimal node ++ codes ": team " ++ team_name team
-action_text t (Take node team value) = codes "takes " ++ decimal value ++ codes " from " ++ team_name team ++ codes " of node " ++ decimal node
+action_text t (Read node state team) = codes "reads " ++ name_at t.states state.0
+    ++ codes " at node " ++ decimal node ++ codes ": team " ++ team_name team
+action_text t (Take node team value) = codes "takes " ++ decimal value ++ codes " from "
+    ++ team_name team ++ codes " of node " ++ decimal node
 action_text t (Decide value) = codes "decides " ++ decimal value
 
 -- a step in words; a process that has decided takes no action

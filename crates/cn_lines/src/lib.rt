@@ -6,7 +6,7 @@
 //! of them are read. [`put_answer_line`] and [`put_number`] append a line or a number to a text.
 //!
 //! ```text
-//! let core = replay(core, &events)?;
+//! let core = replay(alloc, &plan, &counter, start, 8, &events)?;
 //! let opening = core.opening();
 //! print!(rt; "{}", entry_lines(alloc, opening.object(), opening.start(), &core)?)?;
 //! ```

@@ -20,31 +20,32 @@ fn put_word(lines: &mut String, word: &str) -> Result<(), AllocError>
     lines.push_str(word)
 }
 
-/// Appends the line of a call that ended: `answer P K R`, with its process, its slot and the name
-/// of its response, which is one of the object's; or `full P`, if it found no slot. The line ends
-/// with a line feed.
+/// Appends the line of a call of this process that ended: `answer P K R`, with the process, the
+/// slot and the name of the response, which is one of the object's; or `full P`, if no slot holds
+/// the call. The line ends with a line feed.
 ///
 /// # Errors
 ///
 /// Fails only for want of memory, and may then have appended a part of the line.
-pub fn put_answer_line(lines: &mut String, object: &Table, end: CallEnd) -> Result<(), AllocError>
+pub fn put_answer_line(
+    lines: &mut String,
+    object: &Table,
+    process: u8,
+    end: CallEnd,
+) -> Result<(), AllocError>
     requires { EndsWithResponse object.now end }
     ensures { OnOk result (string_bytes lines.new
-        ≡ string_bytes lines.old ++ answer_line object.now end) }
+        ≡ string_bytes lines.old ++ answer_line object.now process end) }
 {
     match end {
-        CallEnd::Answered {
-            process,
-            slot,
-            response,
-        } => {
+        CallEnd::Answered(reply) => {
             lines.push_str("answer ")?;
             put_number(lines, u16::from(process))?;
             lines.push_str(" ")?;
-            put_number(lines, slot)?;
-            put_word(lines, object.response_name(response))?;
+            put_number(lines, reply.slot)?;
+            put_word(lines, object.response_name(reply.response))?;
         }
-        CallEnd::Full { process } => {
+        CallEnd::Full => {
             lines.push_str("full ")?;
             put_number(lines, u16::from(process))?;
         }
@@ -52,19 +53,23 @@ pub fn put_answer_line(lines: &mut String, object: &Table, end: CallEnd) -> Resu
     lines.push_str("\n")
 }
 
-/// The lines of calls that ended, in order, each as [`put_answer_line`] appends it. Every response
-/// is one of the object's.
+/// The lines of calls that ended, each with its process, in order, as [`put_answer_line`] appends
+/// them. Every response is one of the object's.
 ///
 /// # Errors
 ///
 /// Fails only for want of memory.
-pub fn answer_lines(alloc: Global, object: &Table, ends: &[CallEnd]) -> Result<String, AllocError>
+pub fn answer_lines(
+    alloc: Global,
+    object: &Table,
+    ends: &[(u8, CallEnd)],
+) -> Result<String, AllocError>
     requires { HaveResponses object.now ends.now }
     ensures { IfOk result (λ lines. string_bytes lines ≡ answer_lines object.now ends.now) }
 {
     let mut lines = String::new(alloc);
     for end in ends {
-        put_answer_line(&mut lines, object, *end)?;
+        put_answer_line(&mut lines, object, end.0, end.1)?;
     }
     Ok(lines)
 }

@@ -1,5 +1,7 @@
 -- Batches: the calls that a slot takes, of each process one at most.
-use Rattle.std.specs.Prelude.{ℕ, zero, suc, ◌≡◌, ◌==◌, ◌&&◌, ◌^◌, Bool, false, if◌then◌else◌, List, [], ◌∷◌, ◌++◌, map, replicate, slice_index_or, slice_set, bit_or, Option, Some, None}
+use Rattle.std.specs.Prelude.{ℕ, zero, suc, ◌≡◌, ◌==◌, ◌&&◌, ◌^◌, Bool, false, if◌then◌else◌, List}
+use Rattle.std.specs.Prelude.{[], ◌∷◌, ◌++◌, map, replicate, slice_index_or, slice_set, bit_or}
+use Rattle.std.specs.Prelude.{Option, Some, None}
 use Rattle.std.specs.Int.{bit_at}
 use Rattle.cn_table.specs.declared.elements.Operation.{Operation}
 use Rattle.cn_log.specs.declared.entry.Entry.{Entry}
@@ -7,13 +9,18 @@ use Rattle.cn_log.specs.declared.batch.Batch.{Batch}
 use Rattle.cn_choice.specs.declared.limits.TheConstants.{MOST_PROCESSES}
 
 abbrev pub same_entry : Entry → Entry → Bool
-same_entry e f = (e.process == f.process) && ((e.operation.0 == f.operation.0) && (e.call == f.call))
+same_entry e f =
+    (e.process == f.process) && ((e.operation.0 == f.operation.0) && (e.call == f.call))
 
 abbrev first_operation : Operation
 first_operation = record { 0 = 0 }
 
 abbrev pub no_entries : Batch
-no_entries = record { calls = replicate MOST_PROCESSES 0; operations = replicate MOST_PROCESSES first_operation; callers = 0 }
+no_entries = record {
+  calls = replicate MOST_PROCESSES 0;
+  operations = replicate MOST_PROCESSES first_operation;
+  callers = 0;
+}
 
 -- process p has a call in the batch
 abbrev pub has_caller : Batch → ℕ → Bool
@@ -23,12 +30,20 @@ has_caller b p = bit_at b.callers p == 1
 abbrev pub entry_at : Batch → ℕ → Option Entry
 entry_at b p =
     if has_caller b p
-    then Some (record { process = p; operation = slice_index_or b.operations p first_operation; call = slice_index_or b.calls p 0 })
+    then Some (record {
+      process = p;
+      operation = slice_index_or b.operations p first_operation;
+      call = slice_index_or b.calls p 0;
+    })
     else None
 
 -- the same with the call of this entry as that of process p
 abbrev pub with_entry : Batch → ℕ → Entry → Batch
-with_entry b p e = record { calls = slice_set b.calls p e.call; operations = slice_set b.operations p e.operation; callers = bit_or b.callers (2 ^ p) }
+with_entry b p e = record {
+  calls = slice_set b.calls p e.call;
+  operations = slice_set b.operations p e.operation;
+  callers = bit_or b.callers (2 ^ p);
+}
 
 -- the entry is in the batch
 abbrev pub HoldsEntry : Batch → Entry → Type 0

@@ -2,7 +2,8 @@
 use Rattle.std.specs.Prelude.{ℕ, List, codes, Option, Some, None}
 use Rattle.cn_table.specs.FaultText.{numbered_text}
 use Rattle.cn_log.specs.declared.fault.ReplayFault.{ReplayFault}
-use Rattle.cn_log.specs.declared.fault.ReplayFault.TheVariants.{NoSuchProcess, NoSuchOperation, NotIdle, Idle, AtEnd, OutOfMemory}
+use Rattle.cn_log.specs.declared.fault.ReplayFault.TheVariants.{NoSuchProcess, NoSuchOperation}
+use Rattle.cn_log.specs.declared.fault.ReplayFault.TheVariants.{NotIdle, Idle, AtEnd, OutOfMemory}
 
 abbrev pub replay_fault_number : ReplayFault → ℕ
 replay_fault_number (NoSuchProcess place) = 1
@@ -29,4 +30,5 @@ replay_fault_place (AtEnd place) = Some place
 replay_fault_place OutOfMemory = None
 
 abbrev pub replay_fault_text : ReplayFault → List ℕ
-replay_fault_text fault = numbered_text (replay_fault_number fault) (replay_fault_name fault) (replay_fault_place fault)
+replay_fault_text fault =
+    numbered_text (replay_fault_number fault) (replay_fault_name fault) (replay_fault_place fault)

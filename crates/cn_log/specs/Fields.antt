@@ -1,5 +1,6 @@
 -- The fields of a core: the state after its schedule.
-use Rattle.std.specs.Prelude.{ℕ, ◌≡◌, ◌<◌, ◌+◌, ◌*◌, ◌≤◌, ◌==◌, nat_lt, List, [], ◌∷◌, length, replicate, slice_index_or, if◌then◌else◌, Option, Some, None}
+use Rattle.std.specs.Prelude.{ℕ, ◌≡◌, ◌<◌, ◌+◌, ◌*◌, ◌≤◌, ◌==◌, nat_lt, List, [], ◌∷◌, length}
+use Rattle.std.specs.Prelude.{replicate, slice_index_or, if◌then◌else◌, Option, Some, None}
 use Rattle.cn_table.specs.TypeTable.{transition}
 use Rattle.cn_table.specs.Run.{state_after}
 use Rattle.cn_log.specs.declared.batch.Batch.{Batch}
@@ -16,7 +17,8 @@ use Rattle.cn_log.specs.declared.caller_state.CallerState.{CallerState}
 use Rattle.cn_log.specs.Opening.{Opening, setting_of}
 use Rattle.cn_proto.specs.Plan.{processes_of}
 use Rattle.cn_agree.specs.World.{World as RoundWorld}
-use Rattle.cn_log.specs.Log.{Setting, World, Caller, object_after, operations_of, batches_of, entries_of, entries_of_batches, state_of, IsEventList}
+use Rattle.cn_log.specs.Log.{Setting, World, Caller, object_after, operations_of, batches_of}
+use Rattle.cn_log.specs.Log.{entries_of, entries_of_batches, state_of, IsEventList}
 use Rattle.cn_choice.specs.declared.limits.TheConstants.{MOST_PROCESSES}
 
 abbrev pub no_calls : CallCounts
@@ -27,20 +29,30 @@ abbrev pub count_at : CallCounts → ℕ → ℕ
 count_at counts p = slice_index_or counts.calls p 0
 
 abbrev pub no_caller_state : CallerState
-no_caller_state = record { applied_slots = 0; applied_entries = 0; calls_seen = no_calls; calls = 0; phase = Idle; state = record { 0 = 0 } }
+no_caller_state = record {
+  replayed_slots = 0;
+  replayed_entries = 0;
+  calls_seen = no_calls;
+  calls = 0;
+  phase = Idle;
+  state = record { 0 = 0 };
+}
 
--- the batch after reading the announcement of process q, if the slots applied hold this many calls of process q
+-- the batch after reading the announcement of process q, if the slots replayed hold this many
+-- calls of process q
 abbrev pub batch_with_calls : Option Entry → ℕ → ℕ → Batch → Batch
 batch_with_calls None calls q batch = batch
-batch_with_calls (Some other) calls q batch = if nat_lt other.call calls then batch else with_entry batch q other
+batch_with_calls (Some other) calls q batch =
+    if nat_lt other.call calls then batch else with_entry batch q other
 
 -- the batch of slot k, if it is fixed and the next one after this many fixed batches
 abbrev pub next_batch : ℕ → ℕ → Option Batch → List Batch
 next_batch many k None = []
 next_batch many k (Some b) = if many == k then b ∷ [] else []
 
--- the fields of a log: the round of each slot, the announcement of each process, the progress of each process, the entries of the
--- fixed slots, each with its slot, the number of fixed slots, and the room for entries and slots
+-- the fields of a log: the round of each slot, the announcement of each process, the progress of
+-- each process, the entries of the fixed slots, each with its slot, the number of fixed slots, and
+-- the room for entries and slots
 pub record Fields (R : Type 0) : Type 0 where
   pub rounds : List R
   pub announced : List (Option Entry)
@@ -52,19 +64,25 @@ pub record Fields (R : Type 0) : Type 0 where
   pub slots_room : ℕ
 
 module _ {R : Type 0} (L : Setting R) where
-  -- the answer of a process with this call pending that replays batch x in slot k, if its copy of the object is in this state
+  -- the answer of a process with this call pending that replays batch x in slot k, if its copy of
+  -- the object is in this state
   abbrev pub step_answer : ℕ → ℕ → Entry → Batch → StepAnswer
   step_answer k state mine x =
       if has x mine
-      then Answered k (record { 0 = (transition L.object mine.operation.0 (state_after L.object state (operations_of (members mine.process 0 x)))).0 })
+      then Answered k (record {
+        0 = (transition L.object mine.operation.0
+            (state_after L.object state (operations_of (members mine.process 0 x)))).0;
+      })
       else (if k + 1 == L.capacity then Full else Working)
 
-  -- of what a caller has applied, the numbers of slots, of entries and of calls of each process, and the state of its copy of the object
+  -- of what a caller has replayed, the numbers of slots, of entries and of calls of each
+  -- process, and the state of its copy of the object
   pub record IsCallerState (here : CallerState) (caller : Caller) : Type 0 where
-    pub applied_slots : here.applied_slots ≡ length caller.seen
-    pub applied_entries : here.applied_entries ≡ length (entries_of_batches L caller.seen)
+    pub replayed_slots : here.replayed_slots ≡ length caller.seen
+    pub replayed_entries : here.replayed_entries ≡ length (entries_of_batches L caller.seen)
     pub calls_places : length here.calls_seen.calls ≡ MOST_PROCESSES
-    pub calls_seen : (q : ℕ) → q < L.processes → count_at here.calls_seen q ≡ length (entries_by q (entries_of_batches L caller.seen))
+    pub calls_seen : (q : ℕ) → q < L.processes
+        → count_at here.calls_seen q ≡ length (entries_by q (entries_of_batches L caller.seen))
     pub calls : here.calls ≡ caller.calls
     pub phase : here.phase ≡ caller.phase
     pub state : here.state.0 ≡ object_after L (entries_of_batches L caller.seen)
@@ -75,9 +93,11 @@ module _ {R : Type 0} (L : Setting R) where
     pub rounds_many : length fields.rounds ≡ L.capacity
     pub round : (k : ℕ) → k < L.capacity → slice_index_or fields.rounds k L.untouched ≡ w.round k
     pub announced_many : length fields.announced ≡ L.processes
-    pub announcement : (p : ℕ) → p < L.processes → slice_index_or fields.announced p None ≡ w.announced p
+    pub announcement : (p : ℕ) → p < L.processes
+        → slice_index_or fields.announced p None ≡ w.announced p
     pub callers_many : length fields.callers ≡ L.processes
-    pub caller : (p : ℕ) → p < L.processes → IsCallerState (slice_index_or fields.callers p no_caller_state) (w.caller p)
+    pub caller : (p : ℕ) → p < L.processes
+        → IsCallerState (slice_index_or fields.callers p no_caller_state) (w.caller p)
     pub entries_are : fields.entries ≡ entries_of L w
     pub slots_are : fields.slots ≡ slots_from L.processes 0 (batches_of L w)
     pub fixed_is : fields.fixed ≡ length (batches_of L w)

@@ -1,5 +1,7 @@
--- A linearized log: for every list of events, the answers are those of one sequential run of the calls, in the order of the log.
-use Rattle.std.specs.Prelude.{ℕ, ◌≡◌, ◌+◌, ◌<◌, ◌==◌, Bool, false, List, ◌++◌, length, take, slice_get, count_by, Some}
+-- A linearized log: for every list of events, the answers are those of one sequential run of the
+-- calls, in the order of the log.
+use Rattle.std.specs.Prelude.{ℕ, ◌≡◌, ◌+◌, ◌<◌, ◌==◌, Bool, false, List, ◌++◌, length, take}
+use Rattle.std.specs.Prelude.{slice_get, count_by, Some}
 use Rattle.cn_table.specs.Run.{responses_along}
 use Rattle.cn_log.specs.declared.entry.Entry.{Entry}
 use Rattle.cn_log.specs.declared.event.Event.{Event}
@@ -18,7 +20,8 @@ is_call_of p (Step q) = false
 abbrev pub calls_of : ℕ → List Event → ℕ
 calls_of p events = count_by (is_call_of p) events
 
--- event i makes this call: an Invoke of its process with its operation; the call's number is the number of calls that the process made before
+-- event i makes this call: an Invoke of its process with its operation; the call's number is the
+-- number of calls that the process made before
 pub record IsCall (events : List Event) (i : ℕ) (e : Entry) : Type 0 where
   pub invoke : slice_get events i ≡ Some (Invoke e.process e.operation.0)
   pub number : e.call ≡ calls_of e.process (take i events)
@@ -59,7 +62,8 @@ module _ {R : Type 0} (L : Setting R) (events : List Event) where
   abbrev pub sequential_replies : List ℕ
   sequential_replies = responses_along L.object L.start (operations_of (entries L events))
 
-  -- an answered call stands in the slot answered, and its response is that of the sequential run at its place there
+  -- an answered call stands in the slot answered, and its response is that of the sequential run at
+  -- its place there
   pub record IsInSlot (e : Entry) (slot response : ℕ) : Type 0 where
     pub place : ℕ
     pub stands : StandsIn place slot e
@@ -68,32 +72,43 @@ module _ {R : Type 0} (L : Setting R) (events : List Event) where
   -- the log is linearized
   pub record IsLinearized : Type 0 where
     -- an answered call stands in the slot answered, with the response of the sequential run there
-    pub answered : (i : ℕ) (e : Entry) (slot response : ℕ) → IsAnswered i e slot response → IsInSlot e slot response
+    pub answered : (i : ℕ) (e : Entry) (slot response : ℕ) → IsAnswered i e slot response
+        → IsInSlot e slot response
     -- each entry is a call of the list, with its operation
     pub called : (k : ℕ) (e : Entry) → Stands k e → (i : ℕ) × IsCall events i e
     -- and no entry stands twice
     pub once : (j k : ℕ) (e : Entry) → Stands j e → Stands k e → j ≡ k
-    -- before an entry stand all earlier calls of its process: they are in order, and none is left out
-    pub in_order : (k : ℕ) (e : Entry) (call : ℕ) → Stands k e → call < e.call → (j : ℕ) × (f : Entry) × (j < k) × (f.process ≡ e.process)
+    -- before an entry stand all earlier calls of its process: they are in order, and none is left
+    -- out
+    pub in_order : (k : ℕ) (e : Entry) (call : ℕ) → Stands k e → call < e.call
+        → (j : ℕ) × (f : Entry) × (j < k) × (f.process ≡ e.process)
         × (f.call ≡ call) × Stands j f
     -- a call that is answered before another is made stands before it, in an earlier slot
-    pub real_time : (i j : ℕ) (e f : Entry) (slot response place k : ℕ) → IsAnswered i e slot response → IsCall events j f → i < j → StandsIn place k f
+    pub real_time : (i j : ℕ) (e f : Entry) (slot response place k : ℕ)
+        → IsAnswered i e slot response → IsCall events j f → i < j → StandsIn place k f
         → slot < k
     -- a call ends without an answer only if every slot is fixed and none holds it
-    pub full : (i : ℕ) (e : Entry) → FindsFull i e → (length (batches L events) ≡ L.capacity) × ((k : ℕ) → Stands k e → ⊥)
+    pub full : (i : ℕ) (e : Entry) → FindsFull i e
+        → (length (batches L events) ≡ L.capacity) × ((k : ℕ) → Stands k e → ⊥)
     -- entries stand by slot: those of an earlier slot before those of a later one
     pub by_slot : (a b j k : ℕ) (e f : Entry) → StandsIn a j e → StandsIn b k f → j < k → a < b
     -- entries in a slot stand by process, at most one of each
-    pub by_process : (a b k : ℕ) (e f : Entry) → StandsIn a k e → StandsIn b k f → e.process < f.process → a < b
-    pub one_each : (a b k : ℕ) (e f : Entry) → StandsIn a k e → StandsIn b k f → e.process ≡ f.process → e ≡ f
+    pub by_process : (a b k : ℕ) (e f : Entry) → StandsIn a k e → StandsIn b k f
+        → e.process < f.process → a < b
+    pub one_each : (a b k : ℕ) (e f : Entry) → StandsIn a k e → StandsIn b k f
+        → e.process ≡ f.process → e ≡ f
     -- each entry has its slot, which is fixed
-    pub slots : (place : ℕ) (e : Entry) → Stands place e → (k : ℕ) × (k < length (batches L events)) × StandsIn place k e
+    pub slots : (place : ℕ) (e : Entry) → Stands place e
+        → (k : ℕ) × (k < length (batches L events)) × StandsIn place k e
 
-  -- slots come one after the other: a process begins in a slot only after every earlier slot is fixed
+  -- slots come one after the other: a process begins in a slot only after every earlier slot is
+  -- fixed
   pub record BeginsInTurn : Type 0 where
-    pub before : (k p : ℕ) (x : Batch) → L.consensus.input ((state_of L events).round k) p ≡ Some x → (j : ℕ) → j < k → (y : Batch)
+    pub before : (k p : ℕ) (x : Batch) → L.consensus.input ((state_of L events).round k) p ≡ Some x
+        → (j : ℕ) → j < k → (y : Batch)
         × (L.consensus.fixed ((state_of L events).round j) ≡ Some y)
 
 -- entries stay, and new ones come behind them
 abbrev pub Grows : {R : Type 0} → Setting R → List Event → List Event → Type 0
-Grows L before after = (rest : List Entry) × (entries L (before ++ after) ≡ entries L before ++ rest)
+Grows L before after =
+    (rest : List Entry) × (entries L (before ++ after) ≡ entries L before ++ rest)

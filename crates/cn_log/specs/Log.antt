@@ -1,5 +1,7 @@
--- The universal log, event by event: processes agree slot by slot on the next calls of an object, and each replays the calls on its own copy.
-use Rattle.std.specs.Prelude.{ℕ, zero, suc, ◌≡◌, ◌≢◌, ◌+◌, ◌<◌, ◌==◌, Bool, true, false, List, [], ◌∷◌, ◌++◌, length, map, if◌then◌else◌, Option, Some, None}
+-- The universal log, event by event: processes agree slot by slot on the next calls of an object,
+-- and each replays the calls on its own copy.
+use Rattle.std.specs.Prelude.{ℕ, zero, suc, ◌≡◌, ◌≢◌, ◌+◌, ◌<◌, ◌==◌, Bool, true, false, List, []}
+use Rattle.std.specs.Prelude.{◌∷◌, ◌++◌, length, map, if◌then◌else◌, Option, Some, None}
 use Rattle.std.specs.List.{list_any}
 use Rattle.cn_table.specs.TypeTable.{TypeTable, transition}
 use Rattle.cn_table.specs.Run.{state_after}
@@ -14,8 +16,8 @@ use Rattle.cn_log.specs.declared.event.StepAnswer.TheVariants.{Working, Answered
 use Rattle.cn_log.specs.declared.caller_state.Phase.{Phase}
 use Rattle.cn_log.specs.declared.caller_state.Phase.TheVariants.{Idle, Looks, Runs}
 
--- the setting of a log: consensus in each slot and a round before any step, the numbers of processes and slots, and the object with
--- its start state
+-- the setting of a log: consensus in each slot and a round before any step, the numbers of
+-- processes and slots, and the object with its start state
 pub record Setting (R : Type 0) : Type 0 where
   pub consensus : Consensus R
   pub untouched : R
@@ -24,19 +26,22 @@ pub record Setting (R : Type 0) : Type 0 where
   pub object : TypeTable
   pub start : ℕ
 
--- the knowledge of a process: the batch of each slot that it has applied, the number of its calls, and its next move
+-- the knowledge of a process: the batch of each slot that it has replayed, the number of its
+-- calls, and its next move
 pub record Caller : Type 0 where
   pub seen : List Batch
   pub calls : ℕ
   pub phase : Phase
 
--- the record: a call, with the number of slots fixed when it was made; an answer to a call, with its slot and response; a call that found the log full
+-- the record: a call, with the number of slots fixed when it was made; an answer to a call, with
+-- its slot and response; a call that found the log full
 pub data Note : Type 0 where
   Called : Entry → ℕ → Note
   Replied : Entry → ℕ → ℕ → Note
   FoundFull : Entry → Note
 
--- the round of each slot, the announcement of each process, the knowledge of each process, and the record, newest first, which no step reads
+-- the round of each slot, the announcement of each process, the knowledge of each process, and the
+-- record, newest first, which no step reads
 pub record World (R : Type 0) : Type 0 where
   pub round : ℕ → R
   pub announced : ℕ → Option Entry
@@ -55,13 +60,16 @@ has_entry entries e = list_any (λ f. same_entry f e) entries
 abbrev pub operations_of : List Entry → List ℕ
 operations_of entries = map (λ e. e.operation.0) entries
 
--- the batch after reading the announcement of process q: it takes the call there, unless the slots that the process has applied
+-- the batch after reading the announcement of process q: it takes the call there, unless the
+-- slots that the process has replayed
 -- hold it
 abbrev pub batch_with : Option Entry → List Entry → ℕ → Batch → Batch
 batch_with None seen q batch = batch
-batch_with (Some other) seen q batch = if has_entry seen other then batch else with_entry batch q other
+batch_with (Some other) seen q batch =
+    if has_entry seen other then batch else with_entry batch q other
 
--- a process with this call pending goes on to its next slot, where it looks at the announcements in order
+-- a process with this call pending goes on to its next slot, where it looks at the announcements in
+-- order
 abbrev pub first_look : Entry → Phase
 first_look mine = Looks mine 0 no_entries
 
@@ -83,15 +91,17 @@ module _ {R : Type 0} (L : Setting R) where
   abbrev pub entries_of_batches : List Batch → List Entry
   entries_of_batches batches = entries_in L.processes batches
 
-  -- the response of the object to a call in this batch, behind these batches: it comes after their entries, and those of the processes
-  -- before in its own batch
+  -- the response of the object to a call in this batch, behind these batches: it comes after their
+  -- entries, and those of the processes before in its own batch
   abbrev pub response_in : List Batch → Batch → Entry → ℕ
-  response_in batches batch e = response_after (entries_of_batches batches ++ members e.process 0 batch) e.operation.0
+  response_in batches batch e =
+      response_after (entries_of_batches batches ++ members e.process 0 batch) e.operation.0
 
   -- the batches before the first slot that is not fixed, of this many slots from slot k on
   abbrev pub fixed_from : ℕ → ℕ → (ℕ → R) → List Batch
   fixed_from zero k round = []
-  fixed_from (suc slots) k round = up_to_open (L.consensus.fixed (round k)) (fixed_from slots (suc k) round)
+  fixed_from (suc slots) k round =
+      up_to_open (L.consensus.fixed (round k)) (fixed_from slots (suc k) round)
 
   -- the batches of the fixed slots, in order
   abbrev pub batches_of : World R → List Batch
@@ -107,14 +117,16 @@ module _ {R : Type 0} (L : Setting R) where
       let e : Entry = record { process = p; operation = record { 0 = operation }; call = here.calls } in
       record w {
         announced = put w.announced p (Some e);
-        caller = put w.caller p (record { seen = here.seen; calls = here.calls + 1; phase = first_look e });
+        caller = put w.caller p
+            (record { seen = here.seen; calls = here.calls + 1; phase = first_look e });
         history = Called e (length (batches_of w)) ∷ w.history;
       }
 
-  -- process p, with this call pending, has read the announcement of process q and gathered this batch; after the last announcement it begins
-  -- with the batch in the round of its slot
+  -- process p, with this call pending, has read the announcement of process q and gathered this
+  -- batch; after the last announcement it begins with the batch in the round of its slot
   abbrev pub after_gathering : World R → ℕ → Caller → Entry → ℕ → Batch → Bool → World R
-  after_gathering w p here mine q batch false = record w { caller = put w.caller p (record here { phase = Looks mine (q + 1) batch }) }
+  after_gathering w p here mine q batch false =
+      record w { caller = put w.caller p (record here { phase = Looks mine (q + 1) batch }) }
   after_gathering w p here mine q batch true =
       let k : ℕ = length here.seen in
       record w {
@@ -124,11 +136,14 @@ module _ {R : Type 0} (L : Setting R) where
 
   -- process p, with this call pending, reads the announcement of process q
   abbrev pub after_look : World R → ℕ → Caller → Entry → ℕ → Batch → World R
-  after_look w p here mine q batch = after_gathering w p here mine q (batch_with (w.announced q) (entries_of_batches here.seen) q batch) (q + 1 == L.processes)
+  after_look w p here mine q batch = after_gathering w p here mine q
+      (batch_with (w.announced q) (entries_of_batches here.seen) q batch) (q + 1 == L.processes)
 
-  -- the next move of a process that has decided x in slot k: its call is over if x holds it or if no slot is left; else it looks for the next slot
+  -- the next move of a process that has decided x in slot k: its call is over if x holds it or if
+  -- no slot is left; else it looks for the next slot
   abbrev pub phase_after : ℕ → Entry → Batch → Phase
-  phase_after k mine x = if has x mine then Idle else (if k + 1 == L.capacity then Idle else first_look mine)
+  phase_after k mine x =
+      if has x mine then Idle else (if k + 1 == L.capacity then Idle else first_look mine)
 
   abbrev pub record_after : List Batch → Entry → Batch → List Note → List Note
   record_after seen mine x notes =
@@ -141,7 +156,11 @@ module _ {R : Type 0} (L : Setting R) where
   after_decision w p here mine None = w
   after_decision w p here mine (Some x) =
       record w {
-        caller = put w.caller p (record { seen = here.seen ++ x ∷ []; calls = here.calls; phase = phase_after (length here.seen) mine x });
+        caller = put w.caller p (record {
+          seen = here.seen ++ x ∷ [];
+          calls = here.calls;
+          phase = phase_after (length here.seen) mine x;
+        });
         history = record_after here.seen mine x w.history;
       }
 
@@ -180,7 +199,8 @@ module _ {R : Type 0} (L : Setting R) where
   abbrev pub state_of : List Event → World R
   state_of events = after_events events first_world
 
-  -- process p can make a call of operation o: both exist, p is in no call, and p has not applied every slot
+  -- process p can make a call of operation o: both exist, p is in no call, and p has not
+  -- replayed every slot
   pub record MayInvoke (w : World R) (p o : ℕ) : Type 0 where
     pub process : p < L.processes
     pub operation : o < length L.object.operations
@@ -213,7 +233,8 @@ module _ {R : Type 0} (L : Setting R) where
   abbrev pub entries : List Event → List Entry
   entries events = entries_of (state_of events)
 
-  -- the answer of a process that has applied these batches, with this call pending, once it has decided: the call is answered with its slot
+  -- the answer of a process that has replayed these batches, with this call pending, once it
+  -- has decided: the call is answered with its slot
   -- and its response if the decided batch holds it
   abbrev pub answer_with : List Batch → Entry → Option Batch → StepAnswer
   answer_with seen mine None = Working
@@ -225,8 +246,10 @@ module _ {R : Type 0} (L : Setting R) where
   abbrev pub answer_from : World R → ℕ → Caller → Phase → StepAnswer
   answer_from w p here Idle = Working
   answer_from w p here (Looks mine q batch) = Working
-  answer_from w p here (Runs mine) = answer_with here.seen mine (L.consensus.decided (L.consensus.step p (w.round (length here.seen))) p)
+  answer_from w p here (Runs mine) = answer_with here.seen mine
+      (L.consensus.decided (L.consensus.step p (w.round (length here.seen))) p)
 
   -- the answer of a step of process p after these events
   abbrev pub answer : List Event → ℕ → StepAnswer
-  answer events p = answer_from (state_of events) p ((state_of events).caller p) ((state_of events).caller p).phase
+  answer events p = answer_from (state_of events) p ((state_of events).caller p)
+      ((state_of events).caller p).phase

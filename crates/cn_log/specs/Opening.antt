@@ -18,7 +18,8 @@ pub record Opening : Type 0 where
   pub capacity : ℕ
 
 abbrev pub opening_of : Plan → TypeTable → ℕ → ℕ → Opening
-opening_of plan object start capacity = record { plan = plan; object = object; start = start; capacity = capacity }
+opening_of plan object start capacity =
+    record { plan = plan; object = object; start = start; capacity = capacity }
 
 -- the opening, and the events since
 pub record Log : Type 0 where

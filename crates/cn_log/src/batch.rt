@@ -77,8 +77,8 @@ impl Batch {
     }
 
     /// Reads the announcement of process `q`: the batch takes the call there, unless the process
-    /// that reads has applied it. `calls_seen` is the number of calls of process `q` that it has
-    /// applied, its first ones.
+    /// that reads has replayed it. `calls_seen` is the number of calls of process `q` that it has
+    /// replayed, its first ones.
     pub(crate) fn gather(&mut self, q: u8, announced: Option<Entry>, calls_seen: u16)
         requires { q < MOST_PROCESSES }
         ensures { self.new ≡ batch_with_calls announced calls_seen q self.old }

@@ -1,4 +1,4 @@
-//! The number of calls of each process that a process has applied.
+//! The number of calls of each process that a process has replayed.
 ghost use Rattle.std.specs.Prelude.{◌≡◌, ◌≤◌, ◌<◌, ◌+◌, slice_set};
 ghost use Rattle.cn_log.specs.Fields.{count_at, no_calls};
 ghost use Rattle.cn_choice.specs.declared.limits.TheConstants.{MOST_PROCESSES};
@@ -6,7 +6,7 @@ ghost use Rattle.cn_log.specs.declared.limits.TheConstants.{MOST_ENTRIES};
 
 use cn_choice::MOST_PROCESSES;
 
-/// For each process, the number of its calls in the slots applied. These are its first calls.
+/// For each process, the number of its calls in the slots replayed. These are its first calls.
 #[derive(Clone, Copy, Debug, PartialEq, Eq)]
 pub(crate) struct CallCounts {
     calls: [u16; MOST_PROCESSES],

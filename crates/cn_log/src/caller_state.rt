@@ -27,13 +27,13 @@ pub(crate) enum Phase {
     Runs(Entry),
 }
 
-/// The progress of a process: the numbers of slots and entries that it has applied, and of the
+/// The progress of a process: the numbers of slots and entries that it has replayed, and of the
 /// calls of each process there; the number of its own calls, its next move, and the state of its
 /// copy of the object.
 #[derive(Clone, Copy, Debug, PartialEq, Eq)]
 pub(crate) struct CallerState {
-    pub applied_slots: u16,
-    pub applied_entries: u16,
+    pub replayed_slots: u16,
+    pub replayed_entries: u16,
     pub calls_seen: CallCounts,
     pub calls: u16,
     pub phase: Phase,
@@ -60,7 +60,8 @@ impl CallerState {
     /// The process has looked at all announcements. It begins in the round of its next slot with
     /// its batch.
     pub fn begin(&mut self) -> Batch
-        requires { (mine : EntryOf) × (q : ℕ) × (batch : BatchOf) × (self.old.phase ≡ Looks mine q batch) }
+        requires { (mine : EntryOf) × (q : ℕ) × (batch : BatchOf)
+            × (self.old.phase ≡ Looks mine q batch) }
         ensures { (mine : EntryOf) (q : ℕ) (batch : BatchOf) → self.old.phase ≡ Looks mine q batch
             → (result ≡ batch) × (self.new ≡ record self.old { phase = Runs mine }) }
     {
@@ -73,19 +74,19 @@ impl CallerState {
         }
     }
 
-    /// The process applies the calls in the batch by processes below `processes`, in order.
-    pub fn apply(&mut self, object: &Table, processes: u8, batch: &Batch)
+    /// The process replays the calls in the batch by processes below `processes`, in order.
+    pub fn replay(&mut self, object: &Table, processes: u8, batch: &Batch)
         requires processes { processes ≤ MOST_PROCESSES }
-        requires applied_entries { self.old.applied_entries ≤ MOST_ENTRIES }
+        requires replayed_entries { self.old.replayed_entries ≤ MOST_ENTRIES }
         requires calls_places { length self.old.calls_seen.calls ≡ MOST_PROCESSES }
         requires calls_seen { (q : ℕ) → q < processes
             → count_at self.old.calls_seen q ≤ MOST_ENTRIES }
         requires operations { (q : ℕ) (e : EntryOf) → entry_at batch.now q ≡ Some e
             → e.operation.0 < length object.now.operations }
         requires state { self.old.state.0 < length object.now.states }
-        ensures applied_slots { self.new.applied_slots ≡ self.old.applied_slots }
-        ensures applied_entries { self.new.applied_entries
-            ≡ self.old.applied_entries + length (members processes 0 batch.now) }
+        ensures replayed_slots { self.new.replayed_slots ≡ self.old.replayed_slots }
+        ensures replayed_entries { self.new.replayed_entries
+            ≡ self.old.replayed_entries + length (members processes 0 batch.now) }
         ensures calls_places { length self.new.calls_seen.calls ≡ MOST_PROCESSES }
         ensures calls_seen { (q : ℕ) → q < processes
             → count_at self.new.calls_seen q
@@ -98,7 +99,7 @@ impl CallerState {
     {
         for p in 0..processes {
             if let Some(call) = batch.of(p) {
-                self.applied_entries += 1;
+                self.replayed_entries += 1;
                 self.calls_seen.add_one(p);
                 self.state = object.apply(call.operation, self.state).1;
             }

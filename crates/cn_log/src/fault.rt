@@ -1,5 +1,6 @@
-//! Why a list of events cannot be replayed.
-ghost use Rattle.std.specs.Prelude.{◌≡◌};
+//! Why an event cannot come, and why a list of events cannot be replayed.
+ghost use Rattle.std.specs.Prelude.{◌≡◌, Some};
+ghost use Rattle.cn_log.specs.Faults.{replay_fault};
 ghost use Rattle.cn_log.specs.FaultText.{replay_fault_name, replay_fault_number, replay_fault_place};
 ghost use Rattle.cn_log.specs.declared.fault.ReplayFault.TheVariants.{OutOfMemory};
 
@@ -7,10 +8,69 @@ use std::alloc::{AllocError, AllocFailed};
 use std::error::Error;
 use std::fmt;
 
-/// Why a list of events cannot be replayed: the place of the first event that cannot come, and the
-/// reason. If there are several reasons, the answer is the first in this order. `OutOfMemory` comes
-/// only from callers that make a core or keep something of the events. [`replay`](crate::replay)
-/// and [`LogCore::take`](crate::LogCore::take) never answer it.
+/// Why an event cannot come: its place in the list of events, and the reason. If there are several
+/// reasons, the answer is the first in this order.
+#[derive(Clone, Copy, Debug, PartialEq, Eq)]
+pub enum EventFault {
+    /// The plan has no process of this number.
+    NoSuchProcess(u64),
+    /// The object has no operation of this number.
+    NoSuchOperation(u64),
+    /// A process makes a call while it is in one.
+    NotIdle(u64),
+    /// A process takes a step while it is in no call.
+    Idle(u64),
+    /// A process makes a call after it has replayed every slot.
+    AtEnd(u64),
+}
+
+impl EventFault {
+    /// The number of the fault, from 1.
+    pub fn number(&self) -> u8
+        ensures { result ≡ replay_fault_number (replay_fault self.now) }
+    {
+        ReplayFault::from(*self).number()
+    }
+
+    /// The name of the fault.
+    pub fn name(&self) -> &'static str
+        ensures { result.now ≡ replay_fault_name (replay_fault self.now) }
+    {
+        ReplayFault::from(*self).name()
+    }
+
+    /// The place of the event in the list.
+    pub fn place(&self) -> u64
+        ensures { Some result ≡ replay_fault_place (replay_fault self.now) }
+    {
+        match self {
+            EventFault::NoSuchProcess(place)
+            | EventFault::NoSuchOperation(place)
+            | EventFault::NotIdle(place)
+            | EventFault::Idle(place)
+            | EventFault::AtEnd(place) => *place,
+        }
+    }
+}
+
+/// The number, the name and the place.
+impl fmt::Display for EventFault {
+    ghost use Rattle.std.specs.Prelude.{Some};
+    ghost use Rattle.cn_log.specs.Faults.{replay_fault};
+    ghost use Rattle.cn_log.specs.FaultText.{replay_fault_text};
+
+    ghost output = { λ fault. Some (replay_fault_text (replay_fault fault)) };
+
+    fn fmt<W: fmt::Write>(&self, f: &mut fmt::Formatter<W>) -> fmt::Result {
+        let fault = ReplayFault::from(*self);
+        write!(f, "{fault}")
+    }
+}
+
+impl Error for EventFault {}
+
+/// Why a list of events cannot be replayed: an event that cannot come, as [`EventFault`] tells it,
+/// or want of memory.
 #[derive(Clone, Copy, Debug, PartialEq, Eq)]
 pub enum ReplayFault {
     /// The plan has no process of this number.
@@ -21,10 +81,24 @@ pub enum ReplayFault {
     NotIdle(u64),
     /// A process takes a step while it is in no call.
     Idle(u64),
-    /// A process makes a call after it has applied every slot.
+    /// A process makes a call after it has replayed every slot.
     AtEnd(u64),
     /// Memory ran out.
     OutOfMemory,
+}
+
+impl From<EventFault> for ReplayFault {
+    ghost from_gives = { λ fault e. e ≡ replay_fault fault };
+
+    fn from(fault: EventFault) -> ReplayFault {
+        match fault {
+            EventFault::NoSuchProcess(place) => ReplayFault::NoSuchProcess(place),
+            EventFault::NoSuchOperation(place) => ReplayFault::NoSuchOperation(place),
+            EventFault::NotIdle(place) => ReplayFault::NotIdle(place),
+            EventFault::Idle(place) => ReplayFault::Idle(place),
+            EventFault::AtEnd(place) => ReplayFault::AtEnd(place),
+        }
+    }
 }
 
 impl<T: Drop> From<AllocFailed<T>> for ReplayFault {

@@ -7,7 +7,7 @@ ghost use Rattle.cn_agree.specs.declared.local.Local.TheVariants.{NotBegun};
 ghost use Rattle.cn_log.specs.Agreement.{RoundsAgree};
 ghost use Rattle.cn_log.specs.AtomicEvent.{IsAtomicEvent};
 ghost use Rattle.cn_log.specs.Bypass.{IsBypassBounded};
-ghost use Rattle.cn_log.specs.Callers.{BeginsWith, HasAppliedBy, HasAppliedItsOwn, IsPendingCall, IsStepped, HasNoEventOf, call_of, caller_of, calls_by, entries_by, pending_in, seen_of};
+ghost use Rattle.cn_log.specs.Callers.{BeginsWith, HasReplayedBy, HasReplayedItsOwn, IsPendingCall, IsStepped, HasNoEventOf, call_of, caller_of, calls_by, entries_by, pending_in, seen_of};
 ghost use Rattle.cn_log.specs.Linearized.{BeginsInTurn, Grows, IsLinearized};
 ghost use Rattle.cn_log.specs.Faults.{event_fault};
 ghost use Rattle.cn_log.specs.Log.{IsEventList, MayCome, answer, batches, entries, first_look, state_of};
@@ -21,8 +21,8 @@ ghost use Rattle.cn_log.specs.declared.event.Event.TheVariants.{Invoke, Step};
 use crate::batch::Batch;
 use crate::log_core::LogCore;
 use crate::opening::Opening;
-use cn_agree::laws::{atomic_steps, every_round};
-use cn_proto::laws::{every_plan, plans_are_sound};
+use cn_agree::laws::{atomic_steps, rounds_keep_consensus};
+use cn_proto::laws::{plan_protocols_are_sound, plans_are_sound};
 
 /// The law of rounds: the rounds of a plan are as a log needs them (`agrees`), and have entries for
 /// each process (`begun`, `sizes`).
@@ -34,8 +34,8 @@ pub(crate) fn rounds_agree()
         → (length w.nodes ≡ nodes_of o.plan) × (length w.locals ≡ processes_of o.plan)
         × (length w.inputs ≡ processes_of o.plan) }
 {
-    every_plan();
-    every_round::<Batch>();
+    plan_protocols_are_sound();
+    rounds_keep_consensus::<Batch>();
 }
 
 /// The law of openings in memory:
@@ -67,7 +67,7 @@ pub(crate) fn openings_are_valid(opening: &Opening)
 /// - `bypass`: a call stands in the first slot that was not fixed when it was made, or in the next;
 /// - `wait_free`: a call is over within a bounded number of steps of its process;
 /// - `room`: there are fewer events than a log has room for.
-pub fn every_log()
+pub fn event_lists_are_linearized()
     ensures linearized { (o : OpeningOf) (events : List EventOf) → IsOpening o
         → IsEventList (setting_of o) events → IsLinearized (setting_of o) events }
     ensures grows { (o : OpeningOf) (before after : List EventOf) → IsOpening o
@@ -90,7 +90,7 @@ pub fn every_log()
 /// - `opening`: the plan is a plan, the start state is one of the object's, and there are 1 to
 ///   [`MOST_SLOTS`](crate::MOST_SLOTS) slots;
 /// - `events`: each event of the schedule could come at its place;
-/// - all others: the clauses of [`every_log`], except `room`, for the schedule.
+/// - all others: the clauses of [`event_lists_are_linearized`], except `room`, for the schedule.
 pub fn logs_are_linearized(core: &LogCore)
     ensures opening { IsOpening core.now.opening }
     ensures events { IsEventList (setting core.now) core.now.schedule }
@@ -102,11 +102,11 @@ pub fn logs_are_linearized(core: &LogCore)
     ensures wait_free { IsWaitFree (setting core.now) core.now.schedule }
 {
     openings_are_valid(&core.opening);
-    every_log();
+    event_lists_are_linearized();
 }
 
 /// The law of faults: after any list of events, an event has a fault exactly if it cannot come.
-pub fn every_fault()
+pub fn faults_decide()
     ensures { (o : OpeningOf) (events : List EventOf) (place : ℕ) (event : EventOf)
         → (event_fault (setting_of o) (state_of (setting_of o) events) place event ≡ None)
         ↔ MayCome (setting_of o) (state_of (setting_of o) events) event }
@@ -116,12 +116,12 @@ pub fn every_fault()
 ///
 /// - `front`: a prefix of a list of events is a list of events;
 /// - `stays`: events of other processes change nothing of it;
-/// - `invoked`: a call becomes pending, and the process has applied the same slots as before;
-/// - `pending`: the pending call is the last that the process has made. The process has applied
+/// - `invoked`: a call becomes pending, and the process has replayed the same slots as before;
+/// - `pending`: the pending call is the last that the process has made. The process has replayed
 ///   neither this call nor every slot;
 /// - `stepped`: the change by a step, for each answer;
-/// - `replayed`: the fixed slots begin with those that the process has applied.
-pub fn every_caller()
+/// - `replayed`: the fixed slots begin with those that the process has replayed.
+pub fn callers_change_by_own_events()
     ensures front { (o : OpeningOf) (before rest : List EventOf)
         → IsEventList (setting_of o) (before ++ rest) → IsEventList (setting_of o) before }
     ensures stays { (o : OpeningOf) (before rest : List EventOf) (p : ℕ) → HasNoEventOf p rest
@@ -154,12 +154,12 @@ pub fn every_caller()
 ///
 /// - `grow`, `stay`, `called`: a call is an event of its process, and its number is the number of
 ///   calls that the process made before;
-/// - `own`: its calls are its own entries that it has applied, in order, and then the one without
+/// - `own`: its calls are its own entries that it has replayed, in order, and then the one without
 ///   an answer, if there is one;
 /// - `own_stepped`: the same after a step, for each answer;
 /// - `made`, `seen_made`: the entries of the process in the log, and among those that any process
-///   has applied, are the first of its calls, in order.
-pub fn every_call()
+///   has replayed, are the first of its calls, in order.
+pub fn calls_are_in_order()
     ensures grow { (before rest : List EventOf) (p : ℕ)
         → BeginsWith (calls_by p (before ++ rest)) (calls_by p before) }
     ensures stay { (before rest : List EventOf) (p : ℕ) → HasNoEventOf p rest
@@ -168,11 +168,11 @@ pub fn every_call()
         → calls_by p (events ++ Invoke p operation ∷ [])
         ≡ calls_by p events ++ call_of p operation (caller_of (setting_of o) events p).calls ∷ [] }
     ensures own { (o : OpeningOf) (events : List EventOf) (p : ℕ) → IsOpening o
-        → IsEventList (setting_of o) events → HasAppliedItsOwn (setting_of o) events p }
+        → IsEventList (setting_of o) events → HasReplayedItsOwn (setting_of o) events p }
     ensures own_stepped { (o : OpeningOf) (events : List EventOf) (p : ℕ) (mine : EntryOf)
         → IsOpening o → IsEventList (setting_of o) (events ++ Step p ∷ [])
         → pending_in (caller_of (setting_of o) events p).phase ≡ Some mine
-        → HasAppliedBy (setting_of o) (events ++ Step p ∷ []) p mine
+        → HasReplayedBy (setting_of o) (events ++ Step p ∷ []) p mine
         (answer (setting_of o) events p) }
     ensures made { (o : OpeningOf) (events : List EventOf) (p : ℕ) → IsOpening o
         → IsEventList (setting_of o) events
@@ -197,7 +197,7 @@ pub fn atomic_events()
     ensures { (o : OpeningOf) (events : List EventOf) (event : EventOf) → IsOpening o
         → IsEventList (setting_of o) (events ++ event ∷ []) → IsAtomicEvent o events event }
 {
-    every_plan();
-    every_round::<Batch>();
+    plan_protocols_are_sound();
+    rounds_keep_consensus::<Batch>();
     atomic_steps::<Batch>();
 }

@@ -19,8 +19,8 @@
 //! let mut core = LogCore::new(alloc, &plan, &counter, start, 8)?;
 //! core.take(Event::Invoke(0, 0))?;
 //! for _step in 0..6 {
-//!     if let Some(CallEnd::Answered { response, .. }) = core.take(Event::Step(0))? {
-//!         println!(rt; "{}", counter.response_name(response))?;
+//!     if let Some(CallEnd::Answered(reply)) = core.take(Event::Step(0))? {
+//!         println!(rt; "{}", counter.response_name(reply.response))?;
 //!     }
 //! }
 //! for entry in core.entries() {
@@ -45,9 +45,9 @@ mod opening;
 
 pub use batch::Batch;
 pub use entry::Entry;
-pub use event::{CallEnd, Event, StepAnswer};
-pub use event_list::replay;
-pub use fault::ReplayFault;
+pub use event::{CallEnd, Event, Reply, StepAnswer};
+pub use event_list::{replay, replay_on};
+pub use fault::{EventFault, ReplayFault};
 pub use limits::MOST_SLOTS;
 pub use log_core::LogCore;
 pub use opening::Opening;

@@ -18,7 +18,7 @@ ghost use Rattle.cn_choice.specs.declared.limits.TheConstants.{MOST_PROCESSES};
 use crate::caller_state::Phase;
 use crate::entry::Entry;
 use crate::event::{CallEnd, Event, StepAnswer};
-use crate::fault::ReplayFault;
+use crate::fault::EventFault;
 use crate::laws;
 use crate::log_state::LogState;
 use crate::next_event::{apply_event, fault_of};
@@ -102,7 +102,7 @@ impl LogCore {
     }
 
     /// Process `p` makes a call of an operation of the object. It is in no call, and has not
-    /// applied every slot.
+    /// replayed every slot.
     pub fn invoke(&mut self, p: u8, operation: Operation)
         requires { MayCome (setting self.old) (state_of (setting self.old) self.old.schedule)
             (Invoke p operation.0) }
@@ -129,14 +129,13 @@ impl LogCore {
         self.state.step(&self.opening, p)
     }
 
-    /// Does any event, if it can come, and answers how it ended a call, if it did.
+    /// Does any event, if it can come, and answers how it ended the call of its process, if it did.
     ///
     /// # Errors
     ///
     /// The fault of the event, with the number of events so far as its place. If it has several
-    /// faults, the answer is the one with the least number. The core stays unchanged. `OutOfMemory`
-    /// never occurs.
-    pub fn take(&mut self, event: Event) -> Result<Option<CallEnd>, ReplayFault>
+    /// faults, the answer is the one with the least number. The core stays unchanged.
+    pub fn take(&mut self, event: Event) -> Result<Option<CallEnd>, EventFault>
         ensures came { OnOk result
             (MayCome (setting self.old) (state_of (setting self.old) self.old.schedule) event) }
         ensures core { OnOk result (self.new
@@ -152,7 +151,7 @@ impl LogCore {
         ensures same { OnErr result (self.new ≡ self.old) }
     {
         laws::logs_are_linearized(self);
-        laws::every_fault();
+        laws::faults_decide();
         match fault_of(self, event) {
             Some(fault) => Err(fault),
             None => Ok(apply_event(self, event)),
@@ -166,7 +165,7 @@ impl LogCore {
         self.state.entries.as_slice()
     }
 
-    /// The number of fixed slots, whether or not a process has applied them.
+    /// The number of fixed slots, whether or not a process has replayed them.
     pub fn fixed_slots(&self) -> u16
         ensures { result ≡ length (batches (setting self.now) self.now.schedule) }
     {
@@ -218,23 +217,23 @@ impl LogCore {
         self.opening.object.operations()
     }
 
-    /// The number of slots that process `p` has applied.
-    pub fn applied_slots(&self, p: u8) -> u16
+    /// The number of slots that process `p` has replayed.
+    pub fn replayed(&self, p: u8) -> u16
         requires { p < processes_of self.now.opening.plan }
         ensures number { result
             ≡ length ((state_of (setting self.now) self.now.schedule).caller p).seen }
         ensures range { result ≤ self.now.opening.capacity }
     {
         laws::openings_are_valid(&self.opening);
-        self.state.callers[usize::from(p)].applied_slots
+        self.state.callers[usize::from(p)].replayed_slots
     }
 
-    /// The number of entries in the slots that process `p` has applied.
-    pub fn applied_entries(&self, p: u8) -> u16
+    /// The number of entries in the slots that process `p` has replayed.
+    pub fn replayed_entries(&self, p: u8) -> u16
         requires { p < processes_of self.now.opening.plan }
         ensures { result ≡ length (seen_of (setting self.now) self.now.schedule p) }
     {
-        self.state.callers[usize::from(p)].applied_entries
+        self.state.callers[usize::from(p)].replayed_entries
     }
 
     /// Whether process `p` is in no call.
@@ -246,7 +245,7 @@ impl LogCore {
         matches!(self.state.callers[usize::from(p)].phase, Phase::Idle)
     }
 
-    /// Whether process `p` has applied every slot. Otherwise it has applied fewer.
+    /// Whether process `p` has replayed every slot. Otherwise it has replayed fewer.
     pub fn at_end(&self, p: u8) -> bool
         requires { p < processes_of self.now.opening.plan }
         ensures end { IsTrue result
@@ -256,7 +255,7 @@ impl LogCore {
             ↔ (length ((state_of (setting self.now) self.now.schedule).caller p).seen
             < self.now.opening.capacity) }
     {
-        self.applied_slots(p) == self.opening.capacity
+        self.replayed(p) == self.opening.capacity
     }
 }
 
@@ -282,6 +281,6 @@ fn put_event(schedule: &mut Vec<Event>, opening: &Opening, event: Event)
     ensures room { vec_capacity schedule.new ≡ vec_capacity schedule.old }
 {
     laws::openings_are_valid(opening);
-    laws::every_log();
+    laws::event_lists_are_linearized();
     schedule.push_reserved(event);
 }

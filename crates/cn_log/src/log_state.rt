@@ -70,8 +70,8 @@ impl LogState {
         openings_are_valid(opening);
         let processes = usize::from(opening.plan.processes());
         let none = CallerState {
-            applied_slots: 0,
-            applied_entries: 0,
+            replayed_slots: 0,
+            replayed_entries: 0,
             calls_seen: CallCounts::new(),
             calls: 0,
             phase: Phase::Idle,
@@ -149,7 +149,7 @@ impl LogState {
         let announced = self.announced[usize::from(q)];
         here.look(q, announced);
         if q + 1 == opening.plan.processes() {
-            let round = &mut self.rounds[usize::from(here.applied_slots)];
+            let round = &mut self.rounds[usize::from(here.replayed_slots)];
             round.begin(p, here.begin());
         }
     }
@@ -170,7 +170,7 @@ impl LogState {
     {
         openings_are_valid(opening);
         let here = &mut self.callers[usize::from(p)];
-        let slot = here.applied_slots;
+        let slot = here.replayed_slots;
         let round = &mut self.rounds[usize::from(slot)];
         round.step(&opening.plan, p);
         let processes = opening.plan.processes();
@@ -236,7 +236,7 @@ fn enter(
     ensures slots_room { vec_capacity slots.new ≡ vec_capacity slots.old }
 {
     if *fixed == slot
-        && let Some(batch) = round.fixed_value()
+        && let Some(batch) = round.fixed()
     {
         put_batch(entries, slots, processes, slot, &batch);
         *fixed += 1;
@@ -246,9 +246,9 @@ fn enter(
 /// The process, with this call of its own pending, replays the batch of its next slot.
 #[inline(never)]
 fn replay_batch(opening: &Opening, here: &mut CallerState, mine: Entry, batch: &Batch) -> StepAnswer
-    requires slot { here.old.applied_slots < opening.now.capacity }
+    requires slot { here.old.replayed_slots < opening.now.capacity }
     requires few { opening.now.capacity ≤ MOST_SLOTS }
-    requires applied_entries { here.old.applied_entries ≤ MOST_ENTRIES }
+    requires replayed_entries { here.old.replayed_entries ≤ MOST_ENTRIES }
     requires calls_places { length here.old.calls_seen.calls ≡ MOST_PROCESSES }
     requires calls_seen { (q : ℕ) → q < processes_of opening.now.plan
         → count_at here.old.calls_seen q ≤ MOST_ENTRIES }
@@ -257,9 +257,9 @@ fn replay_batch(opening: &Opening, here: &mut CallerState, mine: Entry, batch: &
     requires operations { (q : ℕ) (e : EntryOf) → entry_at batch.now q ≡ Some e
         → e.operation.0 < length opening.now.object.operations }
     requires state { here.old.state.0 < length opening.now.object.states }
-    ensures applied_slots { here.new.applied_slots ≡ here.old.applied_slots + 1 }
-    ensures applied_entries { here.new.applied_entries
-        ≡ here.old.applied_entries
+    ensures replayed_slots { here.new.replayed_slots ≡ here.old.replayed_slots + 1 }
+    ensures replayed_entries { here.new.replayed_entries
+        ≡ here.old.replayed_entries
         + length (members (processes_of opening.now.plan) 0 batch.now) }
     ensures calls_places { length here.new.calls_seen.calls ≡ MOST_PROCESSES }
     ensures calls_seen { (q : ℕ) → q < processes_of opening.now.plan
@@ -267,18 +267,18 @@ fn replay_batch(opening: &Opening, here: &mut CallerState, mine: Entry, batch: &
         ≡ count_at here.old.calls_seen q + length (and_entry (entry_at batch.now q) []) }
     ensures calls { here.new.calls ≡ here.old.calls }
     ensures phase { here.new.phase
-        ≡ phase_after (setting_of opening.now) here.old.applied_slots mine batch.now }
+        ≡ phase_after (setting_of opening.now) here.old.replayed_slots mine batch.now }
     ensures state { here.new.state.0
         ≡ run_of opening.now.object here.old.state.0
         (operations_of (members (processes_of opening.now.plan) 0 batch.now)) }
     ensures known { here.new.state.0 < length opening.now.object.states }
     ensures answer { result
-        ≡ step_answer (setting_of opening.now) here.old.applied_slots here.old.state.0 mine
+        ≡ step_answer (setting_of opening.now) here.old.replayed_slots here.old.state.0 mine
         batch.now }
     ensures range { HasResponse opening.now.object result }
 {
     let processes = opening.plan.processes();
-    let slot = here.applied_slots;
+    let slot = here.replayed_slots;
     let (phase, answer) = if batch.has(mine) {
         let response = response_at(opening, here.state, batch, mine);
         (Phase::Idle, StepAnswer::Answered { slot, response })
@@ -287,8 +287,8 @@ fn replay_batch(opening: &Opening, here: &mut CallerState, mine: Entry, batch: &
     } else {
         (first_look(mine), StepAnswer::Working)
     };
-    here.apply(&opening.object, processes, batch);
-    here.applied_slots = slot + 1;
+    here.replay(&opening.object, processes, batch);
+    here.replayed_slots = slot + 1;
     here.phase = phase;
     answer
 }

@@ -6,36 +6,35 @@ ghost use Rattle.cn_log.specs.Log.{MayCome, state_of};
 ghost use Rattle.cn_log.specs.Opening.{setting};
 
 use crate::event::{CallEnd, Event};
-use crate::fault::ReplayFault;
+use crate::fault::EventFault;
 use crate::log_core::LogCore;
 use cn_table::Operation;
 
 /// The fault of the event as the next one, if it cannot come.
-pub(crate) fn fault_of(core: &LogCore, event: Event) -> Option<ReplayFault>
+pub(crate) fn fault_of(core: &LogCore, event: Event) -> Option<EventFault>
     ensures { result
         ≡ event_fault (setting core.now) (state_of (setting core.now) core.now.schedule)
         (length core.now.schedule) event }
 {
     let place = core.schedule().len() as u64;
-    let (Event::Invoke(p, _) | Event::Step(p)) = event;
-    if p >= core.processes() {
-        return Some(ReplayFault::NoSuchProcess(place));
+    if event.process() >= core.processes() {
+        return Some(EventFault::NoSuchProcess(place));
     }
     match event {
         Event::Invoke(p, operation) => {
             if operation >= core.operations() {
-                Some(ReplayFault::NoSuchOperation(place))
+                Some(EventFault::NoSuchOperation(place))
             } else if !core.is_idle(p) {
-                Some(ReplayFault::NotIdle(place))
+                Some(EventFault::NotIdle(place))
             } else if core.at_end(p) {
-                Some(ReplayFault::AtEnd(place))
+                Some(EventFault::AtEnd(place))
             } else {
                 None
             }
         }
         Event::Step(p) => {
             if core.is_idle(p) {
-                Some(ReplayFault::Idle(place))
+                Some(EventFault::Idle(place))
             } else {
                 None
             }
@@ -55,6 +54,6 @@ pub(crate) fn apply_event(core: &mut LogCore, event: Event) -> Option<CallEnd>
             core.invoke(p, Operation(operation));
             None
         }
-        Event::Step(p) => core.step(p).end(p),
+        Event::Step(p) => core.step(p).end(),
     }
 }

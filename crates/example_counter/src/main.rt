@@ -1,7 +1,7 @@
 //! Serves a counter to three threads, over a log opened from a certificate.
 //!
-//! A gate stops the first call of process 2. The other calls are answered all the same, and then the
-//! process goes on with its call. What the program prints holds for every schedule.
+//! A gate stops the first call of process 2. The other calls are answered all the same, and then
+//! the process goes on with its call. What the program prints holds for every schedule.
 #![tactic(auto)]
 
 ghost use Rattle.std.specs.Prelude.{◌≡◌, ◌<◌, [], All, IfOk, length};
@@ -56,7 +56,7 @@ impl Gate for StopsTwo {
         self.0
     }
 
-    fn last_answer(&self) -> Go {
+    fn said(&self) -> Go {
         self.0
     }
 }

@@ -13,7 +13,7 @@ use Rattle.cn_hall.proofs.events.invoke.Goals as goal
 pub invoke-requires : goal.invoke-requires
 invoke-requires g c = let v = view c.args.pass.now in let x = c.take-item.result in
     let k = agreed v x c.args.process (core_of v) c.requires.sits c.take-item.ensures.agrees in
-    let same = caller_carried c.every_caller.ensures.stays c.args.process (core_of v) x.core k in
+    let same = caller_carried c.callers_change_by_own_events.ensures.stays c.args.process (core_of v) x.core k in
     record {
       process = subst (λ (o : Opening). c.args.process < processes_of o.plan) (sym k.0) c.requires.process;
       operation = subst (λ (o : Opening). c.args.operation.0 < length o.object.operations) (sym k.0) c.requires.operation;

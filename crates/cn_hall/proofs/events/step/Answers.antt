@@ -16,7 +16,7 @@ step-answer-requires g c = let v = view c.args.pass.now in let x = c.take-item.r
     let k = agreed v x c.args.process (core_of v) c.requires.sits c.take-item.ensures.agrees in
     record {
       process = subst (λ (o : Opening). c.args.process < processes_of o.plan) (sym k.0) c.requires.process;
-      in_call = λ idle. c.requires.in_call (sym (ap (λ (y : Caller). y.phase) (caller_carried c.every_caller.ensures.stays c.args.process (core_of v) x.core k)) ∙ idle);
+      in_call = λ idle. c.requires.in_call (sym (ap (λ (y : Caller). y.phase) (caller_carried c.callers_change_by_own_events.ensures.stays c.args.process (core_of v) x.core k)) ∙ idle);
     }
 
 pub put_step-requires-clause-event : goal.put_step-requires-clause-event

@@ -1,7 +1,7 @@
 use Rattle.std.proofs.Common.{◌+◌, ◌++◌, length, [], ◌∷◌, sym, ap, ◌∙◌, arith, append_assoc, length-append, vec_capacity}
 use Rattle.cn_log.specs.Batches.{each_slot, members}
-use Rattle.cn_log.proofs.Members.{next_some, next_none, slots_push, slots_many}
-use Rattle.cn_log.proofs.EntryPositions.{members_few}
+use Rattle.cn_log.proofs.ListLemmas.NextMembers.{next_some, next_none, slots_push, slots_many}
+use Rattle.cn_log.proofs.ListLemmas.EntryPositions.{members_few}
 use Rattle.cn_log.proofs.batch.put_batch.Goals.{in-Some, in_default}
 use Rattle.cn_log.proofs.batch.put_batch.Goals as goal
 

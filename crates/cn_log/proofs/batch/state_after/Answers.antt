@@ -3,7 +3,7 @@ use Rattle.cn_table.specs.TypeTable.{transition}
 use Rattle.cn_table.specs.Run.{state_after}
 use Rattle.cn_log.specs.Log.{operations_of}
 use Rattle.cn_log.specs.Batches.{members}
-use Rattle.cn_log.proofs.Members.{next_some, next_none, run_push}
+use Rattle.cn_log.proofs.ListLemmas.NextMembers.{next_some, next_none, run_push}
 use Rattle.cn_log.proofs.batch.state_after.Goals.{in-Some, in_default}
 use Rattle.cn_log.proofs.batch.state_after.Goals as goal
 

@@ -5,7 +5,7 @@ use Rattle.cn_log.specs.Batches.{entries_in, slots_from}
 use Rattle.cn_log.specs.Fields.{LogFields}
 use Rattle.cn_log.specs.Log.{batches}
 use Rattle.cn_log.specs.Opening.{setting_of}
-use Rattle.cn_log.proofs.EntryPositions.{slots_as_many}
+use Rattle.cn_log.proofs.ListLemmas.EntryPositions.{slots_as_many}
 use Rattle.cn_log.proofs.log_core.LogCore.slot_at.Goals as goal
 
 pub index-requires : goal.index-requires

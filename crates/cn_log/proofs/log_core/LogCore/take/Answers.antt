@@ -1,6 +1,6 @@
 use Rattle.std.proofs.Common.{◌∙◌, sym}
 use Rattle.cn_log.specs.Opening.{setting}
-use Rattle.cn_log.proofs.FaultLemmas.{first_fault}
+use Rattle.cn_log.proofs.StateLemmas.Faults.{first_fault}
 use Rattle.cn_log.proofs.log_core.LogCore.take.Goals as goal
 
 pub returns-in-Some-clause-first : goal.returns-in-Some-clause-first

@@ -1,5 +1,5 @@
 use Rattle.std.proofs.Common.{arith}
-use Rattle.cn_log.proofs.Fitting.{calls_few, invoke_keeps, keeps_shown, read_at}
+use Rattle.cn_log.proofs.StateLemmas.Fields.{calls_few, invoke_keeps, keeps_shown, read_at}
 use Rattle.cn_log.proofs.log_state.LogState.invoke.Goals as goal
 
 pub overflow_add-here : goal.overflow_add-here

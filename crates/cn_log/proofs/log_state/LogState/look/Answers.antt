@@ -11,8 +11,8 @@ use Rattle.cn_proto.specs.Plan.{processes_of}
 use Rattle.cn_log.specs.Fields.{count_at, batch_with_calls, Fields}
 use Rattle.cn_log.specs.declared.caller_state.CallerState.{CallerState}
 use Rattle.cn_log.specs.Opening.{Opening}
-use Rattle.cn_log.proofs.Fitting.{IsReadCaller, read_caller, read_at}
-use Rattle.cn_log.proofs.Stepping.{looks_next, looks_phase, looks_in_announced, looks_in_rounds, looks_good, looks_not_begun, gathered_is, gather_keeps, begin_keeps}
+use Rattle.cn_log.proofs.StateLemmas.Fields.{IsReadCaller, read_caller, read_at}
+use Rattle.cn_log.proofs.StateLemmas.Steps.{looks_next, looks_phase, looks_in_announced, looks_in_rounds, looks_good, looks_not_begun, gathered_is, gather_keeps, begin_keeps}
 use Rattle.cn_log.proofs.log_state.LogState.look.Goals as goal
 
 is_last : (a b : ℕ) → a ≡ b → (a == b) ≡ true
@@ -47,7 +47,7 @@ overflow_add-q c =
 pub index_mut-round-requires : goal.index_mut-round-requires
 index_mut-round-requires c =
     let here = read_caller c.openings_are_valid.ensures.agrees c.requires.3 c.self.view_is c.index_mut-here.ensures.value c.from.ensures in
-    let slot = ap (λ (k : CallerState). k.applied_slots) (c.look.ensures c.requires.1 c.requires.2 (looks_phase here)) in
+    let slot = ap (λ (k : CallerState). k.replayed_slots) (c.look.ensures c.requires.1 c.requires.2 (looks_phase here)) in
     omega (arith, c.from-then-q-processes.ensures, c.self.inside.rounds.ok.0, looks_in_rounds here, slot)
 
 pub begin-requires : goal.begin-requires
@@ -58,7 +58,7 @@ begin-requires c =
 pub begin-requires-then-q-processes-clause-process : goal.begin-requires-then-q-processes-clause-process
 begin-requires-then-q-processes-clause-process c =
     let here = read_caller c.openings_are_valid.ensures.agrees c.requires.3 c.self.view_is c.index_mut-here.ensures.value c.from.ensures in
-    let slot = ap (λ (k : CallerState). k.applied_slots) (c.look.ensures c.requires.1 c.requires.2 (looks_phase here)) in
+    let slot = ap (λ (k : CallerState). k.replayed_slots) (c.look.ensures c.requires.1 c.requires.2 (looks_phase here)) in
     let round = read_at c.self.inside.rounds.items c.index_mut-round.ensures.value (c.from-then-q-processes.ensures ∙ slot) in
     let good = looks_good here _ round in
     let size = (c.openings_are_valid.ensures.sizes _ good).1 in
@@ -69,7 +69,7 @@ pub begin-requires-then-q-processes-clause-not_begun : goal.begin-requires-then-
 begin-requires-then-q-processes-clause-not_begun c =
     let here = read_caller c.openings_are_valid.ensures.agrees c.requires.3 c.self.view_is c.index_mut-here.ensures.value c.from.ensures in
     let n = c.processes.ensures.number ∙ ap (λ (o : Opening). processes_of o.plan) c.opening.view_is in
-    let slot = ap (λ (k : CallerState). k.applied_slots) (c.look.ensures c.requires.1 c.requires.2 (looks_phase here)) in
+    let slot = ap (λ (k : CallerState). k.replayed_slots) (c.look.ensures c.requires.1 c.requires.2 (looks_phase here)) in
     let round = read_at c.self.inside.rounds.items c.index_mut-round.ensures.value (c.from-then-q-processes.ensures ∙ slot) in
     let good = looks_good here _ round in
     let none = looks_not_begun here (is_last _ _ (c.if-q-processes.true ∙ n)) _ round in
@@ -80,7 +80,7 @@ returns-then-q-processes-clause-keeps c = λ s mine batch at. (
     let n = c.processes.ensures.number ∙ ap (λ (o : Opening). processes_of o.plan) c.opening.view_is in
     let here = read_caller c.openings_are_valid.ensures.agrees at c.self.view_is c.index_mut-here.ensures.value c.from.ensures in
     let looked = c.look.ensures mine batch (looks_phase here) in
-    let slot = ap (λ (k : CallerState). k.applied_slots) looked in
+    let slot = ap (λ (k : CallerState). k.replayed_slots) looked in
     let round = read_at c.self.inside.rounds.items c.index_mut-round.ensures.value (c.from-then-q-processes.ensures ∙ slot) in
     let begun = c.begin.ensures mine (c.args.q + 1) _ (ap (λ (k : CallerState). k.phase) looked) in
     let batch_is = gathered here c.index-announced.result.now c.index-announced.ensures c.from-2.ensures in

@@ -4,8 +4,8 @@ use Rattle.cn_agree.specs.Steps.{after_step}
 use Rattle.cn_proto.specs.Plan.{processes_of, protocol_of}
 use Rattle.cn_log.specs.Fields.{LogFields}
 use Rattle.cn_log.specs.Opening.{Opening}
-use Rattle.cn_log.proofs.Fitting.{put_back, read_caller, read_at}
-use Rattle.cn_log.proofs.Stepping.{runs_in_rounds, runs_room, runs_good, runs_good_then, runs_begun, none_keeps, none_answer, some_operation, some_keeps, some_answer, seen_most, calls_most, calls_places, mine_low, mine_operation, entries_room, slots_room}
+use Rattle.cn_log.proofs.StateLemmas.Fields.{put_back, read_caller, read_at}
+use Rattle.cn_log.proofs.StateLemmas.Steps.{runs_in_rounds, runs_room, runs_good, runs_good_then, runs_begun, none_keeps, none_answer, some_operation, some_keeps, some_answer, seen_most, calls_most, calls_places, mine_low, mine_operation, entries_room, slots_room}
 use Rattle.cn_log.proofs.log_state.LogState.run.Goals.{in-None, in-Some}
 use Rattle.cn_log.proofs.log_state.LogState.run.Goals as goal
 
@@ -74,7 +74,7 @@ returns-clause-keeps c =
           (none_keeps here round next (sym c.decision.ensures.value ∙ w.in-None.is))
       | in-Some w ↦ rw (w.self-inside-is, c.enter.ensures.entries, c.enter.ensures.slots, c.enter.ensures.fixed, c.enter.ensures.room, c.enter.ensures.slots_room, c.from.ensures, c.from-2.ensures, n)
           (some_keeps here round next (sym c.decision.ensures.value ∙ w.in-Some.is)
-          w.replay_batch.new.here w.replay_batch.ensures.applied_slots w.replay_batch.ensures.applied_entries w.replay_batch.ensures.calls_places w.replay_batch.ensures.calls_seen
+          w.replay_batch.new.here w.replay_batch.ensures.replayed_slots w.replay_batch.ensures.replayed_entries w.replay_batch.ensures.calls_places w.replay_batch.ensures.calls_seen
           w.replay_batch.ensures.calls w.replay_batch.ensures.phase w.replay_batch.ensures.state w.replay_batch.ensures.known)
     ]
 
@@ -89,8 +89,8 @@ returns-clause-answer c =
       | in-Some w ↦ w.result-is ∙ some_answer here round next (sym c.decision.ensures.value ∙ w.in-Some.is) w.replay_batch.result w.replay_batch.ensures.answer
     ]
 
-pub replay_batch-requires-clause-applied_entries : goal.replay_batch-requires-clause-applied_entries
-replay_batch-requires-clause-applied_entries c = seen_most (read_caller c.openings_are_valid.ensures.agrees c.requires.at.1 c.self.view_is c.index_mut-here.ensures.value c.from.ensures) c.openings_are_valid.ensures.opening.few
+pub replay_batch-requires-clause-replayed_entries : goal.replay_batch-requires-clause-replayed_entries
+replay_batch-requires-clause-replayed_entries c = seen_most (read_caller c.openings_are_valid.ensures.agrees c.requires.at.1 c.self.view_is c.index_mut-here.ensures.value c.from.ensures) c.openings_are_valid.ensures.opening.few
 
 pub replay_batch-requires-clause-calls_places : goal.replay_batch-requires-clause-calls_places
 replay_batch-requires-clause-calls_places c = calls_places (read_caller c.openings_are_valid.ensures.agrees c.requires.at.1 c.self.view_is c.index_mut-here.ensures.value c.from.ensures)

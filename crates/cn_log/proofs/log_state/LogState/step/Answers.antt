@@ -1,5 +1,5 @@
 use Rattle.std.proofs.Common.{sym, ◌∙◌}
-use Rattle.cn_log.proofs.Fitting.{caller_here, keeps_shown, read_at}
+use Rattle.cn_log.proofs.StateLemmas.Fields.{caller_here, keeps_shown, read_at}
 use Rattle.cn_log.proofs.log_state.LogState.step.Goals as goal
 
 pub returns-in-Looks-clause-keeps : goal.returns-in-Looks-clause-keeps

@@ -1,0 +1,3 @@
+-- The steps that a call takes.
+pub mod Progress
+pub mod StepBounds

@@ -1,7 +1,0 @@
-use Rattle.cn_log.specs.Log.{state_of}
-use Rattle.cn_log.specs.Opening.{setting_of}
-use Rattle.cn_log.proofs.FaultLemmas.{fault_or_may}
-use Rattle.cn_log.proofs.laws.every_fault.Goals as goal
-
-pub returns : goal.returns
-returns c = λ o events place event. fault_or_may (setting_of o) (state_of (setting_of o) events) place event
