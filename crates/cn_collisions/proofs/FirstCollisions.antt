@@ -12,7 +12,7 @@ use Rattle.cn_choice.specs.OutcomeSets.{InOutcomeSet, pair_of}
 use Rattle.cn_choice.specs.Collisions.{IsCollision}
 use Rattle.cn_outcomes.specs.Twins.{AreTwins}
 use Rattle.cn_outcomes.proofs.Exchange.{twin_results}
-use Rattle.cn_choice.proofs.Walks.{the_pair}
+use Rattle.cn_choice.proofs.OrderLemmas.Walks.{the_pair}
 
 pub same_pair : (a b x y : ℕ) → a ≡ x → b ≡ y → ◌≡◌ {A = Option (ℕ × ℕ)} (Some (a, b)) (Some (x, y))
 same_pair a b x y e f = cc

@@ -18,16 +18,16 @@ use Rattle.cn_choice.specs.Moves.{answer_of, next_of}
 use Rattle.cn_stocks.specs.declared.pair_sets.PairSet.{PairSet}
 use Rattle.cn_collisions.specs.Ways.{BeginsWithin, Ends, Hits, IsFirstWay, IsFresh, IsWay, NoWay, StepWay, seen_after}
 use Rattle.cn_choice.specs.TeamOrders.{begins_within, team_from, team_to}
-use Rattle.cn_choice.proofs.ArrangementLemmas.{Differ}
+use Rattle.cn_choice.proofs.ListLemmas.Arrangements.{Differ}
 use Rattle.cn_outcomes.proofs.BitSets.{pow_set, union_set}
 use Rattle.cn_outcomes.proofs.LastAnswers.{pair_parts}
-use Rattle.cn_choice.proofs.LastMoves.{pair_whole}
+use Rattle.cn_choice.proofs.OrderLemmas.LastMoves.{pair_whole}
 use Rattle.cn_outcomes.proofs.LastProcess.{zero_has_none}
-use Rattle.cn_choice.proofs.Listing.{differ_from, distinct_from, fits_below, not_empty}
-use Rattle.cn_choice.proofs.Members.{IsIn, each_at, each_from}
+use Rattle.cn_choice.proofs.OrderLemmas.AllOrders.{differ_from, distinct_from, fits_below, not_empty}
+use Rattle.cn_choice.proofs.ListLemmas.Members.{IsIn, each_at, each_from}
 use Rattle.cn_collisions.proofs.WayLemmas.{in_pow}
-use Rattle.cn_choice.proofs.TeamOrderLemmas.{begins_from, begins_to}
-use Rattle.cn_choice.proofs.Walks.{first_some}
+use Rattle.cn_choice.proofs.OrderLemmas.TeamOrders.{begins_from, begins_to}
+use Rattle.cn_choice.proofs.OrderLemmas.Walks.{first_some}
 
 first_of_cond : (kept : Option ℕ) (b : Bool) (r : ℕ) (rest : Option ℕ) → first_some (first_some kept (cond b (Some r) None)) rest ≡ first_some kept (cond b (Some r) rest)
 first_of_cond None true r rest = refl

@@ -13,7 +13,7 @@ use Rattle.cn_outcomes.proofs.LastProcess.{same_or_not, zero_has_none}
 use Rattle.cn_collisions.specs.declared.view.Prefix.{Prefix}
 use Rattle.cn_collisions.specs.declared.view.View.{View}
 use Rattle.cn_collisions.specs.declared.ways.Step.{Step}
-use Rattle.cn_collisions.specs.Steps.{AreOpenings, HasRoom, IsFirstOnward, IsFirstStep, IsStep, LeadsOnward}
+use Rattle.cn_collisions.specs.Steps.{AreOpenings, HasMovesLeft, IsFirstOnward, IsFirstStep, IsStep, LeadsOnward}
 use Rattle.cn_collisions.specs.Views.{IsStart, moves_left, room_of}
 use Rattle.cn_collisions.specs.Ways.{IsCovered, IsFirstWay, IsPassed, IsTried, LeadsNowhere, NoWay, seen_after}
 use Rattle.cn_collisions.proofs.WayLemmas.{dead_closed, dead_here, leads_on, no_way, no_way_left, tried_more, tried_next}
@@ -153,7 +153,7 @@ module _ (v : View) (low high : ℕ) (at : Prefix) where
           ]
 
       -- the steps have room for as many processes as can move after a first one
-      pub have_room : left + 1 ≤ moves_left at → All (HasRoom v left) steps
+      pub have_room : left + 1 ≤ moves_left at → All (HasMovesLeft v left) steps
       have_room few k d inside =
           let is = (are.each k d inside).2 in
           record { prefix = is.prefix; begun = is.begun; room = omega (arith, is.room, few) }

@@ -3,7 +3,7 @@ use Rattle.std.proofs.Common.{◌≡◌, ℕ, suc, ◌+◌, ◌-◌, ◌<◌, �
 use Rattle.std.specs.Prelude.{slice_get, slice_index, slice_index_or}
 use Rattle.std.proofs.Math.Seq.{take-suc}
 use Rattle.std.proofs.lemmas.List.{length-map, take_all}
-use Rattle.cn_choice.proofs.ArrangementLemmas.{taken_long}
+use Rattle.cn_choice.proofs.ListLemmas.Arrangements.{taken_long}
 use Rattle.cn_outcomes.proofs.Packing.{below_or_last}
 use Rattle.cn_stocks.specs.declared.stocks.Stocks.{Stocks}
 use Rattle.cn_stocks.specs.Stocks.{UpTo, items_at}

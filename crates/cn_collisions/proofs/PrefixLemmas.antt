@@ -1,8 +1,7 @@
 -- The beginning of an order after one more move.
-use Rattle.std.proofs.Common.{◌≡◌, ◌≢◌, ℕ, ◌+◌, ◌-◌, ◌^◌, ◌<◌, ◌≤◌, inl, inr, List, ◌∷◌, length, refl, sym, ap, subst, arith, Bool, cond, Option, Some, None}
+use Rattle.std.proofs.Common.{◌≡◌, ◌≢◌, ℕ, ◌+◌, ◌-◌, ◌^◌, ◌<◌, ◌≤◌, inl, inr, List, ◌∷◌, length, sym, subst, arith, Option, Some, None}
 use Rattle.std.specs.Prelude.{IfSome, IsBitSet, MatchOption, slice_index}
 use Rattle.std.specs.Int.Bits.{bit_or}
-use Rattle.std.proofs.lemmas.Bool.{eq-eqb, ne_eqb}
 use Rattle.cn_table.specs.declared.limits.TheConstants.{MOST_RESPONSES}
 use Rattle.cn_outcomes.proofs.BitSets.{pow_set, union_set}
 use Rattle.cn_stocks.specs.Words.{HaveSame}
@@ -11,34 +10,12 @@ use Rattle.cn_collisions.specs.declared.view.View.{View}
 use Rattle.cn_collisions.specs.Rests.{IsRest}
 use Rattle.cn_collisions.specs.Stands.{StandsAt}
 use Rattle.cn_collisions.specs.Views.{IsPrefix, room_of}
-use Rattle.cn_collisions.specs.Ways.{seen_after}
 use Rattle.cn_collisions.proofs.WayLemmas.{in_pow}
 use Rattle.cn_collisions.proofs.WayWords.{rest_other, rest_own}
-
--- a process that has not moved has got no response
-pub not_seen : (seen : Option ℕ) (used j : ℕ) → MatchOption seen (¬ IsBitSet used j) (λ r. IsBitSet used j) → ¬ IsBitSet used j → seen ≡ None
-not_seen None used j told n = refl
-not_seen (Some r) used j told n = absurd (n told)
-
-pub seen_own : (j p r : ℕ) (seen : Option ℕ) → seen ≡ None → p ≡ j → Some r ≡ seen_after j p r seen
-seen_own j p r None e same = sym (ap (λ (b : Bool). cond b (Some r) None) (eq-eqb p j same))
-seen_own j p r (Some s) e same = absurd (cc e)
-
-pub seen_other : (j p r : ℕ) (seen : Option ℕ) → p ≢ j → seen ≡ seen_after j p r seen
-seen_other j p r None n = sym (ap (λ (b : Bool). cond b (Some r) None) (ne_eqb p j n))
-seen_other j p r (Some s) n = refl
-
-pub room_own : (r size : ℕ) (seen : Option ℕ) → seen ≡ None → room_of (Some r) size + 1 ≡ room_of seen size
-room_own r size None e = refl
-room_own r size (Some s) e = absurd (cc e)
 
 pub room_other : (size : ℕ) (seen : Option ℕ) → 1 ≤ size → room_of seen (size - 1) + 1 ≡ room_of seen size
 room_other size None l = omega (arith, l)
 room_other size (Some s) l = omega (arith, l)
-
-pub begun_other : (size n : ℕ) (seen : Option ℕ) → 1 ≤ size → size + 1 ≤ n → room_of seen (size - 1) + 1 ≤ n
-begun_other size n None l few = omega (arith, l, few)
-begun_other size n (Some s) l few = omega (arith, l, few)
 
 told_other : (seen : Option ℕ) (used p j : ℕ) → p ≢ j → MatchOption seen (¬ IsBitSet used j) (λ r. IsBitSet used j) → MatchOption seen (¬ IsBitSet (bit_or used (2 ^ p)) j) (λ r. IsBitSet (bit_or used (2 ^ p)) j)
 told_other None used p j n told = λ s. elim ((union_set used (2 ^ p) j).0 s) [ inl u ↦ told u | inr b ↦ n (sym (pow_set p j b)) ]

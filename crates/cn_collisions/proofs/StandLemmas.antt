@@ -48,10 +48,10 @@ module _ (operations count : ℕ) (levels : List Stocks) (are : AreLevels operat
       by_size size (subst (λ (s : Stocks). slice_get levels size ≡ Some s) (sym same) stands.1) read
     where
       by_size : (size : ℕ) → slice_get levels size ≡ Some x → (slice_get x.list.items place ≡ Some st) × (st.operations.items ≡ stock) → (1 ≤ size) × ((rest : List ℕ) × HaveSame stock (o ∷ rest) × StandsIn levels (size - 1) j rest)
-      by_size zero at read = (let less = ((are.first x at).stocks place st read.0).links.some o j h in absurd (none-some less.0 less.1))
+      by_size zero at read = (let less = ((are.first x at).stocks place st read.0).smaller.some o j h in absurd (none-some less.0 less.1))
       by_size (suc m) at read =
           let b = some_at levels m (let l = slice_get_within levels (suc m) x at in omega (arith, l)) in
-          let less = ((are.next m b.0 x b.1 at).stocks place st read.0).links.some o j h in
+          let less = ((are.next m b.0 x b.1 at).stocks place st read.0).smaller.some o j h in
           let before : m ≡ suc m - 1 = omega arith in (
             omega arith,
             (less.0, subst (λ (items : List ℕ). HaveSame items (o ∷ less.0)) read.1 less.2, subst (λ (k : ℕ). StandsIn levels k j less.0) before (b.0, b.1, less.1)),
@@ -63,7 +63,7 @@ module _ (operations count : ℕ) (levels : List Stocks) (are : AreLevels operat
       let same = level_read levels size stands.0 x stands.1 e in
       let read = stock_read size place stock x st stands e f in
       let all = some_all operations count size levels x are (subst (λ (s : Stocks). slice_get levels size ≡ Some s) (sym same) stands.1) in
-      let zero : times o st.operations.items ≡ 0 = no_less all.0 st.operations.items st.less (all.1.stocks place st read.0).links o none in
+      let zero : times o st.operations.items ≡ 0 = no_less all.0 st.operations.items st.less (all.1.stocks place st read.0).smaller o none in
       let is : times o st.operations.items ≡ times o stock = ap (times o) read.1 in
       omega (arith, zero, is, l)
 

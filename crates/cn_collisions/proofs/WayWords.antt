@@ -10,10 +10,10 @@ use Rattle.cn_table.specs.TypeTable.{TypeTable, transition}
 use Rattle.cn_table.specs.Run.{state_after}
 use Rattle.cn_choice.specs.OutcomeSets.{operations_of}
 use Rattle.cn_choice.specs.RawChoices.{RawChoice}
-use Rattle.cn_choice.proofs.ArrangementLemmas.{Differ, IsTaken, differ_taken, taken_known}
-use Rattle.cn_choice.proofs.Listing.{differ_from, distinct_from}
-use Rattle.cn_choice.proofs.Members.{Contains-from_IsIn, IsIn, IsIn-append_cases, IsIn-append_left, IsIn-append_right, IsIn-from_Contains, IsIn-remove, IsIn-remove_cases, Pairs-remove, Pairs-weaker, each_at, each_from, gone, place_of}
-use Rattle.cn_choice.proofs.Permutations.{in_range, range_in, range_rises}
+use Rattle.cn_choice.proofs.ListLemmas.Arrangements.{Differ, IsTaken, differ_taken, taken_known}
+use Rattle.cn_choice.proofs.OrderLemmas.AllOrders.{differ_from, distinct_from}
+use Rattle.cn_choice.proofs.ListLemmas.Members.{Contains-from_IsIn, IsIn, IsIn-append_cases, IsIn-append_left, IsIn-append_right, IsIn-from_Contains, IsIn-remove, IsIn-remove_cases, Pairs-remove, Pairs-weaker, each_at, each_from, gone, place_of}
+use Rattle.cn_choice.proofs.ListLemmas.Permutations.{in_range, range_in, range_rises}
 use Rattle.cn_outcomes.proofs.BitSets.{pow_set, union_set}
 use Rattle.cn_outcomes.proofs.LastProcess.{zero_has_none}
 use Rattle.cn_stocks.specs.Words.{HaveSame, IsWithin, times}

@@ -11,12 +11,15 @@ use Rattle.cn_choice.specs.Discerning.{IsWitness}
 -- `Splits` for a witness, and the recorded collision for any other choice
 abbrev pub IsExamined : TypeTable → Choice → Examined → Type 0
 IsExamined t c Splits = IsWitness t (raw_choice_of c)
-IsExamined t c (Meets e) = (e.choice ≡ c) × IsRecordedCollision t (raw_choice_of c) e.process e.alpha e.beta
+IsExamined t c (Meets e) =
+    (e.choice ≡ c) × IsRecordedCollision t (raw_choice_of c) e.process e.alpha e.beta
 
 -- the process and the orders, with this choice
 abbrev pub collision_with : Choice → RecordedOrders → Collision
-collision_with c o = record { choice = c; process = o.process; alpha = o.alpha.items; beta = o.beta.items }
+collision_with c o =
+    record { choice = c; process = o.process; alpha = o.alpha.items; beta = o.beta.items }
 
 -- the process and the orders of the recorded collision of the choice
 abbrev pub AreRecordedOrders : TypeTable → Choice → RecordedOrders → Type 0
-AreRecordedOrders t c o = IsRecordedCollision t (raw_choice_of c) o.process o.alpha.items o.beta.items
+AreRecordedOrders t c o =
+    IsRecordedCollision t (raw_choice_of c) o.process o.alpha.items o.beta.items

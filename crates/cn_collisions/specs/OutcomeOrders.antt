@@ -15,25 +15,33 @@ LeadsTo t c team j pair order = BeginsIn c team order × (pair_of t c order j �
 
 -- the order begins in the team and gives process j a pair of the set
 abbrev pub LeadsInto : TypeTable → RawChoice → Team → ℕ → PairSet → List ℕ → Type 0
-LeadsInto t c team j set order = (pair : ℕ × ℕ) × LeadsTo t c team j pair order × Has set pair.0 pair.1
+LeadsInto t c team j set order =
+    (pair : ℕ × ℕ) × LeadsTo t c team j pair order × Has set pair.0 pair.1
 
 -- no order that begins in the team gives process j a pair of the set
 abbrev pub NoneInto : TypeTable → RawChoice → Team → ℕ → PairSet → Type 0
-NoneInto t c team j set = (order : List ℕ) → IsOrder (length c.operations) order → ¬ LeadsInto t c team j set order
+NoneInto t c team j set = (order : List ℕ) → IsOrder (length c.operations) order
+    → ¬ LeadsInto t c team j set order
 
 -- no such order with this many processes
 abbrev pub NoneOfLength : TypeTable → RawChoice → Team → ℕ → PairSet → ℕ → Type 0
-NoneOfLength t c team j set k = (order : List ℕ) → IsOrder (length c.operations) order → length order ≡ k → ¬ LeadsInto t c team j set order
+NoneOfLength t c team j set k = (order : List ℕ) → IsOrder (length c.operations) order
+    → length order ≡ k → ¬ LeadsInto t c team j set order
 
--- the first order, in list order, that begins in the team and gives process j a pair of the set, and this pair
-pub record IsFirstInto (t : TypeTable) (c : RawChoice) (team : Team) (j : ℕ) (set : PairSet) (order : List ℕ) (pair : ℕ × ℕ) : Type 0 where
+-- the first order, in list order, that begins in the team and gives process j a pair of the set,
+-- and this pair
+pub record IsFirstInto (t : TypeTable) (c : RawChoice) (team : Team) (j : ℕ) (set : PairSet)
+    (order : List ℕ) (pair : ℕ × ℕ) : Type 0 where
   pub ordered : IsOrder (length c.operations) order
   pub leads : LeadsTo t c team j pair order
   pub has : Has set pair.0 pair.1
-  pub earlier : (x : List ℕ) → IsOrder (length c.operations) x → ComesBefore x order → ¬ LeadsInto t c team j set x
+  pub earlier : (x : List ℕ) → IsOrder (length c.operations) x → ComesBefore x order
+      → ¬ LeadsInto t c team j set x
 
 -- the first order, in list order, that begins in the team and gives process j the pair
-pub record IsFirstOfPair (t : TypeTable) (c : RawChoice) (team : Team) (j : ℕ) (pair : ℕ × ℕ) (order : List ℕ) : Type 0 where
+pub record IsFirstOfPair (t : TypeTable) (c : RawChoice) (team : Team) (j : ℕ) (pair : ℕ × ℕ)
+    (order : List ℕ) : Type 0 where
   pub ordered : IsOrder (length c.operations) order
   pub leads : LeadsTo t c team j pair order
-  pub earlier : (x : List ℕ) → IsOrder (length c.operations) x → ComesBefore x order → ¬ LeadsTo t c team j pair x
+  pub earlier : (x : List ℕ) → IsOrder (length c.operations) x → ComesBefore x order
+      → ¬ LeadsTo t c team j pair x

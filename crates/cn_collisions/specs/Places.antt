@@ -13,7 +13,8 @@ pub record IsUpTo (list : List ℕ) (end : ℕ) (stock : List ℕ) : Type 0 wher
 
 -- such a stock stands there
 abbrev pub HasUpTo : Sets → List ℕ → ℕ → StockPlace → Type 0
-HasUpTo sets list end at = (stock : List ℕ) × StandsAt sets at.size at.place stock × IsUpTo list end stock
+HasUpTo sets list end at =
+    (stock : List ℕ) × StandsAt sets at.size at.place stock × IsUpTo list end stock
 
 -- the stock has besides the operation so many times
 pub record IsGathered (list : List ℕ) (end count : ℕ) (stock : List ℕ) : Type 0 where
@@ -22,8 +23,9 @@ pub record IsGathered (list : List ℕ) (end count : ℕ) (stock : List ℕ) : T
   pub none : (o : ℕ) → end + 1 ≤ o → times o stock ≡ 0
 
 -- a stock that can have one more of the operation at its end stands there
-abbrev pub HasRoom : Sets → ℕ → StockPlace → Type 0
-HasRoom sets operation at = (stock : List ℕ) × StandsAt sets at.size at.place stock × UpTo operation stock × (at.size < sets.n)
+abbrev pub HasRoomForMore : Sets → ℕ → StockPlace → Type 0
+HasRoomForMore sets operation at = (stock : List ℕ) × StandsAt sets at.size at.place stock
+    × UpTo operation stock × (at.size < sets.n)
 
 -- the stock of the list stands there
 abbrev pub HasPlace : Sets → List ℕ → ℕ → Type 0

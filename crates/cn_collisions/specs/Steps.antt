@@ -1,5 +1,6 @@
 -- The next process of an order.
-use Rattle.std.specs.Prelude.{◌≡◌, ℕ, ◌+◌, ◌-◌, ◌^◌, ◌<◌, ◌≤◌, ◌⊎◌, List, length, slice_index_or, All, IsBitSet}
+use Rattle.std.specs.Prelude.{◌≡◌, ℕ, ◌+◌, ◌-◌, ◌^◌, ◌<◌, ◌≤◌, ◌⊎◌, List, length, slice_index_or}
+use Rattle.std.specs.Prelude.{All, IsBitSet}
 use Rattle.std.specs.List.{AllPairs, Any, HoldsAt}
 use Rattle.std.specs.Int.Bits.{bit_or}
 use Rattle.cn_choice.specs.declared.team.Team.{Team}
@@ -17,7 +18,8 @@ use Rattle.cn_collisions.specs.Ways.{IsCovered, LeadsNowhere, WayTo, seen_after}
 -- some way to go on with exactly so many processes leads into the set
 abbrev pub LeadsOnward : View → PairSet → ℕ → Prefix → Type 0
 LeadsOnward v set left at =
-    (r : ℕ) × ((q : ℕ) × WayTo v.sets.now.table.now v.raw.now v.process left at.used at.state.0 at.seen r q × Has set r q)
+    (r : ℕ) × ((q : ℕ) × WayTo v.sets.now.table.now v.raw.now v.process left at.used at.state.0
+    at.seen r q × Has set r q)
 
 -- the process has not moved, and this is the prefix after its move
 pub record IsStep (v : View) (at : Prefix) (s : Step) : Type 0 where
@@ -25,17 +27,20 @@ pub record IsStep (v : View) (at : Prefix) (s : Step) : Type 0 where
   pub free : ¬ IsBitSet at.used s.process
   pub used : s.prefix.used ≡ bit_or at.used (2 ^ s.process)
   pub state : s.prefix.state.0 ≡ next_of v.sets.now.table.now v.raw.now s.process at.state.0
-  pub seen : s.prefix.seen ≡ seen_after v.process s.process (answer_of v.sets.now.table.now v.raw.now s.process at.state.0) at.seen
+  pub seen : s.prefix.seen ≡ seen_after v.process s.process
+      (answer_of v.sets.now.table.now v.raw.now s.process at.state.0) at.seen
   pub prefix : IsPrefix v s.prefix
   pub begun : IsBegun v s.prefix
   pub room : moves_left s.prefix + 1 ≡ moves_left at
 
 -- the process of the step is the first one within the bounds that leads on
-pub record IsFirstStep (v : View) (set : PairSet) (left low high : ℕ) (at : Prefix) (s : Step) : Type 0 where
+pub record IsFirstStep (v : View) (set : PairSet) (left low high : ℕ) (at : Prefix)
+    (s : Step) : Type 0 where
   pub step : IsStep v at s
   pub from : low ≤ s.process
   pub upto : s.process < high
-  pub earlier : (p : ℕ) → low ≤ p → p < s.process → LeadsNowhere v.sets.now.table.now v.raw.now v.process set left low high at.used at.state.0 at.seen p
+  pub earlier : (p : ℕ) → low ≤ p → p < s.process → LeadsNowhere v.sets.now.table.now v.raw.now
+      v.process set left low high at.used at.state.0 at.seen p
   pub leads : LeadsOnward v set (left - 1) s.prefix
 
 -- the steps of the processes from low on and below high that need to move next, in order
@@ -43,22 +48,26 @@ pub record AreOpenings (v : View) (low high : ℕ) (at : Prefix) (steps : List S
   pub rising : AllPairs (λ x y. x.process < y.process) steps
   pub each : All (λ s. (low ≤ s.process) × (s.process < high) × IsStep v at s) steps
   pub needed : All (λ s. ¬ IsCovered v.raw.now v.process low at.used s.process) steps
-  pub every : (p : ℕ) → low ≤ p → p < high → Any (λ s. s.process ≡ p) steps ⊎ IsCovered v.raw.now v.process low at.used p
+  pub every : (p : ℕ) → low ≤ p → p < high
+      → Any (λ s. s.process ≡ p) steps ⊎ IsCovered v.raw.now v.process low at.used p
 
 -- so many processes can move after the step
-pub record HasRoom (v : View) (left : ℕ) (s : Step) : Type 0 where
+pub record HasMovesLeft (v : View) (left : ℕ) (s : Step) : Type 0 where
   pub prefix : IsPrefix v s.prefix
   pub begun : IsBegun v s.prefix
   pub room : left ≤ moves_left s.prefix
 
 -- the first of the steps that leads on
-pub record IsFirstOnward (v : View) (set : PairSet) (left : ℕ) (steps : List Step) (s : Step) : Type 0 where
+pub record IsFirstOnward (v : View) (set : PairSet) (left : ℕ) (steps : List Step)
+    (s : Step) : Type 0 where
   pub place : ℕ
   pub inside : place < length steps
   pub there : HoldsAt (λ x. x ≡ s) steps place
-  pub earlier : (k : ℕ) (d : Step) → k < place → ¬ LeadsOnward v set left (slice_index_or steps k d).prefix
+  pub earlier : (k : ℕ) (d : Step) → k < place
+      → ¬ LeadsOnward v set left (slice_index_or steps k d).prefix
   pub leads : LeadsOnward v set left s.prefix
 
 -- the steps of the processes of the team that need to move first, in order
 abbrev pub AreOpeningsOf : Asked → Team → List Step → Type 0
-AreOpeningsOf a team steps = AreOpenings a.view (team_from a.choice.now team) (team_to a.choice.now team) a.start steps
+AreOpeningsOf a team steps =
+    AreOpenings a.view (team_from a.choice.now team) (team_to a.choice.now team) a.start steps

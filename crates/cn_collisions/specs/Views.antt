@@ -1,5 +1,6 @@
 -- A process of a choice, and the beginnings of orders.
-use Rattle.std.specs.Prelude.{◌≡◌, ℕ, ◌+◌, ◌<◌, ◌≤◌, List, length, Option, Some, None, IfSome, IsBitSet, MatchOption}
+use Rattle.std.specs.Prelude.{◌≡◌, ℕ, ◌+◌, ◌<◌, ◌≤◌, List, length, Option, Some, None, IfSome}
+use Rattle.std.specs.Prelude.{IsBitSet, MatchOption}
 use Rattle.cn_table.specs.declared.limits.TheConstants.{MOST_RESPONSES}
 use Rattle.cn_choice.specs.Canonical.{raw_choice_of}
 use Rattle.cn_choice.specs.RawChoices.{IsRawChoice}
@@ -27,7 +28,8 @@ room_of (Some response) size = size
 abbrev pub moves_left : Prefix → ℕ
 moves_left p = room_of p.seen p.size
 
--- the stock is that of the other processes that have not moved, and it is told whether the process has moved
+-- the stock is that of the other processes that have not moved, and it is told whether the process
+-- has moved
 pub record IsPrefix (v : View) (p : Prefix) : Type 0 where
   pub stock : List ℕ
   pub stands : StandsAt v.sets.now p.size p.place stock

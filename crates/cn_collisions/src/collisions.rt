@@ -26,8 +26,8 @@ fn only(response: u8, state: u8) -> PairSet
     pairs
 }
 
-/// Fills two empty lists with the first collision of the process, and answers whether it has one. It
-/// is the collision with the least first order, and with it the least second order.
+/// Fills two empty lists with the first collision of the process, and answers whether it has one.
+/// It is the collision with the least first order, and with it the least second order.
 pub(crate) fn collision_of(
     asked: &Asked<'_>,
     alpha: &mut ArrayVec<u8, MOST_PROCESSES>,

@@ -6,7 +6,7 @@ ghost use Rattle.cn_choice.specs.Discerning.{IsWitness};
 ghost use Rattle.cn_choice.specs.RawChoices.{IsRawChoice};
 ghost use Rattle.cn_outcomes.specs.Twins.{AreTwins};
 ghost use Rattle.cn_collisions.specs.Examination.{AreRecordedOrders, IsExamined, collision_with};
-ghost use Rattle.cn_collisions.specs.Levels.{AreSomeSets};
+ghost use Rattle.cn_collisions.specs.Levels.{AreSomeSets, number_of, table_of};
 ghost use Rattle.cn_collisions.specs.Views.{IsAsked, IsSubject};
 
 use crate::asked::Asked;
@@ -135,15 +135,16 @@ fn raw_collision(subject: &Subject<'_>) -> Option<RecordedOrders>
 }
 
 /// The process and the orders of the recorded collision of a choice, and none for a witness. The
-/// process is the least that has a collision. In list order its `alpha` is the first of this process,
-/// and its `beta` is the first with the pair of `alpha`.
+/// process is the least that has a collision. In list order its `alpha` is the first of this
+/// process, and its `beta` is the first with the pair of `alpha`.
 ///
 /// The choice is one for as many processes as the sets.
 pub fn recorded_orders(sets: &Sets<'_>, choice: &Choice) -> Option<RecordedOrders>
     requires sets { AreSomeSets sets.now }
-    requires fits { IsRawChoice sets.now.table.now sets.now.n (raw_choice_of choice.now) }
-    ensures none { IfNone result (IsWitness sets.now.table.now (raw_choice_of choice.now)) }
-    ensures recorded { IfSome result (AreRecordedOrders sets.now.table.now choice.now) }
+    requires fits { IsRawChoice (table_of sets.now) (number_of sets.now)
+        (raw_choice_of choice.now) }
+    ensures none { IfNone result (IsWitness (table_of sets.now) (raw_choice_of choice.now)) }
+    ensures recorded { IfSome result (AreRecordedOrders (table_of sets.now) choice.now) }
 {
     let raw = RawChoice::of(choice);
     let (a, b) = (choice.a.as_slice(), choice.b.as_slice());
@@ -163,8 +164,9 @@ pub fn recorded_orders(sets: &Sets<'_>, choice: &Choice) -> Option<RecordedOrder
 /// The choice is one for as many processes as the sets.
 pub fn examine(sets: &Sets<'_>, choice: &Choice) -> Examined
     requires sets { AreSomeSets sets.now }
-    requires fits { IsRawChoice sets.now.table.now sets.now.n (raw_choice_of choice.now) }
-    ensures { IsExamined sets.now.table.now choice.now result }
+    requires fits { IsRawChoice (table_of sets.now) (number_of sets.now)
+        (raw_choice_of choice.now) }
+    ensures { IsExamined (table_of sets.now) choice.now result }
 {
     match recorded_orders(sets, choice) {
         Some(orders) => Examined::Meets(orders.into_collision(choice)),

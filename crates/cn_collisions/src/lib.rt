@@ -1,8 +1,8 @@
 //! The recorded collision of each choice of a type for one number of processes.
 //!
-//! [`Sets`] says what words of exactly so many operations lead to, for all stocks of operations. They
-//! are made once, and [`examine`] reads the recorded collision of a choice off them, process by
-//! process, with no step back.
+//! [`Sets`] says what words of an exact number of operations lead to, for all stocks of operations.
+//! They are made once, and [`examine`] reads the recorded collision of a choice off them, process
+//! by process, with no step back.
 //!
 //! ```text
 //! let sets = Sets::new(rt, alloc, &table, 3, Threading::Many)?;

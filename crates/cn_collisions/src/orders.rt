@@ -14,8 +14,8 @@ use cn_choice::{MOST_PROCESSES, Team};
 use cn_stocks::pair_sets::PairSet;
 
 /// Fills an empty list with the first moves of the processes of the team. Each order that begins in
-/// the team goes on from one of them, or is like one that does. In the body of the caller, more of what
-/// is read stays in registers.
+/// the team goes on from one of them, or is like one that does. In the body of the caller, more of
+/// what is read stays in registers.
 #[inline(always)]
 pub(crate) fn push_openings_of(
     asked: &Asked<'_>,
@@ -61,8 +61,8 @@ pub(crate) fn first_order_into(
     None
 }
 
-/// The pairs that the process gets from orders that begin in the team. The openings are those of the
-/// team.
+/// The pairs that the process gets from orders that begin in the team. The openings are those of
+/// the team.
 pub(crate) fn outcomes(asked: &Asked<'_>, team: Team, openings: &[Step]) -> PairSet
     requires asked { IsAsked asked.now }
     requires openings { AreOpeningsOf asked.now team openings.now }

@@ -4,14 +4,14 @@ ghost use Rattle.cn_stocks.specs.Stocks.{UpTo};
 ghost use Rattle.cn_table.specs.declared.limits.TheConstants.{MOST_OPERATIONS};
 ghost use Rattle.cn_choice.specs.declared.limits.TheConstants.{MOST_PROCESSES};
 ghost use Rattle.cn_stocks.specs.Words.{times};
-ghost use Rattle.cn_collisions.specs.Places.{HasPlace, HasRoom, HasUpTo};
+ghost use Rattle.cn_collisions.specs.Places.{HasPlace, HasRoomForMore, HasUpTo};
 ghost use Rattle.cn_collisions.specs.Stands.{StandsAt};
 ghost use Rattle.cn_collisions.specs.Levels.{AreSomeSets};
 
 use crate::sets::Sets;
 use cn_table::MOST_OPERATIONS;
 
-/// Where a stock stands: its number of operations, and its place among those of so many.
+/// Where a stock stands: its number of operations, and its place among the stocks with this number.
 #[derive(Clone, Copy)]
 pub(crate) struct StockPlace {
     pub size: u8,
@@ -22,7 +22,7 @@ pub(crate) struct StockPlace {
 fn child_of(sets: &Sets<'_>, from: StockPlace, operation: u8) -> StockPlace
     requires sets { AreSomeSets sets.now }
     requires operation { operation < length sets.now.table.now.operations }
-    requires room { HasRoom sets.now operation from }
+    requires room { HasRoomForMore sets.now operation from }
     ensures { (stock : List ℕ) → StandsAt sets.now from.size from.place stock
         → UpTo operation stock
         → StandsAt sets.now result.size result.place (stock ++ operation ∷ []) }
@@ -49,8 +49,8 @@ fn counts_of(list: &[u8]) -> [u8; MOST_OPERATIONS]
     counts
 }
 
-/// The place of the stock with so many of the operation besides, which is as often as it stands in
-/// the list.
+/// The place of the stock to which copies of the operation are added. Their count is that of the
+/// operation in the list.
 fn with_copies(
     sets: &Sets<'_>,
     list: &[u8],
@@ -89,8 +89,8 @@ fn counted_place(sets: &Sets<'_>, list: &[u8]) -> u32
     at.place
 }
 
-/// Whether the next of two lists in their merged order is of the first, where so many of each are
-/// taken.
+/// Whether the next element of two lists in their merged order is of the first list, after the
+/// first elements of each.
 fn is_first_next(a: &[u8], b: &[u8], from_a: usize, from_b: usize) -> bool
     requires left { from_a + from_b < length a.now + length b.now }
     requires first { from_a ≤ length a.now }
@@ -102,7 +102,7 @@ fn is_first_next(a: &[u8], b: &[u8], from_a: usize, from_b: usize) -> bool
 }
 
 /// The place of the stock of the operations of two lists that never fall. It is found in one walk
-/// through both, in their merged order. There is none where the walk comes to a smaller operation.
+/// through both, in their merged order. There is none if the walk comes to a smaller operation.
 fn merged_place(sets: &Sets<'_>, a: &[u8], b: &[u8]) -> Option<u32>
     requires sets { AreSomeSets sets.now }
     requires lists { length a.now + length b.now ≡ sets.now.n }
@@ -129,8 +129,8 @@ fn merged_place(sets: &Sets<'_>, a: &[u8], b: &[u8]) -> Option<u32>
     Some(at.place)
 }
 
-/// The place of the stock of the operations of a choice: those of both teams, in one list and apart. A
-/// canonical choice needs one walk. For any other one each operation is counted.
+/// The place of the stock of the operations of a choice: those of both teams, in one list and
+/// apart. A canonical choice needs one walk. For any other one each operation is counted.
 pub(crate) fn place_of(sets: &Sets<'_>, list: &[u8], a: &[u8], b: &[u8]) -> u32
     requires sets { AreSomeSets sets.now }
     requires teams { list.now ≡ a.now ++ b.now }

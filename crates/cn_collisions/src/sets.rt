@@ -1,23 +1,20 @@
-//! All stocks of up to so many operations, and what words within them lead to.
+//! All stocks up to a number of operations, and what words within them lead to.
 ghost use Rattle.std.specs.Prelude.{◌≡◌, ◌≤◌, ◌<◌, ◌-◌, ◌+◌, ℕ, List, length, vec_len, slice_get, IfOk, Some};
 ghost use Rattle.cn_table.specs.declared.limits.TheConstants.{MOST_OPERATIONS};
 ghost use Rattle.cn_choice.specs.declared.limits.TheConstants.{MOST_PROCESSES};
 ghost use Rattle.cn_stocks.specs.declared.stocks.Stock.{Stock as StockOf};
 ghost use Rattle.cn_stocks.specs.declared.threading.Threading.TheVariants.{One};
 ghost use Rattle.std.specs.declared.vec.Vec.{Vec as VecOf};
-ghost use Rattle.cn_collisions.specs.declared.word_sets.Ends.{Ends as EndsOf};
-ghost use Rattle.cn_collisions.specs.declared.word_sets.Shown.{Shown as ShownOf};
 ghost use Rattle.cn_stocks.specs.Each.{EachAt};
-ghost use Rattle.cn_collisions.specs.Levels.{AreAllEnds, AreAllShown, AreBeside, AreLevels, AreSetsFor, IsLevel, IsPlaceOf, IsShownAt};
-ghost use Rattle.cn_collisions.specs.WordSets.{AreEndsOf, AreShownOf};
+ghost use Rattle.cn_collisions.specs.Levels.{AreAllSets, AreBeside, AreLevels, AreSetsFor, IsLevel, IsPlaceOf, IsShownAt};
+ghost use Rattle.cn_collisions.specs.WordSets.{AreSetsOf, IsEnds, IsShown};
 
 use crate::setting::Setting;
-use crate::word_sets::{Ends, Shown, stock_ends, stock_shown};
+use crate::word_sets::{Ends, Shown, StockSets, stock_ends, stock_shown};
 use cn_choice::MOST_PROCESSES;
 use cn_stocks::Threading;
-use cn_stocks::pair_sets::PairSet;
 use cn_stocks::stocks::{Stock, Stocks, no_operation};
-use cn_table::{Operation, State, Table};
+use cn_table::{Operation, Table};
 use rayon::prelude::*;
 use std::alloc::{AllocError, Global};
 use std::thread::Threads;
@@ -25,7 +22,7 @@ use std::thread::Threads;
 /// The fewest stocks whose pairs several threads make.
 const FEWEST_STOCKS: usize = 64;
 
-/// The stocks of so many operations and their ends, with the pairs of those of one operation less.
+/// The stocks of one size and their ends, with the pairs of the stocks of one operation less.
 #[derive(Clone, Copy)]
 pub(crate) struct Level<'s> {
     pub table: &'s Table,
@@ -65,7 +62,7 @@ fn all_stocks(alloc: Global, operations: u8, n: u8) -> Result<Vec<Stocks>, Alloc
     Ok(levels)
 }
 
-/// The ends of stocks of so many operations, from those of one operation less.
+/// The ends of stocks of one size, from those of the stocks of one operation less.
 fn level_ends(
     alloc: Global,
     table: &Table,
@@ -76,8 +73,8 @@ fn level_ends(
     requires few { size < MOST_PROCESSES }
     requires beside { (before : List StockOf)
         × AreBeside (length table.now.operations) size before stocks.now
-        × AreEndsOf table.now (size - 1) before ends.now }
-    ensures { IfOk result (λ level. AreEndsOf table.now size stocks.now level.items) }
+        × AreSetsOf (IsEnds table.now) (size - 1) before ends.now }
+    ensures { IfOk result (λ level. AreSetsOf (IsEnds table.now) size stocks.now level.items) }
 {
     let mut level = Vec::with_capacity(alloc, stocks.len())?;
     for stock in stocks {
@@ -94,17 +91,17 @@ fn level_ends(
     Ok(level)
 }
 
-/// The ends of the stocks of one operation less than so many.
-fn ends_below(ends: &[Vec<Ends>], size: u8) -> &[Ends]
-    requires { size ≤ length ends.now }
+/// The sets of the stocks of one operation less than the size. There are none for the size 0.
+fn below<E>(levels: &[Vec<E>], size: u8) -> &[E]
+    requires { size ≤ length levels.now }
     ensures none { size ≡ 0 → length result.now ≡ 0 }
-    ensures some { (m : ℕ) (level : VecOf EndsOf Global) → size ≡ m + 1
-        → slice_get ends.now m ≡ Some level → result.now ≡ level.items }
+    ensures some { (m : ℕ) (level : VecOf E Global) → size ≡ m + 1
+        → slice_get levels.now m ≡ Some level → result.now ≡ level.items }
 {
     if size == 0 {
         return &[];
     }
-    let level = &ends[size as usize - 1];
+    let level = &levels[size as usize - 1];
     level.as_slice()
 }
 
@@ -117,22 +114,22 @@ fn all_ends(
 ) -> Result<Vec<Vec<Ends>>, AllocError>
     requires few { n ≤ MOST_PROCESSES }
     requires stocks { AreLevels (length table.now.operations) (n + 1) stocks.now }
-    ensures { IfOk result (λ ends. AreAllEnds table.now stocks.now n ends.items) }
+    ensures { IfOk result (λ ends. AreAllSets (IsEnds table.now) stocks.now n ends.items) }
 {
     let mut ends = Vec::with_capacity(alloc, n as usize)?;
     for size in 0..n {
         let here = &stocks[size as usize];
         let list = here.list.as_slice();
         let done = ends.as_slice();
-        let below = ends_below(done, size);
+        let below = below(done, size);
         let level = level_ends(alloc, table, size, list, below)?;
         ends.push(level)?;
     }
     Ok(ends)
 }
 
-/// In which threads the pairs of so many stocks are made. Those of a few are there sooner than a
-/// thread starts.
+/// The threads that make the pairs of this count of stocks. One thread makes the pairs of a few
+/// stocks in less time than another thread takes to start.
 fn threading_for(threading: Threading, count: usize) -> Threading
     ensures one { threading ≡ One → result ≡ One }
     ensures many { FEWEST_STOCKS ≤ count → result ≡ threading }
@@ -173,7 +170,7 @@ fn level_shown<T: Threads + Sync>(
     threading: Threading,
 ) -> Result<Vec<Shown>, AllocError>
     requires { IsLevel level.now }
-    ensures { IfOk result (λ shown. AreShownOf level.now.table.now level.now.size
+    ensures { IfOk result (λ shown. AreSetsOf (IsShown level.now.table.now) level.now.size
         level.now.stocks.now shown.items) }
 {
     let count = level.stocks.len();
@@ -190,20 +187,6 @@ fn level_shown<T: Threads + Sync>(
         .collect::<Result<Vec<Shown>, AllocError>>(rt, alloc)?
 }
 
-/// The pairs of the stocks of one operation less than so many.
-fn shown_below(shown: &[Vec<Shown>], size: u8) -> &[Shown]
-    requires { size ≤ length shown.now }
-    ensures none { size ≡ 0 → length result.now ≡ 0 }
-    ensures some { (m : ℕ) (level : VecOf ShownOf Global) → size ≡ m + 1
-        → slice_get shown.now m ≡ Some level → result.now ≡ level.items }
-{
-    if size == 0 {
-        return &[];
-    }
-    let level = &shown[size as usize - 1];
-    level.as_slice()
-}
-
 /// The pairs of all stocks of fewer than n - 1 operations.
 fn all_shown<T: Threads + Sync>(
     rt: &T,
@@ -217,15 +200,15 @@ fn all_shown<T: Threads + Sync>(
     requires some { 2 ≤ n }
     requires few { n ≤ MOST_PROCESSES }
     requires stocks { AreLevels (length table.now.operations) (n + 1) stocks.now }
-    requires ends { AreAllEnds table.now stocks.now n ends.now }
-    ensures { IfOk result (λ shown. AreAllShown table.now stocks.now (n - 1) shown.items) }
+    requires ends { AreAllSets (IsEnds table.now) stocks.now n ends.now }
+    ensures { IfOk result (λ shown. AreAllSets (IsShown table.now) stocks.now (n - 1) shown.items) }
 {
     let mut shown = Vec::with_capacity(alloc, n as usize)?;
     for size in 0..n - 1 {
         let here = &stocks[size as usize];
         let list = here.list.as_slice();
         let done = shown.as_slice();
-        let below = shown_below(done, size);
+        let below = below(done, size);
         let row = &ends[size as usize];
         let own = row.as_slice();
         let level = Level {
@@ -244,19 +227,17 @@ fn all_shown<T: Threads + Sync>(
 impl<'t> Sets<'t> {
     ghost use Rattle.std.specs.Prelude.{◌≡◌, ◌≤◌, ◌<◌, ◌+◌, ◌-◌, ◌↔◌, ℕ, List, ◌∷◌, length, IfOk, IsBitSet};
     ghost use Rattle.cn_choice.specs.declared.limits.TheConstants.{MOST_PROCESSES};
-    ghost use Rattle.cn_stocks.specs.Pairs.{Has};
     ghost use Rattle.cn_stocks.specs.Words.{HaveSame};
-    ghost use Rattle.cn_collisions.specs.Exact.{EndsAfter, EndsUpTo, ShowsAfter, ShowsUpTo};
-    ghost use Rattle.cn_collisions.specs.Levels.{AreSetsFor, AreSomeSets};
+    ghost use Rattle.cn_collisions.specs.Levels.{AreAllSets, AreSetsFor, AreSomeSets};
     ghost use Rattle.cn_collisions.specs.Stands.{HasStock, HasStockWith, StandsAt};
 
     /// The sets for all choices of the table for n processes, from 2 to
-    /// [`MOST_PROCESSES`](cn_choice::MOST_PROCESSES). Where many stocks have one size, the threads
+    /// [`MOST_PROCESSES`](cn_choice::MOST_PROCESSES). If many stocks have one size, the threads
     /// share them. The sets do not depend on the threading.
     ///
     /// # Errors
     ///
-    /// Where memory is short.
+    /// `AllocError` if memory runs out.
     pub fn new<T: Threads + Sync>(
         rt: &T,
         alloc: Global,
@@ -300,79 +281,17 @@ impl<'t> Sets<'t> {
         unreachable!()
     }
 
-    /// The states in which words of so many operations within the stock end.
-    pub(crate) fn ends_after(&self, size: u8, place: u32, count: u8, state: State) -> u16
-        requires sets { AreSomeSets self.now }
+    /// The sets of the stock at the place, from those of all stocks.
+    #[inline(always)]
+    pub(crate) fn at<'s, E: StockSets>(&self, sets: &'s [Vec<E>], size: u8, place: u32) -> &'s E
+        requires sets { (count : ℕ) × (size < count)
+            × AreAllSets (E.fits self.now.table.now) self.now.stocks.items count sets.now }
         requires stock { HasStock self.now size place }
-        requires size { size < self.now.n }
-        requires count { count ≤ size }
-        requires state { state.0 < length self.now.table.now.states }
         ensures { (stock : List ℕ) → StandsAt self.now size place stock
-            → (q : ℕ) → IsBitSet result q ↔ EndsAfter self.now.table.now state.0 stock count q }
+            → E.fits self.now.table.now size stock result.now }
     {
-        let _states = self.table.states();
-        let row = &self.ends[size as usize];
-        let ends = &row[place as usize];
-        ends.after(count, state.0)
-    }
-
-    /// The pairs that words of so many operations within the stock show the asked one.
-    pub(crate) fn shown_after(
-        &self,
-        size: u8,
-        place: u32,
-        count: u8,
-        asked: Operation,
-        state: State,
-    ) -> &PairSet
-        requires sets { AreSomeSets self.now }
-        requires stock { HasStock self.now size place }
-        requires size { size + 1 < self.now.n }
-        requires count { count ≤ size }
-        requires asked { asked.0 < length self.now.table.now.operations }
-        requires state { state.0 < length self.now.table.now.states }
-        ensures { (stock : List ℕ) → StandsAt self.now size place stock
-            → (r q : ℕ) → Has result.now r q
-            ↔ ShowsAfter self.now.table.now state.0 stock asked.0 count r q }
-    {
-        let row = &self.shown[size as usize];
-        let shown = &row[place as usize];
-        shown.after(count, asked.0, state.0)
-    }
-    /// The states in which words of any number of operations within the stock end.
-    pub(crate) fn ends_ever(&self, size: u8, place: u32, state: State) -> u16
-        requires sets { AreSomeSets self.now }
-        requires stock { HasStock self.now size place }
-        requires size { size < self.now.n }
-        requires state { state.0 < length self.now.table.now.states }
-        ensures { (stock : List ℕ) → StandsAt self.now size place stock
-            → (q : ℕ) → IsBitSet result q ↔ EndsUpTo self.now.table.now state.0 stock size q }
-    {
-        let _states = self.table.states();
-        let row = &self.ends[size as usize];
-        let ends = &row[place as usize];
-        ends.ever(state.0)
-    }
-
-    /// The pairs that words of any number of operations within the stock show the asked one.
-    pub(crate) fn shown_ever(
-        &self,
-        size: u8,
-        place: u32,
-        asked: Operation,
-        state: State,
-    ) -> &PairSet
-        requires sets { AreSomeSets self.now }
-        requires stock { HasStock self.now size place }
-        requires size { size + 1 < self.now.n }
-        requires asked { asked.0 < length self.now.table.now.operations }
-        requires state { state.0 < length self.now.table.now.states }
-        ensures { (stock : List ℕ) → StandsAt self.now size place stock
-            → (r q : ℕ) → Has result.now r q
-            ↔ ShowsUpTo self.now.table.now state.0 stock asked.0 size r q }
-    {
-        let row = &self.shown[size as usize];
-        let shown = &row[place as usize];
-        shown.ever(asked.0, state.0)
+        let row = &sets[size as usize];
+        let own = &row[place as usize];
+        own
     }
 }

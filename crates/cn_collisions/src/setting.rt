@@ -1,10 +1,9 @@
 //! A stock beside those of one operation less.
-use crate::word_sets::{Ends, Shown};
+use crate::word_sets::{Ends, Shown, StockSets};
 use cn_stocks::stocks::Stock;
 use cn_table::Table;
 
-/// A table, a stock of so many operations, and what words within the stocks of one operation less
-/// lead to.
+/// A table, a stock and its size, and what words within the stocks of one operation less lead to.
 #[derive(Clone, Copy)]
 pub(crate) struct Setting<'s> {
     pub table: &'s Table,
@@ -18,35 +17,20 @@ pub(crate) struct Setting<'s> {
 impl<'s> Setting<'s> {
     ghost use Rattle.std.specs.Prelude.{◌≡◌, ◌<◌, ℕ, length, MatchOption};
     ghost use Rattle.cn_stocks.specs.Words.{times};
-    ghost use Rattle.cn_collisions.specs.WordSets.{AreLessEnds, AreLessShown, IsEndsSetting, IsShownSetting};
+    ghost use Rattle.cn_collisions.specs.WordSets.{AreLess, IsSetting};
 
-    /// The ends of the stock without one of the operation, where the stock has it.
-    pub fn less_ends(&self, operation: u8) -> Option<&'s Ends>
-        requires setting { IsEndsSetting self.now }
+    /// The sets of the stock without one of the operation, from those of the stocks of one
+    /// operation less. There are none if the stock does not have the operation.
+    #[inline(always)]
+    pub fn less<E: StockSets>(&self, sets: &'s [E], operation: u8) -> Option<&'s E>
+        requires setting { IsSetting (E.fits self.now.table.now) self.now sets.now }
         requires operation { operation < length self.now.table.now.operations }
         ensures { MatchOption result (times operation self.now.stock.now.operations.items ≡ 0)
-            (λ ends. AreLessEnds self.now operation ends.now) }
+            (λ less. AreLess (E.fits self.now.table.now) self.now operation less.now) }
     {
         let _operations = self.table.operations();
-        let ends = self.ends;
         match self.stock.less[operation as usize] {
-            Some(place) => Some(&ends[place as usize]),
-            None => None,
-        }
-    }
-
-    /// The pairs that are shown within the stock without one of the operation, where the stock has
-    /// it.
-    pub fn less_shown(&self, operation: u8) -> Option<&'s Shown>
-        requires setting { IsShownSetting self.now }
-        requires operation { operation < length self.now.table.now.operations }
-        ensures { MatchOption result (times operation self.now.stock.now.operations.items ≡ 0)
-            (λ shown. AreLessShown self.now operation shown.now) }
-    {
-        let _operations = self.table.operations();
-        let shown = self.shown;
-        match self.stock.less[operation as usize] {
-            Some(place) => Some(&shown[place as usize]),
+            Some(place) => Some(&sets[place as usize]),
             None => None,
         }
     }

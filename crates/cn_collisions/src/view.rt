@@ -58,73 +58,6 @@ impl<'s> View<'s> {
         Operation(raw.operations[process as usize])
     }
 
-    /// Whether this is the process.
-    fn is_own(&self, process: u8) -> bool
-        ensures { IsTrue result ↔ (process ≡ self.now.process) }
-    {
-        process == self.process
-    }
-
-    /// The prefix after the move of the process itself.
-    #[inline(always)]
-    fn after_own(&self, prefix: Prefix, process: u8) -> Prefix
-        requires view { IsView self.now }
-        requires prefix { IsPrefix self.now prefix }
-        requires process { process < length self.now.raw.now.operations }
-        requires free { ¬ IsBitSet prefix.used process }
-        requires own { process ≡ self.now.process }
-        ensures used { result.used ≡ bit_or prefix.used (2 ^ process) }
-        ensures state { result.state.0
-            ≡ next_of self.now.sets.now.table.now self.now.raw.now process prefix.state.0 }
-        ensures seen { result.seen ≡ seen_after self.now.process process
-            (answer_of self.now.sets.now.table.now self.now.raw.now process prefix.state.0)
-            prefix.seen }
-        ensures prefix { IsPrefix self.now result }
-        ensures begun { IsBegun self.now result }
-        ensures room { moves_left result + 1 ≡ moves_left prefix }
-    {
-        let _responses = self.sets.table.responses();
-        let operation = self.operation(process);
-        let (response, state) = self.sets.table.apply(operation, prefix.state);
-        Prefix {
-            used: prefix.used | (1 << process),
-            state,
-            seen: Some(response.0),
-            size: prefix.size,
-            place: prefix.place,
-        }
-    }
-
-    /// The prefix after a move of another process.
-    #[inline(always)]
-    fn after_other(&self, prefix: Prefix, process: u8) -> Prefix
-        requires view { IsView self.now }
-        requires prefix { IsPrefix self.now prefix }
-        requires process { process < length self.now.raw.now.operations }
-        requires free { ¬ IsBitSet prefix.used process }
-        requires other { process ≢ self.now.process }
-        ensures used { result.used ≡ bit_or prefix.used (2 ^ process) }
-        ensures state { result.state.0
-            ≡ next_of self.now.sets.now.table.now self.now.raw.now process prefix.state.0 }
-        ensures seen { result.seen ≡ seen_after self.now.process process
-            (answer_of self.now.sets.now.table.now self.now.raw.now process prefix.state.0)
-            prefix.seen }
-        ensures prefix { IsPrefix self.now result }
-        ensures begun { IsBegun self.now result }
-        ensures room { moves_left result + 1 ≡ moves_left prefix }
-    {
-        let operation = self.operation(process);
-        let (_, state) = self.sets.table.apply(operation, prefix.state);
-        let place = self.sets.less(prefix.size, prefix.place, operation);
-        Prefix {
-            used: prefix.used | (1 << process),
-            state,
-            seen: prefix.seen,
-            size: prefix.size - 1,
-            place,
-        }
-    }
-
     /// The prefix after a move of the process, which has not moved.
     #[inline(always)]
     pub fn after(&self, prefix: Prefix, process: u8) -> Prefix
@@ -142,10 +75,28 @@ impl<'s> View<'s> {
         ensures begun { IsBegun self.now result }
         ensures room { moves_left result + 1 ≡ moves_left prefix }
     {
-        if self.is_own(process) {
-            return self.after_own(prefix, process);
+        let _responses = self.sets.table.responses();
+        let operation = self.operation(process);
+        let (response, state) = self.sets.table.apply(operation, prefix.state);
+        let used = prefix.used | (1 << process);
+        if process == self.process {
+            let seen = Some(response.0);
+            return Prefix {
+                used,
+                state,
+                seen,
+                ..prefix
+            };
         }
-        self.after_other(prefix, process)
+        let place = self.sets.less(prefix.size, prefix.place, operation);
+        let size = prefix.size - 1;
+        Prefix {
+            used,
+            state,
+            size,
+            place,
+            ..prefix
+        }
     }
 
     /// Puts the pairs with which ways to go on end, with any number of processes, into the set.
@@ -161,19 +112,24 @@ impl<'s> View<'s> {
             prefix.state.0 prefix.seen r q)) }
     {
         let sets = self.sets;
-        let (size, place) = (prefix.size, prefix.place);
+        let (size, place, start) = (prefix.size, prefix.place, prefix.state.0);
         match prefix.seen {
             Some(response) => {
-                pairs.add_states(response, sets.ends_ever(size, place, prefix.state));
+                let _states = sets.table.states();
+                let ends = sets.at(&sets.ends, size, place);
+                let set = ends.ever(start);
+                pairs.add_states(response, set);
             }
             None => {
                 let asked = self.operation(self.process);
-                pairs.add_all(sets.shown_ever(size, place, asked, prefix.state));
+                let shown = sets.at(&sets.shown, size, place);
+                let all = shown.ever(asked.0, start);
+                pairs.add_all(all);
             }
         }
     }
 
-    /// Whether some way to go on with exactly so many processes ends with a pair of the set.
+    /// Whether some way to go on with exactly this number of processes ends with a pair of the set.
     #[inline(always)]
     pub fn leads_into(&self, prefix: Prefix, left: u8, target: &PairSet) -> bool
         requires view { IsView self.now }
@@ -185,17 +141,20 @@ impl<'s> View<'s> {
             × Has target.now r q)) }
     {
         let sets = self.sets;
-        let (size, place) = (prefix.size, prefix.place);
+        let (size, place, start) = (prefix.size, prefix.place, prefix.state.0);
         match prefix.seen {
             Some(response) => {
-                let ends = sets.ends_after(size, place, left, prefix.state);
-                target.has_some(response, ends)
+                let _states = sets.table.states();
+                let ends = sets.at(&sets.ends, size, place);
+                let set = ends.after(left, start);
+                target.has_some(response, set)
             }
             None if left == 0 => false,
             None => {
                 let asked = self.operation(self.process);
-                let shown = sets.shown_after(size, place, left - 1, asked, prefix.state);
-                shown.meets(target)
+                let shown = sets.at(&sets.shown, size, place);
+                let found = shown.after(left - 1, asked.0, start);
+                found.meets(target)
             }
         }
     }

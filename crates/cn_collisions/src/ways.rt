@@ -3,7 +3,7 @@ ghost use Rattle.std.specs.Prelude.{◌≡◌, ◌≢◌, ◌≤◌, ◌<◌, �
 ghost use Rattle.cn_table.specs.declared.limits.TheConstants.{MOST_RESPONSES, MOST_STATES};
 ghost use Rattle.cn_choice.specs.declared.limits.TheConstants.{MOST_PROCESSES};
 ghost use Rattle.cn_collisions.specs.Views.{IsPrefix, IsView, moves_left};
-ghost use Rattle.cn_collisions.specs.Steps.{AreOpenings, HasRoom, IsFirstOnward, IsFirstStep, LeadsOnward};
+ghost use Rattle.cn_collisions.specs.Steps.{AreOpenings, HasMovesLeft, IsFirstOnward, IsFirstStep, LeadsOnward};
 ghost use Rattle.cn_collisions.specs.Ways.{IsFirstWay, IsPassed, NoWay};
 
 use crate::view::{Prefix, View};
@@ -55,9 +55,9 @@ pub(crate) struct Step {
     pub prefix: Prefix,
 }
 
-/// Fills an empty list with the first moves of the processes from low on and below high, in order. Of
-/// processes with the same operation only the first has one. The process in question has its own. A
-/// list that is the result would be copied twice.
+/// Fills an empty list with the first moves of the processes from low on and below high, in order.
+/// Of processes with the same operation only the first has one. The process in question has its
+/// own. A list that is the result would be copied twice.
 #[inline(always)]
 pub(crate) fn push_openings(
     view: &View<'_>,
@@ -85,8 +85,8 @@ pub(crate) fn push_openings(
     }
 }
 
-/// The first of the steps after which some way to go on with exactly so many processes leads into the
-/// set.
+/// The first of the steps after which some way to go on with exactly this number of processes leads
+/// into the set.
 #[inline(always)]
 pub(crate) fn first_opening<'o>(
     view: &View<'_>,
@@ -95,7 +95,7 @@ pub(crate) fn first_opening<'o>(
     left: u8,
 ) -> Option<&'o Step>
     requires view { IsView view.now }
-    requires room { All (HasRoom view.now left) openings.now }
+    requires room { All (HasMovesLeft view.now left) openings.now }
     ensures none { IfNone result
         (All (λ s. ¬ LeadsOnward view.now target.now left s.prefix) openings.now) }
     ensures first { IfSome result
@@ -110,8 +110,8 @@ pub(crate) fn first_opening<'o>(
 }
 
 /// The first process from low on and below high after which some way to go on leads into the set,
-/// where the way has exactly so many processes with this one. Of processes with the same operation
-/// only the first is tried. A call of its own would cost as much as a process.
+/// if the way has exactly this number of processes with this one. Of processes with the same
+/// operation only the first is tried. A call of its own would cost as much as a process.
 #[inline(always)]
 fn first_step(
     view: &View<'_>,
@@ -147,8 +147,9 @@ fn first_step(
     None
 }
 
-/// Appends the process of the step, and then the first way to go on with exactly so many processes
-/// that leads into the set. Answers its pair. Some way leads there, so no step is taken back.
+/// Appends the process of the step, and then the first way to go on with exactly this number of
+/// processes that leads into the set. Answers its pair. Some way leads there, so no step is taken
+/// back.
 #[inline(always)]
 pub(crate) fn way_after(
     view: &View<'_>,

@@ -1,9 +1,9 @@
-//! What words of exactly so many operations within a stock lead to, from each state.
+//! What words of each number of operations within a stock lead to, from each state.
 ghost use Rattle.std.specs.Prelude.{◌≡◌, ◌≤◌, ◌<◌, ◌↔◌, ◌-◌, ◌+◌, ℕ, length, IfOk, IsBitSet};
 ghost use Rattle.cn_choice.specs.declared.limits.TheConstants.{MOST_PROCESSES};
 ghost use Rattle.cn_stocks.specs.Pairs.{Has};
 ghost use Rattle.cn_collisions.specs.Exact.{AreEndsAfter, AreEndsUpTo, ArePairsAfter, ArePairsUpTo, EndsAfter, EndsUpTo, ShowsNow};
-ghost use Rattle.cn_collisions.specs.WordSets.{AreAllRows, AreEndRows, AreRows, AreSets, AreUnionRows, AreUnions, IsEnds, IsEndsSetting, IsShown, IsShownSetting};
+ghost use Rattle.cn_collisions.specs.WordSets.{AreAllRows, AreEndRows, AreShownRows, AreSets, AreUnionRows, AreUnions, IsEnds, IsEndsSetting, IsShown, IsShownSetting};
 
 use crate::setting::Setting;
 use cn_outcomes::bits::{union, with};
@@ -30,6 +30,27 @@ pub(crate) struct Shown {
     pub all: Vec<Vec<PairSet>>,
 }
 
+/// What words within a stock lead to, of one kind.
+pub(crate) trait StockSets {
+    ghost use Rattle.std.specs.Prelude.{ℕ, List};
+    ghost use Rattle.cn_table.specs.TypeTable.{TypeTable};
+
+    /// These are the sets of a stock of the table with this number of operations.
+    ghost fits: { TypeTable → ℕ → List ℕ → Self → Type 0 };
+}
+
+impl StockSets for Ends {
+    ghost use Rattle.cn_collisions.specs.WordSets.{IsEnds};
+
+    ghost fits = { IsEnds };
+}
+
+impl StockSets for Shown {
+    ghost use Rattle.cn_collisions.specs.WordSets.{IsShown};
+
+    ghost fits = { IsShown };
+}
+
 impl Ends {
     ghost use Rattle.std.specs.Prelude.{◌≡◌, ◌≤◌, ◌<◌, ◌↔◌, ℕ, List, length, IsBitSet};
     ghost use Rattle.cn_table.specs.TypeTable.{TypeTable};
@@ -37,7 +58,7 @@ impl Ends {
     ghost use Rattle.cn_collisions.specs.Exact.{EndsAfter, EndsUpTo};
     ghost use Rattle.cn_collisions.specs.WordSets.{HasEndsAt, IsEnds};
 
-    /// The states in which words of so many operations end.
+    /// The states in which words of this number of operations end.
     pub fn after(&self, count: u8, start: u8) -> u16
         requires { HasEndsAt self.now count start }
         ensures { (t : TypeTable) (m : ℕ) (stock : List ℕ) → IsEnds t m stock self.now → count ≤ m
@@ -66,7 +87,7 @@ impl Shown {
     ghost use Rattle.cn_collisions.specs.Exact.{ShowsAfter, ShowsUpTo};
     ghost use Rattle.cn_collisions.specs.WordSets.{HasShownAt, IsShown};
 
-    /// The pairs that words of so many operations show the asked one.
+    /// The pairs that words of this number of operations show the asked one.
     pub fn after(&self, count: u8, asked: u8, start: u8) -> &PairSet
         requires { HasShownAt self.now count asked start }
         ensures { (t : TypeTable) (m : ℕ) (stock : List ℕ) → IsShown t m stock self.now → count ≤ m
@@ -90,7 +111,7 @@ impl Shown {
     }
 }
 
-/// The states in which words of so many operations end, and at least one.
+/// The states in which words of this number of operations end, which is 1 at least.
 fn ends_by_first(setting: &Setting<'_>, start: u8, count: u8) -> u16
     requires setting { IsEndsSetting setting.now }
     requires start { start < length setting.now.table.now.states }
@@ -102,7 +123,7 @@ fn ends_by_first(setting: &Setting<'_>, start: u8, count: u8) -> u16
     let _states = setting.table.states();
     let mut set = 0;
     for operation in 0..setting.table.operations() {
-        if let Some(ends) = setting.less_ends(operation) {
+        if let Some(ends) = setting.less(setting.ends, operation) {
             let (_, next) = setting.table.apply(Operation(operation), State(start));
             set = union(set, ends.after(count - 1, next.0));
         }
@@ -110,7 +131,7 @@ fn ends_by_first(setting: &Setting<'_>, start: u8, count: u8) -> u16
     set
 }
 
-/// The states in which words of so many operations end.
+/// The states in which words of this number of operations end.
 fn ends_from(setting: &Setting<'_>, start: u8, count: u8) -> u16
     requires setting { IsEndsSetting setting.now }
     requires start { start < length setting.now.table.now.states }
@@ -185,7 +206,7 @@ pub(crate) fn stock_ends(alloc: Global, setting: &Setting<'_>) -> Result<Ends, A
     Ok(Ends { by_count, all })
 }
 
-/// The pairs that words of so many operations show the asked one before them.
+/// The pairs that words of this number of operations show the asked one before them.
 fn shown_now(setting: &Setting<'_>, own: &Ends, count: u8, asked: u8, start: u8) -> PairSet
     requires setting { IsShownSetting setting.now }
     requires own { IsEnds setting.now.table.now setting.now.size
@@ -204,7 +225,7 @@ fn shown_now(setting: &Setting<'_>, own: &Ends, count: u8, asked: u8, start: u8)
     set
 }
 
-/// The pairs that words of so many operations show the asked one.
+/// The pairs that words of this number of operations show the asked one.
 fn shown_from(setting: &Setting<'_>, own: &Ends, count: u8, asked: u8, start: u8) -> PairSet
     requires setting { IsShownSetting setting.now }
     requires own { IsEnds setting.now.table.now setting.now.size
@@ -221,7 +242,7 @@ fn shown_from(setting: &Setting<'_>, own: &Ends, count: u8, asked: u8, start: u8
         return set;
     }
     for operation in 0..setting.table.operations() {
-        if let Some(shown) = setting.less_shown(operation) {
+        if let Some(shown) = setting.less(setting.shown, operation) {
             let (_, next) = setting.table.apply(Operation(operation), State(start));
             set.add_all(shown.after(count - 1, asked, next.0));
         }
@@ -265,7 +286,7 @@ fn shown_rows(
     requires own { IsEnds setting.now.table.now setting.now.size
         setting.now.stock.now.operations.items own.now }
     requires few { count ≤ setting.now.size }
-    ensures { IfOk result (λ rows. AreRows setting.now.table.now
+    ensures { IfOk result (λ rows. AreShownRows setting.now.table.now
         setting.now.stock.now.operations.items count rows.items) }
 {
     let end = setting.table.operations();

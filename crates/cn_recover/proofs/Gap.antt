@@ -14,11 +14,11 @@ use Rattle.cn_choice.specs.Orders.{IsOrder}
 use Rattle.cn_choice.specs.OutcomeSets.{BeginsIn, InOutcomeSet, operations_of}
 use Rattle.cn_choice.specs.RawChoices.{IsRawChoice, RawChoice}
 use Rattle.cn_choice.specs.Renumbering.{Embeds}
-use Rattle.cn_choice.proofs.EarlyLists.{alone_gets}
-use Rattle.cn_choice.proofs.Embedding.{begins_embeds, operations_embed, order_embeds}
-use Rattle.cn_choice.proofs.LastMoves.{known_last, last_self, order_from, pair_whole}
-use Rattle.cn_choice.proofs.Members.{IsIn, IsIn-map_from, each_at}
-use Rattle.cn_choice.proofs.Monotone.{skip, skip_apart, without, without_embeds}
+use Rattle.cn_choice.proofs.OrderLemmas.ShortOrders.{alone_gets}
+use Rattle.cn_choice.proofs.ChoiceLemmas.Embeddings.{begins_embeds, operations_embed, order_embeds}
+use Rattle.cn_choice.proofs.OrderLemmas.LastMoves.{known_last, last_self, order_from, pair_whole}
+use Rattle.cn_choice.proofs.ListLemmas.Members.{IsIn, IsIn-map_from, each_at}
+use Rattle.cn_choice.proofs.NumberLemmas.FewerProcesses.{skip, skip_apart, without, without_embeds}
 use Rattle.cn_outcomes.specs.LeftStates.{LeavesIn}
 use Rattle.cn_outcomes.proofs.LastProcess.{begins_more, known_from, state_along}
 use Rattle.cn_recover.specs.Recording.{HasTwo, IsRecording, IsRecordingWitness, Misses}

@@ -3,7 +3,7 @@ use Rattle.std.proofs.Common.{◌≡◌, ℕ, ◌+◌, ◌-◌, ◌<◌, ◌≤�
 use Rattle.std.proofs.lemmas.Bool.{cases_order}
 use Rattle.cn_table.specs.TypeTable.{TypeTable}
 use Rattle.cn_choice.specs.Discerning.{IsNumberUpTo}
-use Rattle.cn_choice.proofs.Numbers.{greatest_at, no_greatest, unique_greatest}
+use Rattle.cn_choice.proofs.NumberLemmas.GreatestNumbers.{greatest_at, no_greatest, unique_greatest}
 use Rattle.cn_recover.specs.Recording.{IsRecording, IsRecoverableNumberUpTo}
 use Rattle.cn_recover.proofs.Recordings.{recording_below, recording_discerns}
 

@@ -13,10 +13,10 @@ use Rattle.cn_choice.specs.Discerning.{IsDiscerning, IsWitness}
 use Rattle.cn_choice.specs.Live.{IsLive, live_choices}
 use Rattle.cn_choice.specs.OutcomeSets.{operations_of}
 use Rattle.cn_choice.specs.Renumbering.{Embeds, other, with_other_teams}
-use Rattle.cn_choice.proofs.Covering.{others_twice}
-use Rattle.cn_choice.proofs.Embedding.{begins_embeds, operations_embed, order_embeds}
-use Rattle.cn_choice.proofs.Members.{IsIn-from_Contains, each_at}
-use Rattle.cn_choice.proofs.Monotone.{one_less}
+use Rattle.cn_choice.proofs.ChoiceLemmas.CanonicalCover.{others_twice}
+use Rattle.cn_choice.proofs.ChoiceLemmas.Embeddings.{begins_embeds, operations_embed, order_embeds}
+use Rattle.cn_choice.proofs.ListLemmas.Members.{IsIn-from_Contains, each_at}
+use Rattle.cn_choice.proofs.NumberLemmas.FewerProcesses.{one_less}
 use Rattle.cn_outcomes.specs.LeftStates.{LeavesIn}
 use Rattle.cn_outcomes.proofs.LastAnswers.{pair_parts}
 use Rattle.cn_recover.specs.Recording.{HasTwo, IsRecording, IsRecordingWitness}

@@ -5,8 +5,8 @@ use Rattle.cn_table.specs.TypeTable.{TypeTable}
 use Rattle.cn_choice.specs.declared.team.Team.{Team}
 use Rattle.cn_choice.specs.Moves.{next_of}
 use Rattle.cn_choice.specs.RawChoices.{RawChoice}
-use Rattle.cn_choice.proofs.EarlyLists.{known_one, known_two}
-use Rattle.cn_choice.proofs.LastMoves.{order_from}
+use Rattle.cn_choice.proofs.OrderLemmas.ShortOrders.{known_one, known_two}
+use Rattle.cn_choice.proofs.OrderLemmas.LastMoves.{order_from}
 use Rattle.cn_outcomes.specs.LeftStates.{LeavesIn}
 use Rattle.cn_recover.specs.StatesApart.{AreLeft}
 

@@ -10,9 +10,9 @@ use Rattle.cn_choice.specs.declared.team.Team.TheVariants.{A, B}
 use Rattle.cn_choice.specs.Orders.{IsOrder}
 use Rattle.cn_choice.specs.OutcomeSets.{operations_of}
 use Rattle.cn_choice.specs.RawChoices.{IsRawChoice, RawChoice}
-use Rattle.cn_choice.proofs.EarlyLists.{known_two}
-use Rattle.cn_choice.proofs.LastMoves.{order_from}
-use Rattle.cn_choice.proofs.Listing.{differ_from}
+use Rattle.cn_choice.proofs.OrderLemmas.ShortOrders.{known_two}
+use Rattle.cn_choice.proofs.OrderLemmas.LastMoves.{order_from}
+use Rattle.cn_choice.proofs.OrderLemmas.AllOrders.{differ_from}
 use Rattle.cn_outcomes.specs.LeftStates.{LeavesIn}
 use Rattle.cn_stocks.specs.Words.{EndsIn, IsWithin}
 use Rattle.cn_stocks.proofs.Times.{place_in, times_at}

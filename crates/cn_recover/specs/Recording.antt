@@ -1,4 +1,5 @@
--- Recording witnesses, of which the state alone tells for good which team moved first, and the numbers of processes for which a type has one.
+-- Recording witnesses, of which the state alone tells for good which team moved first, and the
+-- numbers of processes for which a type has one.
 use Rattle.std.specs.Prelude.{◌≡◌, ◌≢◌, ℕ, ◌<◌, ◌≤◌, length, slice_get, Option, Some, None, ⊤}
 use Rattle.cn_table.specs.TypeTable.{TypeTable}
 use Rattle.cn_choice.specs.declared.team.Team.{Team}
@@ -15,8 +16,9 @@ HasTwo c team =
     (i : ℕ) × (j : ℕ) × (i ≢ j) × (i < length c.operations) × (j < length c.operations)
     × (slice_get c.marks i ≡ Some team) × (slice_get c.marks j ≡ Some team)
 
--- no state is left both by an order that begins in A and by one that begins in B; where B has two members, no order that begins in A
--- leaves the start state; where A has two, none that begins in B does
+-- no state is left both by an order that begins in A and by one that begins in B; if B has two
+-- members, no order that begins in A leaves the start state; if A has two, none that begins in B
+-- does
 pub record IsRecordingWitness (t : TypeTable) (c : RawChoice) : Type 0 where
   pub apart : (state : ℕ) → LeavesIn t c A state → ¬ LeavesIn t c B state
   pub no_way_back_a : HasTwo c B → ¬ LeavesIn t c A c.state
@@ -26,10 +28,12 @@ pub record IsRecordingWitness (t : TypeTable) (c : RawChoice) : Type 0 where
 abbrev pub IsRecording : TypeTable → ℕ → Type 0
 IsRecording t n = (c : RawChoice) × IsRawChoice t n c × IsRecordingWitness t c
 
--- the recoverable number: the greatest n from 2 to the limit for which the type is n-recording, or none where there is none
+-- the recoverable number: the greatest n from 2 to the limit for which the type is n-recording, or
+-- none if there is no such n
 abbrev pub IsRecoverableNumberUpTo : TypeTable → ℕ → Option ℕ → Type 0
 IsRecoverableNumberUpTo t limit None = (m : ℕ) → 2 ≤ m → m ≤ limit → ¬ IsRecording t m
-IsRecoverableNumberUpTo t limit (Some n) = (2 ≤ n) × (n ≤ limit) × IsRecording t n × ((m : ℕ) → n < m → m ≤ limit → ¬ IsRecording t m)
+IsRecoverableNumberUpTo t limit (Some n) =
+    (2 ≤ n) × (n ≤ limit) × IsRecording t n × ((m : ℕ) → n < m → m ≤ limit → ¬ IsRecording t m)
 
 -- the recoverable number with no limit
 abbrev pub HasRecoverableNumber : TypeTable → ConsensusNumber → Type 0

@@ -1,4 +1,5 @@
--- Whether sets of states tell which team moved first. A set is a number whose bit q says whether state q is in it.
+-- Whether sets of states tell which team moved first. A set is a number whose bit q says whether
+-- state q is in it.
 use Rattle.std.specs.Prelude.{ℕ, ◌<◌, length, IsBitSet}
 use Rattle.cn_table.specs.TypeTable.{TypeTable}
 use Rattle.cn_choice.specs.Canonical.{Choice}
@@ -10,7 +11,8 @@ use Rattle.cn_outcomes.specs.LeftStates.{LeavesIn}
 abbrev pub AreLeft : TypeTable → RawChoice → Team → ℕ → Type 0
 AreLeft t c team set = (q : ℕ) → IsBitSet set q → LeavesIn t c team q
 
--- no state is in both sets; where B has two, the start state is not in that of A; where A has two, it is not in that of B
+-- no state is in both sets; if B has two, the start state is not in that of A; if A has two, it is
+-- not in that of B
 pub record AreApart (c : Choice) (from_a from_b : ℕ) : Type 0 where
   pub apart : (q : ℕ) → IsBitSet from_a q → ¬ IsBitSet from_b q
   pub no_way_back_a : 1 < length c.b → ¬ IsBitSet from_a c.state

@@ -16,15 +16,15 @@ use cn_choice::laws::{
     canonical_choices_decide, choice_by_teams, coverage, live_list, witnesses_are_live,
 };
 
-/// A recording witness is a witness: where the state tells which team moved first, the response and
+/// A recording witness is a witness: if the state tells which team moved first, the response and
 /// the state do.
 pub fn recording_witness_is_witness()
     ensures witness { (t : TypeTable) (c : RawChoice) → IsRecordingWitness t c → IsWitness t c }
     ensures discerning { (t : TypeTable) (n : ℕ) → IsRecording t n → IsDiscerning t n }
 {}
 
-/// Some of the processes of a recording witness, under other numbers, are one too; and so is it with
-/// the teams exchanged.
+/// Some of the processes of a recording witness, under other numbers, are one too; and so is it
+/// with the teams exchanged.
 pub fn renumbering()
     ensures some { (t : TypeTable) (f : ℕ → ℕ) (d c : RawChoice) → Embeds f d c
         → IsRecordingWitness t c → IsRecordingWitness t d }
@@ -37,9 +37,9 @@ pub fn monotonicity()
     ensures { (t : TypeTable) (n : ℕ) → 3 ≤ n → IsRecording t n → IsRecording t (n - 1) }
 {}
 
-/// By monotonicity one failure is enough: where a type is n-recording and n is the limit or the type
-/// is not (n+1)-recording, n is the recoverable number up to the limit; where it is not 2-recording
-/// there is none.
+/// By monotonicity one failure is enough: where a type is n-recording and n is the limit or the
+/// type is not (n+1)-recording, n is the recoverable number up to the limit; where it is not
+/// 2-recording there is none.
 pub fn number_before_failure()
     ensures found { (t : TypeTable) (limit n : ℕ) → 2 ≤ n → n ≤ limit → IsRecording t n
         → (n < limit → ¬ IsRecording t (n + 1)) → IsRecoverableNumberUpTo t limit (Some n) }
@@ -81,7 +81,7 @@ pub fn live_choices_decide()
     witnesses_are_live();
 }
 
-/// For n of at least 2 a type is n-recording exactly where some stock of n of its operations records
+/// For n of at least 2 a type is n-recording exactly if some stock of n of its operations records
 /// from some state. Two processes with one operation are in one team of each recording witness, so
 /// that teams are teams of operations, and an order of the processes is a word within the stock.
 pub fn records_decide()
@@ -106,8 +106,8 @@ pub fn at_least_the_number_less_two()
     choice_by_teams();
 }
 
-/// A type is n-recording for every n exactly where it is n-discerning for every n: it has no greatest
-/// recoverable number exactly where it has no greatest number.
+/// A type is n-recording for every n exactly if it is n-discerning for every n: it has no greatest
+/// recoverable number exactly if it has no greatest number.
 pub fn no_greatest_together()
     ensures { (t : TypeTable) → ((n : ℕ) → 2 ≤ n → IsRecording t n)
         ↔ ((n : ℕ) → 2 ≤ n → IsDiscerning t n) }

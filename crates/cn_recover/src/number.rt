@@ -10,13 +10,16 @@ ghost use Rattle.cn_search.specs.declared.fault.FindFault.TheVariants.{OutOfMemo
 ghost use Rattle.cn_recover.specs.Recording.{HasRecoverableNumber, IsExact, IsRecoverableNumberUpTo};
 
 use crate::laws;
-use cn_search::{ConsensusNumber, FindFault, LEAST_LIMIT, Threading, consensus_number, reserve};
+use cn_search::{
+    ConsensusNumber, FindFault, LEAST_LIMIT, Threading, consensus_number, with_fallback,
+};
 use cn_stocks::greatest_record;
 use cn_table::Table;
 use std::alloc::{AllocError, Global};
 use std::thread::Threads;
 
-/// The greatest number of processes up to the most for which the type is recording, in these threads.
+/// The greatest number of processes up to the most for which the type is recording, in these
+/// threads.
 fn greatest_in<T: Threads + Sync>(
     rt: &T,
     alloc: Global,
@@ -32,22 +35,7 @@ fn greatest_in<T: Threads + Sync>(
     greatest_record(rt, alloc, table, most, threading)
 }
 
-/// The same in several threads, where memory is left for one.
-fn greatest_in_threads<T: Threads + Sync>(
-    rt: &T,
-    alloc: Global,
-    table: &Table,
-    most: u8,
-) -> Result<Option<u8>, AllocError>
-    requires some { 2 ≤ most }
-    requires few { most ≤ MOST_SIZE }
-    ensures { IfOk result (IsRecoverableNumberUpTo table.now most) }
-{
-    let _reserve = reserve(alloc)?;
-    greatest_in(rt, alloc, table, most, Threading::Many)
-}
-
-/// The same in several threads, or in one where these get too little memory.
+/// The same in several threads, or in one if these get too little memory.
 fn greatest<T: Threads + Sync>(
     rt: &T,
     alloc: Global,
@@ -58,10 +46,14 @@ fn greatest<T: Threads + Sync>(
     requires few { most ≤ MOST_SIZE }
     ensures { IfOk result (IsRecoverableNumberUpTo table.now most) }
 {
-    if let Ok(number) = greatest_in_threads(rt, alloc, table, most) {
-        return Ok(number);
-    }
-    greatest_in(rt, alloc, table, most, Threading::One)
+    with_fallback(
+        alloc,
+        |threading: Threading| -> Result<Option<u8>, AllocError>
+            requires some { 2 ≤ most }
+            requires few { most ≤ MOST_SIZE }
+            ensures { IfOk result (IsRecoverableNumberUpTo table.entry.now most) }
+        { greatest_in(rt, alloc, table, most, threading) },
+    )
 }
 
 /// The recoverable number of a type up to a limit, from [`LEAST_LIMIT`](cn_search::LEAST_LIMIT) to
@@ -70,13 +62,13 @@ fn greatest<T: Threads + Sync>(
 ///
 /// It is at most the number of the type up to the limit
 /// ([`laws::at_most_the_number`](crate::laws::at_most_the_number)). The type may have any number of
-/// choices: the number is looked for by stocks of operations
-/// ([`laws::records_decide`](crate::laws::records_decide)), in several threads, or in one where these
+/// choices: the search goes by stocks of operations
+/// ([`laws::records_decide`](crate::laws::records_decide)), in several threads, or in one if these
 /// get too little memory.
 ///
 /// # Errors
 ///
-/// `BadLimit` where the limit is not one of these. `OutOfMemory` can stand in place of a number.
+/// `BadLimit` if the limit is not one of these. `OutOfMemory` can stand in place of a number.
 pub fn recoverable_number<T: Threads + Sync>(
     rt: &T,
     alloc: Global,
@@ -94,7 +86,7 @@ pub fn recoverable_number<T: Threads + Sync>(
     Ok(greatest(rt, alloc, table, limit)?)
 }
 
-/// The number with no limit, from the one up to the bound, or up to 2 where the bound is less.
+/// The number with no limit, from the one up to the bound, or up to 2 if the bound is less.
 fn without_limit(table: &Table, bound: u8, found: Option<u8>) -> ConsensusNumber
     requires few { (bound ≤ 2) ⊎ (bound ≤ length table.now.states) }
     requires above { (m : ℕ) → bound < m → ¬ IsDiscerning table.now m }
@@ -110,7 +102,7 @@ fn without_limit(table: &Table, bound: u8, found: Option<u8>) -> ConsensusNumber
     }
 }
 
-/// The most processes that are looked at, where the type is n-discerning for no n above the bound.
+/// The most processes of the search, if the type is n-discerning for no n above the bound.
 fn most_processes(table: &Table, bound: u8) -> u8
     requires { (bound ≤ 2) ⊎ (bound ≤ length table.now.states) }
     ensures range { (2 ≤ result) × (result ≤ MOST_SIZE) }
@@ -166,15 +158,15 @@ fn recoverable_of<T: Threads + Sync>(
 }
 
 /// The consensus number of a type ([`consensus_number`]) and its recoverable number, by the n for
-/// which it is n-recording: `Infinite` where it is for every n, and else the greatest such n, or 1.
+/// which it is n-recording: `Infinite` if it is for every n, and else the greatest such n, or 1.
 ///
-/// The recoverable number is infinite exactly where the consensus number is
-/// ([`no_greatest_together`](crate::laws::no_greatest_together)), and at most the consensus number. It
-/// is never told as `Between` two numbers.
+/// The recoverable number is infinite exactly if the consensus number is
+/// ([`no_greatest_together`](crate::laws::no_greatest_together)), and at most the consensus number.
+/// It is never told as `Between` two numbers.
 ///
 /// # Errors
 ///
-/// `AllocError` where memory is too little for one thread.
+/// `AllocError` if memory is too little for one thread.
 pub fn both_numbers<T: Threads + Sync>(
     rt: &T,
     alloc: Global,
@@ -196,7 +188,7 @@ pub fn both_numbers<T: Threads + Sync>(
 ///
 /// # Errors
 ///
-/// `AllocError` where memory is too little for one thread.
+/// `AllocError` if memory is too little for one thread.
 pub fn recoverable_consensus_number<T: Threads + Sync>(
     rt: &T,
     alloc: Global,

@@ -10,19 +10,20 @@ use Rattle.cn_choice.specs.Blocks.{Block, IsBlockOf}
 use Rattle.cn_choice.specs.Canonical.{Choice, raw_choice_of}
 use Rattle.cn_choice.specs.Collisions.{Collision}
 use Rattle.cn_choice.specs.Discerning.{IsWitness}
-use Rattle.cn_search.specs.Evidence.{IsListedBlock, IsRefutedBlock, AreRecordedFor, IsFirstAmong, IsFirstWitness, IsRecordedFor, NoneIsWitness, choices_of_all}
+use Rattle.cn_choice.specs.RawChoices.{RawChoice}
+use Rattle.cn_search.specs.Evidence.{IsListedBlock, IsRefutedBlock, AreRecordedFor, IsFirst, IsFirstAmong, IsRecordedFor, NoneIs, NoneIsWitness, choices_of_all}
 use Rattle.cn_choice.specs.Live.{live_blocks, live_in}
 use Rattle.cn_collisions.specs.declared.sets.Sets.{Sets}
 use Rattle.cn_collisions.specs.Levels.{AreSetsFor}
 use Rattle.cn_search.specs.Kept.{KeepsFor}
 use Rattle.cn_search.specs.Refuted.{IsRefutedWith}
 
-module _ (t : TypeTable) where
+module _ (t : TypeTable) (P : RawChoice → Type 0) where
   abbrev Fails : Choice → Type 0
-  Fails c = ¬ IsWitness t (raw_choice_of c)
+  Fails c = ¬ P (raw_choice_of c)
 
-  -- behind choices none of which is a witness, and before others
-  pub behind : (xs ys : List Choice) (found : Option Choice) → NoneIsWitness t xs → IsFirstAmong t ys found → IsFirstAmong t (xs ++ ys) found
+  -- behind choices none of which has the property, and before others
+  pub behind : (xs ys : List Choice) (found : Option Choice) → NoneIs P xs → IsFirstAmong P ys found → IsFirstAmong P (xs ++ ys) found
   behind xs ys None none h = All-append Fails xs ys none h
   behind xs ys (Some w) none h = record {
     before = xs ++ h.before;
@@ -32,75 +33,76 @@ module _ (t : TypeTable) where
     earlier = All-append Fails xs h.before none h.earlier;
   }
 
-  pub ahead : (xs ys : List Choice) (w : Choice) → IsFirstWitness t xs w → IsFirstWitness t (xs ++ ys) w
+  pub ahead : (xs ys : List Choice) (w : Choice) → IsFirst P xs w → IsFirst P (xs ++ ys) w
   ahead xs ys w h = record { before = h.before; after = h.after ++ ys; listed = ap (λ l. l ++ ys) h.listed ∙ append_assoc h.before (w ∷ h.after) ys; witness = h.witness; earlier = h.earlier }
 
-  -- some blocks have no witness, and this is the first witness of those behind them, if they have one
+  -- some blocks have no choice with the property, and these are behind them
   pub record IsSearched (blocks : List Block) (left : List Block) : Type 0 where
     pub before : List Block
     pub all : blocks ≡ before ++ left
-    pub none : NoneIsWitness t (choices_of_all t before)
+    pub none : NoneIs P (choices_of_all t before)
 
   pub search_start : (blocks : List Block) → IsSearched blocks blocks
   search_start blocks = record { before = []; all = refl; none = λ k d less. absurd (let l : k < 0 = less in omega (arith, l)) }
 
-  pub search_on : (blocks left batch rest : List Block) → IsSearched blocks left → left ≡ batch ++ rest → NoneIsWitness t (choices_of_all t batch) → IsSearched blocks rest
+  pub search_on : (blocks left batch rest : List Block) → IsSearched blocks left → left ≡ batch ++ rest → NoneIs P (choices_of_all t batch) → IsSearched blocks rest
   search_on blocks left batch rest s parts none = record {
     before = s.before ++ batch;
     all = s.all ∙ ap (λ l. s.before ++ l) parts ∙ sym (append_assoc s.before batch rest);
-    none = subst (NoneIsWitness t) (sym (flat_map-append (live_in t) s.before batch)) (All-append Fails (choices_of_all t s.before) (choices_of_all t batch) s.none none);
+    none = subst (NoneIs P) (sym (flat_map-append (live_in t) s.before batch)) (All-append Fails (choices_of_all t s.before) (choices_of_all t batch) s.none none);
   }
 
-  pub search_found : (blocks left batch rest : List Block) (w : Choice) → IsSearched blocks left → left ≡ batch ++ rest → IsFirstWitness t (choices_of_all t batch) w → IsFirstWitness t (choices_of_all t blocks) w
+  pub search_found : (blocks left batch rest : List Block) (w : Choice) → IsSearched blocks left → left ≡ batch ++ rest → IsFirst P (choices_of_all t batch) w → IsFirst P (choices_of_all t blocks) w
   search_found blocks left batch rest w s parts first =
       let whole : choices_of_all t blocks ≡ choices_of_all t s.before ++ (choices_of_all t batch ++ choices_of_all t rest) =
       ap (flat_map (live_in t)) (s.all ∙ ap (λ l. s.before ++ l) parts) ∙ flat_map-append (live_in t) s.before (batch ++ rest) ∙ ap (λ l. choices_of_all t s.before ++ l) (flat_map-append (live_in t) batch rest) in
-      subst (λ l. IsFirstWitness t l w) (sym whole) (behind (choices_of_all t s.before) (choices_of_all t batch ++ choices_of_all t rest) (Some w) s.none (ahead (choices_of_all t batch) (choices_of_all t rest) w first))
+      subst (λ l. IsFirst P l w) (sym whole) (behind (choices_of_all t s.before) (choices_of_all t batch ++ choices_of_all t rest) (Some w) s.none (ahead (choices_of_all t batch) (choices_of_all t rest) w first))
 
-  pub search_done : (blocks : List Block) → IsSearched blocks [] → NoneIsWitness t (choices_of_all t blocks)
-  search_done blocks s = subst (λ l. NoneIsWitness t (choices_of_all t l)) (sym (s.all ∙ append-nil s.before)) s.none
+  pub search_done : (blocks : List Block) → IsSearched blocks [] → NoneIs P (choices_of_all t blocks)
+  search_done blocks s = subst (λ l. NoneIs P (choices_of_all t l)) (sym (s.all ∙ append-nil s.before)) s.none
 
   -- the answers of the blocks that are left
   pub record IsJoining (blocks : List Block) (left : List (Option Choice)) : Type 0 where
     pub after : List Block
     pub searched : IsSearched blocks after
-    pub answers : AllZip (λ k o. IsFirstAmong t (live_in t k) o) after left
+    pub answers : AllZip (λ k o. IsFirstAmong P (live_in t k) o) after left
 
-  pub join_start : (blocks : List Block) (found : List (Option Choice)) → AllZip (λ k o. IsFirstAmong t (live_in t k) o) blocks found → IsJoining blocks found
+  pub join_start : (blocks : List Block) (found : List (Option Choice)) → AllZip (λ k o. IsFirstAmong P (live_in t k) o) blocks found → IsJoining blocks found
   join_start blocks found h = record { after = blocks; searched = search_start blocks; answers = h }
 
   one_block : (k : Block) → choices_of_all t (k ∷ []) ≡ live_in t k
   one_block k = append-nil (live_in t k)
 
   pub join_on : (blocks : List Block) (left rest : List (Option Choice)) (o : Option Choice) → IsJoining blocks left → left ≡ o ∷ rest → is_some o ≡ false → IsJoining blocks rest
-  join_on blocks left rest o j e none = go j.after j.searched (subst (λ l. AllZip (λ k o. IsFirstAmong t (live_in t k) o) j.after l) e j.answers)
+  join_on blocks left rest o j e none = go j.after j.searched (subst (λ l. AllZip (λ k o. IsFirstAmong P (live_in t k) o) j.after l) e j.answers)
     where
-      no : (p : Option Choice) (k : Block) → is_some p ≡ false → IsFirstAmong t (live_in t k) p → NoneIsWitness t (live_in t k)
+      no : (p : Option Choice) (k : Block) → is_some p ≡ false → IsFirstAmong P (live_in t k) p → NoneIs P (live_in t k)
       no None k n h = h
       no (Some w) k n h = absurd (true≢false n)
 
-      go : (after : List Block) → IsSearched blocks after → AllZip (λ k o. IsFirstAmong t (live_in t k) o) after (o ∷ rest) → IsJoining blocks rest
+      go : (after : List Block) → IsSearched blocks after → AllZip (λ k o. IsFirstAmong P (live_in t k) o) after (o ∷ rest) → IsJoining blocks rest
       go [] s h = absurd h
-      go (k ∷ after) s h = record { after = after; searched = search_on blocks (k ∷ after) (k ∷ []) after s refl (subst (NoneIsWitness t) (sym (one_block k)) (no o k none h.0)); answers = h.1 }
+      go (k ∷ after) s h = record { after = after; searched = search_on blocks (k ∷ after) (k ∷ []) after s refl (subst (NoneIs P) (sym (one_block k)) (no o k none h.0)); answers = h.1 }
 
-  pub join_found : (blocks : List Block) (left rest : List (Option Choice)) (o : Option Choice) → IsJoining blocks left → left ≡ o ∷ rest → is_some o ≡ true → IsFirstAmong t (choices_of_all t blocks) o
-  join_found blocks left rest o j e some = go j.after j.searched (subst (λ l. AllZip (λ k o. IsFirstAmong t (live_in t k) o) j.after l) e j.answers)
+  pub join_found : (blocks : List Block) (left rest : List (Option Choice)) (o : Option Choice) → IsJoining blocks left → left ≡ o ∷ rest → is_some o ≡ true → IsFirstAmong P (choices_of_all t blocks) o
+  join_found blocks left rest o j e some = go j.after j.searched (subst (λ l. AllZip (λ k o. IsFirstAmong P (live_in t k) o) j.after l) e j.answers)
     where
-      by : (o : Option Choice) (k : Block) (after : List Block) → is_some o ≡ true → IsSearched blocks (k ∷ after) → IsFirstAmong t (live_in t k) o → IsFirstAmong t (choices_of_all t blocks) o
+      by : (o : Option Choice) (k : Block) (after : List Block) → is_some o ≡ true → IsSearched blocks (k ∷ after) → IsFirstAmong P (live_in t k) o → IsFirstAmong P (choices_of_all t blocks) o
       by None k after n s h = absurd (true≢false (sym n))
-      by (Some w) k after n s h = search_found blocks (k ∷ after) (k ∷ []) after w s refl (subst (λ l. IsFirstWitness t l w) (sym (one_block k)) h)
+      by (Some w) k after n s h = search_found blocks (k ∷ after) (k ∷ []) after w s refl (subst (λ l. IsFirst P l w) (sym (one_block k)) h)
 
-      go : (after : List Block) → IsSearched blocks after → AllZip (λ k o. IsFirstAmong t (live_in t k) o) after (o ∷ rest) → IsFirstAmong t (choices_of_all t blocks) o
+      go : (after : List Block) → IsSearched blocks after → AllZip (λ k o. IsFirstAmong P (live_in t k) o) after (o ∷ rest) → IsFirstAmong P (choices_of_all t blocks) o
       go [] s h = absurd h
       go (k ∷ after) s h = by o k after some s h.0
 
-  pub join_done : (blocks : List Block) (left : List (Option Choice)) → IsJoining blocks left → left ≡ [] → NoneIsWitness t (choices_of_all t blocks)
-  join_done blocks left j e = go j.after j.searched (subst (λ l. AllZip (λ k o. IsFirstAmong t (live_in t k) o) j.after l) e j.answers)
+  pub join_done : (blocks : List Block) (left : List (Option Choice)) → IsJoining blocks left → left ≡ [] → NoneIs P (choices_of_all t blocks)
+  join_done blocks left j e = go j.after j.searched (subst (λ l. AllZip (λ k o. IsFirstAmong P (live_in t k) o) j.after l) e j.answers)
     where
-      go : (after : List Block) → IsSearched blocks after → AllZip (λ k o. IsFirstAmong t (live_in t k) o) after [] → NoneIsWitness t (choices_of_all t blocks)
+      go : (after : List Block) → IsSearched blocks after → AllZip (λ k o. IsFirstAmong P (live_in t k) o) after [] → NoneIs P (choices_of_all t blocks)
       go [] s h = search_done blocks s
       go (k ∷ after) s h = absurd h
 
+module _ (t : TypeTable) where
   -- the choices of one block more
   pub choices_more : (before : List Block) (k : Block) → choices_of_all t before ++ live_in t k ≡ choices_of_all t (before ++ k ∷ [])
   choices_more before k = sym (flat_map-append (live_in t) before (k ∷ []) ∙ ap (λ l. choices_of_all t before ++ l) (append-nil (live_in t k)))
@@ -141,13 +143,13 @@ all_listed t n some few law blocks e = λ i d less.
     record { some = omega (arith, same); few = omega (arith, same); listed = subst (λ m. Contains (live_blocks t m) k) (sym same) listed })
 
 all_refuted : (t : TypeTable) (blocks : List Block) → All (IsListedBlock t) blocks → NoneIsWitness t (choices_of_all t blocks) → All (IsRefutedBlock t) blocks
-all_refuted t blocks listed none = All-from_recursion (IsRefutedBlock t) blocks (go blocks (recursion_from_All (IsListedBlock t) blocks listed) (recursion_from_All (Fails t) (choices_of_all t blocks) none))
+all_refuted t blocks listed none = All-from_recursion (IsRefutedBlock t) blocks (go blocks (recursion_from_All (IsListedBlock t) blocks listed) (recursion_from_All (Fails t (IsWitness t)) (choices_of_all t blocks) none))
   where
-    go : (blocks : List Block) → AllByRecursion (IsListedBlock t) blocks → AllByRecursion (Fails t) (choices_of_all t blocks) → AllByRecursion (IsRefutedBlock t) blocks
+    go : (blocks : List Block) → AllByRecursion (IsListedBlock t) blocks → AllByRecursion (Fails t (IsWitness t)) (choices_of_all t blocks) → AllByRecursion (IsRefutedBlock t) blocks
     go [] l n = tt
     go (k ∷ blocks) l n =
-        let p = parts_of (Fails t) (live_in t k) (choices_of_all t blocks) n in
-        (record { block = l.0; none = All-from_recursion (Fails t) (live_in t k) p.0 }, go blocks l.1 p.1)
+        let p = parts_of (Fails t (IsWitness t)) (live_in t k) (choices_of_all t blocks) n in
+        (record { block = l.0; none = All-from_recursion (Fails t (IsWitness t)) (live_in t k) p.0 }, go blocks l.1 p.1)
 
 -- each is refuted, and the sets for n processes are those for it
 pub all_refuted_with : (t : TypeTable) (n : ℕ) (s : Sets) → AreSetsFor t n s → 2 ≤ n → n ≤ 8 → ((k : Block) → n ≤ 8 → Contains (live_blocks t n) k → IsBlockOf t k × (k.n ≡ n)) → (blocks : List Block) → blocks ≡ live_blocks t n

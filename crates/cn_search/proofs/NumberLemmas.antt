@@ -1,18 +1,16 @@
 -- Numbers with no evidence, from what was tried.
-use Rattle.std.proofs.Common.{◌≡◌, ◌≢◌, inl, inr, ◌↔◌, ℕ, ◌+◌, ◌≤◌, ◌<◌, Contains, IsTrue, List, ◌++◌, length, Option, Some, None, is_some, arith, ap, refl, sym, subst, ◌∙◌, true≢false}
+use Rattle.std.proofs.Common.{◌≡◌, ◌≢◌, inl, inr, ◌↔◌, ℕ, ◌+◌, ◌≤◌, ◌<◌, Contains, IsTrue, length, Option, Some, None, IfSome, is_some, true, arith, ap, refl, sym, subst, true≢false}
 use Rattle.std.proofs.Math.Nat.{eq-or-lt_of_le}
 use Rattle.std.proofs.lemmas.Bool.{cases_order}
 use Rattle.cn_table.specs.TypeTable.{TypeTable}
-use Rattle.cn_choice.specs.Blocks.{Block}
 use Rattle.cn_choice.specs.Canonical.{Choice, raw_choice_of}
 use Rattle.cn_choice.specs.Discerning.{IsDiscerning, IsWitness}
 use Rattle.cn_stocks.specs.Greatest.{NoneFrom}
 use Rattle.cn_stocks.specs.Splits.{SomeSplits}
-use Rattle.cn_search.specs.Evidence.{IsFirstAmong, NoneIsWitness, choices_of_all}
+use Rattle.cn_search.specs.Evidence.{IsFirstAmong, IsFirstWitness, IsKnownAt, NoneIsWitness}
 use Rattle.cn_search.specs.Numbers.{HasNumber}
 use Rattle.cn_search.specs.declared.exact.ConsensusNumber.TheVariants.{Finite, Between}
 use Rattle.cn_choice.specs.Live.{live_choices}
-use Rattle.cn_search.proofs.Batches.{search_found, search_start}
 use Rattle.cn_search.proofs.ListLemmas.{Contains-between}
 
 -- before n is tried: the greatest number up to n - 1 with the property
@@ -47,18 +45,28 @@ module _ (P : ℕ → Type 0) (limit : ℕ) (Greatest : Option ℕ → Type 0) (
 -- a first witness, or that there is none, tells whether the type is discerning
 pub discerning_by_witness : (t : TypeTable) (n : ℕ) → (NoneIsWitness t (live_choices t n) → ¬ IsDiscerning t n)
     → ((c : Choice) → Contains (live_choices t n) c → IsWitness t (raw_choice_of c) → IsDiscerning t n)
-    → (found : Option Choice) → IsFirstAmong t (live_choices t n) found → IsTrue (is_some found) ↔ IsDiscerning t n
+    → (found : Option Choice) → IsFirstAmong (IsWitness t) (live_choices t n) found → IsTrue (is_some found) ↔ IsDiscerning t n
 discerning_by_witness t n refuted shown None h = ((λ some. absurd (true≢false (sym some))), (λ is. absurd (refuted h is)))
 discerning_by_witness t n refuted shown (Some w) h = ((λ _. shown w (Contains-between _ h.before h.after w (sym h.listed)) h.witness), (λ _. refl))
 
--- a first witness among the first blocks tells that the type is discerning
-pub discerning_by_early_witness : (t : TypeTable) (n : ℕ) → ((c : Choice) → Contains (live_choices t n) c → IsWitness t (raw_choice_of c) → IsDiscerning t n)
-    → (blocks front back : List Block) → blocks ≡ front ++ back → choices_of_all t blocks ≡ live_choices t n
-    → (found : Option Choice) → IsFirstAmong t (choices_of_all t front) found → IsTrue (is_some found) → IsDiscerning t n
-discerning_by_early_witness t n shown blocks front back split whole None h some = absurd (true≢false (sym some))
-discerning_by_early_witness t n shown blocks front back split whole (Some w) h some =
-    let first = search_found t blocks blocks front back w (search_start t blocks) split h in
-    shown w (Contains-between _ first.before first.after w (sym first.listed ∙ whole)) first.witness
+-- the first witness of all choices is known if there is one
+pub known_by_witness : (t : TypeTable) (n : ℕ) (found : Option Choice)
+    → IsFirstAmong (IsWitness t) (live_choices t n) found → IsTrue (is_some found) → IsKnownAt t n found
+known_by_witness t n None h some = absurd (true≢false (sym some))
+known_by_witness t n (Some w) h some = h
+
+-- what is found among some choices is the first witness of all
+module _ (t : TypeTable) (n : ℕ)
+    (shown : (c : Choice) → Contains (live_choices t n) c → IsWitness t (raw_choice_of c) → IsDiscerning t n) where
+  pub discerning_by_first : (found : Option Choice) → IfSome found (IsFirstWitness t (live_choices t n))
+      → is_some found ≡ true → IsDiscerning t n
+  discerning_by_first None h some = absurd (true≢false (sym some))
+  discerning_by_first (Some w) h some = shown w (Contains-between _ h.before h.after w (sym h.listed)) h.witness
+
+  pub known_by_first : (found : Option Choice) → IfSome found (IsFirstWitness t (live_choices t n))
+      → is_some found ≡ true → IsKnownAt t n found
+  known_by_first None h some = absurd (true≢false (sym some))
+  known_by_first (Some w) h some = h
 
 -- a type no two of whose operations last, and stocks of up to so many operations, at least as many as it has states
 module _ (t : TypeTable) (decide : (n : ℕ) → 3 ≤ n → IsDiscerning t n ↔ SomeSplits t n) (few : (m : ℕ) → 3 ≤ m → length t.states < m → ¬ IsDiscerning t m)

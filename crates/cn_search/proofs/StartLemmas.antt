@@ -1,12 +1,9 @@
 -- Blocks whose start states no witness has, and the first witness of the others.
-use Rattle.std.proofs.Common.{◌≡◌, ℕ, ◌<◌, ◌≤◌, ◌⊎◌, inl, inr, List, [], ◌∷◌, ◌++◌, length, slice_index_or, Some, None, Result, Ok, Err, IfOk, Contains, arith, sym, ap, subst}
+use Rattle.std.proofs.Common.{◌≡◌, ℕ, ◌<◌, ◌≤◌, ◌⊎◌, inl, inr, List, [], ◌∷◌, ◌++◌, length, slice_index_or, Some, None, Contains, arith, sym, ap, subst}
 use Rattle.std.specs.Int.{IsBitSet}
-use Rattle.std.specs.declared.alloc.AllocError.{AllocError}
 use Rattle.std.proofs.lemmas.List.{get_or_default}
 use Rattle.std.proofs.lemmas.List.Elements.{All-append, All-from_recursion, recursion_from_All}
-use Rattle.std.proofs.lemmas.Nat.Bits.{bit_at_ones}
 use Rattle.cn_table.specs.TypeTable.{TypeTable}
-use Rattle.cn_outcomes.proofs.LastProcess.{set_from}
 use Rattle.cn_choice.specs.Blocks.{Block}
 use Rattle.cn_choice.specs.Canonical.{Choice, raw_choice_of}
 use Rattle.cn_choice.specs.Discerning.{IsWitness}
@@ -52,14 +49,14 @@ module _ (t : TypeTable) where
       subst (NoneIsWitness t) (choices_more t all k) (All-append Fails (choices_of_all t all) (live_in t k) (h None (All-from_recursion Fails (choices_of_all t kept) split.0)) (All-from_recursion Fails (live_in t k) split.1))
   first_with all kept k h (Some w) first =
       subst (λ l. IsFirstWitness t l w) (choices_more t all k) (elim (first_in (choices_of_all t kept) (live_in t k) w (subst (λ l. IsFirstWitness t l w) (sym (choices_more t kept k)) first)) [
-        | inl f ↦ ahead t (choices_of_all t all) (live_in t k) w (h (Some w) f)
-        | inr r ↦ behind t (choices_of_all t all) (live_in t k) (Some w) (h None r.0) r.1
+        | inl f ↦ ahead t (IsWitness t) (choices_of_all t all) (live_in t k) w (h (Some w) f)
+        | inr r ↦ behind t (IsWitness t) (choices_of_all t all) (live_in t k) (Some w) (h None r.0) r.1
       ])
 
   -- a block that has no witness is not kept
   pub first_without : (all kept : List Block) (k : Block) → NoneIsWitness t (live_in t k) → HaveFirstOf t all kept → HaveFirstOf t (all ++ k ∷ []) kept
   first_without all kept k fails h None none = subst (NoneIsWitness t) (choices_more t all k) (All-append Fails (choices_of_all t all) (live_in t k) (h None none) fails)
-  first_without all kept k fails h (Some w) first = subst (λ l. IsFirstWitness t l w) (choices_more t all k) (ahead t (choices_of_all t all) (live_in t k) w (h (Some w) first))
+  first_without all kept k fails h (Some w) first = subst (λ l. IsFirstWitness t l w) (choices_more t all k) (ahead t (IsWitness t) (choices_of_all t all) (live_in t k) w (h (Some w) first))
 
   -- a block with another start state has no witness
   pub none_from_state : (n starts : ℕ) (k : Block) → HasStarts t n starts → k.n ≡ n → ((c : Choice) → Contains (live_in t k) c → IsLiveIn t k c) → ¬ IsBitSet starts k.state → NoneIsWitness t (live_in t k)
@@ -69,13 +66,10 @@ module _ (t : TypeTable) where
       out (subst (λ (q : ℕ). IsBitSet starts q) is.same_state (has (raw_choice_of c) (subst (λ (m : ℕ). IsRawChoice t m (raw_choice_of c)) for_n is.for_n) w))
 
 -- the start states of stocks that split are those that a witness can have
-pub has_splitting : (t : TypeTable) (n : ℕ) (found : Result ℕ AllocError) → ((c : RawChoice) → IsRawChoice t n c → IsWitness t c → (c.state < length t.states) × SplitsFrom t n c.state) → IfOk found (AreSplittingStarts t n) → IfOk found (HasStarts t n)
-has_splitting t n (Ok starts) law are = λ c is w. (are c.state).1 (law c is w)
-has_splitting t n (Err e) law are = tt
+pub has_splitting : (t : TypeTable) (n starts : ℕ)
+    → ((c : RawChoice) → IsRawChoice t n c → IsWitness t c → (c.state < length t.states) × SplitsFrom t n c.state)
+    → AreSplittingStarts t n starts → HasStarts t n starts
+has_splitting t n starts law are = λ c is w. (are c.state).1 (law c is w)
 
 pub listed_block : (t : TypeTable) (n : ℕ) (k : Block) → 2 ≤ n → n ≤ 8 → k.n ≡ n → Contains (live_blocks t n) k → IsListedBlock t k
 listed_block t n k some few same listed = record { some = omega (arith, same); few = omega (arith, same); listed = subst (λ m. Contains (live_blocks t m) k) (sym same) listed }
-
--- the set of all states
-pub all_states : (q : ℕ) → q < 16 → IsBitSet 65535 q
-all_states q l = set_from 65535 q (bit_at_ones 16 q l)

@@ -5,7 +5,8 @@ use Rattle.cn_collisions.specs.declared.sets.Sets.{Sets}
 use Rattle.cn_collisions.specs.Levels.{AreSetsFor}
 use Rattle.cn_search.specs.Evidence.{IsRefutedBlock}
 
--- no live choice of the block is a witness, and the sets are those of the type for its number of processes
+-- no live choice of the block is a witness, and the sets are those of the type for its number of
+-- processes
 pub record IsRefutedWith (t : TypeTable) (s : Sets) (k : Block) : Type 0 where
   pub block : IsRefutedBlock t k
   pub sets : AreSetsFor t k.n s

@@ -7,9 +7,9 @@ ghost use Rattle.cn_lasting.specs.Lasting.{NoneLast};
 ghost use Rattle.cn_search.specs.Numbers.{HasNumber};
 ghost use Rattle.cn_search.specs.declared.limits.TheConstants.{GREATEST_LIMIT, LEAST_LIMIT};
 
-use crate::levels::{LEAST_WITHOUT_TEAMS, has_witness};
+use crate::fallback::with_fallback;
 use crate::limits::LEAST_LIMIT;
-use crate::memory::reserve;
+use crate::numbers::{LEAST_WITHOUT_TEAMS, decide};
 use cn_lasting::find_lasting;
 use cn_lasting::laws::{finite_numbers_are_few, lasting_operations_decide};
 use cn_stocks::laws::splits_decide;
@@ -22,7 +22,7 @@ use std::thread::Threads;
 /// For how many processes a type has a property, with no limit.
 #[derive(Clone, Copy, Debug, PartialEq, Eq)]
 pub enum ConsensusNumber {
-    /// For so many and no more. It is 1 where the type has the property for no number from 2 on.
+    /// For this number and no more. It is 1 if the type has the property for no number from 2 on.
     Finite(u8),
     /// For every number.
     Infinite,
@@ -45,7 +45,7 @@ impl fmt::Display for ConsensusNumber {
     }
 }
 
-/// The most operations of a stock that is looked at, for a table with so many states.
+/// The most operations of the stocks that are searched for a table.
 fn most_operations(table: &Table) -> u8
     ensures range { (3 ≤ result) × (result ≤ MOST_SIZE) }
     ensures all { length table.now.states ≤ result }
@@ -77,7 +77,7 @@ fn number_by_stocks(table: &Table, most: u8, found: GreatestSplit, two: bool) ->
 }
 
 /// The number of a type no two of whose operations last, in these threads.
-fn finite_number_in<T: Threads + Sync>(
+fn finite_number<T: Threads + Sync>(
     rt: &T,
     alloc: Global,
     table: &Table,
@@ -88,38 +88,26 @@ fn finite_number_in<T: Threads + Sync>(
 {
     let most = most_operations(table);
     let found = greatest_split(rt, alloc, table, most, threading)?;
-    let two = has_witness(rt, alloc, table, LEAST_LIMIT, None, threading)?;
-    Ok(number_by_stocks(table, most, found, two))
+    let two = decide(rt, alloc, table, LEAST_LIMIT, threading)?;
+    Ok(number_by_stocks(table, most, found, two.is_discerning))
 }
 
-/// The same in several threads, where memory is left for one.
-fn finite_number_in_threads<T: Threads + Sync>(
-    rt: &T,
-    alloc: Global,
-    table: &Table,
-) -> Result<ConsensusNumber, AllocError>
-    requires { NoneLast table.now }
-    ensures { IfOk result (HasNumber table.now) }
-{
-    let _reserve = reserve(alloc)?;
-    finite_number_in(rt, alloc, table, Threading::Many)
-}
-
-/// The consensus number of a type, by the n for which it is n-discerning: `Infinite` where it is for
+/// The consensus number of a type, by the n for which it is n-discerning: `Infinite` if it is for
 /// every n, and else the greatest such n, or 1.
 ///
 /// It is infinite exactly if two operations last from some state
 /// ([`lasting_operations_decide`](cn_lasting::laws::lasting_operations_decide)). A finite number is
-/// at most the number of states ([`finite_numbers_are_few`](cn_lasting::laws::finite_numbers_are_few)),
-/// and is looked for by stocks ([`greatest_split`]). It is told as `Between` two numbers only where
-/// the stocks become too many: from 9 on for a type with 8 operations, from 10 on for one with 7, and
-/// from 13 on for one with 6.
+/// at most the number of states
+/// ([`finite_numbers_are_few`](cn_lasting::laws::finite_numbers_are_few)), and a search by stocks
+/// finds it ([`greatest_split`]). It is told as `Between` two numbers only if the stocks become too
+/// many: from 9 on for a type with 8 operations, from 10 on for one with 7, and from 13 on for one
+/// with 6.
 ///
-/// The search goes on in several threads, or in one where these get too little memory.
+/// The search goes on in several threads, or in one if these get too little memory.
 ///
 /// # Errors
 ///
-/// `AllocError` where memory is too little for one thread.
+/// `AllocError` if memory is too little for one thread.
 pub fn consensus_number<T: Threads + Sync>(
     rt: &T,
     alloc: Global,
@@ -131,8 +119,11 @@ pub fn consensus_number<T: Threads + Sync>(
     if find_lasting(table).is_some() {
         return Ok(ConsensusNumber::Infinite);
     }
-    if let Ok(number) = finite_number_in_threads(rt, alloc, table) {
-        return Ok(number);
-    }
-    finite_number_in(rt, alloc, table, Threading::One)
+    with_fallback(
+        alloc,
+        |threading: Threading| -> Result<ConsensusNumber, AllocError>
+            requires { NoneLast table.now }
+            ensures { IfOk result (HasNumber table.entry.now) }
+        { finite_number(rt, alloc, table, threading) },
+    )
 }

@@ -6,8 +6,8 @@ use crate::limits::{GREATEST_LIMIT, LEAST_LIMIT, MOST_CHOICES};
 use cn_choice::{count, laws};
 use cn_table::Table;
 
-/// The greatest limit that [`find`](crate::find) does not refuse for this table: each table has one,
-/// since the choices for two processes are few.
+/// The greatest limit that [`find`](crate::find) does not refuse for this table: each table has
+/// one, since the choices for two processes are few.
 pub fn greatest_limit(table: &Table) -> u8
     ensures { IsGreatestLimit (length table.now.states) (length table.now.operations) result }
 {

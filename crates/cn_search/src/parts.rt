@@ -40,8 +40,8 @@ fn evidence_of<E: Evidence>(
     Ok(evidence)
 }
 
-/// The parts that one thread makes. It takes the next block that no thread has taken, until there is
-/// none.
+/// The parts that one thread makes. It takes the next block that no thread has taken, until there
+/// is none.
 fn parts_of_thread<E: Evidence>(
     alloc: Global,
     table: &Table,
@@ -84,7 +84,8 @@ fn parts_by_thread<T: Threads + Sync, E: Evidence + Send>(
         .map(
             |_thread: usize| -> Result<Vec<Part<E>>, AllocError>
                 requires { All (IsRefutedWith table.now sets.now) blocks.now }
-                ensures { IfOk result (λ parts. All (IsPartOf E.keeps table.entry.now blocks.entry.now)
+                ensures { IfOk result
+                    (λ parts. All (IsPartOf E.keeps table.entry.now blocks.entry.now)
                     parts.items) }
             { parts_of_thread(alloc, table, sets, blocks, taken) },
         )

@@ -2,9 +2,8 @@
 ghost use Rattle.std.specs.Prelude.{◌≡◌, ◌≤◌, All, IfOk};
 ghost use Rattle.cn_choice.specs.Live.{live_blocks};
 ghost use Rattle.cn_choice.specs.declared.limits.TheConstants.{MOST_PROCESSES};
-ghost use Rattle.cn_search.specs.Evidence.{HasStarts, HaveFirstOf, IsListedBlock};
+ghost use Rattle.cn_search.specs.Evidence.{HaveFirstOf, IsListedBlock};
 
-use crate::levels::is_decided_by_teams;
 use cn_choice::{Block, Blocks, laws};
 use cn_outcomes::bits::contains;
 use cn_stocks::{Threading, splitting_starts};
@@ -12,33 +11,12 @@ use cn_table::Table;
 use std::alloc::{AllocError, Global};
 use std::thread::Threads;
 
-/// The start states that a witness for n processes can have, as a set of their numbers. Where the
-/// choices of teams are few, it has each state.
-fn starts_for<T: Threads + Sync>(
-    rt: &T,
-    alloc: Global,
-    table: &Table,
-    n: u8,
-    threading: Threading,
-) -> Result<u16, AllocError>
-    requires some { 2 ≤ n }
-    requires few { n ≤ MOST_PROCESSES }
-    ensures { IfOk result (HasStarts table.now n) }
-{
-    cn_stocks::laws::starts_of_witnesses();
-    let _states = table.states();
-    if is_decided_by_teams(table, n) {
-        return Ok(u16::MAX);
-    }
-    splitting_starts(rt, alloc, table, n, threading)
-}
-
 /// The blocks of the live canonical choices for n processes, in order, without those whose start
-/// states no witness has.
+/// states no witness has. n is from 3 to [`MOST_PROCESSES`](cn_choice::MOST_PROCESSES).
 ///
 /// # Errors
 ///
-/// `AllocError` where memory runs out.
+/// `AllocError` if memory runs out.
 pub(crate) fn blocks_with_starts<T: Threads + Sync>(
     rt: &T,
     alloc: Global,
@@ -46,7 +24,7 @@ pub(crate) fn blocks_with_starts<T: Threads + Sync>(
     n: u8,
     threading: Threading,
 ) -> Result<Vec<Block>, AllocError>
-    requires some { 2 ≤ n }
+    requires some { 3 ≤ n }
     requires few { n ≤ MOST_PROCESSES }
     ensures listed { IfOk result (λ blocks. All (IsListedBlock table.now) blocks.items) }
     ensures first { IfOk result (λ blocks. HaveFirstOf table.now (live_blocks table.now n)
@@ -54,8 +32,9 @@ pub(crate) fn blocks_with_starts<T: Threads + Sync>(
 {
     laws::block_list();
     laws::choices_of_block();
+    cn_stocks::laws::starts_of_witnesses();
     let _states = table.states();
-    let starts = starts_for(rt, alloc, table, n, threading)?;
+    let starts = splitting_starts(rt, alloc, table, n, threading)?;
     let mut blocks = Vec::new(alloc);
     for block in Blocks::new(table, n) {
         if contains(starts, block.state.0) {

@@ -2,7 +2,7 @@ use Rattle.std.proofs.Common.{◌+◌, ◌-◌, ◌≡◌, ℕ, List, length, ap
 use Rattle.cn_choice.specs.Collisions.{IsCollision}
 use Rattle.cn_choice.specs.RawChoices.{RawChoice}
 use Rattle.cn_choice.specs.declared.team.Team.TheVariants.{A}
-use Rattle.cn_choice.proofs.Walks.{the_pair}
+use Rattle.cn_choice.proofs.OrderLemmas.Walks.{the_pair}
 use Rattle.cn_collisions.proofs.FirstCollisions.{twin_collides}
 use Rattle.cn_collisions.proofs.examination.raw_collision.Goals as goal
 

@@ -23,7 +23,7 @@ stock_ends-requires-clause-setting c =
       before = b.0;
       stock_is = b.1.stocks_are i s at;
       long = b.1.long i s.operations.items (items_of stocks i s at);
-      ends_are = b.2;
+      sets_are = b.2;
     }
 
 pub loop-stock-preserved : goal.loop-stock-preserved

@@ -16,7 +16,7 @@ stock_shown-requires-clause-setting c =
       before = is.before;
       stock_is = is.beside.stocks_are c.args.place s at;
       long = is.beside.long c.args.place s.operations.items (items_of level.stocks.now c.args.place s at);
-      shown_are = is.below;
+      sets_are = is.below;
     }
 
 pub stock_shown-requires-clause-own : goal.stock_shown-requires-clause-own

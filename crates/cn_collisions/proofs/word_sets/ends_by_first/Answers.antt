@@ -36,7 +36,7 @@ loop-operation-preserved c q =
     let items = s.stock.now.operations.items in
     let o = c.loop-operation.operation in
     let i = c.loop-operation.invariant q in
-    elim c.match-less_ends.branch [
+    elim c.match-less.branch [
       | in-Some w ↦ (
           let less = w.in-Some.ensures in
           let next : w.apply.result.1.0 ≡ (transition t o u).1 = ap (λ (p : ℕ × ℕ). p.1) w.apply.ensures.value in
@@ -58,5 +58,5 @@ returns c q =
     let items = s.stock.now.operations.items in
     let is = c.requires.setting in
     let end : c.loop-operation.operation ≡ length t.operations = omega (arith, c.operations-operation-end.ensures.number, c.loop-operation-test.false, c.loop-operation.auto.operation-end) in
-    ends_all t c.args.start items (removal_of is.before items s.stock.now.less is.stock_is.links) (length t.operations) is.stock_is.known c.args.count c.requires.some q (IsBitSet c.loop-operation.set q)
+    ends_all t c.args.start items (removal_of is.before items s.stock.now.less is.stock_is.smaller) (length t.operations) is.stock_is.known c.args.count c.requires.some q (IsBitSet c.loop-operation.set q)
     (subst (λ (k : ℕ). Gathered ⊥ (EndsPart t c.args.start items c.args.count q) k (IsBitSet c.loop-operation.set q)) end (c.loop-operation.invariant q))

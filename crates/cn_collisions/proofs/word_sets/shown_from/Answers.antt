@@ -51,7 +51,7 @@ loop-operation-preserved c r q =
     let base = ShowsNow t u items a k r q in
     let part = ShowsPart t u items a k r q in
     let i = c.loop-operation.invariant r q in
-    elim c.match-less_shown.branch [
+    elim c.match-less.branch [
       | in-Some w ↦ (
           let less = w.in-Some.ensures in
           let next : w.apply.result.1.0 ≡ (transition t o u).1 = ap (λ (p : ℕ × ℕ). p.1) w.apply.ensures.value in
@@ -74,5 +74,5 @@ returns c r q =
     let base = ShowsNow t c.args.start items c.args.asked c.args.count r q in
     let part = ShowsPart t c.args.start items c.args.asked c.args.count r q in
     let end : c.loop-operation.operation ≡ length t.operations = omega (arith, c.operations-operation-end.ensures.number, c.loop-operation-test.false, c.loop-operation.auto.operation-end) in
-    shows_all t c.args.start items (removal_of is.before items s.stock.now.less is.stock_is.links) (length t.operations) is.stock_is.known c.args.count (omega (arith, c.if-count-eq0.false)) c.args.asked r q (Has c.loop-operation.set r q)
+    shows_all t c.args.start items (removal_of is.before items s.stock.now.less is.stock_is.smaller) (length t.operations) is.stock_is.known c.args.count (omega (arith, c.if-count-eq0.false)) c.args.asked r q (Has c.loop-operation.set r q)
     (subst (λ (k : ℕ). Gathered base part k (Has c.loop-operation.set r q)) end (c.loop-operation.invariant r q))

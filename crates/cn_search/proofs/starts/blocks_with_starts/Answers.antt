@@ -5,7 +5,7 @@ use Rattle.cn_choice.specs.Blocks.{Block}
 use Rattle.cn_choice.specs.Live.{live_blocks}
 use Rattle.cn_search.specs.Evidence.{HaveFirstOf, IsListedBlock}
 use Rattle.cn_search.proofs.ListLemmas.{Contains-between}
-use Rattle.cn_search.proofs.StartLemmas.{first_with, first_without, listed_block, none_from_state}
+use Rattle.cn_search.proofs.StartLemmas.{first_with, first_without, has_splitting, listed_block, none_from_state}
 use Rattle.cn_search.proofs.starts.blocks_with_starts.Goals as goal
 
 pub contains-requires : goal.contains-requires
@@ -25,7 +25,7 @@ loop-block-preserved-in-Continue-branch-2 g c =
     let k = c.in-Some.block in
     let i = c.loop-block.invariant in
     let listed = Contains-between (live_blocks t n) c.loop-block.yielded c.next.new.self k (rw c.in-Some.ensures.steps at i.all) in
-    let is = listed_block t n k c.requires.some c.requires.few (c.block_list.ensures.blocks t n k c.requires.few listed).1 listed in record {
+    let is = listed_block t n k (omega (arith, c.requires.some)) c.requires.few (c.block_list.ensures.blocks t n k c.requires.few listed).1 listed in record {
       can_next = tt;
       is_finite = tt;
       all = rw append_assoc (rw c.in-Some.ensures.steps at i.all);
@@ -41,6 +41,7 @@ loop-block-preserved g c =
     let i = c.loop-block.invariant in
     let listed = Contains-between (live_blocks t n) c.loop-block.yielded c.next.new.self k (rw c.in-Some.ensures.steps at i.all) in
     let is = c.block_list.ensures.blocks t n k c.requires.few listed in
+    let has = has_splitting t n c.in_ok-starts.starts (λ choice is w. c.starts_of_witnesses.ensures t n choice c.requires.some is w) c.in_ok-starts.ensures in
     let state : c.block.inside.state.0 ≡ k.state = ap (λ (k : Block). k.state) c.block.view_is in
     let out : IsBitSet c.in_ok-starts.starts k.state → ⊥ = λ b. true≢false (sym (c.contains.ensures.1 (subst (λ (q : ℕ). IsBitSet c.in_ok-starts.starts q) (sym state) b)) ∙ c.if-contains.false) in record {
       can_next = tt;
@@ -48,7 +49,7 @@ loop-block-preserved g c =
       all = rw append_assoc (rw c.in-Some.ensures.steps at i.all);
       listed = i.listed;
       first = first_without t c.loop-block.yielded c.loop-block.blocks.items k
-          (none_from_state t n c.in_ok-starts.starts k c.in_ok-starts.ensures is.1 (λ choice there. (c.choices_of_block.ensures.listed t k choice is.0).0 there) out) i.first;
+          (none_from_state t n c.in_ok-starts.starts k has is.1 (λ choice there. (c.choices_of_block.ensures.listed t k choice is.0).0 there) out) i.first;
     }
 
 pub returns-clause-first : goal.returns-clause-first
