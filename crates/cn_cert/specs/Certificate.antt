@@ -13,10 +13,18 @@ pub record Certificate : Type 0 where
   pub witness : Option Choice
   pub collisions : List Collision
 
--- the versions of the format: for one process more than its number, a certificate of version 1 refutes every canonical choice, one of version 2 the live ones
+-- the versions of the format: for one process more than its number, a certificate of version 1
+-- refutes every canonical choice, one of version 2 the live ones
 abbrev pub is_version : ℕ → Bool
 is_version version = version == 1 || version == 2
 
 -- the certificate of a finding, for the type of this name
 abbrev pub certificate_of : List ℕ → Finding → Certificate
-certificate_of name f = record { version = 2; type_name = name; limit = f.limit; number = f.number; witness = f.witness; collisions = f.collisions }
+certificate_of name f = record {
+  version = 2;
+  type_name = name;
+  limit = f.limit;
+  number = f.number;
+  witness = f.witness;
+  collisions = f.collisions;
+}

@@ -1,6 +1,7 @@
 -- The JSON value of a certificate, and its one text.
 use Rattle.std.specs.Prelude.{ℕ, ◌++◌, List, Option, Some, None, map, codes}
-use Rattle.serde_json.specs.Data.{Data, null, number, unsigned, string, array, object, item, no_items, Members, member, no_members}
+use Rattle.serde_json.specs.Data.{Data, null, number, unsigned, string, array, object, item}
+use Rattle.serde_json.specs.Data.{no_items, Members, member, no_members}
 use Rattle.serde_json.specs.View.{items_of}
 use Rattle.serde_json.specs.Written.{compact_text}
 use Rattle.cn_choice.specs.Canonical.{Choice}
@@ -22,7 +23,8 @@ number_or_null (Some n) = number_data n
 
 -- a choice: `[state, a, b]`
 abbrev pub choice_data : Choice → Data
-choice_data c = array (item (number_data c.state) (item (numbers_data c.a) (item (numbers_data c.b) no_items)))
+choice_data c =
+    array (item (number_data c.state) (item (numbers_data c.a) (item (numbers_data c.b) no_items)))
 
 abbrev pub witness_data : Option Choice → Data
 witness_data None = null
@@ -31,8 +33,10 @@ witness_data (Some c) = choice_data c
 -- a collision: `[state, a, b, process, alpha, beta]`
 abbrev pub collision_data : Collision → Data
 collision_data x =
-    array (item (number_data x.choice.state) (item (numbers_data x.choice.a) (item (numbers_data x.choice.b)
-    (item (number_data x.process) (item (numbers_data x.alpha) (item (numbers_data x.beta) no_items))))))
+    array (item (number_data x.choice.state)
+    (item (numbers_data x.choice.a) (item (numbers_data x.choice.b)
+    (item (number_data x.process)
+    (item (numbers_data x.alpha) (item (numbers_data x.beta) no_items))))))
 
 abbrev pub collisions_data : List Collision → Data
 collisions_data xs = array (items_of (map collision_data xs))
@@ -51,9 +55,11 @@ certificate_data c =
 abbrev pub certificate_text : Certificate → List ℕ
 certificate_text c = compact_text (certificate_data c)
 
--- the text of a number and two lists inside an array: a state with its teams, or a process with its orders
+-- the text of a number and two lists inside an array: a state with its teams, or a process with its
+-- orders
 abbrev pub triple_text : ℕ → List ℕ → List ℕ → List ℕ
-triple_text n a b = compact_text (number_data n) ++ codes "," ++ compact_text (numbers_data a) ++ codes "," ++ compact_text (numbers_data b)
+triple_text n a b = compact_text (number_data n) ++ codes "," ++ compact_text (numbers_data a)
+    ++ codes "," ++ compact_text (numbers_data b)
 
 -- the members behind the collisions
 abbrev pub other_members : Certificate → Members

@@ -1,4 +1,5 @@
--- The draft of a certificate: what a JSON value of the right shape says, whatever its numbers and its name.
+-- The draft of a certificate: what a JSON value of the right shape says, whatever its numbers and
+-- its name.
 use Rattle.std.specs.Prelude.{codes, ◌==◌, List, Option, Some, None, option_and_then, if◌then◌else◌}
 use Rattle.serde_json.specs.Data.{Data, Members}
 use Rattle.serde_json.specs.Find.{as_str, as_object}
@@ -7,7 +8,8 @@ use Rattle.cn_choice.specs.Canonical.{Choice}
 use Rattle.cn_choice.specs.Collisions.{Collision}
 use Rattle.cn_cert.specs.Certificate.{Certificate}
 use Rattle.cn_cert.specs.Document.{members_len}
-use Rattle.cn_cert.specs.Values.{natural_of, each_of, items_of_len, natural_at, naturals_at, nullable, at_key}
+use Rattle.cn_cert.specs.Values.{natural_of, each_of, items_of_len, natural_at, naturals_at}
+use Rattle.cn_cert.specs.Values.{nullable, at_key}
 
 -- a choice: an array `[state, a, b]`
 unfoldable pub choice_from : List Data → Option Choice
@@ -44,8 +46,16 @@ draft_from ms = do
   type_name ← at_key (codes "type") as_str ms
   version ← at_key (codes "version") natural_of ms
   witness ← at_key (codes "witness") (nullable choice_of) ms
-  Some (record { version = version; type_name = type_name; limit = limit; number = number; witness = witness; collisions = collisions })
+  Some (record {
+    version = version;
+    type_name = type_name;
+    limit = limit;
+    number = number;
+    witness = witness;
+    collisions = collisions;
+  })
 
 -- an object with these six keys and no other
 abbrev pub draft_of : Data → Option Certificate
-draft_of d = option_and_then (λ ms. if members_len ms == 6 then draft_from ms else None) (as_object d)
+draft_of d =
+    option_and_then (λ ms. if members_len ms == 6 then draft_from ms else None) (as_object d)

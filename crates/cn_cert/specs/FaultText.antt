@@ -2,7 +2,8 @@
 use Rattle.std.specs.Prelude.{ℕ, List, None, codes}
 use Rattle.cn_table.specs.FaultText.{numbered_text}
 use Rattle.cn_cert.specs.declared.fault.CertFault.{CertFault}
-use Rattle.cn_cert.specs.declared.fault.CertFault.TheVariants.{NotJson, WrongShape, Version, Range, OutOfMemory}
+use Rattle.cn_cert.specs.declared.fault.CertFault.TheVariants.{NotJson, WrongShape, Version, Range}
+use Rattle.cn_cert.specs.declared.fault.CertFault.TheVariants.{OutOfMemory}
 
 abbrev pub cert_fault_number : CertFault → ℕ
 cert_fault_number NotJson = 1

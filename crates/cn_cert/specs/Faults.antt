@@ -7,7 +7,8 @@ use Rattle.cn_cert.specs.Document.{document_of}
 use Rattle.cn_cert.specs.Draft.{draft_of}
 use Rattle.cn_cert.specs.Ranges.{is_in_range}
 use Rattle.cn_cert.specs.declared.fault.CertFault.{CertFault}
-use Rattle.cn_cert.specs.declared.fault.CertFault.TheVariants.{NotJson, WrongShape, Version, Range, OutOfMemory}
+use Rattle.cn_cert.specs.declared.fault.CertFault.TheVariants.{NotJson, WrongShape, Version, Range}
+use Rattle.cn_cert.specs.declared.fault.CertFault.TheVariants.{OutOfMemory}
 
 -- the bytes spell a JSON value, or the draft of a certificate, that passes the test
 abbrev pub in_document : (Data → Bool) → List ℕ → Bool

@@ -1,5 +1,6 @@
 -- The ranges of a certificate's numbers, and the name of its type.
-use Rattle.std.specs.Prelude.{ℕ, ◌-◌, List, length, Bool, true, ◌&&◌, nat_le, Option, Some, None, map, if◌then◌else◌}
+use Rattle.std.specs.Prelude.{ℕ, ◌-◌, List, length, Bool, true, ◌&&◌, nat_le, Option, Some, None}
+use Rattle.std.specs.Prelude.{map, if◌then◌else◌}
 use Rattle.std.specs.Option.{option_map_or}
 use Rattle.std.specs.List.{list_all}
 use Rattle.cn_table.specs.Draft.{all_some}
@@ -17,7 +18,8 @@ is_byte n = nat_le n 255
 abbrev pub is_number_in_range : Option ℕ → Bool
 is_number_in_range n = option_map_or is_byte n true
 
--- the range of lists of operations and of processes: at most MOST_PROCESSES items, each below MOST_PROCESSES
+-- the range of lists of operations and of processes: at most MOST_PROCESSES items, each below
+-- MOST_PROCESSES
 abbrev pub is_short : List ℕ → Bool
 is_short ns = nat_le (length ns) MOST_PROCESSES && list_all (λ n. nat_le n (MOST_PROCESSES - 1)) ns
 
@@ -28,7 +30,8 @@ abbrev pub is_witness_in_range : Option Choice → Bool
 is_witness_in_range w = option_map_or is_choice_in_range w true
 
 abbrev pub is_collision_in_range : Collision → Bool
-is_collision_in_range x = is_choice_in_range x.choice && (nat_le x.process (MOST_PROCESSES - 1) && (is_short x.alpha && is_short x.beta))
+is_collision_in_range x = is_choice_in_range x.choice
+    && (nat_le x.process (MOST_PROCESSES - 1) && (is_short x.alpha && is_short x.beta))
 
 -- every number and list is within its range, and the name of the type is a name
 abbrev pub is_in_range : Certificate → Bool
@@ -39,7 +42,8 @@ is_in_range c =
 -- the same without the collisions
 abbrev pub is_head_in_range : Certificate → Bool
 is_head_in_range c =
-    is_byte c.limit && (is_number_in_range c.number && (is_witness_in_range c.witness && is_name c.type_name))
+    is_byte c.limit
+    && (is_number_in_range c.number && (is_witness_in_range c.witness && is_name c.type_name))
 
 -- the thing, if it passes the test
 abbrev pub within : {X : Type 0} → (X → Bool) → X → Option X

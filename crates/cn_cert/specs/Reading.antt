@@ -20,4 +20,5 @@ reading bytes = option_map_or Err (fault_of bytes) (ok_or (draft_spelled bytes) 
 
 -- the first fault of a draft, or else its certificate
 abbrev pub draft_reading : Certificate → Result Certificate CertFault
-draft_reading c = if is_version c.version then (if is_in_range c then Ok c else Err Range) else Err Version
+draft_reading c =
+    if is_version c.version then (if is_in_range c then Ok c else Err Range) else Err Version

@@ -1,9 +1,11 @@
 -- Values, items and members at the front of the tokens of a text, with the tokens behind them.
 use Rattle.std.specs.Prelude.{◌≡◌, ◌<◌, ◌-◌, map, bytes_eq, ℕ, List, length, Bool}
-use Rattle.std.specs.Prelude.{true, false, Option, Some, None, option_map, option_and_then, codes, if◌then◌else◌}
+use Rattle.std.specs.Prelude.{true, false, Option, Some, None, option_map, option_and_then, codes}
+use Rattle.std.specs.Prelude.{if◌then◌else◌}
 use Rattle.json.specs.Json.{after_end_array, items, members, value}
 use Rattle.json.specs.Token.{Token}
-use Rattle.serde_json.specs.Data.{Data, null, array, Items, no_items, item, Members, no_members, member}
+use Rattle.serde_json.specs.Data.{Data, null, array, Items, no_items, item, Members, no_members}
+use Rattle.serde_json.specs.Data.{member}
 use Rattle.serde_json.specs.Find.{as_str, as_array}
 use Rattle.serde_json.specs.Read.{of_json, of_items, of_members, converted}
 use Rattle.cn_table.specs.Draft.{all_some, ◌>>=◌}
@@ -24,7 +26,8 @@ items_at depth ts = converted of_items (items (value depth) (length ts) ts)
 
 -- the members of an object that was opened, behind those that were found
 abbrev pub members_at : ℕ → Members → List Token → Option (Members × List Token)
-members_at depth found ts = converted (λ ms. of_members ms found) (members (value depth) (length ts) ts)
+members_at depth found ts =
+    converted (λ ms. of_members ms found) (members (value depth) (length ts) ts)
 
 -- f of the value at the front, and the tokens behind it
 abbrev pub with_value : {A B : Type 0} → (A → B) → Option (A × List Token) → Option (B × List Token)
@@ -62,8 +65,11 @@ choice_parts state a b = do
 abbrev pub next_choice : Items → Option Choice × Items
 next_choice ds =
     let at_a = later_items ds in
-    let at_b = later_items at_a in
-    (choice_parts (first_item natural_of ds) (first_item naturals_of at_a) (first_item naturals_of at_b), later_items at_b)
+    let at_b = later_items at_a in (
+      choice_parts (first_item natural_of ds) (first_item naturals_of at_a)
+          (first_item naturals_of at_b),
+      later_items at_b,
+    )
 
 abbrev pub is_over : Items → Bool
 is_over no_items = true
@@ -107,13 +113,17 @@ IsNext more old new = (more ≡ true) × (after_end_array old ≡ None) × (new 
 abbrev pub IsLast : Bool → List Token → List Token → Type 0
 IsLast more old new = (depth : ℕ) → rest_at more depth old ≡ Some (no_items, new)
 
--- the thing was taken from the items that are left of an array, and the new tokens hold the items behind it
-abbrev pub TakesThing : {X : Type 0} → (Items → Option X × Items) → ℕ → Option X → Bool → List Token → Bool → List Token → Type 0
-TakesThing parts depth o more old more_after new = with_value parts (rest_at more depth old) ≡ with_value (λ ds. (o, ds)) (rest_at more_after depth new)
+-- the thing was taken from the items that are left of an array, and the new tokens hold the items
+-- behind it
+abbrev pub TakesThing : {X : Type 0} → (Items → Option X × Items) → ℕ → Option X → Bool → List Token
+    → Bool → List Token → Type 0
+TakesThing parts depth o more old more_after new = with_value parts (rest_at more depth old)
+    ≡ with_value (λ ds. (o, ds)) (rest_at more_after depth new)
 
 -- an array was opened, or a value of another kind was passed over
 abbrev pub OpensArray : Bool → ℕ → List Token → List Token → Type 0
-OpensArray true depth old new = (0 < depth) × (data_at depth old ≡ with_value array (items_at (depth - 1) new))
+OpensArray true depth old new =
+    (0 < depth) × (data_at depth old ≡ with_value array (items_at (depth - 1) new))
 OpensArray false depth old new = with_value as_array (data_at depth old) ≡ Some (None, new)
 
 -- the values at the six keys, each if it is of its kind
@@ -155,7 +165,14 @@ draft_parts s = do
   type_name ← s.type_name
   version ← s.version
   witness ← s.witness
-  Some (record { version = version; type_name = type_name; limit = limit; number = number; witness = witness; collisions = collisions })
+  Some (record {
+    version = version;
+    type_name = type_name;
+    limit = limit;
+    number = number;
+    witness = witness;
+    collisions = collisions;
+  })
 
 -- the same keys, each with null
 abbrev pub keys_of : Members → Members

@@ -1,5 +1,6 @@
 -- The kinds of values in a certificate.
-use Rattle.std.specs.Prelude.{ℕ, List, length, ◌==◌, Option, Some, None, map, is_some, option_map, option_and_then, if◌then◌else◌, slice_get}
+use Rattle.std.specs.Prelude.{ℕ, List, length, ◌==◌, Option, Some, None, map, is_some, option_map}
+use Rattle.std.specs.Prelude.{option_and_then, if◌then◌else◌, slice_get}
 use Rattle.serde_json.specs.Data.{Data, Members}
 use Rattle.serde_json.specs.Find.{get_member, as_null, as_number, as_u64, as_array}
 use Rattle.cn_table.specs.Draft.{all_some}

@@ -1,8 +1,8 @@
 //! Certificates: the finding of a search with the name of its type, as a value and as a JSON text.
 //!
 //! [`Certificate::of_finding`] makes a certificate, [`write_certificate`] gives its one text, and
-//! [`read_certificate`] reads it back. A [`CertFault`] says what is wrong with a text. [`find_text`]
-//! looks for the number of a type and writes the text of its certificate meanwhile.
+//! [`read_certificate`] reads it back. A [`CertFault`] says what is wrong with a text.
+//! [`find_text`] looks for the number of a type and writes the text of its certificate meanwhile.
 //!
 //! ```text
 //! let finding = find(rt, alloc, &table, 3)?;

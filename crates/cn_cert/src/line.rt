@@ -128,7 +128,12 @@ impl Line {
     ) -> usize
         requires { (length alpha.now ≤ 8) × (length beta.now ≤ 8) }
         ensures text { take result self.new.bytes ≡ compact_text (collision_data
-            (record { choice = choice.now; process = process; alpha = alpha.now; beta = beta.now })) }
+            (record {
+              choice = choice.now;
+              process = process;
+              alpha = alpha.now;
+              beta = beta.now;
+            })) }
         ensures within { result ≤ 149 }
     {
         let (a, b) = (choice.a.as_slice(), choice.b.as_slice());

@@ -1,5 +1,5 @@
 -- The texts of entries.
-use Rattle.std.proofs.Common.{◌≡◌, ◌≢◌, ℕ, ◌-◌, ◌<◌, ◌≤◌, List, [], ◌∷◌, ◌++◌, length, append_assoc, append-nil, codes, refl, sym, ap, ◌∙◌, subst, arith, true, decimal, nat_le, le-leb}
+use Rattle.std.proofs.Common.{◌≡◌, ℕ, ◌-◌, ◌<◌, ◌≤◌, List, [], ◌∷◌, ◌++◌, length, append_assoc, append-nil, codes, refl, sym, ap, ◌∙◌, subst, arith, true, decimal, nat_le, le-leb}
 use Rattle.std.specs.Prelude.{IfSome}
 use Rattle.std.specs.List.{list_all}
 use Rattle.serde_json.specs.Written.{compact_text}
@@ -63,26 +63,12 @@ one_spelled t c text bytes left middle behind rest greatest state a b is e f g h
           ∙ (ap (λ (v : List ℕ). own ++ v) h ∙ (sym (append_assoc own (codes ",") (with_comma rest)) ∙ ap (λ (v : List ℕ). v ++ with_comma rest) (sym (append-nil (own ++ codes ","))))))),
     )
 
--- ---- what follows an entry
-
-pub comma_last : (bytes : List ℕ) → length bytes ≡ 0 → bytes ++ codes "," ≡ codes "," ++ with_comma bytes
-comma_last [] e = refl
-comma_last (b ∷ bs) e = absurd (omega (arith, e))
-
-pub comma_between : (bytes rest : List ℕ) → bytes ≡ 44 ∷ rest → length rest ≢ 0 → bytes ++ codes "," ≡ codes "," ++ with_comma rest
-comma_between bytes [] e more = absurd (more refl)
-comma_between bytes (b ∷ bs) e more = ap (λ (v : List ℕ). v ++ codes ",") e
-
 -- ---- all entries
 
 -- where nothing is left, the end is reached
 pub to_the_end : (t : TypeTable) (choices : List Choice) (bytes rest : List ℕ) → length rest ≡ 0 → AreSpelled t choices bytes rest → AreSpelled t choices bytes []
 to_the_end t choices bytes [] e h = h
 to_the_end t choices bytes (b ∷ rest) e h = absurd (omega (arith, e))
-
-pub nothing_spelled : (t : TypeTable) (bytes : List ℕ) → length bytes ≡ 0 → AreSpelled t [] bytes []
-nothing_spelled t [] e = ([], tt, refl, refl)
-nothing_spelled t (b ∷ bytes) e = absurd (omega (arith, e))
 
 -- a certificate all of whose parts but the entries are right is accepted with entries that are spelled
 pub accepted_with : (t : TypeTable) (seen c : Certificate) (bytes : List ℕ) → seen ≡ c → c.type_name ≡ t.name → IsInRange seen.version seen.limit seen.number → HasWitnessFor t seen.number seen.witness

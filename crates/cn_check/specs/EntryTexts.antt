@@ -13,18 +13,22 @@ use Rattle.cn_check.specs.Conditions.{HoldsCollision, Refutes}
 
 -- the text of an entry before the list of team B: the state and the list of team A
 abbrev pub head_text : ℕ → List ℕ → List ℕ
-head_text state a = codes "[" ++ (decimal state ++ (codes "," ++ (compact_text (numbers_data a) ++ codes ",")))
+head_text state a =
+    codes "[" ++ (decimal state ++ (codes "," ++ (compact_text (numbers_data a) ++ codes ",")))
 
 -- the text of an entry behind its choice: the process, the two orders and the closing bracket
 abbrev pub evidence_text : Collision → List ℕ
 evidence_text x = triple_text x.process x.alpha x.beta ++ codes "]"
 
--- before the rest, the bytes are the texts of entries that refute the choices, one for each; a comma stands between two entries
+-- before the rest, the bytes are the texts of entries that refute the choices, one for each; a
+-- comma stands between two entries
 abbrev pub AreSpelled : TypeTable → List Choice → List ℕ → List ℕ → Type 0
 AreSpelled t choices bytes rest =
-    (xs : List Collision) × AllZip (Refutes t) choices xs × (list_all is_collision_in_range xs ≡ true) × (with_comma bytes ≡ listed_text xs ++ with_comma rest)
+    (xs : List Collision) × AllZip (Refutes t) choices xs × (list_all is_collision_in_range xs
+    ≡ true) × (with_comma bytes ≡ listed_text xs ++ with_comma rest)
 
--- the text is that of the evidence in an entry of the choice; no process above this one moves in its orders
+-- the text is that of the evidence in an entry of the choice; no process above this one moves in
+-- its orders
 pub record IsShown (t : TypeTable) (c : Choice) (text : List ℕ) (greatest : ℕ) : Type 0 where
   pub entry : Collision
   pub of_choice : entry.choice ≡ c
@@ -36,6 +40,8 @@ pub record IsShown (t : TypeTable) (c : Choice) (text : List ℕ) (greatest : �
   pub alpha_up_to : All (λ p. p ≤ greatest) entry.alpha
   pub beta_up_to : All (λ p. p ≤ greatest) entry.beta
 
--- if the choices that are left are spelled from here on, then all of them are spelled from the start on
+-- if the choices that are left are spelled from here on, then all of them are spelled from the
+-- start on
 abbrev pub HavePassed : TypeTable → List Choice → List ℕ → List Choice → List ℕ → Type 0
-HavePassed t all start left here = (rest : List ℕ) → AreSpelled t left here rest → AreSpelled t all start rest
+HavePassed t all start left here = (rest : List ℕ) → AreSpelled t left here rest
+    → AreSpelled t all start rest

@@ -8,12 +8,15 @@ use Rattle.cn_check.specs.Conditions.{HasWitnessFor}
 use Rattle.cn_check.specs.Refutations.{IsFirstEntryFault}
 use Rattle.cn_check.specs.Versions.{choices_to_refute_in}
 use Rattle.cn_check.specs.declared.fault.CheckFault.{CheckFault}
-use Rattle.cn_check.specs.declared.fault.CheckFault.TheVariants.{OtherType, BadNumber, WitnessShape, WitnessMeets, Unexpected, NotNext, NotACollision, TooFew}
+use Rattle.cn_check.specs.declared.fault.CheckFault.TheVariants.{OtherType, BadNumber, WitnessShape}
+use Rattle.cn_check.specs.declared.fault.CheckFault.TheVariants.{WitnessMeets, Unexpected, NotNext}
+use Rattle.cn_check.specs.declared.fault.CheckFault.TheVariants.{NotACollision, TooFew}
 
 -- the first fault of the number's witness
 abbrev pub IsWitnessFault : TypeTable → Option ℕ → Option Choice → CheckFault → Type 0
 IsWitnessFault t number witness WitnessShape = ¬ HasWitnessFor t number witness
-IsWitnessFault t number witness (WitnessMeets j) = HasWitnessFor t number witness × IsSomeAnd witness (λ w. IsFirstMeeting t (raw_choice_of w) j)
+IsWitnessFault t number witness (WitnessMeets j) =
+    HasWitnessFor t number witness × IsSomeAnd witness (λ w. IsFirstMeeting t (raw_choice_of w) j)
 IsWitnessFault t number witness OtherType = ⊥
 IsWitnessFault t number witness BadNumber = ⊥
 IsWitnessFault t number witness Unexpected = ⊥

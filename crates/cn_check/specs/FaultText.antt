@@ -2,7 +2,9 @@
 use Rattle.std.specs.Prelude.{ℕ, List, Option, Some, None, codes}
 use Rattle.cn_table.specs.FaultText.{numbered_text}
 use Rattle.cn_check.specs.declared.fault.CheckFault.{CheckFault}
-use Rattle.cn_check.specs.declared.fault.CheckFault.TheVariants.{OtherType, BadNumber, WitnessShape, WitnessMeets, Unexpected, NotNext, NotACollision, TooFew}
+use Rattle.cn_check.specs.declared.fault.CheckFault.TheVariants.{OtherType, BadNumber, WitnessShape}
+use Rattle.cn_check.specs.declared.fault.CheckFault.TheVariants.{WitnessMeets, Unexpected, NotNext}
+use Rattle.cn_check.specs.declared.fault.CheckFault.TheVariants.{NotACollision, TooFew}
 
 abbrev pub check_fault_number : CheckFault → ℕ
 check_fault_number OtherType = 1
@@ -35,4 +37,5 @@ check_fault_index (NotACollision place) = Some place
 check_fault_index TooFew = None
 
 abbrev pub check_fault_text : CheckFault → List ℕ
-check_fault_text fault = numbered_text (check_fault_number fault) (check_fault_name fault) (check_fault_index fault)
+check_fault_text fault =
+    numbered_text (check_fault_number fault) (check_fault_name fault) (check_fault_index fault)

@@ -1,5 +1,6 @@
 -- The faults of a certificate, and the order in which the check looks for them.
-use Rattle.std.specs.Prelude.{◌≡◌, ◌≢◌, ℕ, ◌+◌, ◌*◌, ◌<◌, ◌⊎◌, [], length, Some, IsSomeAnd, slice_get}
+use Rattle.std.specs.Prelude.{◌≡◌, ◌≢◌, ℕ, ◌+◌, ◌*◌, ◌<◌, ◌⊎◌, [], length, Some, IsSomeAnd}
+use Rattle.std.specs.Prelude.{slice_get}
 use Rattle.cn_table.specs.TypeTable.{TypeTable}
 use Rattle.cn_choice.specs.Discerning.{OutcomeSetsMeet}
 use Rattle.cn_choice.specs.Canonical.{raw_choice_of}
@@ -7,11 +8,15 @@ use Rattle.cn_cert.specs.Certificate.{Certificate}
 use Rattle.cn_check.specs.Conditions.{IsInRange, HasWitnessFor, HoldsCollision}
 use Rattle.cn_check.specs.Versions.{choices_to_refute_in}
 use Rattle.cn_check.specs.declared.fault.CheckFault.{CheckFault}
-use Rattle.cn_check.specs.declared.fault.CheckFault.TheVariants.{OtherType, BadNumber, WitnessShape, WitnessMeets, Unexpected, NotNext, NotACollision, TooFew}
+use Rattle.cn_check.specs.declared.fault.CheckFault.TheVariants.{OtherType, BadNumber, WitnessShape}
+use Rattle.cn_check.specs.declared.fault.CheckFault.TheVariants.{WitnessMeets, Unexpected, NotNext}
+use Rattle.cn_check.specs.declared.fault.CheckFault.TheVariants.{NotACollision, TooFew}
 
--- entry i of the certificate is not of the choice that it must refute, or there is no choice for it to refute
+-- entry i of the certificate is not of the choice that it must refute, or there is no choice for it
+-- to refute
 abbrev pub IsNotNext : TypeTable → Certificate → ℕ → Type 0
-IsNotNext t c i = IsSomeAnd (slice_get c.collisions i) (λ entry. slice_get (choices_to_refute_in c.version t c.limit c.number) i ≢ Some entry.choice)
+IsNotNext t c i = IsSomeAnd (slice_get c.collisions i)
+    (λ entry. slice_get (choices_to_refute_in c.version t c.limit c.number) i ≢ Some entry.choice)
 
 -- entry i of the certificate holds no collision of its choice
 abbrev pub IsNoCollision : TypeTable → Certificate → ℕ → Type 0
@@ -26,10 +31,11 @@ HasFault t c (WitnessMeets j) = IsSomeAnd c.witness (λ w. OutcomeSetsMeet t (ra
 HasFault t c Unexpected = (c.number ≡ Some c.limit) × (c.collisions ≢ [])
 HasFault t c (NotNext i) = IsNotNext t c i
 HasFault t c (NotACollision i) = IsNoCollision t c i
-HasFault t c TooFew = length c.collisions < length (choices_to_refute_in c.version t c.limit c.number)
+HasFault t c TooFew =
+    length c.collisions < length (choices_to_refute_in c.version t c.limit c.number)
 
--- when the check looks for a fault: the round, and the turn within the round; one round goes through the entries, and looks at the choice of each, then at its
--- collision
+-- when the check looks for a fault: the round, and the turn within the round; one round goes
+-- through the entries, and looks at the choice of each, then at its collision
 abbrev pub turn : CheckFault → ℕ × ℕ
 turn OtherType = (1, 0)
 turn BadNumber = (2, 0)
@@ -42,7 +48,8 @@ turn TooFew = (7, 0)
 
 -- the check looks for the first fault before the second
 abbrev pub ComesSooner : CheckFault → CheckFault → Type 0
-ComesSooner e f = ((turn e).0 < (turn f).0) ⊎ (((turn e).0 ≡ (turn f).0) × ((turn e).1 < (turn f).1))
+ComesSooner e f =
+    ((turn e).0 < (turn f).0) ⊎ (((turn e).0 ≡ (turn f).0) × ((turn e).1 < (turn f).1))
 
 -- the certificate has the fault, and none for which the check looks sooner
 pub record IsFirstFault (t : TypeTable) (c : Certificate) (e : CheckFault) : Type 0 where

@@ -24,16 +24,20 @@ pub record AreMoves (n used : ℕ) (moves : List ℕ) : Type 0 where
 
 -- some such moves, or none, leave the object in state q
 abbrev pub EndsIn : TypeTable → RawChoice → ℕ → ℕ → ℕ → Type 0
-EndsIn t c used state q = (moves : List ℕ) × AreMoves (length c.operations) used moves × (state_after t state (operations_of c moves) ≡ q)
+EndsIn t c used state q = (moves : List ℕ) × AreMoves (length c.operations) used moves
+    × (state_after t state (operations_of c moves) ≡ q)
 
 -- by some such moves process j gets response r, and the object is left in state q
 abbrev pub ShowsFrom : TypeTable → RawChoice → ℕ → ℕ → ℕ → ℕ → ℕ → Type 0
 ShowsFrom t c used state j r q =
-    (moves : List ℕ) × AreMoves (length c.operations) used moves × (response_of j moves (responses_along t state (operations_of c moves)) ≡ Some r)
+    (moves : List ℕ) × AreMoves (length c.operations) used moves
+    × (response_of j moves (responses_along t state (operations_of c moves)) ≡ Some r)
     × (state_after t state (operations_of c moves) ≡ q)
 
--- the same by moves that begin with process p: p is j and gets r, or the moves after it show the pair
+-- the same by moves that begin with process p: p is j and gets r, or the moves after it show the
+-- pair
 abbrev pub ShowsBy : TypeTable → RawChoice → ℕ → ℕ → ℕ → ℕ → ℕ → ℕ → Type 0
 ShowsBy t c used state p j r q =
     let move = move_of t c p state in
-    ShowsFrom t c (with_mover used p) move.1 j r q ⊎ ((j ≡ p) × (r ≡ move.0) × EndsIn t c (with_mover used p) move.1 q)
+    ShowsFrom t c (with_mover used p) move.1 j r q
+    ⊎ ((j ≡ p) × (r ≡ move.0) × EndsIn t c (with_mover used p) move.1 q)

@@ -11,8 +11,9 @@ use Rattle.cn_cert.specs.Ranges.{is_collision_in_range}
 use Rattle.cn_check.specs.Conditions.{IsInRange, HasWitnessFor, Refutes}
 use Rattle.cn_check.specs.Versions.{choices_to_refute_in}
 
--- the certificate is of this type; its version, its limit and its number are in range; it has a witness for its number, if it has one;
--- and its entries refute the choices that it must refute, one for each, in the order of the choices
+-- the certificate is of this type; its version, its limit and its number are in range; it has a
+-- witness for its number, if it has one; and its entries refute the choices that it must refute,
+-- one for each, in the order of the choices
 pub record IsAccepted (t : TypeTable) (c : Certificate) : Type 0 where
   pub type_name : c.type_name ≡ t.name
   pub in_range : IsInRange c.version c.limit c.number
@@ -23,4 +24,5 @@ pub record IsAccepted (t : TypeTable) (c : Certificate) : Type 0 where
 -- the bytes are the text of entries with which, in place of its own, the certificate is accepted
 abbrev pub IsAcceptedWith : TypeTable → Certificate → List ℕ → Type 0
 IsAcceptedWith t c bytes =
-    (entries : List Collision) × AreEntries bytes entries × (list_all is_collision_in_range entries ≡ true) × IsAccepted t (record c { collisions = entries })
+    (entries : List Collision) × AreEntries bytes entries × (list_all is_collision_in_range entries
+    ≡ true) × IsAccepted t (record c { collisions = entries })

@@ -67,7 +67,8 @@ fn show<'a>(
     bytes: &'a [u8],
 ) -> Option<(Shown<'a>, &'a [u8])>
     requires { FitsTable table.now (record { state = state.0; a = a.now; b = b.now }) }
-    ensures shown { IfSome result (λ r. IsShown table.now (record { state = state.0; a = a.now; b = b.now }) r.0.text.now r.0.greatest) }
+    ensures shown { IfSome result (λ r. IsShown table.now
+        (record { state = state.0; a = a.now; b = b.now }) r.0.text.now r.0.greatest) }
     ensures text { IfSome result (λ r. bytes.now ≡ r.0.text.now ++ r.1.now) }
 {
     let (process, after_process) = digit(bytes)?;
@@ -107,8 +108,10 @@ fn show_again<'a>(
     bytes: &'a [u8],
 ) -> Option<(Shown<'a>, &'a [u8])>
     requires fits { FitsTable table.now (record { state = state.0; a = a.now; b = b.now }) }
-    requires shown { IfSome shown (λ s. IsShown table.now (record { state = state.0; a = a.now; b = b.now }) s.text.now s.greatest) }
-    ensures shown { IfSome result (λ r. IsShown table.now (record { state = state.0; a = a.now; b = b.now }) r.0.text.now r.0.greatest) }
+    requires shown { IfSome shown (λ s. IsShown table.now
+        (record { state = state.0; a = a.now; b = b.now }) s.text.now s.greatest) }
+    ensures shown { IfSome result (λ r. IsShown table.now
+        (record { state = state.0; a = a.now; b = b.now }) r.0.text.now r.0.greatest) }
     ensures text { IfSome result (λ r. bytes.now ≡ r.0.text.now ++ r.1.now) }
 {
     if let Some(known) = shown {
@@ -149,11 +152,12 @@ pub(crate) fn entry_behind<'a>(
     requires head { head.now ≡ head_text state.0 a.now }
     requires state { state.0 < MOST_STATES }
     requires small { list_all (λ n. nat_le n (MOST_PROCESSES - 1)) a.now ≡ true }
-    requires shown { IfSome shown (λ s. IsShown table.now (record { state = state.0; a = a.now; b = b.now }) s.text.now s.greatest) }
-    ensures shown { IfSome result (λ r. IsShown table.now (record { state = state.0; a = a.now; b = b.now }) r.0.text.now r.0.greatest) }
+    requires shown { IfSome shown (λ s. IsShown table.now
+        (record { state = state.0; a = a.now; b = b.now }) s.text.now s.greatest) }
+    ensures shown { IfSome result (λ r. IsShown table.now
+        (record { state = state.0; a = a.now; b = b.now }) r.0.text.now r.0.greatest) }
     ensures spelled { IfSome result (λ r. AreSpelled table.now
-        ((record { state = state.0; a = a.now; b = b.now }) ∷ []) bytes.now
-        r.1.now) }
+        ((record { state = state.0; a = a.now; b = b.now }) ∷ []) bytes.now r.1.now) }
 {
     let after = behind_piece(bytes, head)?;
     let left = behind_numbers(after, b)?;

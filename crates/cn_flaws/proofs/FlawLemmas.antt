@@ -12,10 +12,10 @@ use Rattle.toml.specs.declared.value.Value.{Value}
 use Rattle.toml.specs.View.{members_view, view}
 use Rattle.cn_table.specs.Document.{keys_in, list_of}
 use Rattle.cn_table.specs.Faults.{is_array_of}
-use Rattle.cn_flaws.specs.FlawText.{other_key_text, repeated_text}
-use Rattle.cn_flaws.specs.Flaws.{Flaw, flaw, flaws_view, each, other_keys, places_of, repeat_at, stands_in, text_flaws}
+use Rattle.cn_flaws.specs.FlawText.{other_key_text}
+use Rattle.cn_flaws.specs.Flaws.{Flaw, flaw, flaws_view, each, other_keys, stands_in, text_flaws}
 use Rattle.cn_flaws.specs.declared.flaw.Flaw as code_flaw
-use Rattle.cn_table.specs.declared.fault.TableFault.TheVariants.{UnknownKey, Repeated}
+use Rattle.cn_table.specs.declared.fault.TableFault.TheVariants.{UnknownKey}
 use Rattle.cn_table.proofs.Lists.{list_any-map}
 
 -- the keys of a `toml` table are those of its map
@@ -58,18 +58,6 @@ stands_before f vs i name = sym (list_any-map (λ t. bytes_eq t name) f (take i 
 
 pub stands_behind : {V : Type 0} (f : V → List ℕ) (vs : List V) (i : ℕ) (name : List ℕ) → list_any (λ v. bytes_eq (f v) name) (drop i vs) ≡ stands_in (drop i (map f vs)) name
 stands_behind f vs i name = sym (list_any-map (λ t. bytes_eq t name) f (drop i vs)) ∙ ap (λ ts. stands_in ts name) (sym (drop-map f i vs))
-
--- a name that stands at an earlier place, one that does not stand again, and one that does
-pub repeat_before : (what : List ℕ) (names : List (List ℕ)) (i : ℕ) (name : List ℕ) → stands_in (take i names) name ≡ true → repeat_at what names i name ≡ []
-repeat_before what names i name before = rw before refl
-
-pub repeat_once : (what : List ℕ) (names : List (List ℕ)) (i : ℕ) (name : List ℕ) → stands_in (take i names) name ≡ false → stands_in (drop (i + 1) names) name ≡ false
-    → repeat_at what names i name ≡ []
-repeat_once what names i name first once = rw (first, once) refl
-
-pub repeat_again : (what : List ℕ) (names : List (List ℕ)) (i : ℕ) (name : List ℕ) → stands_in (take i names) name ≡ false → stands_in (drop (i + 1) names) name ≡ true
-    → repeat_at what names i name ≡ flaw Repeated (repeated_text what (places_of name 0 names) name)
-repeat_again what names i name first again = rw (first, again) refl
 
 -- the flaws of a text at some place
 pub placed : {E : Type 0} (r : Result (Vec code_flaw.Flaw Global) E) (there : List Flaw) (place : ℕ) (text : List ℕ) → place ≤ length text → text_flaws place text ≡ there

@@ -1,5 +1,6 @@
 -- The text of a flaw: the error and its place.
-use Rattle.std.specs.Prelude.{codes, ℕ, ◌+◌, List, [], ◌∷◌, ◌++◌, length, map, if◌then◌else◌, Bool, ◌==◌, ◌&&◌, nat_le}
+use Rattle.std.specs.Prelude.{codes, ℕ, ◌+◌, List, [], ◌∷◌, ◌++◌, length, map, if◌then◌else◌, Bool}
+use Rattle.std.specs.Prelude.{◌==◌, ◌&&◌, nat_le}
 use Rattle.std.specs.Fmt.{decimal}
 use Rattle.std.specs.List.{list_all}
 use Rattle.cn_table.specs.Names.{is_from, is_name}
@@ -16,20 +17,24 @@ in_quotes text = codes "\"" ++ (map shown_byte text ++ codes "\"")
 
 -- the words for an operation: its name, if that is a name, or else its place in the array
 abbrev pub operation_text : ℕ → List ℕ → List ℕ
-operation_text i name = if is_name name then codes "operation \"" ++ (name ++ codes "\"") else codes "operation[" ++ (decimal i ++ codes "]")
+operation_text i name = if is_name name then codes "operation \"" ++ (name ++ codes "\"")
+    else codes "operation[" ++ (decimal i ++ codes "]")
 
 -- a byte that continues a character of UTF-8
 abbrev pub goes_on : ℕ → Bool
 goes_on b = nat_le 128 b && nat_le b 191
 
--- the line and the column, from 1, behind these bytes, if the first of them stands at this line and column; a column counts characters
+-- the line and the column, from 1, behind these bytes, if the first of them stands at this line and
+-- column; a column counts characters
 abbrev pub place_after : ℕ → ℕ → List ℕ → ℕ × ℕ
 place_after line column [] = (line, column)
 place_after line column (b ∷ bs) =
-    if b == code_of (codes "\n") then place_after (line + 1) 1 bs else if goes_on b then place_after line column bs else place_after line (column + 1) bs
+    if b == code_of (codes "\n") then place_after (line + 1) 1 bs else if goes_on b
+    then place_after line column bs else place_after line (column + 1) bs
 
 abbrev pub not_toml_text : ℕ × ℕ → List ℕ
-not_toml_text place = codes "line " ++ (decimal place.0 ++ (codes ", column " ++ (decimal place.1 ++ codes ": not TOML")))
+not_toml_text place = codes "line "
+    ++ (decimal place.0 ++ (codes ", column " ++ (decimal place.1 ++ codes ": not TOML")))
 
 -- a key that should not be there: `before` says where it is, and `after` which keys belong there
 abbrev pub other_key_text : List ℕ → List ℕ → List ℕ → List ℕ
@@ -47,10 +52,12 @@ abbrev pub no_operation_text : ℕ → List ℕ
 no_operation_text i = codes "operation[" ++ (decimal i ++ codes "]: not a table")
 
 abbrev pub bad_name_text : List ℕ → List ℕ → List ℕ
-bad_name_text what name = what ++ (codes " " ++ (in_quotes name ++ (codes ": 1 to " ++ (decimal LONGEST_NAME ++ codes " of a-z, 0-9, _"))))
+bad_name_text what name = what ++ (codes " "
+    ++ (in_quotes name ++ (codes ": 1 to " ++ (decimal LONGEST_NAME ++ codes " of a-z, 0-9, _"))))
 
 abbrev pub too_many_text : List ℕ → ℕ → ℕ → List ℕ
-too_many_text what most count = decimal count ++ (codes " " ++ (what ++ (codes "; at most " ++ decimal most)))
+too_many_text what most count =
+    decimal count ++ (codes " " ++ (what ++ (codes "; at most " ++ decimal most)))
 
 abbrev pub too_few_text : List ℕ → List ℕ
 too_few_text what = codes "0 " ++ (what ++ codes "; at least 1")
@@ -62,7 +69,8 @@ before_places more = if more == 0 then [] else (if more == 1 then codes " and " 
 -- the places of things called `what`, with a comma between two, and `and` before the last
 abbrev pub places_text : List ℕ → List ℕ → List ℕ
 places_text what [] = []
-places_text what (i ∷ others) = what ++ (codes "[" ++ (decimal i ++ (codes "]" ++ (before_places (length others) ++ places_text what others))))
+places_text what (i ∷ others) = what ++ (codes "["
+    ++ (decimal i ++ (codes "]" ++ (before_places (length others) ++ places_text what others))))
 
 -- the word for so many things
 abbrev pub both_or_all : ℕ → List ℕ
@@ -70,24 +78,29 @@ both_or_all count = if count == 2 then codes "both" else codes "all"
 
 -- the things at these places have one name
 abbrev pub repeated_text : List ℕ → List ℕ → List ℕ → List ℕ
-repeated_text what places name = places_text what places ++ (codes " are " ++ (both_or_all (length places) ++ (codes " called " ++ in_quotes name)))
+repeated_text what places name = places_text what places
+    ++ (codes " are " ++ (both_or_all (length places) ++ (codes " called " ++ in_quotes name)))
 
 abbrev pub entries_text : ℕ → List ℕ
 entries_text n = if n == 1 then codes "1 entry" else decimal n ++ codes " entries"
 
 abbrev pub states_text : ℕ → List ℕ
-states_text n = if n == 1 then codes "there is 1 state" else codes "there are " ++ (decimal n ++ codes " states")
+states_text n = if n == 1 then codes "there is 1 state"
+    else codes "there are " ++ (decimal n ++ codes " states")
 
 -- a row with so many entries, for so many states
 abbrev pub length_text : List ℕ → List ℕ → ℕ → ℕ → List ℕ
-length_text operation row count states = operation ++ (codes ": " ++ (row ++ (codes " has " ++ (entries_text count ++ (codes ", " ++ states_text states)))))
+length_text operation row count states = operation ++ (codes ": "
+    ++ (row ++ (codes " has " ++ (entries_text count ++ (codes ", " ++ states_text states)))))
 
 -- the names in brackets, if they are few
 abbrev pub names_in_brackets : List (List ℕ) → List ℕ
 names_in_brackets names =
-    if nat_le (length names) MOST_STATES && list_all is_name names then codes " (" ++ (joined_texts (codes ", ") names ++ codes ")") else []
+    if nat_le (length names) MOST_STATES && list_all is_name names
+    then codes " (" ++ (joined_texts (codes ", ") names ++ codes ")") else []
 
 -- an entry of a row that is no known name
 abbrev pub entry_text : List ℕ → List ℕ → ℕ → List ℕ → List ℕ → List ℕ → List ℕ
 entry_text operation row k text what names =
-    operation ++ (codes ", " ++ (row ++ (codes "[" ++ (decimal k ++ (codes "]: " ++ (in_quotes text ++ (codes " is no " ++ (what ++ names))))))))
+    operation ++ (codes ", " ++ (row ++ (codes "["
+    ++ (decimal k ++ (codes "]: " ++ (in_quotes text ++ (codes " is no " ++ (what ++ names))))))))

@@ -1,6 +1,8 @@
 -- The flaws of the bytes of a table, in the order of the faults.
-use Rattle.std.specs.Prelude.{codes, ℕ, ◌+◌, List, [], ◌∷◌, ◌++◌, length, map, flat_map, take, drop, if◌then◌else◌, Bool}
-use Rattle.std.specs.Prelude.{true, ◌==◌, Option, Some, None, is_some, nat_le, unwrap_or, Vec, string_bytes}
+use Rattle.std.specs.Prelude.{codes, ℕ, ◌+◌, List, [], ◌∷◌, ◌++◌, length, map, flat_map, take, drop}
+use Rattle.std.specs.Prelude.{if◌then◌else◌, Bool}
+use Rattle.std.specs.Prelude.{true, ◌==◌, Option, Some, None, is_some, nat_le, unwrap_or, Vec}
+use Rattle.std.specs.Prelude.{string_bytes}
 use Rattle.std.specs.List.{list_any}
 use Rattle.std.specs.Option.{option_map_or}
 use Rattle.std.specs.Str.{bytes_eq, is_utf8}
@@ -11,17 +13,23 @@ use Rattle.cn_table.specs.Document.{keys_in, array_at}
 use Rattle.cn_table.specs.Draft.{Draft, DraftRow, row_names, draft_of, text_at}
 use Rattle.cn_table.specs.Faults.{root_keys, operation_keys, is_text, is_array_of}
 use Rattle.cn_table.specs.Names.{is_name, number_of}
-use Rattle.cn_flaws.specs.FlawText.{place_after, not_toml_text, operation_text, other_key_text, missing_key_text}
-use Rattle.cn_flaws.specs.FlawText.{kind_text, no_operation_text, bad_name_text, too_many_text, too_few_text}
+use Rattle.cn_flaws.specs.FlawText.{place_after, not_toml_text, operation_text, other_key_text}
+use Rattle.cn_flaws.specs.FlawText.{missing_key_text}
+use Rattle.cn_flaws.specs.FlawText.{kind_text, no_operation_text, bad_name_text, too_many_text}
+use Rattle.cn_flaws.specs.FlawText.{too_few_text}
 use Rattle.cn_flaws.specs.FlawText.{repeated_text, length_text, entry_text, names_in_brackets}
 use Rattle.cn_table.specs.declared.fault.TableFault.{TableFault}
-use Rattle.cn_table.specs.declared.fault.TableFault.TheVariants.{NotToml, UnknownKey, MissingKey, WrongKind, BadName, Count, Repeated, RowLength, UnknownName}
+use Rattle.cn_table.specs.declared.fault.TableFault.TheVariants.{NotToml, UnknownKey, MissingKey}
+use Rattle.cn_table.specs.declared.fault.TableFault.TheVariants.{WrongKind, BadName, Count}
+use Rattle.cn_table.specs.declared.fault.TableFault.TheVariants.{Repeated, RowLength, UnknownName}
 use Rattle.cn_flaws.specs.declared.document_flaws.Kind.{Kind}
 use Rattle.cn_flaws.specs.declared.document_flaws.Kind.TheVariants.{Text, Texts, Tables}
 use Rattle.cn_flaws.specs.declared.document_flaws.FlawClass.{FlawClass}
-use Rattle.cn_flaws.specs.declared.document_flaws.FlawClass.TheVariants.{OtherKeys, MissingKeys, Kinds}
+use Rattle.cn_flaws.specs.declared.document_flaws.FlawClass.TheVariants.{OtherKeys, MissingKeys}
+use Rattle.cn_flaws.specs.declared.document_flaws.FlawClass.TheVariants.{Kinds}
 use Rattle.cn_flaws.specs.declared.flaw.Flaw as code_flaw
-use Rattle.cn_table.specs.declared.limits.TheConstants.{MOST_OPERATIONS, MOST_RESPONSES, MOST_STATES}
+use Rattle.cn_table.specs.declared.limits.TheConstants.{MOST_OPERATIONS, MOST_RESPONSES}
+use Rattle.cn_table.specs.declared.limits.TheConstants.{MOST_STATES}
 
 -- a fault, and the text of the error and its place
 pub record Flaw : Type 0 where
@@ -49,16 +57,19 @@ each find i (x ∷ xs) = find i x ++ each find (i + 1) xs
 -- the keys that are none of these
 abbrev pub other_keys : List ℕ → List ℕ → List (List ℕ) → List (List ℕ) → List Flaw
 other_keys before after known keys =
-    flat_map (λ key. if list_any (λ k. bytes_eq k key) known then [] else flaw UnknownKey (other_key_text before after key)) keys
+    flat_map (λ key. if list_any (λ k. bytes_eq k key) known then []
+    else flaw UnknownKey (other_key_text before after key)) keys
 
 -- those of these keys that are missing
 abbrev pub missing_keys : List ℕ → List (List ℕ) → Members → List Flaw
-missing_keys place known table = flat_map (λ key. if is_some (get_member key table) then [] else flaw MissingKey (missing_key_text place key)) known
+missing_keys place known table = flat_map (λ key. if is_some (get_member key table) then []
+    else flaw MissingKey (missing_key_text place key)) known
 
 abbrev pub is_array : Data → Bool
 is_array d = is_some (as_array d)
 
--- whether a value is of the kind, and the words for the kind; the items of an array of tables are judged one by one
+-- whether a value is of the kind, and the words for the kind; the items of an array of tables are
+-- judged one by one
 abbrev pub is_of : Kind → Data → Bool
 is_of Text = is_text
 is_of Texts = is_array_of is_text
@@ -71,15 +82,18 @@ kind_name Tables = codes "an array of tables"
 
 -- a value that is not of this kind
 abbrev pub wrong_kind : Kind → List ℕ → List ℕ → Members → List Flaw
-wrong_kind kind before key table = if option_map_or (is_of kind) (get_member key table) true then [] else flaw WrongKind (kind_text before key (kind_name kind))
+wrong_kind kind before key table = if option_map_or (is_of kind) (get_member key table) true then []
+    else flaw WrongKind (kind_text before key (kind_name kind))
 
 -- the words for the table of an operation
 abbrev pub table_text : ℕ → Members → List ℕ
 table_text i table = operation_text i (unwrap_or (text_at (codes "name") table) [])
 
--- the flaws of the table of an operation: keys beside its three, those of the three that are missing, values of a wrong kind
+-- the flaws of the table of an operation: keys beside its three, those of the three that are
+-- missing, values of a wrong kind
 abbrev pub table_flaws : FlawClass → ℕ → Members → List Flaw
-table_flaws OtherKeys i table = other_keys (table_text i table ++ codes ", ") (codes ": an operation has name, response, next") operation_keys (keys_in table)
+table_flaws OtherKeys i table = other_keys (table_text i table ++ codes ", ")
+    (codes ": an operation has name, response, next") operation_keys (keys_in table)
 table_flaws MissingKeys i table = missing_keys (table_text i table) operation_keys table
 table_flaws Kinds i table =
     wrong_kind Text (table_text i table ++ codes ", ") (codes "name") table
@@ -94,20 +108,24 @@ no_table_flaws Kinds i = flaw WrongKind (no_operation_text i)
 
 -- the flaws of an item of the array `operation`
 abbrev pub item_flaws : FlawClass → ℕ → Data → List Flaw
-item_flaws flaw_class i d = option_map_or (table_flaws flaw_class i) (as_table d) (no_table_flaws flaw_class i)
+item_flaws flaw_class i d =
+    option_map_or (table_flaws flaw_class i) (as_table d) (no_table_flaws flaw_class i)
 
 -- the flaws of all items, if there is such an array
 abbrev pub operation_flaws : FlawClass → Members → List Flaw
-operation_flaws flaw_class document = option_map_or (each (item_flaws flaw_class) 0) (array_at (codes "operation") document) []
+operation_flaws flaw_class document =
+    option_map_or (each (item_flaws flaw_class) 0) (array_at (codes "operation") document) []
 
 -- the flaws of the root
 abbrev pub root_flaws : FlawClass → Members → List Flaw
-root_flaws OtherKeys document = other_keys [] (codes ": the root has name, states, responses, operation") root_keys (keys_in document)
+root_flaws OtherKeys document = other_keys []
+    (codes ": the root has name, states, responses, operation") root_keys (keys_in document)
 root_flaws MissingKeys document = missing_keys (codes "the root") root_keys document
 root_flaws Kinds document =
     wrong_kind Text [] (codes "name") document
     ++ (wrong_kind Texts [] (codes "states") document
-    ++ (wrong_kind Texts [] (codes "responses") document ++ wrong_kind Tables [] (codes "operation") document))
+    ++ (wrong_kind Texts [] (codes "responses") document
+    ++ wrong_kind Tables [] (codes "operation") document))
 
 -- the flaws of the whole document
 abbrev pub flaws_by : FlawClass → Members → List Flaw
@@ -122,22 +140,26 @@ unfoldable pub name_flaws : Draft → List Flaw
 name_flaws draft =
     bad_name (codes "name") draft.name
     ++ (flat_map (bad_name (codes "state")) draft.states
-    ++ (flat_map (bad_name (codes "response")) draft.responses ++ flat_map (bad_name (codes "operation")) (row_names draft.operations)))
+    ++ (flat_map (bad_name (codes "response")) draft.responses
+    ++ flat_map (bad_name (codes "operation")) (row_names draft.operations)))
 
 -- a count that is not from 1 to this many
 abbrev pub bad_count : List ℕ → ℕ → ℕ → List Flaw
 bad_count what most count =
-    if nat_le 1 count then (if nat_le count most then [] else flaw Count (too_many_text what most count)) else flaw Count (too_few_text what)
+    if nat_le 1 count then (if nat_le count most then []
+    else flaw Count (too_many_text what most count)) else flaw Count (too_few_text what)
 
 unfoldable pub count_flaws : Draft → List Flaw
 count_flaws draft =
     bad_count (codes "states") MOST_STATES (length draft.states)
-    ++ (bad_count (codes "responses") MOST_RESPONSES (length draft.responses) ++ bad_count (codes "operations") MOST_OPERATIONS (length draft.operations))
+    ++ (bad_count (codes "responses") MOST_RESPONSES (length draft.responses)
+    ++ bad_count (codes "operations") MOST_OPERATIONS (length draft.operations))
 
 -- the places, counted from i on, at which the name stands
 abbrev pub places_of : List ℕ → ℕ → List (List ℕ) → List ℕ
 places_of name i [] = []
-places_of name i (t ∷ ts) = if bytes_eq t name then i ∷ places_of name (i + 1) ts else places_of name (i + 1) ts
+places_of name i (t ∷ ts) =
+    if bytes_eq t name then i ∷ places_of name (i + 1) ts else places_of name (i + 1) ts
 
 -- the name is one of these
 abbrev pub stands_in : List (List ℕ) → List ℕ → Bool
@@ -147,7 +169,8 @@ stands_in names name = list_any (λ t. bytes_eq t name) names
 abbrev pub repeat_at : List ℕ → List (List ℕ) → ℕ → List ℕ → List Flaw
 repeat_at what names i name =
     if stands_in (take i names) name then [] else
-    (if stands_in (drop (i + 1) names) name then flaw Repeated (repeated_text what (places_of name 0 names) name) else [])
+    (if stands_in (drop (i + 1) names) name
+    then flaw Repeated (repeated_text what (places_of name 0 names) name) else [])
 
 -- each name that stands more than once
 abbrev pub repeats : List ℕ → List (List ℕ) → List Flaw
@@ -155,16 +178,19 @@ repeats what names = each (repeat_at what names) 0 names
 
 unfoldable pub repeat_flaws : Draft → List Flaw
 repeat_flaws draft =
-    repeats (codes "state") draft.states ++ (repeats (codes "response") draft.responses ++ repeats (codes "operation") (row_names draft.operations))
+    repeats (codes "state") draft.states ++ (repeats (codes "response") draft.responses
+    ++ repeats (codes "operation") (row_names draft.operations))
 
 -- a row that lacks an entry for each state
 abbrev pub bad_length : List ℕ → List ℕ → ℕ → ℕ → List Flaw
-bad_length operation row count states = if count == states then [] else flaw RowLength (length_text operation row count states)
+bad_length operation row count states =
+    if count == states then [] else flaw RowLength (length_text operation row count states)
 
 abbrev pub row_lengths : ℕ → ℕ → DraftRow → List Flaw
 row_lengths states i row =
     let operation = operation_text i row.name in
-    bad_length operation (codes "response") (length row.response) states ++ bad_length operation (codes "next") (length row.next) states
+    bad_length operation (codes "response") (length row.response) states
+    ++ bad_length operation (codes "next") (length row.next) states
 
 unfoldable pub length_flaws : Draft → List Flaw
 length_flaws draft = each (row_lengths (length draft.states)) 0 draft.operations
@@ -172,7 +198,8 @@ length_flaws draft = each (row_lengths (length draft.states)) 0 draft.operations
 -- an entry that is no known name
 abbrev pub unknown_entry : List ℕ → List ℕ → List ℕ → List (List ℕ) → ℕ → List ℕ → List Flaw
 unknown_entry operation row what names k text =
-    if is_some (number_of names text) then [] else flaw UnknownName (entry_text operation row k text what (names_in_brackets names))
+    if is_some (number_of names text) then []
+    else flaw UnknownName (entry_text operation row k text what (names_in_brackets names))
 
 abbrev pub row_entries : List (List ℕ) → List (List ℕ) → ℕ → DraftRow → List Flaw
 row_entries states responses i row =
@@ -184,18 +211,21 @@ unfoldable pub entry_flaws : Draft → List Flaw
 entry_flaws draft = each (row_entries draft.states draft.responses) 0 draft.operations
 
 unfoldable pub draft_flaws : Draft → List Flaw
-draft_flaws draft = name_flaws draft ++ (count_flaws draft ++ (repeat_flaws draft ++ (length_flaws draft ++ entry_flaws draft)))
+draft_flaws draft = name_flaws draft
+    ++ (count_flaws draft ++ (repeat_flaws draft ++ (length_flaws draft ++ entry_flaws draft)))
 
 -- ---- of bytes
 
 -- all flaws of a document; those of names and counts only if each value is of its kind
 unfoldable pub document_flaws : Members → List Flaw
 document_flaws document =
-    flaws_by OtherKeys document ++ (flaws_by MissingKeys document ++ (flaws_by Kinds document ++ option_map_or draft_flaws (draft_of document) []))
+    flaws_by OtherKeys document ++ (flaws_by MissingKeys document
+    ++ (flaws_by Kinds document ++ option_map_or draft_flaws (draft_of document) []))
 
 -- the flaws of bytes; bytes that are no TOML have one, at this place
 unfoldable pub text_flaws : ℕ → List ℕ → List Flaw
-text_flaws place text = option_map_or document_flaws (parse_document text) (flaw NotToml (not_toml_text (place_after 1 1 (take place text))))
+text_flaws place text = option_map_or document_flaws (parse_document text)
+    (flaw NotToml (not_toml_text (place_after 1 1 (take place text))))
 
 -- bytes that are not UTF-8 have no flaw to tell
 abbrev pub flaws_at : ℕ → List ℕ → List Flaw

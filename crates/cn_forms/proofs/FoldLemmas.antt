@@ -187,12 +187,6 @@ seam bytes front other is = (
       (let byte : get_or bytes (length front) 0 ≡ 32 = ap (λ (xs : List ℕ). get_or xs (length front) 0) is ∙ get_or_at front 32 other 0 (length front) refl in omega (arith, byte)),
 )
 
--- a space more behind the run
-pub wider_gap : (run rest word other : List ℕ) (len gap : ℕ) → run ≡ take len run ++ (spaces gap ++ rest) → rest ≡ word ++ 32 ∷ other → length word ≡ 0
-    → run ≡ take len run ++ (spaces (gap + 1) ++ other)
-wider_gap run rest [] other len gap is first none = is ∙ ap (λ xs. take len run ++ (spaces gap ++ xs)) first ∙ ap (λ xs. take len run ++ xs) (sym (spaces_more gap other))
-wider_gap run rest (x ∷ xs) other len gap is first none = absurd (omega (arith, none))
-
 -- a word more in the run
 pub longer_run : (run rest word other : List ℕ) (len gap : ℕ) → len ≤ length run → run ≡ take len run ++ (spaces gap ++ rest) → rest ≡ word ++ 32 ∷ other
     → (take (len + (gap + length word)) run ≡ take len run ++ (spaces gap ++ word)) × (run ≡ take (len + (gap + length word)) run ++ (spaces 1 ++ other)) × IsCharBoundary run (len + (gap + length word))
@@ -213,13 +207,6 @@ longer_run run rest word other len gap inside is first =
     let parts = seam run front other cut in
     let same : take (len + (gap + length word)) run ≡ front = ap (λ n. take n run) (sym size) ∙ parts.0 in
     (same, cut ∙ ap (λ xs. xs ++ 32 ∷ other) (sym same), subst (λ (n : ℕ). IsCharBoundary run n) size parts.1)
-
--- a word at the margin begins a run
-pub new_run : (rest word other : List ℕ) → rest ≡ word ++ 32 ∷ other
-    → (take (length word) rest ≡ word) × (rest ≡ take (length word) rest ++ (spaces 1 ++ other)) × IsCharBoundary rest (length word)
-new_run rest word other first =
-    let parts = seam rest word other first in
-    (parts.0, first ∙ ap (λ xs. xs ++ 32 ∷ other) (sym parts.0), parts.1)
 
 -- the text of a word more in the run
 pub run_text : (left gap : ℕ) (front rest word next : List ℕ) → IsFront left gap rest word next → 0 < length word → fits left gap (length rest) word ≡ true

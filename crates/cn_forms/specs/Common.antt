@@ -1,9 +1,6 @@
 -- What the forms of a plan share.
-use Rattle.std.specs.Prelude.{ℕ, zero, suc, List, [], length, codes, slice_index}
-use Rattle.cn_table.specs.TypeTable.{operation_names}
-use Rattle.cn_choice.specs.Canonical.{raw_choice_of}
+use Rattle.std.specs.Prelude.{ℕ, zero, suc, List, [], length, codes}
 use Rattle.cn_proto.specs.Plan.{Plan, protocol_of}
-use Rattle.cn_table.specs.Names.{name_at}
 use Rattle.cn_proto.specs.Protocol.{place_of}
 use Rattle.cn_proto.specs.declared.place.Place.{Place}
 
@@ -11,10 +8,6 @@ use Rattle.cn_proto.specs.declared.place.Place.{Place}
 abbrev pub comma : ℕ → List ℕ
 comma zero = []
 comma (suc k) = codes ","
-
--- the name of the operation of a role
-abbrev pub operation_name_of : Plan → ℕ → List ℕ
-operation_name_of plan role = name_at (operation_names plan.table) (slice_index (raw_choice_of plan.choice).operations role)
 
 -- the number of places on the path of a process
 abbrev pub places_of : Plan → ℕ → ℕ

@@ -1,4 +1,5 @@
--- A table as a picture for Graphviz: its states, and the operations that lead from one to another. Quotes enclose every name, as in the picture of a plan.
+-- A table as a picture for Graphviz: its states, and the operations that lead from one to another.
+-- Quotes enclose every name, as in the picture of a plan.
 use Rattle.std.specs.Prelude.{ℕ, List, [], ◌++◌, length, codes, flat_map, ◌==◌, if◌then◌else◌}
 use Rattle.std.specs.List.{range_with_len}
 use Rattle.cn_table.specs.TypeTable.{TypeTable, operation_names, transition}
@@ -11,7 +12,8 @@ state_dot t state = codes "  \"" ++ name_at t.states state ++ codes "\";\n"
 abbrev pub line_dot : TypeTable → ℕ → ℕ → ℕ → List ℕ
 line_dot t from next operation =
     if (transition t operation from).1 == next
-    then name_at (operation_names t) operation ++ codes "/" ++ name_at t.responses (transition t operation from).0 ++ codes "\\l"
+    then name_at (operation_names t) operation ++ codes "/"
+    ++ name_at t.responses (transition t operation from).0 ++ codes "\\l"
     else []
 
 -- a line for each operation that leads from one state to the other
@@ -23,7 +25,8 @@ abbrev pub arrow_dot : TypeTable → ℕ → ℕ → List ℕ
 arrow_dot t from next =
     if length (label_dot t from next) == 0
     then []
-    else codes "  \"" ++ name_at t.states from ++ codes "\" -> \"" ++ name_at t.states next ++ codes "\" [label=\"" ++ label_dot t from next ++ codes "\"];\n"
+    else codes "  \"" ++ name_at t.states from ++ codes "\" -> \"" ++ name_at t.states next
+    ++ codes "\" [label=\"" ++ label_dot t from next ++ codes "\"];\n"
 
 -- the arrows from a state
 abbrev pub arrows_dot : TypeTable → ℕ → List ℕ
@@ -31,5 +34,6 @@ arrows_dot t from = flat_map (arrow_dot t from) (range_with_len 0 (length t.stat
 
 unfoldable pub diagram : TypeTable → List ℕ
 diagram t =
-    codes "digraph \"" ++ t.name ++ codes "\" {\n" ++ flat_map (state_dot t) (range_with_len 0 (length t.states))
+    codes "digraph \"" ++ t.name ++ codes "\" {\n"
+    ++ flat_map (state_dot t) (range_with_len 0 (length t.states))
     ++ flat_map (arrows_dot t) (range_with_len 0 (length t.states)) ++ codes "}\n"

@@ -1,5 +1,6 @@
 -- The text of `explain`: the number, the table, why the number is so much, and why it is no more.
-use Rattle.std.specs.Prelude.{ℕ, ◌+◌, ◌-◌, List, [], ◌∷◌, ◌++◌, length, codes, Bool, not, ◌&&◌, ◌==◌, nat_le, nat_lt, Option, Some, None}
+use Rattle.std.specs.Prelude.{ℕ, ◌+◌, ◌-◌, List, [], ◌∷◌, ◌++◌, length, codes, Bool, not, ◌&&◌}
+use Rattle.std.specs.Prelude.{◌==◌, nat_le, nat_lt, Option, Some, None}
 use Rattle.std.specs.Prelude.{if◌then◌else◌, drop, flat_map, slice_index, take, unwrap_or}
 use Rattle.std.specs.List.{position, range_with_len}
 use Rattle.std.specs.Fmt.{decimal}
@@ -23,59 +24,73 @@ use Rattle.cn_forms.specs.declared.limits.TheConstants.{MOST_TOLD}
 -- the number in words: 1 if there is none up to the limit, "at least" the limit if it is the limit
 abbrev pub number_told : ℕ → Option ℕ → List ℕ
 number_told limit None = codes "1"
-number_told limit (Some n) = if nat_lt n limit then decimal n else (codes "at least " ++ decimal n ++ codes " (the limit)")
+number_told limit (Some n) =
+    if nat_lt n limit then decimal n else (codes "at least " ++ decimal n ++ codes " (the limit)")
 
 abbrev pub number_line : TypeTable → ℕ → Option ℕ → List ℕ
-number_line t limit number = t.name ++ codes ": consensus number " ++ number_told limit number ++ codes " (for processes that can read the whole state)\n"
+number_line t limit number = t.name ++ codes ": consensus number " ++ number_told limit number
+    ++ codes " (for processes that can read the whole state)\n"
 
 -- ---- processes and runs
 
 -- the number of operations, from the first on, that are this one
 abbrev pub alike : List ℕ → ℕ → ℕ
-alike operations own = unwrap_or (position (λ other. not (other == own)) operations) (length operations)
+alike operations own =
+    unwrap_or (position (λ other. not (other == own)) operations) (length operations)
 
 -- this number of processes, from p on
 abbrev pub processes : ℕ → ℕ → List ℕ
 processes p count =
-    codes "p" ++ decimal p ++ (if nat_le count 1 then [] else ((if count == 2 then codes " and p" else codes " to p") ++ decimal (p + (count - 1))))
+    codes "p" ++ decimal p ++ (if nat_le count 1 then []
+    else ((if count == 2 then codes " and p" else codes " to p") ++ decimal (p + (count - 1))))
 
 abbrev pub does : ℕ → List ℕ
 does count = if nat_le count 1 then codes " does " else codes " do "
 
--- process p and the processes right behind it, before the end, with the same operation; the words for their team; and the operation
+-- process p and the processes right behind it, before the end, with the same operation; the words
+-- for their team; and the operation
 abbrev pub like_members : TypeTable → RawChoice → List ℕ → ℕ → ℕ → List ℕ
 like_members t c team end p =
-    let own = slice_index c.operations p in let count = alike (take (end - p) (drop p c.operations)) own in
+    let own = slice_index c.operations p in
+    let count = alike (take (end - p) (drop p c.operations)) own in
     processes p count ++ (team ++ (does count ++ name_at (operation_names t) own))
 
 -- process p is behind the first process, and has the same operation as the one right before it
 abbrev pub goes_along : RawChoice → ℕ → ℕ → Bool
-goes_along c first p = nat_lt first p && (slice_index c.operations (p - 1) == slice_index c.operations p)
+goes_along c first p =
+    nat_lt first p && (slice_index c.operations (p - 1) == slice_index c.operations p)
 
--- process p with those that go along, and a comma before all but the first; nothing for a process that itself goes along
+-- process p with those that go along, and a comma before all but the first; nothing for a process
+-- that itself goes along
 abbrev pub member : TypeTable → RawChoice → List ℕ → ℕ → ℕ → ℕ → List ℕ
-member t c team first end p = if goes_along c first p then [] else ((if p == first then [] else codes ", ") ++ like_members t c team end p)
+member t c team first end p = if goes_along c first p then []
+    else ((if p == first then [] else codes ", ") ++ like_members t c team end p)
 
 -- this number of processes, from the first on
 unfoldable pub members : TypeTable → RawChoice → List ℕ → ℕ → ℕ → List ℕ
-members t c team first count = flat_map (member t c team first (first + count)) (range_with_len first count)
+members t c team first count =
+    flat_map (member t c team first (first + count)) (range_with_len first count)
 
--- the operations of a choice: those of team A's processes, and of team B's, with words for each team
+-- the operations of a choice: those of team A's processes, and of team B's, with words for each
+-- team
 unfoldable pub both_teams : TypeTable → Choice → List ℕ → List ℕ → List ℕ → List ℕ
 both_teams t c a_team between b_team =
-    members t (raw_choice_of c) a_team 0 (length c.a) ++ between ++ members t (raw_choice_of c) b_team (length c.a) (length c.b)
+    members t (raw_choice_of c) a_team 0 (length c.a) ++ between
+    ++ members t (raw_choice_of c) b_team (length c.a) (length c.b)
 
 -- the step of process p in a state: its operation, the response, and the next state
 abbrev pub step_text : TypeTable → RawChoice → ℕ → ℕ → List ℕ
 step_text t c state p =
     let operation = slice_index c.operations p in let given = transition t operation state in
-    codes " --p" ++ decimal p ++ codes " " ++ name_at (operation_names t) operation ++ codes "/" ++ name_at t.responses given.0
+    codes " --p" ++ decimal p ++ codes " " ++ name_at (operation_names t) operation ++ codes "/"
+    ++ name_at t.responses given.0
     ++ codes "--> " ++ name_at t.states given.1
 
 -- the steps of the processes of an order, one after the other
 abbrev pub steps_text : TypeTable → RawChoice → ℕ → List ℕ → List ℕ
 steps_text t c state [] = []
-steps_text t c state (p ∷ ps) = step_text t c state p ++ steps_text t c (transition t (slice_index c.operations p) state).1 ps
+steps_text t c state (p ∷ ps) =
+    step_text t c state p ++ steps_text t c (transition t (slice_index c.operations p) state).1 ps
 
 -- what process j sees, if it takes part in the run
 abbrev pub sight : TypeTable → ℕ → Option (ℕ × ℕ) → List ℕ
@@ -85,7 +100,8 @@ sight t j (Some pair) = codes "     p" ++ decimal j ++ codes " " ++ pair_words t
 -- a run from the start state in an order that begins in the team, and what process j sees of it
 abbrev pub run_line : TypeTable → RawChoice → Team → List ℕ → ℕ → List ℕ
 run_line t c team order j =
-    codes "       " ++ team_name team ++ codes " first:  " ++ name_at t.states c.state ++ steps_text t c c.state order
+    codes "       " ++ team_name team ++ codes " first:  " ++ name_at t.states c.state
+    ++ steps_text t c c.state order
     ++ sight t j (pair_of t c order j) ++ codes "\n"
 
 -- ---- why the number is so much
@@ -94,7 +110,8 @@ unfoldable pub movers : TypeTable → Choice → List ℕ
 movers t w = both_teams t w (codes " (team A)") (codes ", ") (codes " (team B)")
 
 unfoldable pub witness_start : TypeTable → ℕ → Choice → List ℕ
-witness_start t n w = codes "Why " ++ decimal n ++ codes ": from state " ++ name_at t.states w.state ++ codes ", "
+witness_start t n w =
+    codes "Why " ++ decimal n ++ codes ": from state " ++ name_at t.states w.state ++ codes ", "
 
 unfoldable pub witness_line : TypeTable → ℕ → Choice → List ℕ
 witness_line t n w = witness_start t n w ++ movers t w ++ codes ".\n"
@@ -105,7 +122,8 @@ apart_line = codes "  No process has a pair on both sides, so each can tell whic
 -- the witness, and the pairs that each of its processes can get
 abbrev pub witness_text : TypeTable → ℕ → Choice → List ℕ
 witness_text t n w =
-    folded (witness_line t n w) ++ flat_map (seen_rows t w) (range_with_len 0 (length w.a + length w.b)) ++ apart_line
+    folded (witness_line t n w)
+    ++ flat_map (seen_rows t w) (range_with_len 0 (length w.a + length w.b)) ++ apart_line
 
 abbrev pub why : TypeTable → Option ℕ → Option Choice → List ℕ
 why t (Some n) (Some w) = witness_text t n w
@@ -120,7 +138,8 @@ pub record IsRefuted (t : TypeTable) (e : Collision) : Type 0 where
   pub collision : IsCollision t (raw_choice_of e.choice) e.process e.alpha e.beta
 
 unfoldable pub choice_text : TypeTable → Choice → List ℕ
-choice_text t c = codes "start " ++ name_at t.states c.state ++ codes "; A: " ++ both_teams t c [] (codes "; B: ") []
+choice_text t c = codes "start " ++ name_at t.states c.state ++ codes "; A: "
+    ++ both_teams t c [] (codes "; B: ") []
 
 unfoldable pub way_number : ℕ → List ℕ
 way_number number = codes "  " ++ decimal number ++ codes ". "
@@ -135,7 +154,8 @@ way_line t number c j = way_number number ++ choice_text t c ++ cannot_tell j
 -- the two runs by which the process cannot tell
 unfoldable pub run_lines : TypeTable → Collision → List ℕ
 run_lines t e =
-    run_line t (raw_choice_of e.choice) A e.alpha e.process ++ run_line t (raw_choice_of e.choice) B e.beta e.process
+    run_line t (raw_choice_of e.choice) A e.alpha e.process
+    ++ run_line t (raw_choice_of e.choice) B e.beta e.process
 
 -- the choice of an entry, and the two runs by which its process cannot tell
 abbrev pub way : TypeTable → ℕ → Collision → List ℕ
@@ -152,18 +172,22 @@ entries_told all entries = if all then entries else take MOST_TOLD entries
 
 -- the number of entries that are not in the text
 abbrev pub more_line : ℕ → List ℕ
-more_line more = if more == 0 then [] else (codes "  and " ++ decimal more ++ codes " more (--all tells them)\n")
+more_line more =
+    if more == 0 then [] else (codes "  and " ++ decimal more ++ codes " more (--all tells them)\n")
 
 -- the ways of the entries in the text, and the number of the other entries
 abbrev pub told_ways : TypeTable → List Collision → Bool → List ℕ
-told_ways t entries all = ways t 0 (entries_told all entries) ++ more_line (length entries - length (entries_told all entries))
+told_ways t entries all = ways t 0 (entries_told all entries)
+    ++ more_line (length entries - length (entries_told all entries))
 
 -- the number of ways, in each of which some process cannot tell
 abbrev pub ways_words : ℕ → List ℕ
 ways_words count =
     if count == 0 then codes "no way to choose a start state, operations and teams is left.\n"
-    else (if count == 1 then codes "1 way to choose a start state, operations and teams; in it a process cannot tell.\n"
-    else (decimal count ++ codes " ways to choose a start state, operations and teams; in each a process cannot tell.\n"))
+    else (if count == 1
+    then codes "1 way to choose a start state, operations and teams; in it a process cannot tell.\n"
+    else (decimal count
+    ++ codes " ways to choose a start state, operations and teams; in each a process cannot tell.\n"))
 
 -- the ways that a certificate of this version leaves out
 abbrev pub left_out : ℕ → List ℕ
@@ -173,10 +197,12 @@ left_out version =
 
 -- the ways that count as one
 unfoldable pub same_ways : List ℕ
-same_ways = codes "  Ways that differ only in the numbers of the processes or the names of the teams count as one.\n"
+same_ways =
+    codes "  Ways that differ only in the numbers of the processes or the names of the teams count as one.\n"
 
 unfoldable pub theorem_line : ℕ → List ℕ
-theorem_line n = codes "No protocol at all does it for " ++ decimal n ++ codes ": this is proved (docs/PROVED.md).\n"
+theorem_line n = codes "No protocol at all does it for " ++ decimal n
+    ++ codes ": this is proved (docs/PROVED.md).\n"
 
 -- the notes: what the text leaves out, and that no protocol does it
 abbrev pub notes : ℕ → ℕ → List ℕ
@@ -185,16 +211,19 @@ notes version n = same_ways ++ left_out version ++ theorem_line n
 -- why the number is not n: the ways, and the notes
 abbrev pub refutation : TypeTable → ℕ → List Collision → Bool → ℕ → List ℕ
 refutation t version entries all n =
-    codes "Why not " ++ decimal n ++ codes ": " ++ ways_words (length entries) ++ told_ways t entries all ++ notes version n
+    codes "Why not " ++ decimal n ++ codes ": " ++ ways_words (length entries)
+    ++ told_ways t entries all ++ notes version n
 
 abbrev pub why_not : TypeTable → ℕ → ℕ → List Collision → Bool → Option ℕ → List ℕ
 why_not t version limit entries all None = refutation t version entries all 2
 why_not t version limit entries all (Some n) =
-    if nat_lt n limit then refutation t version entries all (n + 1) else (codes "More than " ++ decimal n ++ codes " processes were not looked for.\n")
+    if nat_lt n limit then refutation t version entries all (n + 1)
+    else (codes "More than " ++ decimal n ++ codes " processes were not looked for.\n")
 
 -- ---- all of it
 
 unfoldable pub explain_text : TypeTable → Certificate → Bool → List ℕ
 explain_text t c all =
-    folded (number_line t c.limit c.number) ++ codes "\n" ++ cells_text t ++ codes "\n" ++ why t c.number c.witness ++ codes "\n"
+    folded (number_line t c.limit c.number) ++ codes "\n" ++ cells_text t ++ codes "\n"
+    ++ why t c.number c.witness ++ codes "\n"
     ++ folded (why_not t c.version c.limit c.collisions all c.number)

@@ -7,6 +7,5 @@ pub mod Json
 pub mod Pairs
 pub mod Common
 pub mod PlanForms
-pub mod PlanText
 pub mod Reasons
 pub mod Promela

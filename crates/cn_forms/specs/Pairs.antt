@@ -1,5 +1,7 @@
 -- The pairs that the processes of a choice can get, by the team that moves first.
-use Rattle.std.specs.Prelude.{ℕ, ◌+◌, ◌<◌, nat_le, List, [], ◌∷◌, ◌++◌, length, codes, Bool, false, ◌&&◌, ◌==◌, max, Option, Some, None, if◌then◌else◌, flat_map, slice_get}
+use Rattle.std.specs.Prelude.{ℕ, ◌+◌, ◌<◌, nat_le, List, [], ◌∷◌, ◌++◌, length, codes, Bool, false}
+use Rattle.std.specs.Prelude.{◌&&◌, ◌==◌, max, Option, Some, None, if◌then◌else◌, flat_map}
+use Rattle.std.specs.Prelude.{slice_get}
 use Rattle.std.specs.List.{list_any, range_with_len}
 use Rattle.std.specs.Fmt.{decimal}
 use Rattle.cn_forms.specs.Grid.{pair_padding, widest}
@@ -25,7 +27,8 @@ is_pair r q (Some pair) = pair.0 == r && pair.1 == q
 
 -- process j sees the pair of r and q in some order that begins in the team
 unfoldable pub sees : TypeTable → Choice → Team → ℕ → ℕ → ℕ → Bool
-sees t c team j r q = list_any (λ order. is_pair r q (pair_of t (raw_choice_of c) order.items j)) (orders_of c team j)
+sees t c team j r q =
+    list_any (λ order. is_pair r q (pair_of t (raw_choice_of c) order.items j)) (orders_of c team j)
 
 -- the pair, if it passes the test
 abbrev pub pair_if : (ℕ → ℕ → Bool) → ℕ → ℕ → List (ℕ × ℕ)
@@ -37,12 +40,14 @@ pairs_if test states r = flat_map (pair_if test r) (range_with_len 0 states)
 
 -- the pairs that process j sees where the team is first: by response, then by state
 abbrev pub seen_pairs : TypeTable → Choice → Team → ℕ → List (ℕ × ℕ)
-seen_pairs t c team j = flat_map (pairs_if (sees t c team j) (length t.states)) (range_with_len 0 (length t.responses))
+seen_pairs t c team j =
+    flat_map (pairs_if (sees t c team j) (length t.states)) (range_with_len 0 (length t.responses))
 
 -- ---- their text
 
 abbrev pub pair_words : TypeTable → ℕ × ℕ → List ℕ
-pair_words t pair = codes "got " ++ name_at t.responses pair.0 ++ codes ", reads " ++ name_at t.states pair.1
+pair_words t pair =
+    codes "got " ++ name_at t.responses pair.0 ++ codes ", reads " ++ name_at t.states pair.1
 
 -- the pair on the side of team A, if there is one
 abbrev pub left_part : TypeTable → Option (ℕ × ℕ) → List ℕ
@@ -56,7 +61,8 @@ left_gap t (Some pair) = pair_padding t (name_at t.responses pair.0) (name_at t.
 
 -- the text before the pairs of a row: words in the first row of a process, spaces in the others
 abbrev pub before_left : ℕ → ℕ → List ℕ
-before_left j k = if k == 0 then (codes "  p" ++ decimal j ++ codes "   A first: ") else codes "                "
+before_left j k =
+    if k == 0 then (codes "  p" ++ decimal j ++ codes "   A first: ") else codes "                "
 
 abbrev pub before_right : ℕ → List ℕ
 before_right k = if k == 0 then codes "    B first: " else codes "             "
@@ -76,7 +82,8 @@ rows a b = max (length a) (length b)
 
 -- the pairs of the two sides side by side
 abbrev pub rows_beside : TypeTable → ℕ → List (ℕ × ℕ) → List (ℕ × ℕ) → List ℕ
-rows_beside t j a b = flat_map (λ k. pair_row t j k (slice_get a k) (slice_get b k)) (range_with_len 0 (rows a b))
+rows_beside t j a b =
+    flat_map (λ k. pair_row t j k (slice_get a k) (slice_get b k)) (range_with_len 0 (rows a b))
 
 -- the text before pair k of a side that has lines of its own
 abbrev pub before_pair : ℕ → Team → ℕ → List ℕ
@@ -88,7 +95,8 @@ pair_line t j team k pair = before_pair j team k ++ left_part t pair ++ codes "\
 
 -- the pairs of a side, each in a line of its own
 abbrev pub side_lines : TypeTable → ℕ → Team → List (ℕ × ℕ) → List ℕ
-side_lines t j team pairs = flat_map (λ k. pair_line t j team k (slice_get pairs k)) (range_with_len 0 (length pairs))
+side_lines t j team pairs =
+    flat_map (λ k. pair_line t j team k (slice_get pairs k)) (range_with_len 0 (length pairs))
 
 -- a line has room for two of the widest pairs of the table
 abbrev pub has_room : TypeTable → Bool
@@ -96,7 +104,8 @@ has_room t = nat_le (widest t.responses + widest t.states) MOST_BESIDE
 
 -- the two sides: side by side if a line has room for them, else one below the other
 abbrev pub pair_rows : TypeTable → ℕ → List (ℕ × ℕ) → List (ℕ × ℕ) → List ℕ
-pair_rows t j a b = if has_room t then rows_beside t j a b else side_lines t j A a ++ side_lines t j B b
+pair_rows t j a b =
+    if has_room t then rows_beside t j a b else side_lines t j A a ++ side_lines t j B b
 
 -- all pairs that process j can get: team A is first on the left, team B on the right
 abbrev pub seen_rows : TypeTable → Choice → ℕ → List ℕ

@@ -1,7 +1,7 @@
 -- The text of a plan in each of its forms.
 use Rattle.std.specs.Prelude.{ℕ, List}
 use Rattle.cn_proto.specs.Plan.{Plan}
-use Rattle.cn_forms.specs.PlanText.{plan_text}
+use Rattle.cn_proto.specs.PlanText.{plan_text}
 use Rattle.cn_forms.specs.Dot.{plan_dot}
 use Rattle.cn_forms.specs.Json.{plan_json}
 use Rattle.cn_forms.specs.Promela.{plan_promela}

@@ -1,5 +1,8 @@
--- The text of `why`: the number with no limit, the table, why the number is so much, and why it is no more.
-use Rattle.std.specs.Prelude.{ℕ, ◌+◌, ◌^◌, ◌↔◌, List, [], ◌++◌, length, codes, Bool, true, false, not, ◌==◌, nat_eq, nat_lt, bit_and, IsBitSet, Option, Some, None, if◌then◌else◌, flat_map, IfSome, ◌≡◌}
+-- The text of `why`: the number with no limit, the table, why the number is so much, and why it is
+-- no more.
+use Rattle.std.specs.Prelude.{ℕ, ◌+◌, ◌^◌, ◌↔◌, List, [], ◌++◌, length, codes, Bool, true, false}
+use Rattle.std.specs.Prelude.{not, ◌==◌, nat_eq, nat_lt, bit_and, IsBitSet, Option, Some, None}
+use Rattle.std.specs.Prelude.{if◌then◌else◌, flat_map, IfSome, ◌≡◌}
 use Rattle.std.specs.List.{range_with_len}
 use Rattle.std.specs.Fmt.{decimal}
 use Rattle.cn_table.specs.Names.{name_at}
@@ -20,7 +23,8 @@ use Rattle.cn_forms.specs.Grid.{cells_text}
 
 abbrev pub exact_line : TypeTable → ConsensusNumber → List ℕ
 exact_line t number =
-    t.name ++ codes ": consensus number " ++ number_text number ++ codes " (for processes that can read the whole state)\n"
+    t.name ++ codes ": consensus number " ++ number_text number
+    ++ codes " (for processes that can read the whole state)\n"
 
 -- ---- operations that last
 
@@ -45,27 +49,32 @@ unfoldable pub single_words : TypeTable → Lasting → List ℕ
 single_words t l = codes "one process does " ++ name_at (operation_names t) l.single.0
 
 unfoldable pub many_words : TypeTable → Lasting → List ℕ
-many_words t l = codes ", and any number of others do " ++ name_at (operation_names t) l.many.0 ++ codes ".\n"
+many_words t l =
+    codes ", and any number of others do " ++ name_at (operation_names t) l.many.0 ++ codes ".\n"
 
 unfoldable pub lasting_line : TypeTable → Lasting → List ℕ
 lasting_line t l = lasting_start t l ++ single_words t l ++ many_words t l
 
 abbrev pub first_words : TypeTable → Lasting → First → List ℕ
-first_words t l Single = codes "  " ++ name_at (operation_names t) l.single.0 ++ codes " first: the state is one of"
-first_words t l Many = codes "  " ++ name_at (operation_names t) l.many.0 ++ codes " first, or no step yet: the state is one of"
+first_words t l Single =
+    codes "  " ++ name_at (operation_names t) l.single.0 ++ codes " first: the state is one of"
+first_words t l Many = codes "  " ++ name_at (operation_names t) l.many.0
+    ++ codes " first, or no step yet: the state is one of"
 
 -- the states that orders leave in which this came first
 abbrev pub first_line : TypeTable → Lasting → First → ℕ → List ℕ
 first_line t l first set = first_words t l first ++ states_told t set ++ codes "\n"
 
 abbrev pub no_state_line : List ℕ
-no_state_line = codes "  No state is in both lists, so each process can tell which came first, however many there are.\n"
+no_state_line =
+    codes "  No state is in both lists, so each process can tell which came first, however many there are.\n"
 
 abbrev pub lasting_text : TypeTable → Lasting → ℕ → ℕ → List ℕ
 lasting_text t l single many =
     lasting_line t l ++ first_line t l Single single ++ first_line t l Many many ++ no_state_line
 
--- of a type with operations that last; with the states that the single one first, and the other first, lead to
+-- of a type with operations that last; with the states that the single one first, and the other
+-- first, lead to
 abbrev pub lasting_part : TypeTable → Option Lasting → ℕ → ℕ → List ℕ
 lasting_part t None single many = []
 lasting_part t (Some l) single many = folded (lasting_text t l single many)
@@ -80,7 +89,8 @@ is_exactly (Between least most) m = false
 -- for how many processes the witness is, where the number is another
 abbrev pub example_line : ConsensusNumber → Option ℕ → List ℕ
 example_line number None = []
-example_line number (Some m) = if is_exactly number m then [] else codes "For " ++ decimal m ++ codes " processes, say:\n"
+example_line number (Some m) =
+    if is_exactly number m then [] else codes "For " ++ decimal m ++ codes " processes, say:\n"
 
 -- ---- why it is no more
 
@@ -89,27 +99,35 @@ is_below limit None = true
 is_below limit (Some n) = nat_lt n limit
 
 abbrev pub no_list : ℕ → List ℕ
-no_list n = codes "Why not " ++ decimal n ++ codes ": its ways are not listed here.\n" ++ theorem_line n
+no_list n =
+    codes "Why not " ++ decimal n ++ codes ": its ways are not listed here.\n" ++ theorem_line n
 
 unfoldable pub each_number_line : List ℕ
 each_number_line = codes "It is so for each number of processes: this is proved (docs/PROVED.md).\n"
 
--- every number of processes has a witness; or what the certificate refutes; or that it lists nothing
+-- every number of processes has a witness; or what the certificate refutes; or that it lists
+-- nothing
 abbrev pub no_more : TypeTable → Certificate → ConsensusNumber → Bool → List ℕ
 no_more t c Infinite all = each_number_line
 no_more t c (Finite n) all =
-    if is_below c.limit c.number then why_not t c.version c.limit c.collisions all c.number else no_list (n + 1)
+    if is_below c.limit c.number
+    then why_not t c.version c.limit c.collisions all c.number else no_list (n + 1)
 no_more t c (Between least most) all = no_list (most + 1)
 
 -- ---- all of it
 
-unfoldable pub why_text : TypeTable → Certificate → ConsensusNumber → Option Lasting → ℕ → ℕ → Bool → List ℕ
+unfoldable pub why_text : TypeTable → Certificate → ConsensusNumber
+    → Option Lasting → ℕ → ℕ → Bool → List ℕ
 why_text t c number lasting single many all =
-    folded (exact_line t number) ++ codes "\n" ++ cells_text t ++ codes "\n" ++ lasting_part t lasting single many
-    ++ example_line number c.number ++ why t c.number c.witness ++ codes "\n" ++ folded (no_more t c number all)
+    folded (exact_line t number) ++ codes "\n" ++ cells_text t ++ codes "\n"
+    ++ lasting_part t lasting single many
+    ++ example_line number c.number ++ why t c.number c.witness ++ codes "\n"
+    ++ folded (no_more t c number all)
 
--- the text is that of the reasons, with the states that orders of these operations leave, if a type has some that last
-pub record HasReasons (t : TypeTable) (c : Certificate) (number : ConsensusNumber) (lasting : Option Lasting) (all : Bool) (text : List ℕ)
+-- the text is that of the reasons, with the states that orders of these operations leave, if a type
+-- has some that last
+pub record HasReasons (t : TypeTable) (c : Certificate) (number : ConsensusNumber)
+    (lasting : Option Lasting) (all : Bool) (text : List ℕ)
     : Type 0 where
   pub single : ℕ
   pub many : ℕ

@@ -12,7 +12,7 @@ use std::alloc::{AllocError, Global};
 ///
 /// # Errors
 ///
-/// Fails only for want of memory.
+/// `AllocError` if memory runs out.
 #[tactic(auto, unfolding(crate::specs::Diagram::diagram))]
 pub fn diagram_of(alloc: Global, table: &Table) -> Result<String, AllocError>
     ensures { IfOk result (λ text. string_bytes text ≡ diagram table.now) }

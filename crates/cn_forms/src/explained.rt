@@ -1,4 +1,4 @@
-//! The explanation of a certificate: the number, the table, why the number is so much, and why it
+//! The explanation of a certificate: the number, the table, why the number is no less, and why it
 //! is no more.
 ghost use Rattle.std.specs.Prelude.{◌≡◌, ◌+◌, ◌-◌, ◌++◌, length, string_bytes, flat_map, All, IfOk, IfSome, OnOk};
 ghost use Rattle.std.specs.List.{range_with_len};
@@ -152,7 +152,7 @@ fn push_witness(
     push_apart_line(text)
 }
 
-/// Why the number is so much.
+/// Why the number is no less.
 pub(crate) fn push_why(
     alloc: Global,
     text: &mut String,
@@ -332,7 +332,7 @@ fn push_reasons(
 ///
 /// # Errors
 ///
-/// Fails only for want of memory.
+/// `AllocError` if memory runs out.
 #[tactic(auto, unfolding(crate::specs::Explained::explain_text))]
 pub fn explanation_of(
     alloc: Global,

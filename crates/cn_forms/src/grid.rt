@@ -17,7 +17,7 @@ use std::alloc::{AllocError, Global};
 ///
 /// # Errors
 ///
-/// Fails only for want of memory.
+/// `AllocError` if memory runs out.
 pub fn grid_of(alloc: Global, table: &Table) -> Result<String, AllocError>
     ensures { IfOk result (λ text. IsGrid table.now (string_bytes text)) }
 {

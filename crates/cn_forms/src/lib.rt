@@ -3,8 +3,9 @@
 //! [`grid_of`] answers the grid of a table, and [`diagram_of`] its picture. [`plan_as`] answers the
 //! text of a plan in a [`Form`]: lines for people, JSON, a picture for Graphviz, or a model in
 //! Promela. [`explanation_of`] tells people why the number of an accepted certificate is what it
-//! is, and [`reasons_of`] why the number with no limit is. Each text is a function of the values that it shows. By [`laws::told_pairs`] the pairs in an
-//! explanation are those of the outcome sets.
+//! is, and [`reasons_of`] why the number with no limit is. Each text is a function of the values
+//! that it shows. By [`laws::told_pairs`] the pairs in an explanation are those of the outcome
+//! sets.
 //!
 //! ```text
 //! print!(rt; "{}", grid_of(alloc, &table)?)?;

@@ -5,13 +5,11 @@ ghost use Rattle.cn_forms.specs.PlanForms.{form_text};
 mod as_dot;
 mod as_json;
 mod as_promela;
-mod as_text;
 mod common;
 
 use crate::plan_forms::as_dot::plan_dot;
 use crate::plan_forms::as_json::plan_json;
 use crate::plan_forms::as_promela::plan_promela;
-use crate::plan_forms::as_text::plan_text;
 use cn_proto::Plan;
 use std::alloc::{AllocError, Global};
 
@@ -30,12 +28,7 @@ pub enum Form {
 
 /// The text of a plan in a form; its last byte is a line feed. Each form writes the same plan.
 ///
-/// - [`Form::Text`]: lines that each end with a line feed. The first is
-///   `type T processes n nodes k start S`. Each role has a line `role j X O judges ..`: its team,
-///   the name of its operation, and the pairs that it judges to be team A's, each as the names
-///   `response/state`, in order of their numbers. Last, each process has a line `process p: ..`: its
-///   places from the lowest node to the root, each as `node N X role J`, with a comma and a space
-///   between two.
+/// - [`Form::Text`]: the lines of [`Plan::show`].
 /// - [`Form::Json`]: one compact object, its keys in the order of their bytes: `nodes` and
 ///   `processes`, numbers; `paths`, for each process its places from the lowest node to the root;
 ///   `roles`, for each role the pairs that it judges to be team A's, its operation and its team;
@@ -53,12 +46,12 @@ pub enum Form {
 ///
 /// # Errors
 ///
-/// Fails only for want of memory.
+/// `AllocError` if memory runs out.
 pub fn plan_as(alloc: Global, plan: &Plan, form: Form) -> Result<String, AllocError>
     ensures { IfOk result (λ text. string_bytes text ≡ form_text form plan.now) }
 {
     match form {
-        Form::Text => plan_text(alloc, plan),
+        Form::Text => plan.show(alloc),
         Form::Json => plan_json(alloc, plan),
         Form::Dot => plan_dot(alloc, plan),
         Form::Promela => plan_promela(alloc, plan),

@@ -1,5 +1,5 @@
-//! The reasons for a number with no limit: the number, the table, why the number is so much, and why
-//! it is no more.
+//! The reasons for a number with no limit: the number, the table, why the number is no less, and
+//! why it is no more.
 ghost use Rattle.std.specs.Prelude.{◌≡◌, ◌<◌, ◌++◌, codes, length, string_bytes, All, IfOk, IfSome, OnOk};
 ghost use Rattle.cn_check.specs.Verdict.{IsAccepted};
 ghost use Rattle.cn_lasting.specs.Leaving.{IsLasting};
@@ -15,7 +15,7 @@ use crate::grid::push_cells;
 use cn_cert::Certificate;
 use cn_choice::laws::{canonical_list, live_list};
 use cn_lasting::{First, Lasting, left_states};
-use cn_outcomes::bits::contains;
+use cn_outcomes::Bits;
 use cn_search::ConsensusNumber;
 use cn_table::{State, Table};
 use std::alloc::{AllocError, Global};
@@ -23,8 +23,8 @@ use std::alloc::{AllocError, Global};
 /// The states that orders leave, by which of two operations that last came first.
 #[derive(Clone, Copy)]
 struct LeftSets {
-    single: u16,
-    many: u16,
+    single: Bits,
+    many: Bits,
 }
 
 /// These states, of a type with operations that last.
@@ -38,7 +38,10 @@ fn left_sets(table: &Table, lasting: Option<Lasting>) -> LeftSets
             single: left_states(table, lasting, First::Single),
             many: left_states(table, lasting, First::Many),
         },
-        None => LeftSets { single: 0, many: 0 },
+        None => LeftSets {
+            single: Bits::new(),
+            many: Bits::new(),
+        },
     }
 }
 
@@ -71,13 +74,13 @@ fn push_exact(
 }
 
 /// The state behind a space, if it is in the set.
-fn push_state_if(text: &mut String, table: &Table, set: u16, q: u8) -> Result<(), AllocError>
+fn push_state_if(text: &mut String, table: &Table, set: Bits, q: u8) -> Result<(), AllocError>
     requires { q < length table.now.states }
     ensures { OnOk result (string_bytes text.new
         ≡ string_bytes text.old ++ state_if table.now set q) }
 {
     let _states = table.states();
-    if contains(set, q) {
+    if set.has(q) {
         let name = table.state_name(State(q));
         write!(text, " {name}")
     } else {
@@ -86,7 +89,7 @@ fn push_state_if(text: &mut String, table: &Table, set: u16, q: u8) -> Result<()
 }
 
 /// The states of the set, each behind a space.
-fn push_states(text: &mut String, table: &Table, set: u16) -> Result<(), AllocError>
+fn push_states(text: &mut String, table: &Table, set: Bits) -> Result<(), AllocError>
     ensures { OnOk result (string_bytes text.new
         ≡ string_bytes text.old ++ states_told table.now set) }
 {
@@ -161,7 +164,7 @@ fn push_first_line(
     table: &Table,
     lasting: Lasting,
     first: First,
-    set: u16,
+    set: Bits,
 ) -> Result<(), AllocError>
     requires { IsLasting table.now lasting }
     ensures { OnOk result (string_bytes text.new
@@ -221,7 +224,7 @@ fn is_exactly(number: ConsensusNumber, m: u8) -> bool
     }
 }
 
-/// For how many processes the witness is, where the number is another.
+/// The number of processes of the witness, if the number is another.
 fn push_example_line(
     text: &mut String,
     number: ConsensusNumber,
@@ -324,16 +327,16 @@ fn push_begin(
 
 /// The text that tells people why the number of a type is what it is, with no limit. It has the
 /// number; the cells of the table; of a type with operations that last, the states by which each
-/// process tells which came first; the pairs by which each process of the certificate's witness tells
-/// which team was first; and, where the number of the certificate is below its limit, the choices
-/// that it refutes, as [`explanation_of`](crate::explanation_of) tells them. Each line ends with a
-/// line feed.
+/// process tells which came first; the pairs by which each process of the certificate's witness
+/// tells which team was first; and, if the number of the certificate is below its limit, the
+/// choices that it refutes, as [`explanation_of`](crate::explanation_of) tells them. Each line ends
+/// with a line feed.
 ///
 /// [`check`](cn_check::check) accepts the certificate for the table.
 ///
 /// # Errors
 ///
-/// Fails only for want of memory.
+/// `AllocError` if memory runs out.
 #[tactic(auto, unfolding(crate::specs::Reasons::why_text))]
 pub fn reasons_of(
     alloc: Global,

@@ -1,9 +1,8 @@
 -- The word too many: at most one word stands between the start and the first end behind it.
-use Rattle.std.proofs.Common.{ℕ, ◌≡◌, ◌<◌, ◌≤◌, ◌+◌, ◌∙◌, ◌⊎◌, inl, inr, List, ◌++◌, length, drop, take, Some, sym, ap, subst, arith}
+use Rattle.std.proofs.Common.{ℕ, ◌≡◌, ◌<◌, ◌≤◌, ◌+◌, ◌∙◌, List, ◌++◌, length, drop, take, Some, sym, ap, subst, arith}
 use Rattle.std.specs.Str.Pattern.{FindsText, LacksTextAt}
-use Rattle.std.proofs.Math.Seq.{drop-append_seam, take-append_seam}
+use Rattle.std.proofs.Math.Seq.{drop-append_seam}
 use Rattle.std.proofs.lemmas.List.{append_cancel_left, length-append, take-append-drop}
-use Rattle.std.proofs.lemmas.Bool.{cases_lt}
 use Rattle.cn_words.specs.WordTooMany.{RefusesWord, word_start, word_end}
 
 -- a text without the start refuses no word
@@ -23,28 +22,6 @@ pub no_end : (text line word : List ℕ) → text ≡ word_start ++ line → ((i
 no_end text line word is lacks r =
     let e : line ≡ word ++ (word_end ++ r.rest) = append_cancel_left word_start line _ (sym is ∙ r.is) in
     lacks (length word) (is_within word (word_end ++ r.rest) line e) r.rest (ends_at word_end word r.rest line e)
-
--- the refused word is what stands before the first end
-same_word : (q line word rest : List ℕ) (i j : ℕ) → line ≡ word ++ (q ++ rest) → ((k : ℕ) → k < length word → LacksTextAt q (word ++ (q ++ rest)) k)
-    → ((k : ℕ) → k < i → LacksTextAt q line k) → drop i line ≡ q ++ drop j line → word ≡ take i line
-same_word q line word rest i j e first before at = low (cases_lt (length word) i)
-  where
-    same : length word ≡ i → word ≡ take i line
-    same it = sym (take-append_seam word (q ++ rest)) ∙ ap (take (length word)) (sym e) ∙ ap (λ n. take n line) it
-
-    high : i ≤ length word → (i < length word) ⊎ (length word ≤ i) → word ≡ take i line
-    high ge (inl more) = absurd (first i more (drop j line) (ap (drop i) (sym e) ∙ at))
-    high ge (inr le) = same (omega arith)
-
-    low : (length word < i) ⊎ (i ≤ length word) → word ≡ take i line
-    low (inl less) = absurd (before (length word) less rest (ends_at q word rest line e))
-    low (inr ge) = high ge (cases_lt i (length word))
-
--- so it is the word found
-pub is_word_found : (text line word found : List ℕ) (i j : ℕ) → text ≡ word_start ++ line → FindsText word_end line (Some (i, j)) → found ≡ take i line
-    → RefusesWord text word → word ≡ found
-is_word_found text line word found i j is finds e r =
-    same_word word_end line word r.rest i j (append_cancel_left word_start line _ (sym is ∙ r.is)) r.first finds.0 finds.1.split ∙ sym e
 
 -- and the text refuses the word found
 pub found_is_refused : (text line found : List ℕ) (i j : ℕ) → text ≡ word_start ++ line → FindsText word_end line (Some (i, j)) → found ≡ take i line

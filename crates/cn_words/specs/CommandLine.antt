@@ -116,7 +116,8 @@ abbrev pub commands : ValueParser → List Shape
 commands forms = find_words ∷ classify_words ∷ lint_words ∷ check_words ∷ explain_words
     ∷ why_words ∷ show_words forms ∷ draw_words ∷ agree_words ∷ replay_words ∷ serve_words ∷ []
 
--- the commands that read the table of the type from standard input if no word says where it is: all but classify and why
+-- the commands that read the table of the type from standard input if no word says where it is: all
+-- but classify and why
 abbrev pub table_readers : List Text
 table_readers = codes "find" ∷ codes "lint" ∷ codes "check" ∷ codes "explain" ∷ codes "show"
     ∷ codes "draw" ∷ codes "agree" ∷ codes "replay" ∷ codes "serve" ∷ []

@@ -1,5 +1,6 @@
 -- The command that the words of the command line give, by what clap found in them.
-use Rattle.std.specs.Prelude.{◌≡◌, ◌<◌, ◌^◌, ◌++◌, ◌&&◌, ℕ, Bool, true, false, List, Option, Some, None, MatchOption, if◌then◌else◌, codes, map, option_and_then}
+use Rattle.std.specs.Prelude.{◌≡◌, ◌<◌, ◌^◌, ◌++◌, ◌&&◌, ℕ, Bool, true, false, List, Option, Some}
+use Rattle.std.specs.Prelude.{None, MatchOption, if◌then◌else◌, codes, map, option_and_then}
 use Rattle.std.specs.Option.{option_map_or}
 use Rattle.std.specs.Str.{bytes_eq}
 use Rattle.std.specs.Str.Parse.{IsNumeral, digits_value, without_leading_plus}
@@ -10,7 +11,9 @@ use Rattle.clap.specs.declared.parser.matches.ArgMatches.{ArgMatches}
 use Rattle.cn_forms.specs.declared.plan_forms.Form.{Form}
 use Rattle.cn_forms.specs.declared.plan_forms.Form.TheVariants as form
 use Rattle.cn_words.specs.declared.commands.Command.{Command}
-use Rattle.cn_words.specs.declared.commands.Command.TheVariants.{Find, Classify, Lint, Draw, Check, Explain, Why, Show, Agree, Replay, Serve}
+use Rattle.cn_words.specs.declared.commands.Command.TheVariants.{Find, Classify, Lint, Draw, Check}
+use Rattle.cn_words.specs.declared.commands.Command.TheVariants.{Explain, Why, Show, Agree, Replay}
+use Rattle.cn_words.specs.declared.commands.Command.TheVariants.{Serve}
 use Rattle.cn_words.specs.declared.commands.CommandFault.{CommandFault}
 use Rattle.cn_words.specs.declared.commands.CommandFault.TheVariants as fault
 use Rattle.cn_words.specs.declared.commands.Invocation.{Invocation}
@@ -92,7 +95,8 @@ HasTables rows tables = (words : List Text) × (all_of (codes "FILE") rows ≡ S
     × (map path_of tables ≡ map path_in words)
 
 abbrev pub HasCertificate : List Row → TextSource → Type 0
-HasCertificate rows certificate = (word : Text) × HasWord (codes "CERT") rows word × (path_of certificate ≡ path_in word)
+HasCertificate rows certificate =
+    (word : Text) × HasWord (codes "CERT") rows word × (path_of certificate ≡ path_in word)
 
 -- the table is also standard input if no word says where it is
 abbrev pub HasTable : List Row → TextSource → Type 0
@@ -100,7 +104,8 @@ HasTable rows table = path_of table ≡ option_and_then path_in (first_of (codes
 
 -- standard input would be both the table and the certificate
 abbrev pub is_input_shared : List Row → Bool
-is_input_shared rows = is_input (first_of (codes "CERT") rows) false && is_input (first_of (codes "table") rows) true
+is_input_shared rows =
+    is_input (first_of (codes "CERT") rows) false && is_input (first_of (codes "table") rows) true
 
 abbrev pub HasOpening : List Row → OpeningWords → Type 0
 HasOpening rows opening = HasCertificate rows opening.certificate
@@ -127,7 +132,8 @@ name_of (Serve opening calls) = codes "serve"
 abbrev pub HasArguments : List Row → Command → Type 0
 HasArguments rows (Find limit) = HasLimit rows limit
 HasArguments rows (Classify limit recoverable tables) =
-    HasLimit rows limit × HasFlag (codes "recoverable") rows recoverable × HasTables rows tables.items
+    HasLimit rows limit × HasFlag (codes "recoverable") rows recoverable
+    × HasTables rows tables.items
 HasArguments rows Lint = Unit {0}
 HasArguments rows Draw = Unit {0}
 HasArguments rows (Check certificate) = HasCertificate rows certificate

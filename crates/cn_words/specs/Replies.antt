@@ -8,7 +8,8 @@ use Rattle.clap.specs.Walk.{Text}
 use Rattle.clap.specs.declared.builder.value_parser.ValueParser.{ValueParser}
 use Rattle.clap.specs.declared.error.Error.{Error}
 use Rattle.clap.specs.declared.error.kind.ErrorKind.{ErrorKind}
-use Rattle.clap.specs.declared.error.kind.ErrorKind.TheVariants.{DisplayHelp, DisplayVersion, OutOfMemory}
+use Rattle.clap.specs.declared.error.kind.ErrorKind.TheVariants.{DisplayHelp, DisplayVersion}
+use Rattle.clap.specs.declared.error.kind.ErrorKind.TheVariants.{OutOfMemory}
 use Rattle.cn_words.specs.CommandLine.{TakesForms, commands, program_with}
 use Rattle.cn_words.specs.GivenCommands.{IsInvocation}
 use Rattle.cn_words.specs.declared.commands.CommandFault.TheVariants as fault
@@ -39,7 +40,8 @@ IsReplyOf e (reply.Help text) = IsHelp (kind_of e)
 IsReplyOf e (reply.Refusal text) = ¬ (IsHelp (kind_of e)) × ¬ (kind_of e ≡ OutOfMemory)
 IsReplyOf e (reply.Fault why) = why ≡ fault.OutOfMemory
 
--- the help or the version if the words ask for it, and a refusal if they have another fault: words that clap refuses get one of the two, memory aside
+-- the help or the version if the words ask for it, and a refusal if they have another fault: words
+-- that clap refuses get one of the two, memory aside
 abbrev pub GivesReply : List Text → Reply → Type 0
 GivesReply words (reply.Help text) = (forms : ValueParser) × TakesForms forms
     × ((kind : ErrorKind) × IsAmong kind (fault_of (program forms) words) × IsHelp kind)

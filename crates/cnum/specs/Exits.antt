@@ -6,7 +6,8 @@ use Rattle.cn_app.specs.declared.fault.AppFault.TheVariants.{Table}
 use Rattle.cn_app.specs.declared.report.Outcome.{Outcome}
 use Rattle.cn_app.specs.declared.report.Outcome.TheVariants.{Cut, Refused, Whole}
 
--- after a command of one table: 1 if some call has no reply; the status of the fault of a table that lint refuses
+-- after a command of one table: 1 if some call has no reply; the status of the fault of a table
+-- that lint refuses
 abbrev pub command_status : Result Outcome AppFault → ℕ
 command_status (Ok Whole) = 0
 command_status (Ok Cut) = 1

@@ -23,16 +23,21 @@ HasText (File held) (text.Word t) = ⊥
 HasText (File held) (text.File t) = t.now ≡ string_bytes held
 
 -- an argument was read from a text with these bytes, with this result
-pub record IsRead {L : Type 0} (left : L → Option (List ℕ)) (known : Option (List ℕ)) (argument : Argument) (r : Result (String Global) AppFault) : Type 0 where
+pub record IsRead {L : Type 0} (left : L → Option (List ℕ)) (known : Option (List ℕ))
+    (argument : Argument) (r : Result (String Global) AppFault) : Type 0 where
   pub before : Text L
   pub after : Text L
   pub opened : IsTextOf left known before
   pub read : HasRead (from_source.Argument argument) left before after
   pub gives : GivesArgument argument after r
 
--- the result of reading a list from its source: a word is the list itself; the file of this name gives its text, or has a fault
-abbrev pub GivesList : {L : Type 0} → (L → Option (List ℕ)) → (List ℕ → Option (List ℕ)) → ListSource → Argument → Result GivenList AppFault → Type 0
+-- the result of reading a list from its source: a word is the list itself; the file of this name
+-- gives its text, or has a fault
+abbrev pub GivesList : {L : Type 0} → (L → Option (List ℕ)) → (List ℕ → Option (List ℕ))
+    → ListSource → Argument → Result GivenList AppFault → Type 0
 GivesList left files (source.Word word) argument r = r ≡ Ok (Word word)
 GivesList left files (source.File path) argument (Ok (Word word)) = ⊥
-GivesList left files (source.File path) argument (Ok (File held)) = IsRead left (files path.now) argument (Ok held)
-GivesList left files (source.File path) argument (Err e) = IsRead left (files path.now) argument (Err e)
+GivesList left files (source.File path) argument (Ok (File held)) =
+    IsRead left (files path.now) argument (Ok held)
+GivesList left files (source.File path) argument (Err e) =
+    IsRead left (files path.now) argument (Err e)

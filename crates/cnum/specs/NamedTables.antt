@@ -21,18 +21,24 @@ bytes_of stdin files StandardInput = stdin
 bytes_of stdin files (File path) = files path.now
 
 -- each table has the name and the bytes of its source, place by place, and none was read
-pub record AreNamed {R : Type 0} (left : R → Option (List ℕ)) (bytes : TextSource → Option (List ℕ)) (sources : List TextSource)
+pub record AreNamed {R : Type 0} (left : R → Option (List ℕ)) (bytes : TextSource → Option (List ℕ))
+    (sources : List TextSource)
     (tables : List (NamedTable R)) : Type 0 where
   pub names : map (λ t. t.name.now) tables ≡ map name_of sources
   pub bytes_left : map (λ t. left t.text.reader) tables ≡ map bytes sources
   pub unread : AreUnread tables
 
--- the result of classifying the tables of these sources: they were classified in order, for the numbers asked for, with this first fault; or memory ran out
--- before, and nothing was written, told or noted
-abbrev pub ClassifiesSources : {R W D : Type 0} → (R → Option (List ℕ)) → (W → Option (List ℕ)) → (D → Option (List ℕ) → AppFault → D → Type 0)
-    → (D → List ℕ → List ℕ → D → Type 0) → (TextSource → Option (List ℕ)) → List TextSource → AskedNumbers → Output W → D → Output W → D
+-- the result of classifying the tables of these sources: they were classified in order, for the
+-- numbers asked for, with this first fault; or memory ran out before, and nothing was written, told
+-- or noted
+abbrev pub ClassifiesSources : {R W D : Type 0} → (R → Option (List ℕ)) → (W → Option (List ℕ))
+    → (D → Option (List ℕ) → AppFault → D → Type 0)
+    → (D → List ℕ → List ℕ → D → Type 0) → (TextSource → Option (List ℕ)) → List TextSource
+    → AskedNumbers → Output W → D → Output W → D
     → Result (Option AppFault) AppFault → Type 0
 ClassifiesSources {R} left contents tells notes bytes sources asked u d v e (Ok first) =
-    (tables : List (NamedTable R)) × (after : List (NamedTable R)) × AreNamed left bytes sources tables
+    (tables : List (NamedTable R)) × (after : List (NamedTable R))
+    × AreNamed left bytes sources tables
     × AreClassified left contents tells notes asked [] tables after u d first v e
-ClassifiesSources left contents tells notes bytes sources asked u d v e (Err fault) = (fault ≡ OutOfMemory) × IsSilent u v × (e ≡ d)
+ClassifiesSources left contents tells notes bytes sources asked u d v e (Err fault) =
+    (fault ≡ OutOfMemory) × IsSilent u v × (e ≡ d)

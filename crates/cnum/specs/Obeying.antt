@@ -19,33 +19,46 @@ use Rattle.cnum.specs.declared.faults.Faults.{Faults}
 use Rattle.cnum.specs.declared.lazy_file.LazyFile.{LazyFile}
 use Rattle.cnum.specs.declared.pipe_writer.PipeWriter.{PipeWriter}
 
--- in terms of the bytes that standard input and files have left, those that the writer holds, and those of the file of each name, if they are known
-module _ {S F D W : Type 0} (remaining : S → Option (List ℕ)) (left : LazyFile D F → Option (List ℕ)) (contents : W → Option (List ℕ))
+-- in terms of the bytes that standard input and files have left, those that the writer holds, and
+-- those of the file of each name, if they are known
+module _ {S F D W : Type 0} (remaining : S → Option (List ℕ)) (left : LazyFile D F
+    → Option (List ℕ)) (contents : W → Option (List ℕ))
     (files : List ℕ → Option (List ℕ)) where
   -- a command of one table was run, and the exit status is that of its result
   abbrev pub RunsOne : S → TextSource → Command → Output W → Output W → ℕ → Type 0
-  RunsOne stdin table command u v status = (end : Result Outcome AppFault) × Runs remaining left contents files stdin table command u v end
+  RunsOne stdin table command u v status = (end : Result Outcome AppFault)
+      × Runs remaining left contents files stdin table command u v end
       × (status ≡ command_status end)
 
-  -- the tables of these sources were classified for the numbers asked for, and the exit status is that of the first fault
+  -- the tables of these sources were classified for the numbers asked for, and the exit status is
+  -- that of the first fault
   abbrev pub ClassifiesAll : S → AskedNumbers → List TextSource → Output W → Output W → ℕ → Type 0
-  ClassifiesAll stdin asked sources u v status = (first : Result (Option AppFault) AppFault) × (before : Faults D) × (after : Faults D)
-      × ClassifiesSources (left_of remaining left) contents (λ _ _ _ _. Unit {0}) (λ _ _ _ _. Unit {0}) (bytes_of (remaining stdin) files)
+  ClassifiesAll stdin asked sources u v status =
+      (first : Result (Option AppFault) AppFault) × (before : Faults D) × (after : Faults D)
+      × ClassifiesSources (left_of remaining left) contents (λ _ _ _ _. Unit {0})
+      (λ _ _ _ _. Unit {0}) (bytes_of (remaining stdin) files)
       sources asked u before v after first × (status ≡ classify_status first)
 
   -- `classify` classifies the tables that its words name, and every other command takes one table
   abbrev pub Does : S → TextSource → Command → Output W → Output W → ℕ → Type 0
   Does stdin table command u v status =
-      ((limit : Option ℕ) × (recoverable : Bool) × (tables : Vec TextSource Global) × (command ≡ Classify limit recoverable tables)
-      × ClassifiesAll stdin (record { limit = limit; recoverable = recoverable }) tables.items u v status)
-      ⊎ (((limit : Option ℕ) (recoverable : Bool) (tables : Vec TextSource Global) → command ≢ Classify limit recoverable tables)
+      ((limit : Option ℕ) × (recoverable : Bool) × (tables : Vec TextSource Global)
+      × (command ≡ Classify limit recoverable tables)
+      × ClassifiesAll stdin (record { limit = limit; recoverable = recoverable })
+      tables.items u v status)
+      ⊎ (((limit : Option ℕ) (recoverable : Bool) (tables : Vec TextSource Global)
+      → command ≢ Classify limit recoverable tables)
       × RunsOne stdin table command u v status)
 
--- in the same terms: the command was done with these streams, of which nothing was used before, and the writer is handed back as the command left
--- it; a reader over standard input read the command's input
-abbrev pub Obeys : {S F D W : Type 0} → (S → Option (List ℕ)) → (LazyFile D F → Option (List ℕ)) → (W → Option (List ℕ)) → (List ℕ → Option (List ℕ))
+-- in the same terms: the command was done with these streams, of which nothing was used before, and
+-- the writer is handed back as the command left it; a reader over standard input read the command's
+-- input
+abbrev pub Obeys : {S F D W : Type 0} → (S → Option (List ℕ)) → (LazyFile D F → Option (List ℕ))
+    → (W → Option (List ℕ)) → (List ℕ → Option (List ℕ))
     → S → W → Invocation → ℕ → PipeWriter W → Type 0
 Obeys {S} {F} {D} {W} remaining left contents files stdin stdout given status back =
-    (u : Output (PipeWriter W)) × (v : Output (PipeWriter W)) × (awaited : AwaitedInput D S) × (u.writer.writer ≡ stdout) × IsUnwritten u
+    (u : Output (PipeWriter W)) × (v : Output (PipeWriter W)) × (awaited : AwaitedInput D S)
+    × (u.writer.writer ≡ stdout) × IsUnwritten u
     × (awaited.input ≡ stdin) × (v.writer ≡ back)
-    × Does (λ it. remaining it.input) left (λ pipe. contents pipe.writer) files awaited given.table given.command u v status
+    × Does (λ it. remaining it.input) left (λ pipe. contents pipe.writer) files awaited given.table
+    given.command u v status

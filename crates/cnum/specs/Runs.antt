@@ -1,7 +1,9 @@
 -- What a command of one table reads and writes, by the words for its arguments.
 use Rattle.std.specs.Prelude.{◌≡◌, ◌⊎◌, Bool, ℕ, List, Option, Result, Ok, Err}
 use Rattle.cn_words.specs.declared.commands.Command.{Command}
-use Rattle.cn_words.specs.declared.commands.Command.TheVariants.{Find, Classify, Lint, Draw, Check, Explain, Why, Show, Agree, Replay, Serve}
+use Rattle.cn_words.specs.declared.commands.Command.TheVariants.{Find, Classify, Lint, Draw, Check}
+use Rattle.cn_words.specs.declared.commands.Command.TheVariants.{Explain, Why, Show, Agree, Replay}
+use Rattle.cn_words.specs.declared.commands.Command.TheVariants.{Serve}
 use Rattle.cn_words.specs.declared.commands.ListSource.{ListSource}
 use Rattle.cn_words.specs.declared.commands.OpeningWords.{OpeningWords}
 use Rattle.cn_words.specs.declared.commands.TextSource.{TextSource}
@@ -39,9 +41,10 @@ use Rattle.cnum.specs.declared.given_list.GivenList.{GivenList}
 use Rattle.cnum.specs.declared.lazy_file.LazyFile.{LazyFile}
 use Rattle.cnum.specs.declared.text_reader.TextReader.{TextReader}
 
--- the arguments of a command that opens a log: this table and this certificate, the text of the file that the word for the object names, and the words for the
--- start and the number of slots
-pub record HasArguments {R C L : Type 0} (left : L → Option (List ℕ)) (files : List ℕ → Option (List ℕ)) (type : Text R) (evidence : Text C)
+-- the arguments of a command that opens a log: this table and this certificate, the text of the
+-- file that the word for the object names, and the words for the start and the number of slots
+pub record HasArguments {R C L : Type 0} (left : L → Option (List ℕ))
+    (files : List ℕ → Option (List ℕ)) (type : Text R) (evidence : Text C)
     (words : OpeningWords) (given : OpeningArguments R C L) : Type 0 where
   pub table : given.table ≡ type
   pub certificate : given.certificate ≡ evidence
@@ -49,18 +52,22 @@ pub record HasArguments {R C L : Type 0} (left : L → Option (List ℕ)) (files
   pub start : given.start ≡ words.start
   pub capacity : given.capacity ≡ words.capacity
 
--- in terms of the bytes that the readers of tables, of certificates and of files have left, those that the writer holds, and those of the file of each name, if
--- they are known
-module _ {R C L W : Type 0} (remaining : R → Option (List ℕ)) (rest : C → Option (List ℕ)) (left : L → Option (List ℕ)) (contents : W → Option (List ℕ))
+-- in terms of the bytes that the readers of tables, of certificates and of files have left, those
+-- that the writer holds, and those of the file of each name, if they are known
+module _ {R C L W : Type 0} (remaining : R → Option (List ℕ)) (rest : C → Option (List ℕ)) (left : L
+    → Option (List ℕ)) (contents : W → Option (List ℕ))
     (files : List ℕ → Option (List ℕ)) where
   -- a table was read, and its report was written
-  pub record ReadsTable (table : Text R) (work : Text R → Result Report AppFault → Type 0) (u v : Output W) (r : Result Outcome AppFault) : Type 0 where
+  pub record ReadsTable (table : Text R) (work : Text R → Result Report AppFault → Type 0)
+      (u v : Output W) (r : Result Outcome AppFault) : Type 0 where
     pub after : Text R
     pub read : HasRead Table remaining table after
     pub reported : Reports contents (work after) u v r
 
-  -- a table and a certificate were read, unless nothing may be read, and the report on both was written
-  pub record ReadsBoth (table : Text R) (certificate : Text C) (may_read : Type 0) (work : Text R → Text C → Result Report AppFault → Type 0)
+  -- a table and a certificate were read, unless nothing may be read, and the report on both was
+  -- written
+  pub record ReadsBoth (table : Text R) (certificate : Text C) (may_read : Type 0)
+      (work : Text R → Text C → Result Report AppFault → Type 0)
       (u v : Output W) (r : Result Outcome AppFault) : Type 0 where
     pub table_after : Text R
     pub certificate_after : Text C
@@ -68,9 +75,12 @@ module _ {R C L W : Type 0} (remaining : R → Option (List ℕ)) (rest : C → 
     pub order : AreUntouched table table_after certificate certificate_after ⊎ may_read
     pub reported : Reports contents (work table_after certificate_after) u v r
 
-  -- the texts of an opening were read, unless nothing may be read, and the report on them was written
-  pub record ReadsOpening (table : Text R) (certificate : Text C) (words : OpeningWords) (may_read : Type 0)
-      (work : OpeningArguments R C L → Result Report AppFault → Type 0) (u v : Output W) (r : Result Outcome AppFault) : Type 0 where
+  -- the texts of an opening were read, unless nothing may be read, and the report on them was
+  -- written
+  pub record ReadsOpening (table : Text R) (certificate : Text C)
+      (words : OpeningWords) (may_read : Type 0)
+      (work : OpeningArguments R C L → Result Report AppFault
+      → Type 0) (u v : Output W) (r : Result Outcome AppFault) : Type 0 where
     pub given : OpeningArguments R C L
     pub after : OpeningArguments R C L
     pub arguments : HasArguments left files table certificate words given
@@ -78,57 +88,86 @@ module _ {R C L W : Type 0} (remaining : R → Option (List ℕ)) (rest : C → 
     pub order : (after ≡ given) ⊎ may_read
     pub reported : Reports contents (work after) u v r
 
-  -- a list is read from its source, and `next` takes its text; or reading it has a fault, and nothing is written
-  abbrev pub ReadsList : ListSource → Argument → (ListText → Output W → Output W → Result Outcome AppFault → Type 0) → Output W → Output W
+  -- a list is read from its source, and `next` takes its text; or reading it has a fault, and
+  -- nothing is written
+  abbrev pub ReadsList : ListSource → Argument
+      → (ListText → Output W → Output W → Result Outcome AppFault → Type 0) → Output W → Output W
       → Result Outcome AppFault → Type 0
-  ReadsList source argument next u v r = ((e : AppFault) × GivesList left files source argument (Err e) × (r ≡ Err e) × IsSilent u v)
-      ⊎ ((list : GivenList) × (text : ListText) × GivesList left files source argument (Ok list) × HasText list text × next text u v r)
+  ReadsList source argument next u v r =
+      ((e : AppFault) × GivesList left files source argument (Err e) × (r ≡ Err e) × IsSilent u v)
+      ⊎ ((list : GivenList) × (text : ListText) × GivesList left files source argument (Ok list)
+      × HasText list text × next text u v r)
 
-  -- `agree` with a table, a certificate and these words: the lists are read first, from left to right
-  abbrev pub RunsAgree : Text R → Text C → ListSource → ListSource → Bool → Output W → Output W → Result Outcome AppFault → Type 0
-  RunsAgree table certificate inputs schedule steps u v r = ReadsList inputs argument.Inputs (λ xs. ReadsList schedule argument.Schedule
-      (λ ps. ReadsBoth table certificate (SpellLists xs ps) (λ t c. HasAgreeReport t c xs ps steps))) u v r
+  -- `agree` with a table, a certificate and these words: the lists are read first, from left to
+  -- right
+  abbrev pub RunsAgree : Text R → Text C → ListSource → ListSource → Bool → Output W → Output W
+      → Result Outcome AppFault → Type 0
+  RunsAgree table certificate inputs schedule steps u v r =
+      ReadsList inputs argument.Inputs (λ xs. ReadsList schedule argument.Schedule
+      (λ ps. ReadsBoth table certificate (SpellLists xs ps)
+      (λ t c. HasAgreeReport t c xs ps steps))) u v r
 
   -- `replay` and `serve` with a table, a certificate and these words: the list is read first
-  abbrev pub RunsReplay : Text R → Text C → OpeningWords → ListSource → Output W → Output W → Result Outcome AppFault → Type 0
+  abbrev pub RunsReplay : Text R → Text C → OpeningWords → ListSource → Output W → Output W
+      → Result Outcome AppFault → Type 0
   RunsReplay table certificate words events u v r = ReadsList events argument.Events
-      (λ list. ReadsOpening table certificate words (SpellEvents words.capacity.now list) (λ given. HasReplayReport given list)) u v r
+      (λ list. ReadsOpening table certificate words (SpellEvents words.capacity.now list)
+      (λ given. HasReplayReport given list)) u v r
 
   -- the gate of each process lets every call go on
-  abbrev pub RunsServe : Text R → Text C → OpeningWords → ListSource → Output W → Output W → Result Outcome AppFault → Type 0
+  abbrev pub RunsServe : Text R → Text C → OpeningWords → ListSource → Output W → Output W
+      → Result Outcome AppFault → Type 0
   RunsServe table certificate words calls u v r = ReadsList calls argument.Calls
-      (λ list. ReadsOpening table certificate words (SpellCalls words.capacity.now list) (λ given. HasServeReport
-      (EachHasOneGate {G = AlwaysOn} (λ _ _ _ _. Unit {0}) (λ _. On) (λ _ _. Unit {0})) given list)) u v r
+      (λ list. ReadsOpening table certificate words (SpellCalls words.capacity.now list)
+      (λ given. HasServeReport
+      (EachHasOneGate {G = AlwaysOn} (λ _ _ _ _. Unit {0}) (λ _. On) (λ _ _. Unit {0})) given list))
+      u v r
 
--- in terms of the bytes that standard input and files have left, those that the writer holds, and those of the file of each name, if they are known
-module _ {S D F W : Type 0} (remaining : S → Option (List ℕ)) (left : LazyFile D F → Option (List ℕ)) (contents : W → Option (List ℕ))
+-- in terms of the bytes that standard input and files have left, those that the writer holds, and
+-- those of the file of each name, if they are known
+module _ {S D F W : Type 0} (remaining : S → Option (List ℕ)) (left : LazyFile D F
+    → Option (List ℕ)) (contents : W → Option (List ℕ))
     (files : List ℕ → Option (List ℕ)) where
   -- with the certificate of this source, of which nothing was read before
   abbrev pub With : S → TextSource → (Text (TextReader S D F) → Type 0) → Type 0
-  With stdin source runs = (certificate : Text (TextReader S D F)) × IsTextFrom left files stdin source certificate × runs certificate
+  With stdin source runs = (certificate : Text (TextReader S D F))
+      × IsTextFrom left files stdin source certificate × runs certificate
 
   -- the result of a command of one table, with its arguments; `classify` is none, and is refused
-  abbrev pub RunsOn : S → Text (TextReader S D F) → Command → Output W → Output W → Result Outcome AppFault → Type 0
+  abbrev pub RunsOn : S → Text (TextReader S D F) → Command → Output W → Output W
+      → Result Outcome AppFault → Type 0
   RunsOn stdin table (Find limit) u v r =
-      ReadsTable (left_of remaining left) (left_of remaining left) left contents files table (λ t. HasFindReport t limit) u v r
-  RunsOn stdin table Lint u v r = ReadsTable (left_of remaining left) (left_of remaining left) left contents files table (λ t. HasLintReport t) u v r
-  RunsOn stdin table Draw u v r = ReadsTable (left_of remaining left) (left_of remaining left) left contents files table (λ t. HasDrawReport t) u v r
+      ReadsTable (left_of remaining left) (left_of remaining left) left contents files table
+      (λ t. HasFindReport t limit) u v r
+  RunsOn stdin table Lint u v r = ReadsTable (left_of remaining left) (left_of remaining left) left
+      contents files table (λ t. HasLintReport t) u v r
+  RunsOn stdin table Draw u v r = ReadsTable (left_of remaining left) (left_of remaining left) left
+      contents files table (λ t. HasDrawReport t) u v r
   RunsOn stdin table (Why limit all) u v r =
-      ReadsTable (left_of remaining left) (left_of remaining left) left contents files table (λ t. HasWhyReport t limit all) u v r
+      ReadsTable (left_of remaining left) (left_of remaining left) left contents files table
+      (λ t. HasWhyReport t limit all) u v r
   RunsOn stdin table (Check certificate) u v r = With stdin certificate
-      (λ c. ReadsBoth (left_of remaining left) (left_of remaining left) left contents files table c (Unit {0}) (λ t d. HasCheckReport t d) u v r)
+      (λ c. ReadsBoth (left_of remaining left) (left_of remaining left) left contents files table c
+      (Unit {0}) (λ t d. HasCheckReport t d) u v r)
   RunsOn stdin table (Explain certificate all) u v r = With stdin certificate
-      (λ c. ReadsBoth (left_of remaining left) (left_of remaining left) left contents files table c (Unit {0}) (λ t d. HasExplainReport t d all) u v r)
+      (λ c. ReadsBoth (left_of remaining left) (left_of remaining left) left contents files table c
+      (Unit {0}) (λ t d. HasExplainReport t d all) u v r)
   RunsOn stdin table (Show certificate form) u v r = With stdin certificate
-      (λ c. ReadsBoth (left_of remaining left) (left_of remaining left) left contents files table c (Unit {0}) (λ t d. HasShowReport t d form) u v r)
+      (λ c. ReadsBoth (left_of remaining left) (left_of remaining left) left contents files table c
+      (Unit {0}) (λ t d. HasShowReport t d form) u v r)
   RunsOn stdin table (Agree certificate inputs schedule steps) u v r = With stdin certificate
-      (λ c. RunsAgree (left_of remaining left) (left_of remaining left) left contents files table c inputs schedule steps u v r)
+      (λ c. RunsAgree (left_of remaining left) (left_of remaining left) left contents files table c
+      inputs schedule steps u v r)
   RunsOn stdin table (Replay opening events) u v r = With stdin opening.certificate
-      (λ c. RunsReplay (left_of remaining left) (left_of remaining left) left contents files table c opening events u v r)
+      (λ c. RunsReplay (left_of remaining left) (left_of remaining left) left contents files
+      table c opening events u v r)
   RunsOn stdin table (Serve opening calls) u v r = With stdin opening.certificate
-      (λ c. RunsServe (left_of remaining left) (left_of remaining left) left contents files table c opening calls u v r)
+      (λ c. RunsServe (left_of remaining left) (left_of remaining left) left contents files
+      table c opening calls u v r)
   RunsOn stdin table (Classify limit recoverable tables) u v r = (r ≡ Err Words) × IsSilent u v
 
   -- the same for the table of this source, of which nothing was read before
-  abbrev pub Runs : S → TextSource → Command → Output W → Output W → Result Outcome AppFault → Type 0
-  Runs stdin source command u v r = (table : Text (TextReader S D F)) × IsTextFrom left files stdin source table × RunsOn stdin table command u v r
+  abbrev pub Runs : S → TextSource → Command → Output W → Output W
+      → Result Outcome AppFault → Type 0
+  Runs stdin source command u v r = (table : Text (TextReader S D F))
+      × IsTextFrom left files stdin source table × RunsOn stdin table command u v r

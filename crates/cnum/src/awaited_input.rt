@@ -51,8 +51,9 @@ impl FirstRead {
         self.changed.notify_one();
     }
 
-    /// Waits for the end of the read. Says on standard error where it takes more than a second, since
-    /// a person who forgot the input sees nothing else. What comes after the read stands behind that.
+    /// Waits for the end of the read. Says on standard error where it takes more than a second,
+    /// since a person who forgot the input sees nothing else. What comes after the read stands
+    /// behind that.
     pub fn tell_if_late<R: Wait + Clock + Eprint>(&self, rt: &R) {
         let stage = self.stage.lock(rt);
         let stage = self

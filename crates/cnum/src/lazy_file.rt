@@ -19,8 +19,8 @@ pub enum Progress<F> {
 }
 
 /// A file that is opened at its first read: if an earlier text is refused, the file is not touched.
-/// A fault of the opening is a fault of that read. It is closed once it was read to its end, so that
-/// a command can read any number of files.
+/// A fault of the opening is a fault of that read. It is closed once it was read to its end, so
+/// that a command can read any number of files.
 #[derive(Drop)]
 pub struct LazyFile<'a, D: Disk> {
     /// What opens it.

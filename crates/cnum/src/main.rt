@@ -146,7 +146,8 @@ fn obey_and_tell<
         || -> (ExitCode, PipeWriter<O>)
             requires { IsSync T.row }
             ensures { Obeys I.remaining (left_in T.contents T.Reader.remaining) O.contents
-                (T.contents rt.entry.now) stdin stdout given.entry.now (exit_status result.0) result.1 }
+                (T.contents rt.entry.now) stdin stdout given.entry.now
+                (exit_status result.0) result.1 }
         {
             let done = obey(rt, alloc, stdin, &first_read, stdout, given);
             first_read.end(rt);

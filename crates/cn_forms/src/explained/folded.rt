@@ -42,8 +42,8 @@ fn fits_whole(left: usize, gap: usize, rest: &str) -> bool
     gap <= left && rest.len() <= left - gap && ends_in_word(rest)
 }
 
-/// The first word of the rest of a line and what stands behind its space, unless the rest is laid as
-/// one word. There is an empty word between two spaces.
+/// The first word of the rest of a line and what stands behind its space, unless the rest is laid
+/// as one word. There is an empty word between two spaces.
 fn first_word(left: usize, gap: usize, rest: &str) -> Option<(&str, &str)>
     ensures { MatchOption result (laid_rest left gap rest.now ≡ laid_as_word left gap rest.now)
         (λ cut. IsFront left gap rest.now cut.0.now cut.1.now) }

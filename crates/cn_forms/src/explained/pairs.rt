@@ -249,8 +249,8 @@ fn has_room(table: &Table) -> bool
     responses <= MOST_BESIDE && state_width(table) <= MOST_BESIDE - responses
 }
 
-/// All pairs that a process can get, by the team that is first: the sides side by side if a line has
-/// room for them, else one below the other.
+/// All pairs that a process can get, by the team that is first: the sides side by side if a line
+/// has room for them, else one below the other.
 pub(crate) fn push_pair_rows(
     alloc: Global,
     text: &mut String,

@@ -4,7 +4,7 @@ ghost use Rattle.std.specs.List.{range_with_len};
 ghost use Rattle.cn_proto.specs.Plan.{nodes_of, processes_of, protocol_of};
 ghost use Rattle.cn_proto.specs.Sound.{IsPlace};
 ghost use Rattle.cn_forms.specs.Dot.{arrival_dot, head_dot, head_lines, node_dot, origin_dot, plan_dot};
-ghost use Rattle.cn_forms.specs.Dot.{process_dot, process_line, edge_dot, edge_end, edge_head, edges_dot};
+ghost use Rattle.cn_forms.specs.Dot.{process_dot, process_box, edge_dot, edge_end, edge_head, edges_dot};
 
 use crate::plan_forms::common::place_at;
 use cn_proto::{Place, Plan};
@@ -76,9 +76,9 @@ fn push_process(text: &mut String, plan: &Plan, process: u8) -> Result<(), Alloc
     push_edges(text, plan, process)
 }
 
-#[tactic(auto, unfolding(crate::specs::Dot::process_line))]
+#[tactic(auto, unfolding(crate::specs::Dot::process_box))]
 fn push_process_line(text: &mut String, process: u8) -> Result<(), AllocError>
-    ensures { OnOk result (string_bytes text.new ≡ string_bytes text.old ++ process_line process) }
+    ensures { OnOk result (string_bytes text.new ≡ string_bytes text.old ++ process_box process) }
 {
     write!(
         text,
