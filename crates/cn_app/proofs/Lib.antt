@@ -3,5 +3,6 @@ pub mod CommandLemmas
 pub mod LawLemmas
 pub mod LineLemmas
 pub mod ReportLemmas
+pub mod RunLemmas
 pub mod StreamLemmas
 pub mod ThreadLemmas

@@ -6,6 +6,7 @@ pub mod FaultText
 pub mod Headline
 pub mod Lines
 pub mod Outcomes
+pub mod Runs
 pub mod Steps
 pub mod Streams
 pub mod Texts

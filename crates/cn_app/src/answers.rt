@@ -1,27 +1,26 @@
 //! The run of a list of events on a new log.
-ghost use Rattle.std.specs.Prelude.{◌≡◌, ◌≢◌, ◌<◌, ◌≤◌, ◌+◌, ◌++◌, ◌∷◌, [], List, length, vec_capacity, vec_len, IfErr, IfOk, OnOk};
-ghost use Rattle.cn_log.specs.Faults.{IsFirstEventFault};
+ghost use Rattle.std.specs.Prelude.{◌≡◌, ◌<◌, ◌≤◌, ◌+◌, ◌++◌, ◌∷◌, [], List, length, vec_capacity, vec_len, IfErr, IfOk, OnOk};
+ghost use Rattle.cn_log.specs.Faults.{IsFirstEventFault, IsReplayFault};
 ghost use Rattle.cn_log.specs.Linearized.{IsLinearized};
 ghost use Rattle.cn_log.specs.Log.{IsEventList};
 ghost use Rattle.cn_log.specs.Opening.{setting, setting_of};
 ghost use Rattle.cn_log.specs.declared.event.Event.{Event as EventOf};
-ghost use Rattle.cn_log.specs.declared.fault.ReplayFault.TheVariants.{OutOfMemory};
 ghost use Rattle.cn_lines.specs.Log.{HaveResponses};
 ghost use Rattle.cn_app.specs.Answers.{ends_after, ends_by};
 
 use cn_log::laws::logs_are_linearized;
-use cn_log::{CallEnd, Event, LogCore, Opening, ReplayFault};
+use cn_log::{CallEnd, Event, EventFault, LogCore, Opening, ReplayFault};
 use std::alloc::Global;
 
-/// The core after the events, and how they ended calls, in order.
+/// The core after the events, and how they ended calls, each with its process, in order.
 #[derive(Drop)]
 pub(crate) struct ReplayHistory {
     pub core: LogCore,
-    pub ends: Vec<CallEnd>,
+    pub ends: Vec<(u8, CallEnd)>,
 }
 
-/// Takes one event into the core. If it ends a call, appends how to `ends`.
-fn come(core: &mut LogCore, event: Event, ends: &mut Vec<CallEnd>) -> Result<(), ReplayFault>
+/// Takes one event into the core. If it ends the call of its process, appends how to `ends`.
+fn come(core: &mut LogCore, event: Event, ends: &mut Vec<(u8, CallEnd)>) -> Result<(), EventFault>
     requires room { vec_len ends.old < vec_capacity ends.old }
     ensures core { OnOk result
         (core.new ≡ record core.old { schedule = core.old.schedule ++ event ∷ [] }) }
@@ -35,7 +34,7 @@ fn come(core: &mut LogCore, event: Event, ends: &mut Vec<CallEnd>) -> Result<(),
     ensures room { vec_capacity ends.new ≡ vec_capacity ends.old }
 {
     if let Some(end) = core.take(event)? {
-        ends.push_reserved(end);
+        ends.push_reserved((event.process(), end));
     }
     Ok(())
 }
@@ -52,8 +51,7 @@ pub(crate) fn answers_of(
     ensures ends { IfOk result (λ replayed. replayed.ends.items
         ≡ ends_after (setting_of opening) [] events.now) }
     ensures responses { IfOk result (λ replayed. HaveResponses opening.object replayed.ends.items) }
-    ensures fault { IfErr result (λ fault. fault ≢ OutOfMemory
-        → IsFirstEventFault (setting_of opening) events.now fault) }
+    ensures fault { IfErr result (IsReplayFault (setting_of opening) events.now) }
     ensures events { OnOk result (IsEventList (setting_of opening) events.now) }
     ensures linearized { OnOk result (IsLinearized (setting_of opening) events.now) }
 {

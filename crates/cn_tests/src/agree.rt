@@ -20,7 +20,7 @@ fn begin_all<V: Copy>(alloc: Global, plan: &Plan, inputs: &[V]) -> Result<Round<
     ensures of_plan { IfOk result (RunsBy plan.now) }
     ensures begun { IfOk result (AllHaveBegun (processes_of plan.now)) }
 {
-    laws::every_round::<V>();
+    laws::rounds_keep_consensus::<V>();
     let mut round = Round::new(alloc, plan)?;
     for p in 0..plan.processes() {
         round.begin(p, inputs[usize::from(p)]);
@@ -36,7 +36,7 @@ fn take_step<V: Copy>(rt: &impl Abort, plan: &Plan, round: &mut Round<V>, p: u8)
     ensures of_plan { RunsBy plan.now round.new }
     ensures begun { AllHaveBegun (processes_of plan.now) round.new }
 {
-    laws::every_round::<V>();
+    laws::rounds_keep_consensus::<V>();
     plans_are_sound(plan);
     assert!(rt; decision_of(plan, round, p).is_none());
     round.step(plan, p)
@@ -48,7 +48,7 @@ fn decision_of<V: Copy>(plan: &Plan, round: &Round<V>, p: u8) -> Option<V>
     requires process { p < processes_of plan.now }
     ensures { result ≡ decision_at round.now p }
 {
-    laws::every_round::<V>();
+    laws::rounds_keep_consensus::<V>();
     round.decision(p)
 }
 
@@ -93,7 +93,7 @@ fn comes_to(
 ) -> Result<bool, AllocError> {
     assert!(rt; plan.processes() == 2);
     let round = replay(rt, alloc, plan, &[('a', true), ('b', false)], schedule)?;
-    let is_right = is_second(round.fixed_value(), is_fixed);
+    let is_right = is_second(round.fixed(), is_fixed);
     let decided = decision_of(plan, &round, 0);
     Ok(is_right && is_second(decided, is_decided) && decision_of(plan, &round, 1).is_none())
 }

@@ -1,4 +1,5 @@
 //! Commands with streams and gates of a caller, which the program does not have.
+pub(crate) mod bytes;
 mod classify;
 mod kept;
 mod lists;

@@ -5,7 +5,7 @@ use cn_app::{AppFault, Argument, Source};
 use cn_cert::CertFault;
 use cn_check::CheckFault;
 use cn_hall::{CallFault, OpenFault};
-use cn_log::ReplayFault;
+use cn_log::{EventFault, ReplayFault};
 use cn_proto::PlanFault;
 use cn_search::FindFault;
 use cn_table::TableFault;
@@ -91,6 +91,16 @@ fn of_schedules() -> [(ScheduleFault, &'static str); 3] {
         (ScheduleFault::InputCount, "1 InputCount"),
         (ScheduleFault::NoSuchProcess(1), "2 NoSuchProcess 1"),
         (ScheduleFault::from(AllocError), "3 OutOfMemory"),
+    ]
+}
+
+fn of_events() -> [(EventFault, &'static str); 5] {
+    [
+        (EventFault::NoSuchProcess(0), "1 NoSuchProcess 0"),
+        (EventFault::NoSuchOperation(10), "2 NoSuchOperation 10"),
+        (EventFault::NotIdle(1), "3 NotIdle 1"),
+        (EventFault::Idle(2), "4 Idle 2"),
+        (EventFault::AtEnd(7), "5 AtEnd 7"),
     ]
 }
 
@@ -187,6 +197,7 @@ fn are_of_protocols(alloc: Global) -> Result<bool, AllocError> {
     Ok(
         are_read(alloc, &of_plans())?
             && are_read(alloc, &of_schedules())?
+            && are_read(alloc, &of_events())?
             && are_read(alloc, &of_logs())?
             && are_read(alloc, &of_calls())?,
     )

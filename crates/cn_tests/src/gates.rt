@@ -26,7 +26,7 @@ impl Gate for StopsAt {
         self.last
     }
 
-    fn last_answer(&self) -> Go {
+    fn said(&self) -> Go {
         self.last
     }
 }
@@ -60,7 +60,7 @@ impl Gate for Holds<'_> {
         self.last
     }
 
-    fn last_answer(&self) -> Go {
+    fn said(&self) -> Go {
         self.last
     }
 }
@@ -99,7 +99,7 @@ impl Gate for WritesDown {
         Go::On
     }
 
-    fn last_answer(&self) -> Go {
+    fn said(&self) -> Go {
         Go::On
     }
 }

@@ -34,8 +34,7 @@ pub(super) fn core_after(
     let plan = plan_for_two(rt, alloc)?;
     let object = table_of(alloc, counter_3())?;
     assert!(rt; object.states() >= 1);
-    let new = LogCore::new(alloc, &plan, &object, State(0), capacity)?;
-    let core = replay(new, events)?;
+    let core = replay(alloc, &plan, &object, State(0), capacity, events)?;
     assert!(rt; core.processes() == 2 && core.operations() == 1);
     Ok(core)
 }
@@ -264,7 +263,7 @@ fn calls_overlap(rt: HostRuntime) -> Result<(), Fail> {
     let (hall, zero, one, seats) = opened(&rt, alloc, 4, &[])?;
     let ((mut zero, first), (mut one, second)) = overlap(&rt, &hall, zero, one);
     assert!(rt; first == reply(0, 0) && second == reply(0, 1));
-    assert!(rt; zero.seen_entries() == 2 && one.seen_entries() == 2);
+    assert!(rt; zero.seen_len() == 2 && one.seen_len() == 2);
     assert!(rt; hall.meet(&rt, &mut zero, &mut one) == Order::Equal);
     let parts = one_within_another(1, 2, 0, 6, 4);
     close(&rt, alloc, hall, zero, one, seats, &parts)?;
@@ -279,7 +278,7 @@ fn finds_the_log_full(rt: HostRuntime) -> Result<(), Fail> {
     assert_call(&rt, &hall, &mut zero, Err(CallFault::LogFull));
     assert_call(&rt, &hall, &mut zero, Err(CallFault::LogFull));
     assert_call(&rt, &hall, &mut one, Err(CallFault::LogFull));
-    assert!(rt; zero.seen_slots() == 1 && zero.seen_entries() == 1 && !zero.in_call());
+    assert!(rt; zero.seen_slots() == 1 && zero.seen_len() == 1 && !zero.in_call());
     let parts = [
         (Event::Invoke(1, 0), 1),
         (Event::Step(1), 6),

@@ -1,9 +1,12 @@
 //! Cores by hand.
 ghost use Rattle.std.specs.Prelude.{◌≤◌};
 
-use crate::fixtures::{plan_for_two, table_of};
+use crate::fixtures::{events_of, plan_for_two, table_of};
 use crate::types::*;
-use cn_log::{CallEnd, Entry, Event, LogCore, Opening, ReplayFault, StepAnswer};
+use cn_log::{
+    CallEnd, Entry, Event, EventFault, LogCore, Opening, ReplayFault, Reply, StepAnswer, replay,
+    replay_on,
+};
 use cn_table::{Operation, Response, State};
 use std::alloc::Global;
 use std::process::Abort;
@@ -66,7 +69,7 @@ fn rests(rt: &impl Abort, core: &LogCore, p: u8, replayed: u16, seen: u16) -> bo
     assert!(rt; p < core.processes());
     core.is_idle(p)
         && !core.at_end(p)
-        && (core.applied_slots(p), core.applied_entries(p)) == (replayed, seen)
+        && (core.replayed(p), core.replayed_entries(p)) == (replayed, seen)
 }
 
 /// Whether the log of two processes and four slots has three entries, in the slots 0, 0 and 1.
@@ -93,7 +96,7 @@ fn answers_for_a_log(rt: HostRuntime) -> Result<(), Fail> {
 }
 
 /// Takes the event `before` times without an end of a call, and answers what it does the next time.
-fn take(core: &mut LogCore, event: Event, before: u8) -> Result<Option<CallEnd>, ReplayFault> {
+fn take(core: &mut LogCore, event: Event, before: u8) -> Result<Option<CallEnd>, EventFault> {
     for _time in 0..before {
         if let Some(end) = core.take(event)? {
             return Ok(Some(end));
@@ -103,23 +106,22 @@ fn take(core: &mut LogCore, event: Event, before: u8) -> Result<Option<CallEnd>,
 }
 
 /// Events of a log of one slot, in order. Each has how often it comes before, and its result then.
-fn events_of_one_slot() -> [(Event, u8, Result<Option<CallEnd>, ReplayFault>); 10] {
-    let answered = CallEnd::Answered {
-        process: 1,
+fn events_of_one_slot() -> [(Event, u8, Result<Option<CallEnd>, EventFault>); 10] {
+    let answered = CallEnd::Answered(Reply {
         slot: 0,
         response: Response(0),
-    };
+    });
     [
-        (Event::Step(0), 0, Err(ReplayFault::Idle(0))),
-        (Event::Step(2), 0, Err(ReplayFault::NoSuchProcess(0))),
-        (Event::Invoke(0, 1), 0, Err(ReplayFault::NoSuchOperation(0))),
+        (Event::Step(0), 0, Err(EventFault::Idle(0))),
+        (Event::Step(2), 0, Err(EventFault::NoSuchProcess(0))),
+        (Event::Invoke(0, 1), 0, Err(EventFault::NoSuchOperation(0))),
         (Event::Invoke(1, 0), 0, Ok(None)),
-        (Event::Invoke(1, 0), 0, Err(ReplayFault::NotIdle(1))),
+        (Event::Invoke(1, 0), 0, Err(EventFault::NotIdle(1))),
         (Event::Step(1), 4, Ok(None)),
         (Event::Step(1), 0, Ok(Some(answered))),
         (Event::Invoke(0, 0), 0, Ok(None)),
-        (Event::Step(0), 5, Ok(Some(CallEnd::Full { process: 0 }))),
-        (Event::Invoke(1, 0), 0, Err(ReplayFault::AtEnd(14))),
+        (Event::Step(0), 5, Ok(Some(CallEnd::Full))),
+        (Event::Invoke(1, 0), 0, Err(EventFault::AtEnd(14))),
     ]
 }
 
@@ -132,4 +134,92 @@ fn events_are_taken_or_refused(rt: HostRuntime) -> Result<(), Fail> {
     }
     assert!(rt; core.schedule().len() == 14 && core.entries() == [entry(1, 0)].as_slice());
     Ok(())
+}
+
+/// Calls of both processes. Process 1 puts both into the first slot.
+const HELPED: [(Event, u8); 4] = [
+    (Event::Invoke(0, 0), 1),
+    (Event::Invoke(1, 0), 1),
+    (Event::Step(1), 6),
+    (Event::Step(0), 6),
+];
+
+/// Process 1 makes a call and ends it, then process 0, and then process 1 makes another call.
+const ONE_BY_ONE: [(Event, u8); 5] = [
+    (Event::Invoke(1, 0), 1),
+    (Event::Step(1), 6),
+    (Event::Invoke(0, 0), 1),
+    (Event::Step(0), 6),
+    (Event::Invoke(1, 0), 1),
+];
+
+/// A new log of the counter for two processes after these events, each this many times.
+fn replayed(
+    rt: &impl Abort,
+    alloc: Global,
+    capacity: u16,
+    parts: &[(Event, u8)],
+) -> Result<LogCore, Fail>
+    requires some { 1 ≤ capacity }
+    requires few { capacity ≤ 1024 }
+{
+    let plan = plan_for_two(rt, alloc)?;
+    let object = table_of(alloc, counter_3())?;
+    assert!(rt; object.states() >= 1);
+    let events = events_of(alloc, parts)?;
+    let core = replay(alloc, &plan, &object, State(0), capacity, &events)?;
+    assert!(rt; core.schedule() == events.as_slice() && core.capacity() == capacity);
+    Ok(core)
+}
+
+/// The logs after lists of events. Both processes have replayed the slots.
+#[test]
+fn lists_of_events_are_replayed(rt: HostRuntime) -> Result<(), Fail> {
+    let core = replayed(&rt, rt.alloc(), 4, &HELPED)?;
+    assert!(rt; core.entries() == [entry(0, 0), entry(1, 0)].as_slice() && core.fixed_slots() == 1);
+    assert!(rt; rests(&rt, &core, 0, 1, 2) && rests(&rt, &core, 1, 1, 2));
+    let core = replayed(&rt, rt.alloc(), 1, &ONE_BY_ONE[..4])?;
+    assert!(rt; core.entries() == [entry(1, 0)].as_slice() && core.processes() == 2);
+    assert!(rt; core.at_end(0) && core.at_end(1) && core.replayed(0) == 1);
+    Ok(())
+}
+
+/// The fault of these events, each this many times, in a new log of one slot. A core without events
+/// has the same.
+fn assert_refused(
+    rt: &impl Abort,
+    alloc: Global,
+    parts: &[(Event, u8)],
+    expected: EventFault,
+) -> Result<(), Fail> {
+    let plan = plan_for_two(rt, alloc)?;
+    let object = table_of(alloc, counter_3())?;
+    assert!(rt; object.states() >= 1);
+    let events = events_of(alloc, parts)?;
+    let core = LogCore::new(alloc, &plan, &object, State(0), 1)?;
+    assert!(rt; matches!(replay_on(core, &events), Err(fault) if fault == expected));
+    let expected = ReplayFault::from(expected);
+    let found = replay(alloc, &plan, &object, State(0), 1, &events);
+    assert!(rt; matches!(found, Err(fault) if fault == expected));
+    Ok(())
+}
+
+#[test]
+fn lists_of_events_are_refused(rt: HostRuntime) -> Result<(), Fail> {
+    let (alloc, call) = (rt.alloc(), (Event::Invoke(0, 0), 2));
+    assert_refused(
+        &rt,
+        alloc,
+        &[(Event::Invoke(2, 0), 1)],
+        EventFault::NoSuchProcess(0),
+    )?;
+    assert_refused(
+        &rt,
+        alloc,
+        &[(Event::Invoke(0, 1), 1)],
+        EventFault::NoSuchOperation(0),
+    )?;
+    assert_refused(&rt, alloc, &[call], EventFault::NotIdle(1))?;
+    assert_refused(&rt, alloc, &[(Event::Step(0), 1)], EventFault::Idle(0))?;
+    assert_refused(&rt, alloc, &ONE_BY_ONE, EventFault::AtEnd(14))
 }

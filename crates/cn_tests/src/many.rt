@@ -54,8 +54,8 @@ fn opened<R: Wait + Abort>(rt: &R, alloc: Global, n: u8) -> Result<(Hall, Seat, 
     Ok((hall, other, last))
 }
 
-/// Closes the hall with these two seats. Whether its events are those of the last process's call, with
-/// the other's whole call behind its first n-1 steps.
+/// Closes the hall with these two seats. Whether its events are those of the last process's call,
+/// with the other's whole call behind its first n-1 steps.
 fn has_closed<R: Wait>(
     rt: &R,
     alloc: Global,

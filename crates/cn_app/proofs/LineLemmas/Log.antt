@@ -10,7 +10,7 @@ use Rattle.cn_log.specs.declared.entry.Entry.{Entry}
 use Rattle.cn_log.specs.declared.event.CallEnd.{CallEnd}
 use Rattle.cn_log.specs.declared.event.Event.{Event}
 use Rattle.cn_log.specs.declared.event.Event.TheVariants.{Invoke}
-use Rattle.cn_log.specs.declared.fault.ReplayFault.{ReplayFault}
+use Rattle.cn_log.specs.declared.fault.EventFault.{EventFault}
 use Rattle.cn_log.specs.Faults.{IsFirstEventFault}
 use Rattle.cn_log.specs.Linearized.{IsLinearized}
 use Rattle.cn_log.specs.Log.{Setting, World, IsEventList, MayAllCome, MayCome, after_event, after_events, entries, first_world, state_of}
@@ -35,7 +35,7 @@ module _ {R : Type 0} (L : Setting R) where
       (may_come_at events called.0 (Invoke e.process e.operation.0) may called.1.invoke).operation
 
 -- the fault of an event behind the first k of a list is that of the first event of the list that cannot come
-pub first_in_list : {R : Type 0} (L : Setting R) (events : List Event) (k : ℕ) (d : Event) (s : List Event) (fault : ReplayFault) → s ≡ take k events → k < length events
+pub first_in_list : {R : Type 0} (L : Setting R) (events : List Event) (k : ℕ) (d : Event) (s : List Event) (fault : EventFault) → s ≡ take k events → k < length events
     → ((rest : List Event) → IsFirstEventFault L (s ++ slice_index_or events k d ∷ rest) fault) → IsFirstEventFault L events fault
 first_in_list L events k d s fault is less first =
     let e : Event = slice_index_or events k d in
@@ -43,5 +43,5 @@ first_in_list L events k d s fault is less first =
     subst (λ (es : List Event). IsFirstEventFault L es fault) parted (first (drop (suc k) events))
 
 -- more calls that ended have responses too
-pub responses_more : (object other : TypeTable) (ends more : List CallEnd) → other ≡ object → HaveResponses object ends → HaveResponses other more → HaveResponses object (ends ++ more)
-responses_more object other ends more same have here = All-append (EndsWithResponse object) ends more have (subst (λ (o : TypeTable). HaveResponses o more) same here)
+pub responses_more : (object other : TypeTable) (ends more : List (ℕ × CallEnd)) → other ≡ object → HaveResponses object ends → HaveResponses other more → HaveResponses object (ends ++ more)
+responses_more object other ends more same have here = All-append (λ (end : ℕ × CallEnd). EndsWithResponse object end.1) ends more have (subst (λ (o : TypeTable). HaveResponses o more) same here)

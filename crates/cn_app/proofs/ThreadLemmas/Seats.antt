@@ -6,7 +6,7 @@ use Rattle.cn_hall.specs.Calls.{CallFails, MakesCall, IsSameSeat, go_after}
 use Rattle.cn_hall.specs.Seats.{SeatState}
 use Rattle.cn_hall.specs.declared.call.CallFault.{CallFault}
 use Rattle.cn_hall.specs.declared.call.CallFault.TheVariants.{LogFull, Stopped}
-use Rattle.cn_hall.specs.declared.call.Reply.{Reply}
+use Rattle.cn_log.specs.declared.event.Reply.{Reply}
 use Rattle.cn_app.specs.Threads.Serving.{operations_called}
 use Rattle.cn_app.specs.Threads.Workers.{EndsAt, end_by, go_at}
 use Rattle.cn_app.proofs.ThreadLemmas.CallLists.{invoked_called}

@@ -7,7 +7,7 @@ use Rattle.cn_log.specs.declared.batch.Batch.{Batch}
 use Rattle.cn_hall.specs.Answers.{own, replies_from}
 use Rattle.cn_hall.specs.Rule.{Carries}
 use Rattle.cn_hall.specs.Seats.{SeatState, slots_seen}
-use Rattle.cn_hall.specs.declared.call.Reply.{Reply}
+use Rattle.cn_log.specs.declared.event.Reply.{Reply}
 use Rattle.cn_app.specs.Threads.Serving.{EndsIn, HasServed, operations_called, replies_in}
 use Rattle.cn_app.specs.Threads.Workers.{EndsAt, HasWorked}
 use Rattle.cn_app.specs.declared.threads.workers.End.{End}

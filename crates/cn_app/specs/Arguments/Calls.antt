@@ -1,5 +1,6 @@
 -- Arguments that are the calls of each process.
-use Rattle.std.specs.Prelude.{codes, ℕ, List, length, Option, Some, None, map, ◌==◌, nat_lt, Bool, ◌&&◌, ◌≡◌, ◌⊎◌, Result, Ok, Err, Vec}
+use Rattle.std.specs.Prelude.{codes, ℕ, List, length, Option, Some, None, map, ◌==◌, nat_lt, Bool}
+use Rattle.std.specs.Prelude.{◌&&◌, ◌≡◌, ◌⊎◌, Result, Ok, Err, Vec}
 use Rattle.std.specs.Global.{Global}
 use Rattle.std.specs.List.{slice_split, list_all}
 use Rattle.cn_table.specs.Draft.{all_some}
@@ -33,15 +34,20 @@ abbrev pub calls_in : TypeTable → List (List OperationWord) → List (List ℕ
 calls_in object lists = map (operations_in object) lists
 
 -- reading a list of calls from each of these texts ends so
-abbrev pub GivesEach : List (List ℕ) → Result (Vec (Vec OperationWord Global) Global) AppFault → Type 0
-GivesEach texts (Ok calls) = all_some (map process_calls texts) ≡ Some (map (λ one. one.items) calls.items)
-GivesEach texts (Err e) = (e ≡ OutOfMemory) ⊎ ((e ≡ Argument Calls) × (all_some (map process_calls texts) ≡ None))
+abbrev pub GivesEach : List (List ℕ)
+    → Result (Vec (Vec OperationWord Global) Global) AppFault → Type 0
+GivesEach texts (Ok calls) =
+    all_some (map process_calls texts) ≡ Some (map (λ one. one.items) calls.items)
+GivesEach texts (Err e) =
+    (e ≡ OutOfMemory) ⊎ ((e ≡ Argument Calls) × (all_some (map process_calls texts) ≡ None))
 
 -- reading the calls of all processes ends so
 abbrev pub GivesCalls : ListText → Result (Vec (Vec OperationWord Global) Global) AppFault → Type 0
 GivesCalls list r = GivesEach (process_texts list) r
 
--- there is one list of calls for each process of the plan, and each call is of an operation of the object
+-- there is one list of calls for each process of the plan, and each call is of an operation of the
+-- object
 abbrev pub calls_fit : Opening → List (List ℕ) → Bool
 calls_fit o calls =
-    (length calls == processes_of o.plan) && list_all (λ list. list_all (λ operation. nat_lt operation (length o.object.operations)) list) calls
+    (length calls == processes_of o.plan) && list_all
+    (λ list. list_all (λ operation. nat_lt operation (length o.object.operations)) list) calls

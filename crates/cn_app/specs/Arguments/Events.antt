@@ -1,5 +1,6 @@
 -- Arguments that are events of a log, and how many slots it has.
-use Rattle.std.specs.Prelude.{codes, ℕ, List, Option, option_map, option_and_then, ◌==◌, ◌≡◌, ◌⊎◌, [], ◌∷◌, None, if◌then◌else◌, map, nat_le, Some, Result, Ok, Err}
+use Rattle.std.specs.Prelude.{codes, ℕ, List, Option, option_map, option_and_then, ◌==◌, ◌≡◌, ◌⊎◌}
+use Rattle.std.specs.Prelude.{[], ◌∷◌, None, if◌then◌else◌, map, nat_le, Some, Result, Ok, Err}
 use Rattle.std.specs.List.{before_first, after_first}
 use Rattle.cn_log.specs.declared.event.Event.{Event}
 use Rattle.cn_log.specs.declared.event.Event.TheVariants as event
@@ -25,13 +26,15 @@ step_of text = option_map Step (number_up_to 255 text)
 -- a process that makes a call: behind an i its number, a colon and the operation
 abbrev pub invoke_of : List ℕ → Option EventWord
 invoke_of text =
-    option_and_then (λ p. option_map (λ o. Invoke p o) (operation_of (after_first (λ byte. byte == code_of (codes ":")) text)))
+    option_and_then (λ p. option_map (λ o. Invoke p o)
+    (operation_of (after_first (λ byte. byte == code_of (codes ":")) text)))
     (number_up_to 255 (before_first (λ byte. byte == code_of (codes ":")) text))
 
 -- the event that a text gives, if it gives one
 abbrev pub event_of : List ℕ → Option EventWord
 event_of [] = None
-event_of (letter ∷ rest) = if letter == code_of (codes "s") then step_of rest else (if letter == code_of (codes "i") then invoke_of rest else None)
+event_of (letter ∷ rest) = if letter == code_of (codes "s") then step_of rest
+    else (if letter == code_of (codes "i") then invoke_of rest else None)
 
 -- a list of events
 abbrev pub events_of : ListText → Option (List EventWord)
@@ -58,7 +61,8 @@ words_of (Words words) = words.items
 
 -- the number of slots, which is at least 1
 abbrev pub capacity_of : List ℕ → Option ℕ
-capacity_of text = option_and_then (λ n. if nat_le 1 n then Some n else None) (number_up_to MOST_SLOTS text)
+capacity_of text =
+    option_and_then (λ n. if nat_le 1 n then Some n else None) (number_up_to MOST_SLOTS text)
 
 -- reading the number of slots ends so
 abbrev pub GivesCapacity : List ℕ → Result ℕ AppFault → Type 0

@@ -1,5 +1,7 @@
--- What `agree` writes: a function of the plan, the inputs, the schedule and whether the steps are asked for.
-use Rattle.std.specs.Prelude.{◌≡◌, ◌⊎◌, ◌++◌, ℕ, Bool, if◌then◌else◌, List, [], None, Result, Ok, Err, IsSome, IsSomeAnd, string_bytes}
+-- What `agree` writes: a function of the plan, the inputs, the schedule and whether the steps are
+-- asked for.
+use Rattle.std.specs.Prelude.{◌≡◌, ◌⊎◌, ◌++◌, ℕ, Bool, if◌then◌else◌, List, [], None, Result, Ok}
+use Rattle.std.specs.Prelude.{Err, IsSome, IsSomeAnd, string_bytes}
 use Rattle.cn_proto.specs.Plan.{Plan, processes_of, protocol_of}
 use Rattle.cn_agree.specs.Actions.{records_of}
 use Rattle.cn_agree.specs.Consensus.{IsConsensus}
@@ -21,28 +23,39 @@ use Rattle.cn_app.specs.declared.fault.AppFault.TheVariants.{OutOfMemory, Schedu
 
 -- the lines of the steps of the schedule, if they are asked for
 abbrev pub lines_of_steps : Plan → List ℕ → List ℕ → Bool → List ℕ
-lines_of_steps plan inputs schedule steps = if steps then step_lines plan.table (records_of plan inputs schedule) else []
+lines_of_steps plan inputs schedule steps =
+    if steps then step_lines plan.table (records_of plan inputs schedule) else []
 
--- the inputs and the schedule have no fault, the decisions are consensus, and the lines are those of the steps and then those of the decisions
-pub record IsAgreed (plan : Plan) (inputs schedule : List ℕ) (steps : Bool) (lines : List ℕ) : Type 0 where
+-- the inputs and the schedule have no fault, the decisions are consensus, and the lines are those
+-- of the steps and then those of the decisions
+pub record IsAgreed (plan : Plan) (inputs schedule : List ℕ) (steps : Bool)
+    (lines : List ℕ) : Type 0 where
   pub run : schedule_fault (processes_of plan) inputs schedule ≡ None
-  pub consensus : IsConsensus (protocol_of plan) (processes_of plan) inputs schedule (decisions_after plan inputs schedule)
-  pub written : lines ≡ lines_of_steps plan inputs schedule steps ++ decision_lines 0 (decisions_after plan inputs schedule)
+  pub consensus : IsConsensus (protocol_of plan) (processes_of plan) inputs schedule
+      (decisions_after plan inputs schedule)
+  pub written : lines ≡ lines_of_steps plan inputs schedule steps
+      ++ decision_lines 0 (decisions_after plan inputs schedule)
 
--- the result of running a plan: the lines of its decisions, or the first fault of the inputs and the schedule
+-- the result of running a plan: the lines of its decisions, or the first fault of the inputs and
+-- the schedule
 abbrev pub IsRunReport : Plan → List ℕ → List ℕ → Bool → Result Report AppFault → Type 0
-IsRunReport plan inputs schedule steps (Ok report) = IsAgreed plan inputs schedule steps (string_bytes report.text) × (report.outcome ≡ Whole)
+IsRunReport plan inputs schedule steps (Ok report) =
+    IsAgreed plan inputs schedule steps (string_bytes report.text) × (report.outcome ≡ Whole)
 IsRunReport plan inputs schedule steps (Err e) = (e ≡ OutOfMemory)
-    ⊎ IsSomeAnd (schedule_fault (processes_of plan) inputs schedule) (λ fault. e ≡ plain_of (Schedule fault))
+    ⊎ IsSomeAnd (schedule_fault (processes_of plan) inputs schedule)
+    (λ fault. e ≡ plain_of (Schedule fault))
 
 -- the same for the plan of the certificate's witness
 abbrev pub IsAgreeReport : Checked → List ℕ → List ℕ → Bool → Result Report AppFault → Type 0
-IsAgreeReport checked inputs schedule steps r = Then (GivesPlan checked) (λ plan. IsRunReport plan inputs schedule steps) r
+IsAgreeReport checked inputs schedule steps r =
+    Then (GivesPlan checked) (λ plan. IsRunReport plan inputs schedule steps) r
 
 -- the result of `agree` for two texts and two lists: the lists are read first
-abbrev pub HasAgreeReport : {R C : Type 0} → Text R → Text C → ListText → ListText → Bool → Result Report AppFault → Type 0
+abbrev pub HasAgreeReport : {R C : Type 0} → Text R → Text C → ListText → ListText → Bool
+    → Result Report AppFault → Type 0
 HasAgreeReport table certificate inputs schedule steps r = Then (GivesLists inputs schedule)
-    (λ lists. Then (GivesChecked table certificate) (λ checked. IsAgreeReport checked lists.inputs.items lists.schedule.items steps)) r
+    (λ lists. Then (GivesChecked table certificate)
+    (λ checked. IsAgreeReport checked lists.inputs.items lists.schedule.items steps)) r
 
 -- the words spell inputs and a schedule
 abbrev pub SpellLists : ListText → ListText → Type 0

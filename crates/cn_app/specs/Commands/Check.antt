@@ -12,11 +12,14 @@ use Rattle.cn_app.specs.declared.fault.AppFault.TheVariants.{OutOfMemory}
 
 -- the number of the certificate is that of the table up to its limit
 abbrev pub HasItsNumber : Checked → Type 0
-HasItsNumber checked = IsNumberUpTo checked.table checked.certificate.limit checked.certificate.number
+HasItsNumber checked =
+    IsNumberUpTo checked.table checked.certificate.limit checked.certificate.number
 
--- the report on an accepted certificate: its number is right, and the text is `ok`; the only fault is want of memory
+-- the report on an accepted certificate: its number is right, and the text is `ok`; the only fault
+-- is want of memory
 abbrev pub IsCheckReport : Checked → Result Report AppFault → Type 0
-IsCheckReport checked (Ok report) = HasItsNumber checked × (string_bytes report.text ≡ codes "ok\n") × (report.outcome ≡ Whole)
+IsCheckReport checked (Ok report) =
+    HasItsNumber checked × (string_bytes report.text ≡ codes "ok\n") × (report.outcome ≡ Whole)
 IsCheckReport checked (Err e) = e ≡ OutOfMemory
 
 -- the same report on every accepted certificate

@@ -1,5 +1,7 @@
 -- What becomes of several tables, classified one after the other.
-use Rattle.std.specs.Prelude.{◌≡◌, ◌⊎◌, Bool, ℕ, List, [], ◌∷◌, ◌++◌, filter, map, true, false, Option, Some, None, IsSomeAnd, Result, Ok, Err, MatchResult, All, string_bytes}
+use Rattle.std.specs.Prelude.{◌≡◌, ◌⊎◌, Bool, ℕ, List, [], ◌∷◌, ◌++◌, filter, map, true, false}
+use Rattle.std.specs.Prelude.{Option, Some, None, IsSomeAnd, Result, Ok, Err, MatchResult, All}
+use Rattle.std.specs.Prelude.{string_bytes}
 use Rattle.std.specs.Option.{option_map_or}
 use Rattle.std.specs.Str.{bytes_eq}
 use Rattle.cn_app.specs.Commands.Classify.{HasClassReport, given_limit_fault}
@@ -32,43 +34,68 @@ IsFirst names None = names ≡ []
 IsFirst names (Some first) = (others : List (List ℕ)) × (names ≡ first ∷ others)
 
 -- the first of these names was noted for the table of this name; where there is none, nothing was
-abbrev pub Notes : {D : Type 0} → (D → List ℕ → List ℕ → D → Type 0) → List (List ℕ) → List ℕ → D → D → Type 0
+abbrev pub Notes : {D : Type 0} → (D → List ℕ → List ℕ → D → Type 0) → List (List ℕ)
+    → List ℕ → D → D → Type 0
 Notes notes [] name d e = e ≡ d
 Notes notes (first ∷ others) name d e = notes d name first e
 
 -- a report was made and written, or making or writing it has a fault
-abbrev pub Writes : {W : Type 0} → (W → Option (List ℕ)) → (Result Report AppFault → Type 0) → Output W → Output W → Result Report AppFault → Type 0
-Writes contents work u v (Ok report) = work (Ok report) × HandsOver contents report u v (Ok report.outcome)
+abbrev pub Writes : {W : Type 0} → (W → Option (List ℕ)) → (Result Report AppFault → Type 0)
+    → Output W → Output W → Result Report AppFault → Type 0
+Writes contents work u v (Ok report) =
+    work (Ok report) × HandsOver contents report u v (Ok report.outcome)
 Writes contents work u v (Err e) = Reports contents work u v (Err e)
 
--- a table was read and classified, with this result, and keeps its name; it has the line that was written, if one was
-pub record HasClassified {R W : Type 0} (remaining : R → Option (List ℕ)) (contents : W → Option (List ℕ)) (asked : AskedNumbers)
+-- a table was read and classified, with this result, and keeps its name; it has the line that was
+-- written, if one was
+pub record HasClassified {R W : Type 0} (remaining : R → Option (List ℕ))
+    (contents : W → Option (List ℕ)) (asked : AskedNumbers)
     (old new : NamedTable R) (result : Result Outcome AppFault) (u v : Output W) : Type 0 where
   pub name : new.name ≡ old.name
   pub read : HasRead Table remaining old.text new.text
   pub order : (new.text ≡ old.text) ⊎ (given_limit_fault asked.limit ≡ None)
   pub classified : Reports contents (HasClassReport new.text asked) u v result
-  pub line : MatchResult result (λ _. IsSomeAnd new.line (λ line. v.bytes.items ≡ u.bytes.items ++ string_bytes line)) (λ _. new.line ≡ None)
+  pub line : MatchResult result (λ _. IsSomeAnd new.line
+      (λ line. v.bytes.items ≡ u.bytes.items ++ string_bytes line)) (λ _. new.line ≡ None)
 
--- a table that was classified behind these has a line, and the first of these with the same line was noted
-abbrev pub IsNoted : {R D : Type 0} → (D → List ℕ → List ℕ → D → Type 0) → List (NamedTable R) → NamedTable R → D → D → Type 0
-IsNoted notes earlier table d e = IsSomeAnd table.line (λ line. Notes notes (names_with (string_bytes line) earlier) table.name.now d e)
+-- a table that was classified behind these has a line, and the first of these with the same line
+-- was noted
+abbrev pub IsNoted : {R D : Type 0} → (D → List ℕ → List ℕ → D → Type 0) → List (NamedTable R)
+    → NamedTable R → D → D → Type 0
+IsNoted notes earlier table d e = IsSomeAnd table.line
+    (λ line. Notes notes (names_with (string_bytes line) earlier) table.name.now d e)
 
--- behind the tables of the first list the others were classified in order, and came to be these: each has its line, and it is noted which earlier one has the
--- same; or its fault is told with its name; a fault that would be that of every table is told with no name, and the tables behind it are as they were;
--- with the first fault, and what the output and the place for faults are then
-pub data AreClassified {R W D : Type 0} (remaining : R → Option (List ℕ)) (contents : W → Option (List ℕ))
-    (tells : D → Option (List ℕ) → AppFault → D → Type 0) (notes : D → List ℕ → List ℕ → D → Type 0) (asked : AskedNumbers)
-    : List (NamedTable R) → List (NamedTable R) → List (NamedTable R) → Output W → D → Option AppFault → Output W → D → Type 0 where
-  NoneLeft : {earlier : List (NamedTable R)} {w : Output W} {d : D} → AreClassified remaining contents tells notes asked earlier [] [] w d None w d
-  HasLine : {old new : NamedTable R} {earlier rest after : List (NamedTable R)} {u v w : Output W} {c d e : D} {first : Option AppFault} {outcome : Outcome}
-      → HasClassified remaining contents asked old new (Ok outcome) u v → IsNoted notes earlier new c d
-      → AreClassified remaining contents tells notes asked (earlier ++ new ∷ []) rest after v d first w e
-      → AreClassified remaining contents tells notes asked earlier (old ∷ rest) (new ∷ after) u c first w e
-  HasFault : {old new : NamedTable R} {earlier rest after : List (NamedTable R)} {u v w : Output W} {c d e : D} {first : Option AppFault} {fault : AppFault}
-      → HasClassified remaining contents asked old new (Err fault) u v → is_of_every_table fault ≡ false
-      → tells c (Some old.name.now) fault d → AreClassified remaining contents tells notes asked (earlier ++ new ∷ []) rest after v d first w e
-      → AreClassified remaining contents tells notes asked earlier (old ∷ rest) (new ∷ after) u c (Some fault) w e
-  EndsAll : {old new : NamedTable R} {earlier rest : List (NamedTable R)} {u v : Output W} {c d : D} {fault : AppFault}
-      → HasClassified remaining contents asked old new (Err fault) u v → is_of_every_table fault ≡ true → tells c None fault d
-      → AreClassified remaining contents tells notes asked earlier (old ∷ rest) (new ∷ rest) u c (Some fault) v d
+-- behind the tables of the first list the others were classified in order, and came to be these:
+-- each has its line, and it is noted which earlier one has the same; or its fault is told with its
+-- name; a fault that would be that of every table is told with no name, and the tables behind it
+-- are as they were; with the first fault, and what the output and the place for faults are then
+pub data AreClassified {R W D : Type 0} (remaining : R → Option (List ℕ))
+    (contents : W → Option (List ℕ))
+    (tells : D → Option (List ℕ) → AppFault → D → Type 0) (notes : D → List ℕ → List ℕ → D
+    → Type 0) (asked : AskedNumbers)
+    : List (NamedTable R) → List (NamedTable R) → List (NamedTable R) → Output W → D
+    → Option AppFault → Output W → D → Type 0 where
+  NoneLeft : {earlier : List (NamedTable R)} {w : Output W} {d : D}
+      → AreClassified remaining contents tells notes asked earlier [] [] w d None w d
+  HasLine : {old new : NamedTable R} {earlier rest after : List (NamedTable R)} {u v w : Output
+      W} {c d e : D} {first : Option AppFault} {outcome : Outcome}
+      → HasClassified remaining contents asked old new (Ok outcome) u v
+      → IsNoted notes earlier new c d
+      → AreClassified remaining contents tells notes asked (earlier ++ new ∷ [])
+      rest after v d first w e
+      → AreClassified remaining contents tells notes asked earlier (old ∷ rest)
+      (new ∷ after) u c first w e
+  HasFault : {old new : NamedTable R} {earlier rest after : List (NamedTable R)} {u v w : Output
+      W} {c d e : D} {first : Option AppFault} {fault : AppFault}
+      → HasClassified remaining contents asked old new (Err fault) u v
+      → is_of_every_table fault ≡ false
+      → tells c (Some old.name.now) fault d → AreClassified remaining contents tells notes asked
+      (earlier ++ new ∷ []) rest after v d first w e
+      → AreClassified remaining contents tells notes asked earlier (old ∷ rest)
+      (new ∷ after) u c (Some fault) w e
+  EndsAll : {old new : NamedTable R} {earlier rest : List (NamedTable R)} {u v : Output W} {c
+      d : D} {fault : AppFault}
+      → HasClassified remaining contents asked old new (Err fault) u v
+      → is_of_every_table fault ≡ true → tells c None fault d
+      → AreClassified remaining contents tells notes asked earlier (old ∷ rest)
+      (new ∷ rest) u c (Some fault) v d

@@ -11,12 +11,16 @@ use Rattle.cn_app.specs.declared.streams.text.Text.{Text}
 use Rattle.cn_app.specs.declared.fault.AppFault.{AppFault}
 use Rattle.cn_app.specs.declared.fault.AppFault.TheVariants.{OutOfMemory}
 
--- the result of explaining a certificate: its number is right, and the text tells why; the only fault is want of memory
+-- the result of explaining a certificate: its number is right, and the text tells why; the only
+-- fault is want of memory
 abbrev pub IsExplainReport : Checked → Bool → Result Report AppFault → Type 0
 IsExplainReport checked all (Ok report) = HasItsNumber checked
-    × (string_bytes report.text ≡ explain_text checked.table checked.certificate all) × (report.outcome ≡ Whole)
+    × (string_bytes report.text ≡ explain_text checked.table checked.certificate all)
+    × (report.outcome ≡ Whole)
 IsExplainReport checked all (Err e) = e ≡ OutOfMemory
 
 -- the result of `explain` for two texts
-abbrev pub HasExplainReport : {R C : Type 0} → Text R → Text C → Bool → Result Report AppFault → Type 0
-HasExplainReport table certificate all r = Then (GivesChecked table certificate) (λ checked. IsExplainReport checked all) r
+abbrev pub HasExplainReport : {R C : Type 0} → Text R → Text C → Bool
+    → Result Report AppFault → Type 0
+HasExplainReport table certificate all r =
+    Then (GivesChecked table certificate) (λ checked. IsExplainReport checked all) r

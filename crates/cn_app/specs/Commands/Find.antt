@@ -1,5 +1,6 @@
 -- What `find` writes: a function of the table that it reads and of the limit.
-use Rattle.std.specs.Prelude.{ℕ, length, Option, ◌≡◌, ◌⊎◌, List, ◌++◌, codes, None, Some, IsSomeAnd, Result, Ok, Err, string_bytes}
+use Rattle.std.specs.Prelude.{ℕ, length, Option, ◌≡◌, ◌⊎◌, List, ◌++◌, codes, None, Some, IsSomeAnd}
+use Rattle.std.specs.Prelude.{Result, Ok, Err, string_bytes}
 use Rattle.cn_table.specs.TypeTable.{TypeTable}
 use Rattle.cn_search.specs.Faults.{find_fault}
 use Rattle.cn_search.specs.Evidence.{IsFindingFor}
@@ -33,23 +34,30 @@ pub record IsFoundCertificate (t : TypeTable) (limit : ℕ) (certificate : Certi
   pub found : IsFindingFor t limit finding
   pub is : certificate ≡ certificate_of t.name finding
 
--- the result of searching for a certificate: that of the finding; or memory ran out, or the limit has this first fault
+-- the result of searching for a certificate: that of the finding; or memory ran out, or the limit
+-- has this first fault
 abbrev pub GivesFound : TypeTable → ℕ → Result Certificate AppFault → Type 0
 GivesFound t limit (Ok certificate) = IsFoundCertificate t limit certificate
-GivesFound t limit (Err e) = (e ≡ OutOfMemory) ⊎ IsSomeAnd (limit_fault t limit) (λ fault. e ≡ plain_of (Find fault))
+GivesFound t limit (Err e) =
+    (e ≡ OutOfMemory) ⊎ IsSomeAnd (limit_fault t limit) (λ fault. e ≡ plain_of (Find fault))
 
--- the limit has no fault, and the text is the certificate of the finding for the table and the limit, and a line feed
+-- the limit has no fault, and the text is the certificate of the finding for the table and the
+-- limit, and a line feed
 pub record IsFound (t : TypeTable) (limit : ℕ) (text : List ℕ) : Type 0 where
   pub searched : limit_fault t limit ≡ None
   pub finding : Finding
   pub found : IsFindingFor t limit finding
   pub written : text ≡ certificate_text (certificate_of t.name finding) ++ codes "\n"
 
--- the result of the search: the text of its certificate; or memory ran out, or the limit has this first fault
+-- the result of the search: the text of its certificate; or memory ran out, or the limit has this
+-- first fault
 abbrev pub IsFindReport : TypeTable → ℕ → Result Report AppFault → Type 0
-IsFindReport t limit (Ok report) = IsFound t limit (string_bytes report.text) × (report.outcome ≡ Whole)
-IsFindReport t limit (Err e) = (e ≡ OutOfMemory) ⊎ IsSomeAnd (limit_fault t limit) (λ fault. e ≡ plain_of (Find fault))
+IsFindReport t limit (Ok report) =
+    IsFound t limit (string_bytes report.text) × (report.outcome ≡ Whole)
+IsFindReport t limit (Err e) =
+    (e ≡ OutOfMemory) ⊎ IsSomeAnd (limit_fault t limit) (λ fault. e ≡ plain_of (Find fault))
 
 -- the result of `find` for a text, with a given limit or none
 abbrev pub HasFindReport : {R : Type 0} → Text R → Option ℕ → Result Report AppFault → Type 0
-HasFindReport text given r = Then (GivesTable text) (λ t s. (limit : ℕ) × IsLimitFor t given limit × IsFindReport t limit s) r
+HasFindReport text given r = Then (GivesTable text)
+    (λ t s. (limit : ℕ) × IsLimitFor t given limit × IsFindReport t limit s) r

@@ -15,7 +15,8 @@ use Rattle.cn_app.specs.declared.fault.AppFault.TheVariants.{OutOfMemory}
 
 -- the result of writing a plan in a form, unless memory ran out
 abbrev pub IsFormReport : Plan → Form → Result Report AppFault → Type 0
-IsFormReport plan form (Ok report) = (string_bytes report.text ≡ form_text form plan) × (report.outcome ≡ Whole)
+IsFormReport plan form (Ok report) =
+    (string_bytes report.text ≡ form_text form plan) × (report.outcome ≡ Whole)
 IsFormReport plan form (Err e) = e ≡ OutOfMemory
 
 -- the same for the plan of the certificate's witness
@@ -24,4 +25,5 @@ IsShowReport checked form r = Then (GivesPlan checked) (λ plan. IsFormReport pl
 
 -- the result of `show` for two texts
 abbrev pub HasShowReport : {R C : Type 0} → Text R → Text C → Form → Result Report AppFault → Type 0
-HasShowReport table certificate form r = Then (GivesChecked table certificate) (λ checked. IsShowReport checked form) r
+HasShowReport table certificate form r =
+    Then (GivesChecked table certificate) (λ checked. IsShowReport checked form) r

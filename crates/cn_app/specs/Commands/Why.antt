@@ -1,5 +1,6 @@
 -- What `why` writes: a function of the table that it reads and of the limit, if one was given.
-use Rattle.std.specs.Prelude.{◌≡◌, ℕ, List, Bool, Option, Some, None, MatchOption, Result, Ok, Err, string_bytes}
+use Rattle.std.specs.Prelude.{◌≡◌, ℕ, List, Bool, Option, Some, None, MatchOption, Result, Ok, Err}
+use Rattle.std.specs.Prelude.{string_bytes}
 use Rattle.cn_table.specs.TypeTable.{TypeTable}
 use Rattle.cn_lasting.specs.Lasting.{NoneLast}
 use Rattle.cn_lasting.specs.Leaving.{IsLasting}
@@ -18,12 +19,14 @@ use Rattle.cn_app.specs.declared.streams.text.Text.{Text}
 use Rattle.cn_app.specs.declared.fault.AppFault.{AppFault}
 use Rattle.cn_app.specs.declared.fault.AppFault.TheVariants.{OutOfMemory}
 
--- the result of `why` for a table and a limit: that of `explain` for the certificate that `find` finds
+-- the result of `why` for a table and a limit: that of `explain` for the certificate that `find`
+-- finds
 abbrev pub IsLimitedReport : TypeTable → ℕ → Bool → Result Report AppFault → Type 0
-IsLimitedReport t limit all r = Then (GivesFound t limit) (λ c. IsExplainReport (record { table = t; certificate = c }) all) r
+IsLimitedReport t limit all r =
+    Then (GivesFound t limit) (λ c. IsExplainReport (record { table = t; certificate = c }) all) r
 
--- the text tells the number of the table with no limit and the reasons for it: two operations that last, if any do, and the certificate up to
--- the greatest limit
+-- the text tells the number of the table with no limit and the reasons for it: two operations that
+-- last, if any do, and the certificate up to the greatest limit
 pub record HasReasonsFor (t : TypeTable) (all : Bool) (text : List ℕ) : Type 0 where
   pub number : ConsensusNumber
   pub is_number : HasNumber t number
@@ -37,7 +40,8 @@ pub record HasReasonsFor (t : TypeTable) (all : Bool) (text : List ℕ) : Type 0
 
 -- the result of `why` for a table with no limit; the only fault is want of memory
 abbrev pub IsReasonsReport : TypeTable → Bool → Result Report AppFault → Type 0
-IsReasonsReport t all (Ok report) = HasReasonsFor t all (string_bytes report.text) × (report.outcome ≡ Whole)
+IsReasonsReport t all (Ok report) =
+    HasReasonsFor t all (string_bytes report.text) × (report.outcome ≡ Whole)
 IsReasonsReport t all (Err e) = e ≡ OutOfMemory
 
 -- the result of `why` for a table, with a given limit or none

@@ -19,7 +19,8 @@ use Rattle.cn_app.specs.declared.streams.text.Text.{Text}
 abbrev pub IsChecked : Checked → Type 0
 IsChecked checked = IsAccepted checked.table checked.certificate
 
--- the result of the check of a certificate against a table: it accepts the certificate, and both are kept; or this is the first fault
+-- the result of the check of a certificate against a table: it accepts the certificate, and both
+-- are kept; or this is the first fault
 abbrev pub GivesCheck : TypeTable → Certificate → Result Checked AppFault → Type 0
 GivesCheck t c (Ok checked) = IsAccepted t c × (checked.table ≡ t) × (checked.certificate ≡ c)
 GivesCheck t c (Err e) = (fault : CheckFault) × IsFirstFault t c fault × (e ≡ Check fault)
@@ -28,17 +29,22 @@ GivesCheck t c (Err e) = (fault : CheckFault) × IsFirstFault t c fault × (e �
 abbrev pub SpellAcceptedCertificate : TypeTable → List ℕ → Type 0
 SpellAcceptedCertificate t bytes = (c : Certificate) × (reading bytes ≡ Ok c) × IsAccepted t c
 
--- the result of reading a certificate and checking it against a table, where the certificate is not kept: the check accepts it; or this is the first fault
+-- the result of reading a certificate and checking it against a table, where the certificate is not
+-- kept: the check accepts it; or this is the first fault
 abbrev pub EndsCheck : {C : Type 0} → TypeTable → Text C → Result Unit AppFault → Type 0
-EndsCheck t certificate (Ok done) = (c : Certificate) × GivesCertificate certificate (Ok c) × IsAccepted t c
+EndsCheck t certificate (Ok done) =
+    (c : Certificate) × GivesCertificate certificate (Ok c) × IsAccepted t c
 EndsCheck t certificate (Err e) = Then (GivesCertificate certificate) (λ c. GivesCheck t c) (Err e)
 
 -- a table is read, then a certificate, and then the certificate is checked against the table
 abbrev pub GivesChecked : {R C : Type 0} → Text R → Text C → Result Checked AppFault → Type 0
-GivesChecked table certificate r = Then (GivesTable table) (λ t. Then (GivesCertificate certificate) (λ c. GivesCheck t c)) r
+GivesChecked table certificate r =
+    Then (GivesTable table) (λ t. Then (GivesCertificate certificate) (λ c. GivesCheck t c)) r
 
--- what became of a text t and then of a text c: if the first spells no table, the second is as it was
-pub record HaveReadBoth {R C : Type 0} (remaining : R → Option (List ℕ)) (left : C → Option (List ℕ)) (t u : Text R) (c d : Text C) : Type 0 where
+-- what became of a text t and then of a text c: if the first spells no table, the second is as it
+-- was
+pub record HaveReadBoth {R C : Type 0} (remaining : R → Option (List ℕ))
+    (left : C → Option (List ℕ)) (t u : Text R) (c d : Text C) : Type 0 where
   pub table : HasRead source.Table remaining t u
   pub certificate : HasRead source.Certificate left c d
   pub order : (d ≡ c) ⊎ SpellsTable u

@@ -13,9 +13,12 @@ use Rattle.cn_app.specs.declared.fault.Source.{Source}
 use Rattle.cn_app.specs.declared.fault.Source.TheVariants as source
 use Rattle.cn_app.specs.declared.streams.text.Text.{Text}
 
--- what a text of limited length spells, or its first fault: it is too long, or has a fault of its own
-abbrev pub value_in : {X F : Type 0} → Source → (F → AppFault) → (List ℕ → Result X F) → List ℕ → Result X AppFault
-value_in source fault_of reads bytes = if nat_lt (most_of source) (length bytes) then Err (fault.TooLong source)
+-- what a text of limited length spells, or its first fault: it is too long, or has a fault of its
+-- own
+abbrev pub value_in : {X F : Type 0} → Source → (F → AppFault) → (List ℕ → Result X F)
+    → List ℕ → Result X AppFault
+value_in source fault_of reads bytes =
+    if nat_lt (most_of source) (length bytes) then Err (fault.TooLong source)
     else result_map_both (λ x. x) (λ f. plain_of (fault_of f)) (reads bytes)
 
 -- the table that the bytes spell, or their first fault
@@ -30,7 +33,8 @@ certificate_in bytes = value_in source.Certificate fault.Certificate certificate
 abbrev pub object_in : List ℕ → Result TypeTable AppFault
 object_in bytes = value_in source.Object fault.Object table.reading bytes
 
--- the result of reading a table, by what its text is then; likewise of a certificate and of an object
+-- the result of reading a table, by what its text is then; likewise of a certificate and of an
+-- object
 abbrev pub GivesTable : {R : Type 0} → Text R → Result TypeTable AppFault → Type 0
 GivesTable text r = Gives source.Table table_in text r
 

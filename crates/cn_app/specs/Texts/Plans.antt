@@ -16,4 +16,5 @@ pub record IsPlanOf (t : TypeTable) (c : Certificate) (plan : Plan) : Type 0 whe
 -- the result of making the plan of a certificate: its plan; or it has no witness, or memory ran out
 abbrev pub GivesPlan : Checked → Result Plan AppFault → Type 0
 GivesPlan checked (Ok plan) = IsPlanOf checked.table checked.certificate plan
-GivesPlan checked (Err e) = (e ≡ OutOfMemory) ⊎ ((e ≡ NoWitness) × (checked.certificate.witness ≡ None))
+GivesPlan checked (Err e) =
+    (e ≡ OutOfMemory) ⊎ ((e ≡ NoWitness) × (checked.certificate.witness ≡ None))

@@ -5,7 +5,7 @@ use Rattle.cn_log.specs.Log.{operations_of, batches}
 use Rattle.cn_log.specs.Opening.{Log, setting}
 use Rattle.cn_log.specs.declared.event.Event.{Event}
 use Rattle.cn_hall.specs.Answers.{replies_from}
-use Rattle.cn_hall.specs.declared.call.Reply.{Reply}
+use Rattle.cn_log.specs.declared.event.Reply.{Reply}
 use Rattle.cn_app.specs.declared.threads.workers.End.{End}
 use Rattle.cn_app.specs.declared.threads.workers.End.TheVariants.{Whole, Full, Stopped}
 
@@ -13,20 +13,27 @@ use Rattle.cn_app.specs.declared.threads.workers.End.TheVariants.{Whole, Full, S
 abbrev pub operations_called : ℕ → List Event → List ℕ
 operations_called p events = operations_of (calls_by p events)
 
--- for each entry of process p in the log, in order: its slot, and the response of one sequential run there
+-- for each entry of process p in the log, in order: its slot, and the response of one sequential
+-- run there
 abbrev pub replies_in : Log → ℕ → List Reply
 replies_in core p = replies_from (setting core) p [] (batches (setting core) core.schedule)
 
--- how the calls of process p ended: each was made and has its reply; or some call has none, every slot is fixed, and the replies are those of all entries of
--- the process; or the process made one call more than there are replies
+-- how the calls of process p ended: each was made and has its reply; or some call has none, every
+-- slot is fixed, and the replies are those of all entries of the process; or the process made one
+-- call more than there are replies
 abbrev pub EndsIn : Log → ℕ → List ℕ → List Reply → End → Type 0
-EndsIn core p calls replies Whole = (operations_called p core.schedule ≡ calls) × (length replies ≡ length calls)
-EndsIn core p calls replies Full = (length (batches (setting core) core.schedule) ≡ core.opening.capacity) × (replies ≡ replies_in core p)
+EndsIn core p calls replies Whole =
+    (operations_called p core.schedule ≡ calls) × (length replies ≡ length calls)
+EndsIn core p calls replies Full = (length (batches (setting core) core.schedule)
+    ≡ core.opening.capacity) × (replies ≡ replies_in core p)
     × (length replies < length calls)
-EndsIn core p calls replies Stopped = length (operations_called p core.schedule) ≡ length replies + 1
+EndsIn core p calls replies Stopped =
+    length (operations_called p core.schedule) ≡ length replies + 1
 
--- process p made the first of these calls, in order; the replies are those of its first entries in the log; and its calls ended so
-pub record HasServed (core : Log) (p : ℕ) (calls : List ℕ) (replies : List Reply) (end : End) : Type 0 where
+-- process p made the first of these calls, in order; the replies are those of its first entries in
+-- the log; and its calls ended so
+pub record HasServed (core : Log) (p : ℕ) (calls : List ℕ) (replies : List Reply)
+    (end : End) : Type 0 where
   pub made : BeginsWith calls (operations_called p core.schedule)
   pub replied : BeginsWith (replies_in core p) replies
   pub range : All (λ r. r.response.0 < length core.opening.object.responses) replies

@@ -1,5 +1,6 @@
 -- What the thread of a process starts with, and what it hands back.
-use Rattle.std.specs.Prelude.{◌≡◌, ℕ, ◌<◌, List, [], All, length, ◌≤◌, vec_capacity, ◌+◌, Some, Vec, slice_get, Result, Ok, Err}
+use Rattle.std.specs.Prelude.{◌≡◌, ℕ, ◌<◌, List, [], All, length, ◌≤◌, vec_capacity, ◌+◌, Some, Vec}
+use Rattle.std.specs.Prelude.{slice_get, Result, Ok, Err}
 use Rattle.std.specs.Global.{Global}
 use Rattle.cn_proto.specs.Plan.{processes_of}
 use Rattle.cn_log.specs.Callers.{BeginsWith}
@@ -11,7 +12,7 @@ use Rattle.cn_hall.specs.Gates.{IsAsked, asked_times, steps_since}
 use Rattle.cn_hall.specs.Rule.{Carries}
 use Rattle.cn_hall.specs.declared.call.CallFault.{CallFault}
 use Rattle.cn_hall.specs.declared.call.CallFault.TheVariants as fault
-use Rattle.cn_hall.specs.declared.call.Reply.{Reply}
+use Rattle.cn_log.specs.declared.event.Reply.{Reply}
 use Rattle.cn_hall.specs.declared.call.Go.{Go}
 use Rattle.cn_hall.specs.declared.call.Go.TheVariants.{On, Stop}
 use Rattle.cn_app.specs.Threads.Serving.{operations_called}
@@ -30,23 +31,29 @@ go_at Whole = On
 go_at Full = On
 go_at Stopped = Stop
 
--- the seat is one of the hall, nothing has happened in its core, and these are operations of its object
+-- the seat is one of the hall, nothing has happened in its core, and these are operations of its
+-- object
 abbrev pub MayWork : HallId → List ℕ → SeatState → Type 0
-MayWork hall calls s = IsSeatOf hall s × (s.core.schedule ≡ []) × All (λ o. o < length s.core.opening.object.operations) calls
+MayWork hall calls s = IsSeatOf hall s × (s.core.schedule ≡ [])
+    × All (λ o. o < length s.core.opening.object.operations) calls
 
 -- there is no reply yet, and room for a reply to each call
 abbrev pub HasRoom : List ℕ → ProcessHistory → Type 0
 HasRoom calls w = (w.replies.items ≡ []) × (length calls ≤ vec_capacity w.replies)
 
--- how calls that ended so leave a seat: each was made and has its reply; or some call has none, and the seat has seen every slot; or the process made one call
--- more than there are replies
+-- how calls that ended so leave a seat: each was made and has its reply; or some call has none, and
+-- the seat has seen every slot; or the process made one call more than there are replies
 abbrev pub EndsAt : List ℕ → SeatState → List Reply → End → Type 0
-EndsAt calls t replies Whole = (operations_called t.process t.core.schedule ≡ calls) × (length replies ≡ length calls)
-EndsAt calls t replies Full = (length (slots_seen t) ≡ t.core.opening.capacity) × (length replies < length calls)
-EndsAt calls t replies Stopped = length (operations_called t.process t.core.schedule) ≡ length replies + 1
+EndsAt calls t replies Whole =
+    (operations_called t.process t.core.schedule ≡ calls) × (length replies ≡ length calls)
+EndsAt calls t replies Full =
+    (length (slots_seen t) ≡ t.core.opening.capacity) × (length replies < length calls)
+EndsAt calls t replies Stopped =
+    length (operations_called t.process t.core.schedule) ≡ length replies + 1
 
 -- the seat has made the first of these calls, and has these replies
-pub record HasWorked (calls : List ℕ) (s t : SeatState) (replies : List Reply) (end : End) : Type 0 where
+pub record HasWorked (calls : List ℕ) (s t : SeatState) (replies : List Reply)
+    (end : End) : Type 0 where
   pub same : IsSameSeat s t
   pub made : BeginsWith calls (operations_called t.process t.core.schedule)
   pub replied : own t ≡ replies
@@ -55,57 +62,76 @@ pub record HasWorked (calls : List ℕ) (s t : SeatState) (replies : List Reply)
 
 -- the seat at each place may make the calls at its place
 abbrev pub MayAllWork : HallId → List (Vec ℕ Global) → List SeatState → Type 0
-MayAllWork hall calls seats = (p : ℕ) (c : Vec ℕ Global) (s : SeatState) → slice_get calls p ≡ Some c → slice_get seats p ≡ Some s → MayWork hall c.items s
+MayAllWork hall calls seats = (p : ℕ) (c : Vec ℕ Global) (s : SeatState)
+    → slice_get calls p ≡ Some c → slice_get seats p ≡ Some s → MayWork hall c.items s
 
 -- at each place there is room for the replies to the calls at that place
 abbrev pub HaveRoom : List (Vec ℕ Global) → List ProcessHistory → Type 0
-HaveRoom calls worked = (p : ℕ) (c : Vec ℕ Global) (w : ProcessHistory) → slice_get calls p ≡ Some c → slice_get worked p ≡ Some w → HasRoom c.items w
+HaveRoom calls worked = (p : ℕ) (c : Vec ℕ Global) (w : ProcessHistory) → slice_get calls p ≡ Some c
+    → slice_get worked p ≡ Some w → HasRoom c.items w
 
 -- the seat at each place has made the first of the calls at its place
-abbrev pub HaveAllWorked : List (Vec ℕ Global) → List SeatState → List SeatState → List ProcessHistory → Type 0
+abbrev pub HaveAllWorked : List (Vec ℕ Global) → List SeatState → List SeatState
+    → List ProcessHistory → Type 0
 HaveAllWorked calls before after worked =
-    (p : ℕ) (c : Vec ℕ Global) (s t : SeatState) (w : ProcessHistory) → slice_get calls p ≡ Some c → slice_get before p ≡ Some s → slice_get after p ≡ Some t
+    (p : ℕ) (c : Vec ℕ Global) (s t : SeatState) (w : ProcessHistory) → slice_get calls p ≡ Some c
+    → slice_get before p ≡ Some s → slice_get after p ≡ Some t
     → slice_get worked p ≡ Some w
     → HasWorked c.items s t w.replies.items w.end
 
--- where a call of this operation leads a seat, by its answer: it was made and has this reply, or it failed so
+-- where a call of this operation leads a seat, by its answer: it was made and has this reply, or it
+-- failed so
 abbrev pub ComesBy : ℕ → Result Reply CallFault → SeatState → SeatState → Type 0
-ComesBy operation (Ok r) t u = MakesCall t.process operation t.core u.core × IsReply (next_call t operation) u r
+ComesBy operation (Ok r) t u =
+    MakesCall t.process operation t.core u.core × IsReply (next_call t operation) u r
 ComesBy operation (Err e) t u = CallFails operation e t u
 
--- a call of this operation with a gate and this answer leads from one seat and gate to another: the gate was asked before each step, as `call` does; it said
--- Stop last if the call was stopped, and else On
-pub record IsCallWithGate {G : Type 0} (asks : G → SeatState → ℕ → G → Type 0) (says : G → Go) (operation : ℕ) (answer : Result Reply CallFault) (t : SeatState)
+-- a call of this operation with a gate and this answer leads from one seat and gate to another: the
+-- gate was asked before each step, as `call` does; it said Stop last if the call was stopped, and
+-- else On
+pub record IsCallWithGate {G : Type 0} (asks : G → SeatState → ℕ → G → Type 0) (says : G → Go)
+    (operation : ℕ) (answer : Result Reply CallFault) (t : SeatState)
     (h : G) (u : SeatState) (k : G) : Type 0 where
   pub same : IsSameSeat t u
   pub comes : ComesBy operation answer t u
-  pub asked : IsAsked asks says (next_call t operation) t u.core (asked_times answer (steps_since t.process t.core u.core)) h k
+  pub asked : IsAsked asks says (next_call t operation) t u.core
+      (asked_times answer (steps_since t.process t.core u.core)) h k
   pub said : says k ≡ go_after answer
 
--- where calls lead a seat and a gate, made one after the other until one has no reply, and how the calls ended; nothing else is done with the gate
-pub data HasAsked {G : Type 0} (asks : G → SeatState → ℕ → G → Type 0) (says : G → Go) (s : SeatState) (g : G) : SeatState → G → End → Type 0 where
+-- where calls lead a seat and a gate, made one after the other until one has no reply, and how the
+-- calls ended; nothing else is done with the gate
+pub data HasAsked {G : Type 0} (asks : G → SeatState → ℕ → G → Type 0) (says : G → Go)
+    (s : SeatState) (g : G) : SeatState → G → End → Type 0 where
   NoCall : HasAsked asks says s g s g Whole
-  Replied : {t u : SeatState} {h k : G} (operation : ℕ) (reply : Reply) → HasAsked asks says s g t h Whole
+  Replied : {t u : SeatState} {h k : G} (operation : ℕ) (reply : Reply)
+      → HasAsked asks says s g t h Whole
       → IsCallWithGate asks says operation (Ok reply) t h u k
       → HasAsked asks says s g u k Whole
-  Ended : {t u : SeatState} {h k : G} (operation : ℕ) (fault : CallFault) → HasAsked asks says s g t h Whole
+  Ended : {t u : SeatState} {h k : G} (operation : ℕ) (fault : CallFault)
+      → HasAsked asks says s g t h Whole
       → IsCallWithGate asks says operation (Err fault) t h u k
       → HasAsked asks says s g u k (end_by fault)
 
 -- the same for a gate of the seat's thread: it said Stop last if a call was stopped, and else On
-abbrev pub GateWasAsked : {G : Type 0} → (G → SeatState → ℕ → G → Type 0) → (G → Go) → SeatState → G → SeatState → End → Type 0
-GateWasAsked {G} asks says s g t end = (last : G) × HasAsked asks says s g t last end × (says last ≡ go_at end)
+abbrev pub GateWasAsked : {G : Type 0} → (G → SeatState → ℕ → G → Type 0) → (G → Go) → SeatState → G
+    → SeatState → End → Type 0
+GateWasAsked {G} asks says s g t end =
+    (last : G) × HasAsked asks says s g t last end × (says last ≡ go_at end)
 
 -- the calls of the seat at each place asked the gate at its place, and ended as those at its place
-abbrev pub AllGatesWereAsked : {G : Type 0} → (G → SeatState → ℕ → G → Type 0) → (G → Go) → List SeatState → List G → List SeatState → List ProcessHistory
+abbrev pub AllGatesWereAsked : {G : Type 0} → (G → SeatState → ℕ → G → Type 0) → (G → Go)
+    → List SeatState → List G → List SeatState → List ProcessHistory
     → Type 0
 AllGatesWereAsked {G} asks says before gates after worked =
-    (p : ℕ) (s t : SeatState) (g : G) (w : ProcessHistory) → slice_get before p ≡ Some s → slice_get gates p ≡ Some g → slice_get after p ≡ Some t
+    (p : ℕ) (s t : SeatState) (g : G) (w : ProcessHistory) → slice_get before p ≡ Some s
+    → slice_get gates p ≡ Some g → slice_get after p ≡ Some t
     → slice_get worked p ≡ Some w
     → GateWasAsked asks says s g t w.end
 
--- all that process p did in the log is in calls with one gate, which was made for it, and the calls ended so
-pub record HasOneGate {G : Type 0} (asks : G → SeatState → ℕ → G → Type 0) (says : G → Go) (made : ℕ → G → Type 0) (core : Log) (p : ℕ) (end : End)
+-- all that process p did in the log is in calls with one gate, which was made for it, and the calls
+-- ended so
+pub record HasOneGate {G : Type 0} (asks : G → SeatState → ℕ → G → Type 0) (says : G → Go)
+    (made : ℕ → G → Type 0) (core : Log) (p : ℕ) (end : End)
     : Type 0 where
   pub gate : G
   pub before : SeatState
@@ -116,7 +142,10 @@ pub record HasOneGate {G : Type 0} (asks : G → SeatState → ℕ → G → Typ
   pub carried : Carries p after.core core
   pub asked : GateWasAsked asks says before gate after end
 
--- each process of the log's plan has one gate; place p of the list has how the calls of process p ended
-abbrev pub EachHasOneGate : {G : Type 0} → (G → SeatState → ℕ → G → Type 0) → (G → Go) → (ℕ → G → Type 0) → Log → List ProcessHistory → Type 0
+-- each process of the log's plan has one gate; place p of the list has how the calls of process p
+-- ended
+abbrev pub EachHasOneGate : {G : Type 0} → (G → SeatState → ℕ → G → Type 0) → (G → Go)
+    → (ℕ → G → Type 0) → Log → List ProcessHistory → Type 0
 EachHasOneGate asks says made core worked =
-    (p : ℕ) → p < processes_of core.opening.plan → (w : ProcessHistory) × (slice_get worked p ≡ Some w) × HasOneGate asks says made core p w.end
+    (p : ℕ) → p < processes_of core.opening.plan
+    → (w : ProcessHistory) × (slice_get worked p ≡ Some w) × HasOneGate asks says made core p w.end

@@ -102,8 +102,8 @@ fn slots_of(text: &str) -> Option<u16>
     Some(slots as u16)
 }
 
-/// Reads how many slots a log has: a number from 1 to [`MOST_SLOTS`], 1 to 20 decimal digits without
-/// a sign.
+/// Reads how many slots a log has: a number from 1 to [`MOST_SLOTS`], 1 to 20 decimal digits
+/// without a sign.
 ///
 /// # Errors
 ///
@@ -115,9 +115,9 @@ pub(crate) fn read_capacity(text: &str) -> Result<u16, AppFault>
     slots_of(text).ok_or(AppFault::Argument(Argument::Capacity))
 }
 
-/// Reads events of a log: `iP:O`, process P makes a call of operation O, and `sP`, process P takes a
-/// step. P is a number from 0 to 255. O is one too, or the name of an operation that is not decimal
-/// digits alone.
+/// Reads events of a log: `iP:O`, process P makes a call of operation O, and `sP`, process P takes
+/// a step. P is a number from 0 to 255. O is one too, or the name of an operation that is not
+/// decimal digits alone.
 ///
 /// The list is written as for [`read_inputs`](crate::read_inputs).
 ///

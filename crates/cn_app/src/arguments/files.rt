@@ -19,8 +19,8 @@ fn without_line_feed(bytes: &[u8]) -> &[u8]
 }
 
 /// Reads the text of an argument from a reader, as that of the file which the word `@FILE` names:
-/// at most [`MOST_ARGUMENT_BYTES`](crate::MOST_ARGUMENT_BYTES) bytes of UTF-8, with one line feed at the end or none, which is
-/// left out.
+/// at most [`MOST_ARGUMENT_BYTES`](crate::MOST_ARGUMENT_BYTES) bytes of UTF-8, with one line feed
+/// at the end or none, which is left out.
 ///
 /// # Errors
 ///

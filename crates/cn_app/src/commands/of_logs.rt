@@ -5,7 +5,7 @@ ghost use Rattle.cn_app.specs.Arguments.Calls.{calls_in};
 ghost use Rattle.cn_app.specs.Arguments.Events.{events_in, words_of};
 ghost use Rattle.cn_app.specs.Commands.Replay.{HasReplayReport, IsReplayReport, SpellEvents};
 ghost use Rattle.cn_app.specs.Commands.Serve.{HasServeReport, IsServeReport, SpellCalls};
-ghost use Rattle.cn_app.specs.Texts.Openings.{AreUnread, HaveReadAll};
+ghost use Rattle.cn_app.specs.Texts.Openings.{AreArgumentsUnread, HaveReadAll};
 ghost use Rattle.cn_app.specs.Threads.Workers.{EachHasOneGate};
 ghost use Rattle.cn_app.specs.Streams.Writing.{IsWritable, Reports};
 
@@ -51,7 +51,8 @@ fn call_report<T: Threads + Wait + Sync, G: Gate + Send + Drop, F: Fn(u8) -> G>(
 }
 
 /// Opens a log for an object, serves the object by the events, and writes a line for each call that
-/// is answered or that finds no slot, and then a line for each entry of the log ([`replay_report`]).
+/// is answered or that finds no slot, and then a line for each entry of the log
+/// ([`replay_report`]).
 ///
 /// `events` are written as for [`read_events`]; a name is that of an operation of the object
 /// ([`EventList::events_in`]).
@@ -67,7 +68,7 @@ pub fn replay<R: Read, C: Read, O: Read, W: Write>(
     output: &mut Output<W>,
     events: ListText<'_>,
 ) -> Result<Outcome, AppFault>
-    requires given { AreUnread given.old }
+    requires given { AreArgumentsUnread given.old }
     requires output { IsWritable output.old }
 
     ensures read { HaveReadAll R.remaining C.remaining O.remaining given.old given.new }
@@ -82,8 +83,8 @@ pub fn replay<R: Read, C: Read, O: Read, W: Write>(
 }
 
 /// Opens a log for an object, serves the object by threads that make the calls, and writes for each
-/// process a line for each of its calls, then a line for each entry of the log, and last a line with
-/// the events ([`serve_report`]).
+/// process a line for each of its calls, then a line for each entry of the log, and last a line
+/// with the events ([`serve_report`]).
 ///
 /// `calls` are written as for [`read_calls`]; a name is that of an operation of the object
 /// ([`calls_in`]).
@@ -91,8 +92,8 @@ pub fn replay<R: Read, C: Read, O: Read, W: Write>(
 /// # Errors
 ///
 /// The first of these: the capacity, then `calls`, is not spelled as it should be, and then no text
-/// is touched; those of [`read_opening`]; those of [`serve_report`]; the writer fails. Want of memory
-/// can stand in place of any answer but that for the capacity.
+/// is touched; those of [`read_opening`]; those of [`serve_report`]; the writer fails. Want of
+/// memory can stand in place of any answer but that for the capacity.
 pub fn serve<T, R: Read, C: Read, O: Read, W: Write, G, F>(
     rt: &T,
     alloc: Global,
@@ -105,7 +106,7 @@ where
     T: Threads + Wait + Sync,
     G: Gate + Send + Drop,
     F: Fn(u8) -> G,
-    requires given { AreUnread given.old }
+    requires given { AreArgumentsUnread given.old }
     requires output { IsWritable output.old }
     requires gates { F.IsAlwaysCallable make_gate }
     requires on { (p : ℕ) (g : _) → F.post make_gate p g → G.says g ≡ On }

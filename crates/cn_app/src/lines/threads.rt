@@ -23,12 +23,7 @@ fn reply_lines(
 {
     let mut lines = String::new(alloc);
     for reply in replies {
-        let end = CallEnd::Answered {
-            process,
-            slot: reply.slot,
-            response: reply.response,
-        };
-        put_answer_line(&mut lines, object, end)?;
+        put_answer_line(&mut lines, object, process, CallEnd::Answered(*reply))?;
     }
     Ok(lines)
 }
@@ -40,7 +35,7 @@ fn put_end_line(lines: &mut String, object: &Table, process: u8, end: End) -> Re
 {
     match end {
         End::Whole => Ok(()),
-        End::Full => put_answer_line(lines, object, CallEnd::Full { process }),
+        End::Full => put_answer_line(lines, object, process, CallEnd::Full),
         End::Stopped => {
             lines.push_str("stopped ")?;
             put_number(lines, u16::from(process))?;

@@ -1,7 +1,7 @@
 //! The opening of a log, for the commands that serve an object.
 ghost use Rattle.std.specs.Prelude.{◌≤◌};
 ghost use Rattle.cn_log.specs.declared.limits.TheConstants.{MOST_SLOTS};
-ghost use Rattle.cn_app.specs.Texts.Openings.{AreUnread, GivesOpening, GivesStart, HaveReadAll, OpensWith};
+ghost use Rattle.cn_app.specs.Texts.Openings.{AreArgumentsUnread, GivesOpening, GivesStart, HaveReadAll, OpensWith};
 
 use crate::fault::{AppFault, Argument};
 use crate::readers::checked::Checked;
@@ -72,7 +72,7 @@ pub fn read_opening<R: Read, C: Read, O: Read>(
     given: &mut OpeningArguments<'_, R, C, O>,
     slots: u16,
 ) -> Result<Opening, AppFault>
-    requires given { AreUnread given.old }
+    requires given { AreArgumentsUnread given.old }
     requires some { 1 ≤ slots }
     requires few { slots ≤ MOST_SLOTS }
     ensures read { HaveReadAll R.remaining C.remaining O.remaining given.old given.new }

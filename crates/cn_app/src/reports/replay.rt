@@ -1,7 +1,6 @@
 //! The report of `replay`.
 ghost use Rattle.std.specs.Prelude.{◌≡◌};
-ghost use Rattle.std.specs.List.{list_any};
-ghost use Rattle.cn_app.specs.Answers.{is_full};
+ghost use Rattle.cn_app.specs.Answers.{has_full, is_full};
 ghost use Rattle.cn_app.specs.Commands.Replay.{IsReplayReport};
 
 use crate::answers::answers_of;
@@ -15,14 +14,14 @@ use std::alloc::Global;
 fn is_full(end: CallEnd) -> bool
     ensures { result ≡ is_full end }
 {
-    matches!(end, CallEnd::Full { .. })
+    matches!(end, CallEnd::Full)
 }
 
 /// Whether some call found no slot.
-fn has_full(ends: &[CallEnd]) -> bool
-    ensures { result ≡ list_any is_full ends.now }
+fn has_full(ends: &[(u8, CallEnd)]) -> bool
+    ensures { result ≡ has_full ends.now }
 {
-    ends.iter().any(|end| is_full(*end))
+    ends.iter().any(|end| is_full(end.1))
 }
 
 /// Runs the events on a log of this opening. The report has a line for each call that is answered

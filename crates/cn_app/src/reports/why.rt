@@ -32,8 +32,8 @@ fn limited_report<T: Threads + Sync>(
     explain_report(alloc, &checked, all)
 }
 
-/// The reasons for the number with no limit ([`reasons_of`]), with the certificate up to the greatest
-/// limit that has one.
+/// The reasons for the number with no limit ([`reasons_of`]), with the certificate up to the
+/// greatest limit that has one.
 fn reasons_report<T: Threads + Sync>(
     rt: &T,
     alloc: Global,
@@ -54,9 +54,9 @@ fn reasons_report<T: Threads + Sync>(
 
 /// An explanation for people of the table's consensus number.
 ///
-/// - Without a limit, it tells the number and the reasons for it ([`reasons_of`]). The evidence in it
-///   is the certificate up to the greatest limit that [`find_report`](crate::reports::find_report)
-///   accepts.
+/// - Without a limit, it tells the number and the reasons for it ([`reasons_of`]). The evidence in
+///   it is the certificate up to the greatest limit that
+///   [`find_report`](crate::reports::find_report) accepts.
 /// - With a limit, it is the text of [`explain_report`] for the certificate that
 ///   [`find_report`](crate::reports::find_report) writes.
 ///

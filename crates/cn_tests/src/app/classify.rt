@@ -10,7 +10,8 @@ use std::alloc::Global;
 use std::process::Abort;
 use std::thread::Threads;
 
-/// Keeps each fault that it is told, and whether the name of a table came with it. Counts the notes.
+/// Keeps each fault that it is told, and whether the name of a table came with it. Counts the
+/// notes.
 #[derive(Drop)]
 struct Kept {
     told: Vec<(bool, AppFault)>,

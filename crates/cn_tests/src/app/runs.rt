@@ -1,6 +1,6 @@
 //! Each command with a caller's writer, and readers that give a byte at a time.
 ghost use Rattle.cn_app.specs.Streams.Writing.{IsWritable};
-ghost use Rattle.cn_app.specs.Texts.Openings.{AreUnread};
+ghost use Rattle.cn_app.specs.Texts.Openings.{AreArgumentsUnread};
 
 use super::streams::{Drip, Page};
 use crate::certificates::*;
@@ -18,6 +18,11 @@ use std::thread::Threads;
 /// Process 1 puts the calls of both processes in the first slot.
 pub(crate) const HELPED: &str = "i0:0,i1:0,s1,s1,s1,s1,s1,s1,s0,s0,s0,s0,s0,s0";
 
+/// The output of `replay` for these events.
+pub(crate) fn helped_lines() -> &'static str {
+    "answer 1 0 1\nanswer 0 0 0\nentry 0 0 inc 0 1\nentry 0 1 inc 1 2"
+}
+
 /// The output of `show` for the plan of test-and-set.
 pub(crate) fn test_and_set_shown() -> &'static str {
     r#"type test_and_set processes 2 nodes 1 start zero
@@ -28,7 +33,7 @@ process 1: node 0 B role 1"#
 }
 
 /// The output of `serve` for two calls of process 0.
-fn test_and_set_served() -> &'static str {
+pub(crate) fn test_and_set_served() -> &'static str {
     r#"answer 0 0 0
 answer 0 1 1
 entry 0 0 inc 0 1
@@ -128,10 +133,7 @@ pub(crate) fn all_examples(alloc: Global) -> [Example; 11] {
             },
             test_and_set_steps(),
         ),
-        Example::new(
-            Command::Replay { opening, events },
-            "answer 1 0 1\nanswer 0 0 0\nentry 0 0 inc 0 1\nentry 0 1 inc 1 2",
-        ),
+        Example::new(Command::Replay { opening, events }, helped_lines()),
         Example::new(Command::Serve { opening, calls }, test_and_set_served()),
     ]
 }
@@ -152,7 +154,7 @@ type Given = OpeningArguments<'static, Drip<'static>, Drip<'static>, Drip<'stati
 
 /// These texts, with at most one reader that fails.
 fn given_of(alloc: Global, failing: Option<Source>) -> Given
-    ensures { AreUnread result }
+    ensures { AreArgumentsUnread result }
 {
     let table = reader_of(test_and_set(), failing == Some(Source::Table));
     let certificate = reader_of(test_and_set_at_3(), failing == Some(Source::Certificate));
@@ -182,7 +184,7 @@ fn run_command<T: Threads + Wait + Sync>(
     given: &mut Given,
     output: &mut Output<Page>,
 ) -> Result<Outcome, AppFault>
-    requires given { AreUnread given.old }
+    requires given { AreArgumentsUnread given.old }
     requires output { IsWritable output.old }
 {
     let (table, certificate) = (&mut given.table, &mut given.certificate);

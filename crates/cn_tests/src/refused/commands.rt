@@ -1,9 +1,13 @@
 //! Arguments that are lists, and the commands over a caller's readers and writer.
 use super::protocol::helped;
 use super::*;
-use crate::app::runs::{Example, HELPED, Ran, all_examples};
+use crate::app::bytes::{Told, agreed, checked, found, replayed, served, shown};
+use crate::app::runs::{
+    Example, HELPED, Ran, all_examples, helped_lines, test_and_set_served, test_and_set_shown,
+};
+use crate::certificates::{found_test_and_set_at_3, test_and_set_at_3};
 use crate::fixtures::table_of;
-use crate::types::counter_3;
+use crate::types::{counter_3, test_and_set};
 use cn_app::{
     AppFault, ListText, Outcome, calls_in, read_calls, read_events, read_inputs, read_schedule,
 };
@@ -126,4 +130,65 @@ fn runs(rt: HostRuntime) {
     for example in &examples {
         runs_of(&rt, rt.alloc(), example);
     }
+}
+
+/// How a call over bytes ended, if these lines are the whole answer.
+fn call_ended(told: Told, lines: &str) -> Ended {
+    let (outcome, page) = told;
+    match outcome {
+        Ok(outcome) => Ended::whole_if(outcome == Outcome::Whole && page.has(lines)),
+        Err(fault) => {
+            Ended::out_of_memory_if(fault == AppFault::OutOfMemory && page.written.is_empty())
+        }
+    }
+}
+
+/// `serve` may say that a thread could not be started, for want of memory.
+fn serve_ended(told: Told) -> Ended {
+    if told.0 == Err(AppFault::Thread) {
+        return Ended::out_of_memory_if(told.1.written.is_empty());
+    }
+    call_ended(told, test_and_set_served())
+}
+
+#[test]
+fn calls_of_certificates(rt: HostRuntime) {
+    let (alloc, certificate) = (rt.alloc(), test_and_set_at_3());
+    let plan = test_and_set_shown();
+    sweep!(
+        &rt,
+        alloc,
+        told = found(&rt, alloc, 3),
+        call_ended(told, found_test_and_set_at_3())
+    );
+    sweep!(
+        &rt,
+        alloc,
+        told = checked(&rt, alloc, certificate),
+        call_ended(told, "ok")
+    );
+    sweep!(
+        &rt,
+        alloc,
+        told = shown(&rt, alloc, test_and_set(), certificate),
+        call_ended(told, plan)
+    );
+    sweep!(
+        &rt,
+        alloc,
+        told = agreed(&rt, alloc, "10,20", "1,1,0,0,0,0"),
+        call_ended(told, "0: 20\n1: undecided")
+    );
+}
+
+#[test]
+fn calls_of_logs(rt: HostRuntime) {
+    let alloc = rt.alloc();
+    sweep!(
+        &rt,
+        alloc,
+        told = replayed(&rt, alloc, "4", HELPED),
+        call_ended(told, helped_lines())
+    );
+    sweep!(&rt, alloc, told = served(&rt, alloc), serve_ended(told));
 }

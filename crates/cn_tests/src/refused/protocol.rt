@@ -5,17 +5,16 @@ use crate::app::runs::test_and_set_shown;
 use crate::fixtures::{choice_of, events_of, plan_for_two, table_of};
 use crate::hall::core_after;
 use crate::types::*;
-use cn_agree::{Course, Decisions, ScheduleFault, run_schedule, run_steps};
-use cn_forms::{Form, plan_as};
+use cn_agree::{Course, Decided, ScheduleFault, run_schedule, run_steps};
 use cn_hall::{OpenFault, open};
-use cn_log::{Event, LogCore};
+use cn_log::{Event, LogCore, ReplayFault, replay};
 use cn_proto::{Plan, PlanFault};
 use cn_table::{State, Table};
 use std::alloc::AllocError;
 
 /// Whether it is the plan of test-and-set.
 fn is_shown(alloc: Global, plan: &Plan) -> Result<bool, AllocError> {
-    let text = plan_as(alloc, plan, Form::Text)?;
+    let text = plan.show(alloc)?;
     Ok(text.as_str().strip_suffix("\n") == Some(test_and_set_shown()))
 }
 
@@ -89,7 +88,7 @@ const INPUTS: [u64; 2] = [10, 20];
 
 /// The value that a round has fixed after these steps.
 fn fixed(rt: &impl Abort, alloc: Global, plan: &Plan) -> Result<Option<u64>, AllocError> {
-    Ok(agree::replay(rt, alloc, plan, &INPUTS, &STEPS)?.fixed_value())
+    Ok(agree::replay(rt, alloc, plan, &INPUTS, &STEPS)?.fixed())
 }
 
 fn round_ended(fixed: Result<Option<u64>, AllocError>) -> Ended {
@@ -107,7 +106,7 @@ fn rounds(rt: HostRuntime) -> Result<(), Fail> {
     Ok(())
 }
 
-fn schedule_ended(ran: Result<Decisions, ScheduleFault>) -> Ended {
+fn schedule_ended(ran: Result<Decided, ScheduleFault>) -> Ended {
     match ran {
         Ok(decided) => Ended::whole_if(decided.decisions.as_slice() == [Some(20), None].as_slice()),
         Err(fault) => Ended::out_of_memory_if(fault == ScheduleFault::OutOfMemory),
@@ -185,6 +184,29 @@ fn new_logs(rt: HostRuntime) -> Result<(), Fail> {
         alloc,
         made = LogCore::new(alloc, &plan, &object, State(0), 4),
         new_log_ended(made)
+    );
+    Ok(())
+}
+
+fn replay_ended(events: &[Event], made: Result<LogCore, ReplayFault>) -> Ended {
+    match made {
+        Ok(core) => Ended::whole_if(is_helped(&core, events)),
+        Err(fault) => Ended::out_of_memory_if(fault == ReplayFault::OutOfMemory),
+    }
+}
+
+#[test]
+fn replays(rt: HostRuntime) -> Result<(), Fail> {
+    let alloc = rt.alloc();
+    let plan = plan_for_two(&rt, alloc)?;
+    let object = table_of(alloc, counter_3())?;
+    assert!(rt; object.states() >= 1);
+    let events = helped(alloc)?;
+    sweep!(
+        &rt,
+        alloc,
+        made = replay(alloc, &plan, &object, State(0), 4, &events),
+        replay_ended(&events, made)
     );
     Ok(())
 }

@@ -1,4 +1,4 @@
-use Rattle.std.proofs.Common.{◌≡◌, ◌∙◌, ◌++◌, List, ap, append-nil, arith, rules, subst, sym, take}
+use Rattle.std.proofs.Common.{◌≡◌, ◌∙◌, ◌++◌, List, ap, inr, refl, append-nil, arith, rules, subst, sym, take}
 use Rattle.std.proofs.lemmas.Grind.{common_steps}
 use Rattle.std.proofs.lemmas.List.{drop_all, take_all}
 use Rattle.std.proofs.lemmas.Result.{err_from_is_err_and}
@@ -29,8 +29,12 @@ pub returns-in_err-come-clause-fault : goal.returns-in_err-come-clause-fault
 returns-in_err-come-clause-fault c =
     let p = err_from_is_err_and c.from_residual-in_err-come.result c.from_residual-in_err-come.ensures.1 in
     let i = c.loop-event.invariant in
-    rw (p.1, p.2) (λ memory. subst (λ (o : Opening). IsFirstEventFault (setting_of o) c.args.events.now c.in_err-come.field-0.0) i.opening
-    (first_in_list (setting c.loop-event.core) c.args.events.now c.loop-event.event-index _ c.loop-event.core.schedule c.in_err-come.field-0.0 i.schedule c.loop-event-test.true c.in_err-come.ensures.first))
+    rw (p.1, p.2) (inr (
+      c.in_err-come.field-0.0,
+      subst (λ (o : Opening). IsFirstEventFault (setting_of o) c.args.events.now c.in_err-come.field-0.0) i.opening
+          (first_in_list (setting c.loop-event.core) c.args.events.now c.loop-event.event-index _ c.loop-event.core.schedule c.in_err-come.field-0.0 i.schedule c.loop-event-test.true c.in_err-come.ensures.first),
+      refl,
+    ))
 
 pub returns-clause-schedule : goal.returns-clause-schedule
 returns-clause-schedule c = c.loop-event.invariant.schedule ∙ take_all c.loop-event.event-index c.args.events.now c.loop-event-test.false

@@ -9,6 +9,6 @@ returns g c = λ t limit f found. record {
   plan = λ w plan witness is table choice. record {
     processes = number_of_witness c.live_list.ensures.listed t limit f w found witness ∙ ap (λ (x : Choice). Some (length x.a + length x.b)) (sym choice);
     consensus = c.plans_reach_consensus.ensures plan is;
-    log = serves_objects c.every_log.ensures.linearized plan;
+    log = serves_objects c.event_lists_are_linearized.ensures.linearized plan;
   };
 }

@@ -8,7 +8,7 @@ loop-p-init g c = none_begun c.args.plan.now c.in_ok-round.round c.in_ok-round.e
 pub begin-requires-clause-process : goal.begin-requires-clause-process
 begin-requires-clause-process g c =
     let r = c.loop-p.invariant.round in
-    let many = (c.every_round.ensures.sizes _ _ _ _ _ _ r.sound r.reached).1 in
+    let many = (c.rounds_keep_consensus.ensures.sizes _ _ _ _ _ _ r.sound r.reached).1 in
     let number = c.processes-p-end.ensures.number in
     let less = c.loop-p-test.true in
     omega arith
@@ -16,7 +16,7 @@ begin-requires-clause-process g c =
 pub loop-p-preserved : goal.loop-p-preserved
 loop-p-preserved g c =
     let r = c.loop-p.invariant.round in
-    let many = (c.every_round.ensures.sizes _ _ _ _ _ _ r.sound r.reached).1 in
+    let many = (c.rounds_keep_consensus.ensures.sizes _ _ _ _ _ _ r.sound r.reached).1 in
     let number = c.processes-p-end.ensures.number in
     let less = c.loop-p-test.true in
     one_more_begun c.args.plan.now c.loop-p.p c.index-inputs-from.result c.loop-p.round c.begin.new.self (omega arith)

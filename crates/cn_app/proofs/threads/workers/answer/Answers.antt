@@ -2,7 +2,7 @@ use Rattle.std.proofs.Common.{◌<◌, List, [], ◌∷◌, ◌++◌, All, appen
 use Rattle.std.proofs.lemmas.List.{take_all, take_more}
 use Rattle.std.proofs.lemmas.List.Elements.{All-push}
 use Rattle.cn_log.specs.Opening.{Opening}
-use Rattle.cn_hall.specs.declared.call.Reply.{Reply}
+use Rattle.cn_log.specs.declared.event.Reply.{Reply}
 use Rattle.cn_app.specs.Threads.Workers.{EndsAt, Ended, GateWasAsked, NoCall, Replied}
 use Rattle.cn_app.specs.declared.threads.workers.End.{End}
 use Rattle.cn_app.proofs.ThreadLemmas.Seats.{begins_left, ends_left, go_ended, one_more}
