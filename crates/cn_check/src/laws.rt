@@ -37,7 +37,8 @@ pub fn accepted_is_right()
     laws::collision_or_witness();
     laws::canonical_choices_decide();
     laws::live_choices_decide();
-    laws::number_before_failure();
+    laws::greatest_before_failure::<laws::DiscerningType>();
+    laws::monotonicity();
     laws::live_list();
 }
 

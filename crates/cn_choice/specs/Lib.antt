@@ -6,6 +6,7 @@ pub mod Counting
 pub mod Discerning
 pub mod FirstCollision
 pub mod FirstMeeting
+pub mod GreatestNumbers
 pub mod Live
 pub mod LiveLeft
 pub mod Meeting

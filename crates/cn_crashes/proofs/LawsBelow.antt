@@ -1,5 +1,5 @@
 -- What lemmas take from the laws of other crates.
-use Rattle.std.proofs.Common.{◌≢◌, ℕ, ◌+◌, ◌-◌, ◌<◌, ◌≤◌, List, length, Option, Some}
+use Rattle.std.proofs.Common.{ℕ, ◌+◌, ◌-◌, ◌<◌, ◌≤◌, List, length}
 use Rattle.cn_table.specs.TypeTable.{TypeTable}
 use Rattle.cn_choice.specs.Canonical.{Choice, IsCanonicalForm, raw_choice_of}
 use Rattle.cn_choice.specs.Moves.{move_of}
@@ -11,7 +11,7 @@ use Rattle.cn_proto.specs.Order.{after, IsAnswered, IsRun}
 use Rattle.cn_proto.specs.Sound.{IsSound}
 use Rattle.cn_proto.specs.Tournament.{team_of, tournament}
 use Rattle.cn_proto.specs.Witnesses.{JudgesOutcomes, tournament_protocol}
-use Rattle.cn_recover.specs.Recording.{IsRecording, IsRecordingWitness, IsRecoverableNumberUpTo}
+use Rattle.cn_recover.specs.Recording.{IsRecording, IsRecordingWitness}
 use Rattle.cn_crashes.specs.RecoverableConsensusNumber.{SolvesRecoverableConsensus}
 
 -- each raw choice has a canonical form
@@ -38,12 +38,6 @@ pub record Renumberings : Type 0 where
       → IsRecordingWitness t c → IsRecordingWitness t d
   pub exchanged : (t : TypeTable) (c : RawChoice) → IsRecordingWitness t c
       → IsRecordingWitness t (with_other_teams c)
-
--- a number below the limit is the number up to each greater limit
-abbrev pub NumberBelowTheLimit : Type 0
-NumberBelowTheLimit = (t : TypeTable) (limit more : ℕ) (number : Option ℕ) → 2 ≤ limit
-    → limit ≤ more → IsRecoverableNumberUpTo t limit number → number ≢ Some limit
-    → IsRecoverableNumberUpTo t more number
 
 -- a recording type solves recoverable consensus
 abbrev pub RecordingIsEnough : Type 0

@@ -1,8 +1,10 @@
 -- The recoverable number that is found is the recoverable consensus number.
-use Rattle.std.proofs.Common.{◌≡◌, ◌≢◌, ℕ, ◌+◌, ◌<◌, ◌≤◌, length, arith, Option, Some, None, inl}
+use Rattle.std.proofs.Common.{◌≡◌, ℕ, ◌<◌, ◌≤◌, length, arith, Option, Some, None, inl}
 use Rattle.std.proofs.Common.{inr, Bool}
 use Rattle.std.proofs.lemmas.Bool.{cases_order}
 use Rattle.cn_table.specs.TypeTable.{TypeTable}
+use Rattle.cn_choice.specs.GreatestNumbers.{PassesDown}
+use Rattle.cn_choice.proofs.NumberLemmas.GreatestNumbers as greatest
 use Rattle.cn_consensus.specs.Protocol.{IsProtocolOf, Protocol}
 use Rattle.cn_consensus.specs.Types.{IsClosed, all_of}
 use Rattle.cn_recover.specs.Recording.{IsRecording, IsRecoverableNumberUpTo}
@@ -10,40 +12,24 @@ use Rattle.cn_crashes.specs.RecoverableConsensus.{IsRecoverableConsensusProtocol
 use Rattle.cn_crashes.specs.RecoverableConsensusNumber.{IsRecoverableConsensusNumber}
 use Rattle.cn_crashes.specs.RecoverableConsensusNumber.{SolvesRecoverableConsensus}
 use Rattle.cn_crashes.specs.RecoverableRound.{RecoverableLocal}
-use Rattle.cn_crashes.proofs.LawsBelow.{NumberBelowTheLimit, RecordingIsEnough}
+use Rattle.cn_crashes.proofs.LawsBelow.{RecordingIsEnough}
 use Rattle.cn_crashes.proofs.OneProcess.{alone_solves}
 use Rattle.cn_crashes.proofs.Search.{consensus_records}
 
-module _ (raised : NumberBelowTheLimit) where
-  not_above : (t : TypeTable) (limit n m : ℕ) → IsRecoverableNumberUpTo t limit (Some n)
-      → n < limit → n < m → ¬ IsRecording t m
-  not_above t limit n m number l u =
-      let two = number.0 in
-      let apart : Some n ≢ Some limit = λ e. absurd (let f : n ≡ limit =
-      cc e in omega (arith, f, l))
-      in
-      (raised t limit (limit + m) (Some n) (omega (arith, two, l)) (omega arith) number apart).3 m u
-      (omega arith)
-
-  none_at_all : (t : TypeTable) (limit m : ℕ) → IsRecoverableNumberUpTo t limit None → 2 ≤ limit
-      → 2 ≤ m → ¬ IsRecording t m
-  none_at_all t limit m number l two =
-      let apart : ◌≢◌ {A = Option ℕ} None (Some limit) = λ e. absurd (cc e) in
-      raised t limit (limit + m) None l (omega arith) number apart m two (omega arith)
-
+module _ (down : (t : TypeTable) → PassesDown (IsRecording t)) where
   pub above : {L V : Type 0} (t : TypeTable) (limit n m : ℕ) (P : Protocol L V) → IsClosed t
       → IsRecoverableNumberUpTo t limit (Some n) → n < limit → n < m
       → IsProtocolOf (all_of t) m P → ¬ IsRecoverableConsensusProtocol (all_of t) m P
   above t limit n m P closed number l u known con =
-      let two = number.0 in
-      not_above t limit n m number l u
-      (consensus_records t m P closed (omega (arith, two, u)) known con)
+      greatest.none_above (IsRecording t) (down t) limit n m number l u
+      (consensus_records t m P closed (omega (arith, number.0, u)) known con)
 
   pub without : {L V : Type 0} (t : TypeTable) (limit m : ℕ) (P : Protocol L V) → IsClosed t
       → IsRecoverableNumberUpTo t limit None → 2 ≤ limit → 2 ≤ m
       → IsProtocolOf (all_of t) m P → ¬ IsRecoverableConsensusProtocol (all_of t) m P
   without t limit m P closed number l two known con =
-      none_at_all t limit m number l two (consensus_records t m P closed two known con)
+      greatest.none_at_all (IsRecording t) (down t) limit m number l two
+      (consensus_records t m P closed two known con)
 
 -- what the law `none_above_the_recoverable_number` says
 abbrev pub NoneAbove : Type 0 → Type 0 → Type 0

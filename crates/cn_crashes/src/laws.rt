@@ -28,7 +28,7 @@ use cn_choice::laws::coverage;
 use cn_consensus::laws::consensus_needs_a_witness;
 use cn_proto::laws::tournaments_are_sound;
 use cn_recover::laws::{
-    at_least_the_number_less_two, number_below_the_limit, recording_witness_is_witness, renumbering,
+    at_least_the_number_less_two, monotonicity, recording_witness_is_witness, renumbering,
 };
 
 /// A recording witness is enough: an n-recording type solves recoverable consensus for n processes,
@@ -96,7 +96,7 @@ pub fn none_above_the_recoverable_number<L, V>()
         → IsRecoverableNumberUpTo t limit None → 2 ≤ limit → 2 ≤ m
         → IsProtocolOf (all_of t) m P → ¬ IsRecoverableConsensusProtocol (all_of t) m P }
 {
-    number_below_the_limit();
+    monotonicity();
 }
 
 /// The recoverable number of a type is its recoverable consensus number (Golab, 2020):

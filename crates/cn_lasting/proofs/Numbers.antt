@@ -1,8 +1,9 @@
 -- Numbers with no limit.
-use Rattle.std.proofs.Common.{◌≡◌, ◌≢◌, ℕ, zero, suc, ◌+◌, ◌-◌, ◌<◌, ◌≤◌, ◌⊎◌, inl, inr, List, length, ap, subst, arith, Option, Some, None, true, false}
+use Rattle.std.proofs.Common.{◌≡◌, ◌≢◌, ℕ, ◌+◌, ◌<◌, ◌≤◌, ◌⊎◌, inl, inr, List, length, ap, arith, Option, Some, None, true, false}
 use Rattle.cn_table.specs.TypeTable.{IsTypeTable, TypeTable}
 use Rattle.cn_choice.specs.Discerning.{IsDiscerning, IsNumberUpTo}
 use Rattle.cn_choice.proofs.NumberLemmas.FewerProcesses.{discerning_below}
+use Rattle.cn_choice.proofs.NumberLemmas.GreatestNumbers.{none_above, none_at_all}
 use Rattle.cn_stocks.specs.Splits.{StockSplits}
 use Rattle.cn_stocks.specs.Words.{times}
 use Rattle.cn_lasting.specs.Lasting.{NoneLast, IsAlwaysDiscerning}
@@ -12,24 +13,16 @@ use Rattle.cn_stocks.proofs.Witnesses.{to_splits}
 use Rattle.cn_lasting.proofs.Counts.{less_or_not}
 use Rattle.cn_lasting.proofs.Growth.{too_long}
 
--- down from a greater number of processes
-down : (t : TypeTable) (k n : ℕ) → 2 ≤ n → IsDiscerning t (k + n) → IsDiscerning t n
-down t zero n l d = let same : 0 + n ≡ n = omega arith in subst (λ (m : ℕ). IsDiscerning t m) same d
-down t (suc k) n l d =
-    let same : suc k + n - 1 ≡ k + n = omega arith in
-    down t k n l (subst (λ (m : ℕ). IsDiscerning t m) same (discerning_below t (suc k + n) (omega (arith, l)) d))
-
-down_to : (t : TypeTable) (m n : ℕ) → 2 ≤ n → n ≤ m → IsDiscerning t m → IsDiscerning t n
-down_to t m n l u d = let same : m ≡ (m - n) + n = omega (arith, u) in down t (m - n) n l (subst (λ (k : ℕ). IsDiscerning t k) same d)
-
 -- the number up to a limit is the number where it is not the limit
 pub below_the_limit : (t : TypeTable) (limit : ℕ) (number : Option ℕ) → 2 ≤ limit → IsNumberUpTo t limit number → number ≢ Some limit → IsNumber t number
-below_the_limit t limit None some is other = λ m l d. is 2 (omega arith) some (down_to t m 2 (omega arith) l d)
-below_the_limit t limit (Some n) some is other = (is.0, is.2, λ m l d. is.3 (n + 1) (omega arith) (next (less_or_not n limit)) (down_to t m (n + 1) (omega (arith, is.0)) (omega (arith, l)) d))
+below_the_limit t limit None some is other =
+    λ m l. none_at_all (IsDiscerning t) (discerning_below t) limit m is some l
+below_the_limit t limit (Some n) some is other =
+    (is.0, is.2, λ m l. none_above (IsDiscerning t) (discerning_below t) limit n m is (below (less_or_not n limit)) l)
   where
-    next : (n < limit) ⊎ (limit ≤ n) → n + 1 ≤ limit
-    next (inl l) = omega (arith, l)
-    next (inr l) = absurd (other (let same : n ≡ limit = omega (arith, l, is.1) in ap Some same))
+    below : (n < limit) ⊎ (limit ≤ n) → n < limit
+    below (inl l) = l
+    below (inr l) = absurd (other (let same : n ≡ limit = omega (arith, l, is.1) in ap Some same))
 
 -- a type that is n-discerning for every n has no number
 pub no_number : (t : TypeTable) (number : Option ℕ) → IsAlwaysDiscerning t → ¬ IsNumber t number

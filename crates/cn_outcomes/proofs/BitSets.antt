@@ -1,21 +1,14 @@
 -- Sets of small numbers as bits of a number.
-use Rattle.std.proofs.Common.{◌≡◌, ◌≢◌, ℕ, zero, suc, ◌+◌, ◌-◌, ◌*◌, ◌^◌, ◌%◌, ◌/◌, ◌<◌, ◌≤◌, ◌⊎◌, inl, inr, ◌↔◌, refl, sym, ap, ◌∙◌, subst, arith, min, max, bit_and, bit_or}
+use Rattle.std.proofs.Common.{◌≡◌, ◌≢◌, ℕ, suc, ◌+◌, ◌-◌, ◌*◌, ◌^◌, ◌%◌, ◌/◌, ◌<◌, ◌≤◌, ◌⊎◌, inl, inr, ◌↔◌, refl, sym, ap, ◌∙◌, subst, arith, min, max, bit_and, bit_or}
 use Rattle.std.specs.Prelude.{IsBitSet, IsTrue}
 use Rattle.std.proofs.Common.{Bool, true, false, not, nat_eq, true≢false}
-use Rattle.std.proofs.lemmas.Bool.{eqb-true, eq-eqb}
+use Rattle.std.proofs.lemmas.Bool.{cases_lt, eqb-true, eq-eqb}
 use Rattle.std.specs.Int.{bit_at, w16, trailing_zeros}
 use Rattle.std.proofs.lemmas.Nat.{one_shl, or_disjoint, and_le_l}
 use Rattle.std.proofs.lemmas.Nat.Bits.{bit_at_or, bit_at_and, bit_at-pow_same, bit_at-pow_other, bit_at-lt, bit_at-zero, same_from_bits, bit_at_clear_same, bit_at_clear_other, bit_at_above, bit_at-suc, bit_at-trailing_zeros, bit_at_not}
 use Rattle.cn_outcomes.specs.Subsets.{IsWithout}
-use Rattle.cn_outcomes.proofs.LastProcess.{bit_from, set_from, same_or_not}
-
-pub by_bit : (n k : ℕ) → (bit_at n k ≡ 0) ⊎ (bit_at n k ≡ 1)
-by_bit n k = cases (bit_at n k) refl (bit_at-lt n k)
-  where
-    cases : (b : ℕ) → bit_at n k ≡ b → b < 2 → (bit_at n k ≡ 0) ⊎ (bit_at n k ≡ 1)
-    cases zero e l = inl e
-    cases (suc zero) e l = inr e
-    cases (suc (suc b)) e l = absurd (omega arith)
+use Rattle.cn_outcomes.proofs.LastProcess.{bit_from, set_from, same_or_not, zero_has_none}
+pub use Rattle.cn_outcomes.proofs.LastProcess.{by_bit}
 
 pub union_set : (a b q : ℕ) → IsBitSet (bit_or a b) q ↔ (IsBitSet a q ⊎ IsBitSet b q)
 union_set a b q = (
@@ -44,16 +37,11 @@ with_set set k q l =
 abbrev pub cleared : ℕ → ℕ → ℕ
 cleared subset p = bit_and subset (2 ^ 16 - 1 - 1 * 2 ^ p % 2 ^ 16)
 
-cleared_same : (subset p : ℕ) → p < 16 → bit_at (cleared subset p) p ≡ 0
+pub cleared_same : (subset p : ℕ) → p < 16 → bit_at (cleared subset p) p ≡ 0
 cleared_same subset p l = bit_at_clear_same w16 subset p l
 
-pub below_or_not : (i k : ℕ) → (i < k) ⊎ (k ≤ i)
-below_or_not i zero = inr (omega arith)
-below_or_not zero (suc k) = inl (omega arith)
-below_or_not (suc i) (suc k) = elim (below_or_not i k) [ inl h ↦ inl (omega arith) | inr h ↦ inr (omega arith) ]
-
-cleared_other : (subset p i : ℕ) → p < 16 → subset < 2 ^ 16 → i ≢ p → bit_at (cleared subset p) i ≡ bit_at subset i
-cleared_other subset p i l u n = by_width (below_or_not i 16)
+pub cleared_other : (subset p i : ℕ) → p < 16 → subset < 2 ^ 16 → i ≢ p → bit_at (cleared subset p) i ≡ bit_at subset i
+cleared_other subset p i l u n = by_width (cases_lt i 16)
   where
     by_width : (i < 16) ⊎ (16 ≤ i) → bit_at (cleared subset p) i ≡ bit_at subset i
     by_width (inl h) = bit_at_clear_other w16 subset p l i h n
@@ -97,31 +85,7 @@ pub without_one : (subset p a b : ℕ) → IsBitSet subset p → IsWithout subse
 without_one subset p a b s v w = omega (arith, without_less subset p a s v, without_less subset p b s w)
 
 pub member_below : (k set q : ℕ) → set < 2 ^ k → IsBitSet set q → q < k
-member_below k set q l s = cases q k (λ h. omega (arith, bit_at_above set k q l h, bit_from set q s))
-  where
-    cases : (q k : ℕ) → (k ≤ q → ⊥) → q < k
-    cases q zero h = absurd (h (omega arith))
-    cases zero (suc k) h = omega arith
-    cases (suc q) (suc k) h = let r = cases q k (λ l. h (omega arith)) in omega (arith, r)
-
--- the sets have a common number exactly if their intersection is not 0
-pub common_some : (a b : ℕ) → a < 2 ^ 16 → bit_and a b ≢ 0 → (q : ℕ) × IsBitSet a q × IsBitSet b q
-common_some a b l n =
-    let less : bit_and a b < 2 ^ 16 = omega (arith, l, and_le_l a b) in
-    let some : 0 < bit_and a b = omega arith in
-    let r = bit_at-trailing_zeros w16 (bit_and a b) some less in
-    let q = trailing_zeros w16 (bit_and a b) in
-    (q, set_from a q (omega (arith, r.1, bit_at_and a b q, bit_at-lt a q)), set_from b q (omega (arith, r.1, bit_at_and a b q, bit_at-lt b q)))
-
-pub common_none : (a b q : ℕ) → bit_and a b ≡ 0 → IsBitSet a q → IsBitSet b q → ⊥
-common_none a b q e s u = absurd (omega (arith, bit_at_and a b q, bit_from a q s, bit_from b q u, ap (λ (n : ℕ). bit_at n q) e, bit_at-zero q))
-
-pub shared : (a b : ℕ) → a < 2 ^ 16 → IsTrue (not (nat_eq (bit_and a b) 0)) ↔ ((q : ℕ) × IsBitSet a q × IsBitSet b q)
-shared a b l = cases (nat_eq (bit_and a b) 0) refl
-  where
-    cases : (e : Bool) → nat_eq (bit_and a b) 0 ≡ e → IsTrue (not e) ↔ ((q : ℕ) × IsBitSet a q × IsBitSet b q)
-    cases true e = (λ t. absurd (true≢false (sym t)), λ h. absurd (common_none a b h.0 (eqb-true (bit_and a b) 0 e) h.1 h.2))
-    cases false e = (λ t. common_some a b l (λ z. true≢false (sym (eq-eqb (bit_and a b) 0 z) ∙ e)), λ h. refl)
+member_below k set q l s = elim (cases_lt q k) [ inl h ↦ h | inr h ↦ absurd (omega (arith, bit_at_above set k q l h, bit_from set q s)) ]
 
 -- the numbers of both sets
 pub intersection_set : (a b q : ℕ) → IsBitSet (bit_and a b) q ↔ (IsBitSet a q × IsBitSet b q)
@@ -132,6 +96,25 @@ intersection_set a b q = (
   ),
   λ h. set_from (bit_and a b) q (omega (arith, bit_at_and a b q, bit_from a q h.0, bit_from b q h.1)),
 )
+
+-- the sets have a common number exactly if their intersection is not 0
+pub common_some : (a b : ℕ) → a < 2 ^ 16 → bit_and a b ≢ 0 → (q : ℕ) × IsBitSet a q × IsBitSet b q
+common_some a b l n =
+    let less : bit_and a b < 2 ^ 16 = omega (arith, l, and_le_l a b) in
+    let some : 0 < bit_and a b = omega arith in
+    let q = trailing_zeros w16 (bit_and a b) in
+    let both = (intersection_set a b q).0 (set_from (bit_and a b) q (bit_at-trailing_zeros w16 (bit_and a b) some less).1) in
+    (q, both.0, both.1)
+
+pub common_none : (a b q : ℕ) → bit_and a b ≡ 0 → IsBitSet a q → IsBitSet b q → ⊥
+common_none a b q e s u = zero_has_none q (subst (λ (n : ℕ). IsBitSet n q) e ((intersection_set a b q).1 (s, u)))
+
+pub shared : (a b : ℕ) → a < 2 ^ 16 → IsTrue (not (nat_eq (bit_and a b) 0)) ↔ ((q : ℕ) × IsBitSet a q × IsBitSet b q)
+shared a b l = cases (nat_eq (bit_and a b) 0) refl
+  where
+    cases : (e : Bool) → nat_eq (bit_and a b) 0 ≡ e → IsTrue (not e) ↔ ((q : ℕ) × IsBitSet a q × IsBitSet b q)
+    cases true e = (λ t. absurd (true≢false (sym t)), λ h. absurd (common_none a b h.0 (eqb-true (bit_and a b) 0 e) h.1 h.2))
+    cases false e = (λ t. common_some a b l (λ z. true≢false (sym (eq-eqb (bit_and a b) 0 z) ∙ e)), λ h. refl)
 
 -- the numbers of a that are not in b
 pub difference_set : (a b q : ℕ) → a < 2 ^ 16 → b < 2 ^ 16 → IsBitSet (bit_and a (2 ^ 16 - 1 - b)) q ↔ (IsBitSet a q × ¬ IsBitSet b q)
@@ -153,10 +136,8 @@ difference_set a b q l u = (
 pub common_predecessors_set : (a b q : ℕ) → IsBitSet (bit_and a b / 2) q ↔ (IsBitSet a (q + 1) × IsBitSet b (q + 1))
 common_predecessors_set a b q =
     let next : suc q ≡ q + 1 = omega arith in
-    let moved : bit_at (bit_and a b / 2) q ≡ bit_at (bit_and a b) (q + 1) = sym (bit_at-suc (bit_and a b) q) ∙ ap (bit_at (bit_and a b)) next in (
-      λ s. (
-        set_from a (q + 1) (omega (arith, moved, bit_from (bit_and a b / 2) q s, bit_at_and a b (q + 1), bit_at-lt a (q + 1), bit_at-lt b (q + 1))),
-        set_from b (q + 1) (omega (arith, moved, bit_from (bit_and a b / 2) q s, bit_at_and a b (q + 1), bit_at-lt a (q + 1), bit_at-lt b (q + 1))),
-      ),
-      λ h. set_from (bit_and a b / 2) q (omega (arith, moved, bit_at_and a b (q + 1), bit_from a (q + 1) h.0, bit_from b (q + 1) h.1)),
+    let moved : bit_at (bit_and a b / 2) q ≡ bit_at (bit_and a b) (q + 1) = sym (bit_at-suc (bit_and a b) q) ∙ ap (bit_at (bit_and a b)) next in
+    let both = intersection_set a b (q + 1) in (
+      λ s. both.0 (set_from (bit_and a b) (q + 1) (sym moved ∙ bit_from (bit_and a b / 2) q s)),
+      λ h. set_from (bit_and a b / 2) q (moved ∙ bit_from (bit_and a b) (q + 1) (both.1 h)),
     )

@@ -26,21 +26,19 @@ use Rattle.cn_choice.proofs.OrderLemmas.LastMoves.{Known, known_last, order_from
 pub set_from : (n k : ℕ) → bit_at n k ≡ 1 → IsBitSet n k
 set_from n k e z = absurd (omega (arith, pow_pos k, sym (and_pow n k) ∙ z, ap (λ (b : ℕ). b * 2 ^ k) e))
 
-pub bit_from : (n k : ℕ) → IsBitSet n k → bit_at n k ≡ 1
-bit_from n k s = by_bit (bit_at n k) refl (bit_at-lt n k)
+pub by_bit : (n k : ℕ) → (bit_at n k ≡ 0) ⊎ (bit_at n k ≡ 1)
+by_bit n k = cases (bit_at n k) refl (bit_at-lt n k)
   where
-    by_bit : (b : ℕ) → bit_at n k ≡ b → b < 2 → bit_at n k ≡ 1
-    by_bit zero e l = let z : bit_and n (2 ^ k) ≡ 0 = omega (arith, and_pow n k, ap (λ (b : ℕ). b * 2 ^ k) e) in absurd (s z)
-    by_bit (suc zero) e l = e
-    by_bit (suc (suc b)) e l = absurd (omega arith)
+    cases : (b : ℕ) → bit_at n k ≡ b → b < 2 → (bit_at n k ≡ 0) ⊎ (bit_at n k ≡ 1)
+    cases zero e l = inl e
+    cases (suc zero) e l = inr e
+    cases (suc (suc b)) e l = absurd (omega arith)
+
+pub bit_from : (n k : ℕ) → IsBitSet n k → bit_at n k ≡ 1
+bit_from n k s = elim (by_bit n k) [ inl e ↦ (let z : bit_and n (2 ^ k) ≡ 0 = omega (arith, and_pow n k, ap (λ (b : ℕ). b * 2 ^ k) e) in absurd (s z)) | inr e ↦ e ]
 
 pub clear_from : (n k : ℕ) → ¬ IsBitSet n k → bit_at n k ≡ 0
-clear_from n k s = by_bit (bit_at n k) refl (bit_at-lt n k)
-  where
-    by_bit : (b : ℕ) → bit_at n k ≡ b → b < 2 → bit_at n k ≡ 0
-    by_bit zero e l = e
-    by_bit (suc zero) e l = absurd (s (set_from n k e))
-    by_bit (suc (suc b)) e l = absurd (omega arith)
+clear_from n k s = elim (by_bit n k) [ inl e ↦ e | inr e ↦ absurd (s (set_from n k e)) ]
 
 -- a number with no bit is 0
 pub none_set : (n : ℕ) → ((k : ℕ) → ¬ IsBitSet n k) → n ≡ 0

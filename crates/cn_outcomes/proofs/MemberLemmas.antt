@@ -1,14 +1,18 @@
 -- The list of the members of a set.
-use Rattle.std.proofs.Common.{◌≡◌, ◌≢◌, ℕ, zero, suc, ◌+◌, ◌^◌, ◌<◌, ◌≤◌, ◌⊎◌, ◌-◌, inl, inr, ◌↔◌, List, [], ◌∷◌, refl, sym, ap, ◌∙◌, subst, arith, Contains}
+use Rattle.std.proofs.Common.{◌≡◌, ◌≢◌, ℕ, zero, suc, ◌+◌, ◌^◌, ◌<◌, ◌≤◌, ◌⊎◌, ◌-◌, inl, inr, ◌↔◌, List, [], ◌∷◌, refl, sym, ap, ◌∙◌, subst, arith, Bool, Contains, min, bit_and, bit_or}
 use Rattle.std.specs.Prelude.{IsBitSet, eqb}
 use Rattle.std.specs.List.{filter, range_with_len}
-use Rattle.std.specs.Int.{bit_at, w16}
-use Rattle.std.proofs.lemmas.Nat.Bits.{bit_at-zero, bit_at_not}
-use Rattle.cn_choice.proofs.ListLemmas.Members.{IsIn, Contains-from_IsIn, IsIn-from_Contains}
+use Rattle.std.specs.Int.{bit_at, w16, w32, trailing_zeros}
+use Rattle.std.proofs.lemmas.Nat.{or_disjoint, pow_pos}
+use Rattle.std.proofs.lemmas.Nat.Bits.{bit_at-zero, bit_at_and, bit_at_not, bit_at_ones_above, bit_at_or, bit_at-trailing_zeros, same_from_bits}
+use Rattle.std.proofs.lemmas.Bool.{cases_lt, eqb-true, eq-eqb}
+use Rattle.cn_choice.proofs.ListLemmas.Filters.{kept, was_in}
+use Rattle.cn_choice.proofs.ListLemmas.Members.{Contains-from_IsIn, IsIn-from_Contains}
+use Rattle.cn_choice.proofs.ListLemmas.Permutations.{range_in}
 use Rattle.cn_outcomes.specs.Bits.{members}
 use Rattle.cn_outcomes.specs.Subsets.{IsWithout}
-use Rattle.cn_outcomes.proofs.BitSets.{by_bit, member_below}
-use Rattle.cn_outcomes.proofs.LastProcess.{bit_from, set_from, clear_from, none_set, same_or_not, zero_has_none}
+use Rattle.cn_outcomes.proofs.BitSets.{by_bit, cleared, cleared_is, cleared_other, cleared_same, member_below, without_less}
+use Rattle.cn_outcomes.proofs.LastProcess.{bit_from, set_from, none_set, same_or_not, zero_has_none}
 
 -- the members among n numbers from k on
 abbrev listed : ℕ → ℕ → ℕ → List ℕ
@@ -43,55 +47,50 @@ first_listed (suc n) k s m t l u none one off other = elim (same_or_not k m) [
       )
 ]
 
-is_listed : (n k s i : ℕ) → IsIn i (listed n k s) ↔ ((k ≤ i) × (i < k + n) × (bit_at s i ≡ 1))
-is_listed zero k s i = (λ h. absurd h, λ h. absurd (omega (arith, h.0, h.1)))
-is_listed (suc n) k s i = elim (by_bit s k) [
-  | inl z ↦ rw z (
-    λ h. (let r = (is_listed n (k + 1) s i).0 h in (omega (arith, r.0), omega (arith, r.1), r.2)),
-    λ h. elim (same_or_not i k) [
-      | inl e ↦ absurd (omega (arith, z, h.2, ap (bit_at s) e))
-      | inr d ↦ (is_listed n (k + 1) s i).1 (omega (arith, h.0, d), omega (arith, h.1), h.2)
-    ],
-  )
-  | inr o ↦ rw o (
-    λ h. elim h [
-      | inl e ↦ (omega (arith, e), omega (arith, e), ap (bit_at s) (sym e) ∙ o)
-      | inr r ↦ (let x = (is_listed n (k + 1) s i).0 r in (omega (arith, x.0), omega (arith, x.1), x.2))
-    ],
-    λ h. elim (same_or_not k i) [
-      | inl e ↦ inl e
-      | inr d ↦ inr ((is_listed n (k + 1) s i).1 (omega (arith, h.0, d), omega (arith, h.1), h.2))
-    ],
-  )
-]
-
 pub members_none : members 0 ≡ []
 unfolding members
 members_none = none_listed 16 0
 
--- the least member comes first, and then the others
-pub members_first : (s m t : ℕ) → m < 16 → IsBitSet s m → ((i : ℕ) → i < m → ¬ IsBitSet s i) → IsWithout s m t → members s ≡ m ∷ members t
-unfolding members
-members_first s m t l here none w =
-    first_listed 16 0 s m t (omega arith) (omega (arith, l)) (λ i b. clear_from s i (none i b)) (bit_from s m here) (clear_from t m (λ b. ((w m).0 b).1 refl)) (λ i d. same i d (by_bit s i))
+-- a number, and the number less one, both have all bits but the lowest
+lowest_cleared : (s m t : ℕ) → bit_at s m ≡ 1 → ((i : ℕ) → i < m → bit_at s i ≡ 0) → IsWithout s m t → bit_and s (s - 1) ≡ t
+lowest_cleared s m t here none w = same_from_bits (bit_and s (s - 1)) t (λ i. bit_at_and s (s - 1) i ∙ each i (cases_lt i m))
   where
-    same : (i : ℕ) → i ≢ m → (bit_at s i ≡ 0) ⊎ (bit_at s i ≡ 1) → bit_at t i ≡ bit_at s i
-    same i d (inl z) = clear_from t i (λ b. absurd (omega (arith, z, bit_from s i ((w i).0 b).0))) ∙ sym z
-    same i d (inr o) = bit_from t i ((w i).1 (set_from s i o, d)) ∙ sym o
+    within : (i : ℕ) → bit_at t i ≤ bit_at s i
+    within i = elim (by_bit t i) [ inl z ↦ omega (arith, z) | inr o ↦ omega (arith, o, bit_from s i ((w i).0 (set_from t i o)).0) ]
+
+    common : (i : ℕ) → (i < m) ⊎ (m ≤ i) → min (bit_at t i) (bit_at (2 ^ m - 1) i) ≡ 0
+    common i (inl l) = omega (arith, none i l, within i)
+    common i (inr l) = omega (arith, bit_at_ones_above m i l)
+
+    apart : bit_and t (2 ^ m - 1) ≡ 0
+    apart = same_from_bits (bit_and t (2 ^ m - 1)) 0 (λ i. bit_at_and t (2 ^ m - 1) i ∙ (common i (cases_lt i m) ∙ sym (bit_at-zero i)))
+
+    less : s - 1 ≡ bit_or t (2 ^ m - 1)
+    less = omega (arith, without_less s m t (set_from s m here) w, or_disjoint t (2 ^ m - 1) apart, pow_pos m)
+
+    each : (i : ℕ) → (i < m) ⊎ (m ≤ i) → min (bit_at s i) (bit_at (s - 1) i) ≡ bit_at t i
+    each i (inl l) = omega (arith, none i l, within i)
+    each i (inr l) = omega (arith, ap (λ (n : ℕ). bit_at n i) less, bit_at_or t (2 ^ m - 1) i, bit_at_ones_above m i l, within i)
+
+-- the least member comes first, and then the others
+pub members_first : (s : ℕ) → 0 < s → s < 2 ^ 16 → members s ≡ trailing_zeros w32 s ∷ members (bit_and s (s - 1))
+unfolding members
+members_first s some few =
+    let m = trailing_zeros w32 s in
+    let least = bit_at-trailing_zeros w32 s some (omega (arith, few)) in
+    let inside = member_below 16 s m few (set_from s m least.1) in
+    rw (lowest_cleared s m (cleared s m) least.1 least.2 (cleared_is s m inside few)) (
+    first_listed 16 0 s m (cleared s m) (omega arith) (omega (arith, inside)) least.2 least.1 (cleared_same s m inside) (λ i d. cleared_other s m i inside few d)
+    )
 
 -- the list has the members
-pub members_are : (s i : ℕ) → s < 2 ^ 16 → IsIn i (members s) ↔ IsBitSet s i
-unfolding members
-members_are s i l = (
-  λ h. set_from s i ((is_listed 16 0 s i).0 h).2,
-  λ b. (is_listed 16 0 s i).1 (omega arith, omega (arith, member_below 16 s i l b), bit_from s i b),
-)
-
 pub members_contain : (s i : ℕ) → s < 2 ^ 16 → Contains (members s) i ↔ IsBitSet s i
-members_contain s i l = (
-  λ h. (members_are s i l).0 (IsIn-from_Contains i (members s) h),
-  λ b. Contains-from_IsIn i (members s) ((members_are s i l).1 b),
-)
+unfolding members
+members_contain s i l =
+    let is_set : ℕ → Bool = λ q. eqb (bit_at s q) 1 in (
+      λ h. set_from s i (eqb-true (bit_at s i) 1 (was_in is_set i (range_with_len 0 16) (IsIn-from_Contains i (members s) h)).1),
+      λ b. Contains-from_IsIn i (members s) (kept is_set i (range_with_len 0 16) (range_in 0 16 i (omega arith) (omega (arith, member_below 16 s i l b))) (eq-eqb (bit_at s i) 1 (bit_from s i b))),
+    )
 
 -- the greatest number has all bits
 pub all_set : (q : ℕ) → IsBitSet (2 ^ 16 - 1) q ↔ (q < 16)

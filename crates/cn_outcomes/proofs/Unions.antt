@@ -4,6 +4,7 @@ use Rattle.std.specs.Prelude.{IsBitSet, slice_get, slice_index, Some}
 use Rattle.cn_choice.specs.declared.team.Team.{Team}
 use Rattle.cn_table.specs.TypeTable.{TypeTable, transition}
 use Rattle.cn_choice.specs.RawChoices.{RawChoice}
+use Rattle.std.proofs.lemmas.Bool.{cases_lt}
 use Rattle.std.proofs.lemmas.Nat.{one_shl, pow_below, pow_pos}
 use Rattle.cn_outcomes.specs.PairSets.{Has}
 use Rattle.cn_choice.specs.OutcomeSets.{InOutcomeSet}
@@ -17,7 +18,7 @@ use Rattle.cn_outcomes.proofs.Exchange.{leaves_exchanged}
 use Rattle.cn_outcomes.proofs.Packing.{below_or_last, finds_last, gives_by_mover, leaves_by_mover, packed_down, packing}
 use Rattle.cn_outcomes.proofs.LastProcess.{exactly_to, known_from, zero_has_none, LeavesLast, leaves_to, leaves_from, leaves_some}
 use Rattle.cn_outcomes.proofs.LastAnswers.{exactly_subset, gives_to, gives_from, gives_member, outcome_subset, pair_parts, subset_below, subset_of}
-use Rattle.cn_outcomes.proofs.BitSets.{below_or_not, cleared, cleared_is, without_one, member_below}
+use Rattle.cn_outcomes.proofs.BitSets.{cleared, cleared_is, without_one, member_below}
 
 -- the set, of whatever elements, is the union of the parts below k
 abbrev pub Gathers : {X : Type 0} → (ℕ → X → Type 0) → ℕ → (X → Type 0) → Type 0
@@ -190,14 +191,13 @@ moved_part step set i x = Has set x.0 i × ((step i).1 ≡ x.1)
 abbrev pub other_part : TypeTable → RawChoice → Team → ℕ → ℕ → ℕ → ℕ × ℕ → Type 0
 other_part t c team j subset p x = OtherLast t c team j subset x.1 p x.0
 
--- process j moves last: it did not move before
-pub other_self : (t : TypeTable) (c : RawChoice) (team : Team) (links j subset : ℕ) (left after : List ℕ) (k : ℕ) (set : ℕ × ℕ → Type 0) → k ≡ j → left ≡ k ∷ after → GathersFrom (other_part t c team j subset) (IsMover links subset) left set
-    → GathersFrom (other_part t c team j subset) (IsMover links subset) after set
-other_self t c team links j subset left after k set e f g =
-    from_more (other_part t c team j subset) (IsMover links subset) left after k set set f g (λ x. (
-      λ b. inl b,
-      λ b. elim b [ inl a ↦ a | inr y ↦ absurd (((y.1 j).0 (gives_member t c team j y.0 x.0 y.2.0 y.2.1)).1 (sym e)) ],
-    ))
+-- a mover other than j
+abbrev pub IsOther : ℕ → ℕ → ℕ → ℕ → Type 0
+IsOther links subset j p = IsMover links subset p × (p ≢ j)
+
+-- a process that moves behind j is not j
+pub other_differs : (t : TypeTable) (c : RawChoice) (team : Team) (j subset p q r : ℕ) → OtherLast t c team j subset q p r → p ≢ j
+other_differs t c team j subset p q r y e = absurd (((y.1 j).0 (gives_member t c team j y.0 r y.2.0 y.2.1)).1 (sym e))
 
 -- what process j gets where it moves last, by what the last one of its run finds
 pub own_is : (t : TypeTable) (c : RawChoice) (team : Team) (links : ℕ) → AreTwinLinks c links → (j subset last rest operation from : ℕ) (set : ℕ → ℕ → Type 0) → subset < 2 ^ 16 → j ≤ last → IsBitSet subset j
@@ -357,4 +357,4 @@ subsets_of n l = (one, at_most n l, pow_pos n)
     one = one_shl n 16 (omega arith)
 
     at_most : (n : ℕ) → n ≤ 8 → 2 ^ n ≤ 256
-    at_most n l = elim (below_or_not n 8) [ inl h ↦ (let b = pow_below n 8 h in omega (arith, b)) | inr h ↦ (let e : n ≡ 8 = omega arith in rw e (omega arith)) ]
+    at_most n l = elim (cases_lt n 8) [ inl h ↦ (let b = pow_below n 8 h in omega (arith, b)) | inr h ↦ (let e : n ≡ 8 = omega arith in rw e (omega arith)) ]

@@ -1,6 +1,5 @@
 //! Sets of small numbers. Bit k of a set says whether the number k is in it.
-ghost use Rattle.std.specs.Prelude.{◌≡◌, ◌≢◌, ◌<◌, ◌↔◌, ◌⊎◌, ◌+◌, ◌^◌, ℕ, IsBitSet, IsTrue};
-ghost use Rattle.cn_outcomes.specs.Subsets.{IsWithout};
+ghost use Rattle.std.specs.Prelude.{◌≡◌, ◌<◌, ◌↔◌, ◌⊎◌, ℕ, IsBitSet, IsTrue};
 
 use crate::limits::WIDTH;
 use std::marker::Model;
@@ -34,13 +33,6 @@ impl Bits {
         ensures none { (q : ℕ) → ¬ IsBitSet result q }
     {
         Bits(0)
-    }
-
-    /// The set of all numbers below [`WIDTH`](crate::WIDTH).
-    pub fn all() -> Bits
-        ensures { (q : ℕ) → IsBitSet result q ↔ (q < WIDTH) }
-    {
-        Bits(u16::MAX)
     }
 
     /// Whether the number is in the set.
@@ -143,7 +135,9 @@ impl Bits {
         ensures same { (q : ℕ) → Contains result q ↔ IsBitSet self q }
         ensures below { (q : ℕ) → IsBitSet self q → q < WIDTH }
     {
-        Members { left: self.0 }
+        Members {
+            left: self.0 as u32,
+        }
     }
 }
 
@@ -152,16 +146,19 @@ impl Bits {
 /// Contracts see it as the list of these.
 #[derive(Drop)]
 pub struct Members {
-    left: u16,
+    /// A set as a number of 32 bits, since a processor takes members from these in fewer steps.
+    left: u32,
 }
 
 impl Model for Members {
-    ghost use Rattle.std.specs.Prelude.{List, ℕ};
+    ghost use Rattle.std.specs.Prelude.{◌<◌, ◌^◌, List, ℕ};
     ghost use Rattle.cn_outcomes.specs.Bits.{members};
 
     ghost Value = { List ℕ };
 
     ghost view = { λ s. members s.left };
+
+    ghost invariant = { λ s. s.left < 2 ^ 16 };
 }
 
 impl Iterator for Members {
@@ -178,9 +175,8 @@ impl Iterator for Members {
         if left == 0 {
             return None;
         }
-        let first = least(left);
-        self.left = without(left, first);
-        Some(first)
+        self.left = left & (left - 1);
+        Some(left.trailing_zeros() as u8)
     }
 }
 
@@ -205,45 +201,4 @@ pub fn union(a: u16, b: u16) -> u16
     ensures { (q : ℕ) → IsBitSet result q ↔ (IsBitSet a q ⊎ IsBitSet b q) }
 {
     a | b
-}
-
-/// Whether the sets have a common number.
-pub(crate) fn share(a: u16, b: u16) -> bool
-    ensures { IsTrue result ↔ ((q : ℕ) × IsBitSet a q × IsBitSet b q) }
-{
-    a & b != 0
-}
-
-/// The numbers of the first set that are not in the second.
-pub(crate) fn difference(a: u16, b: u16) -> u16
-    ensures { (q : ℕ) → IsBitSet result q ↔ (IsBitSet a q × ¬ IsBitSet b q) }
-{
-    a & !b
-}
-
-/// The numbers of both sets, each less one, without those that would be below 0.
-pub(crate) fn common_predecessors(a: u16, b: u16) -> u16
-    ensures { (q : ℕ) → IsBitSet result q ↔ (IsBitSet a (q + 1) × IsBitSet b (q + 1)) }
-{
-    (a & b) >> 1
-}
-
-/// The set without this number.
-pub(crate) fn without(set: u16, number: u8) -> u16
-    requires known { number < 16 }
-    requires member { IsBitSet set number }
-    ensures smaller { result + 2 ^ number ≡ set }
-    ensures others { IsWithout set number result }
-{
-    set & !(1 << number)
-}
-
-/// The least number of a set that is not empty.
-pub(crate) fn least(set: u16) -> u8
-    requires { set ≢ 0 }
-    ensures member { IsBitSet set result }
-    ensures range { result < 16 }
-    ensures minimal { (i : ℕ) → i < result → ¬ IsBitSet set i }
-{
-    set.trailing_zeros() as u8
 }

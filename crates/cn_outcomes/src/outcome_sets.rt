@@ -74,17 +74,6 @@ impl OutcomeSet {
         set
     }
 
-    /// Puts the pairs of the response and each of the states into the set.
-    pub(crate) fn add_states(&mut self, response: u8, states: Bits)
-        requires { response < MOST_RESPONSES }
-        ensures { (r q : ℕ) → Has self.new r q
-            ↔ (Has self.old r q ⊎ ((r ≡ response) × IsBitSet states q)) }
-    {
-        for state in states.iter() {
-            self.add(response, state);
-        }
-    }
-
     /// The pairs of response and next state of the operation from one of these states.
     pub fn of_answers(table: &Table, operation: Operation, from: Bits) -> OutcomeSet
         requires operation { operation.0 < length table.now.operations }
@@ -150,35 +139,6 @@ impl OutcomeSet {
         moved
     }
 
-    /// The set together with the pairs of another set after the operation: each keeps its response,
-    /// and its state, which is one of these, becomes the next state.
-    pub fn with_moved(
-        &self,
-        table: &Table,
-        operation: Operation,
-        other: &OutcomeSet,
-        from: Bits,
-    ) -> OutcomeSet
-        requires operation { operation.0 < length table.now.operations }
-        requires known { Below (length table.now.states) from }
-        requires among { (r q : ℕ) → Has other.now r q → IsBitSet from q }
-        ensures { (r q : ℕ) → Has result r q ↔ (Has self.now r q
-            ⊎ ((found : ℕ) × Has other.now r found
-            × ((transition table.now operation.0 found).1 ≡ q))) }
-    {
-        self.union(&other.moved(table, operation, from))
-    }
-
-    /// The set of the pairs of the response and one of the states.
-    pub(crate) fn of_response(response: u8, states: Bits) -> OutcomeSet
-        requires { response < MOST_RESPONSES }
-        ensures { (r q : ℕ) → Has result r q ↔ ((r ≡ response) × IsBitSet states q) }
-    {
-        let mut set = OutcomeSet::none();
-        set.add_states(response, states);
-        set
-    }
-
     /// Whether the pair is in the set. No set has a response or a state that no table has.
     pub fn has(&self, response: Response, state: State) -> bool
         ensures found { IsTrue result ↔ Has self.now response.0 state.0 }
@@ -189,30 +149,6 @@ impl OutcomeSet {
             return false;
         }
         row[state.0 as usize].contains(response.0)
-    }
-
-    /// The responses of the pairs.
-    pub(crate) fn responses(&self) -> Bits
-        ensures { (r q : ℕ) → Has self.now r q → IsBitSet result r }
-    {
-        let mut all = Bits::new();
-        for q in 0..MOST_STATES {
-            all = all.union(self.row[q]);
-        }
-        all
-    }
-
-    /// The states of the pairs.
-    pub(crate) fn states(&self) -> Bits
-        ensures { (r q : ℕ) → Has self.now r q → IsBitSet result q }
-    {
-        let mut all = Bits::new();
-        for q in 0..MOST_STATES {
-            if !self.row[q].is_empty() {
-                all.insert(q as u8);
-            }
-        }
-        all
     }
 
     /// Whether some pair is in both sets.

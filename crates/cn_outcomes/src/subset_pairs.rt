@@ -61,16 +61,14 @@ fn others_pairs(
     subset: Bits,
 ) -> OutcomeSet
     requires setting { IsRowSetting setting.now }
+    requires j { j < length setting.now.choice.now.operations }
     requires rows { HasRowsBefore setting.now subset rows.now }
     requires pairs { HasPairs setting.now j subset pairs.now }
     ensures { (r q : ℕ) → Has result r q ↔ ((p : ℕ) × IsMover setting.now.links subset p
         × OtherLast setting.now.table.now setting.now.choice.now setting.now.team j subset q p r) }
 {
     let mut set = OutcomeSet::none();
-    for process in movers(setting.links, subset).iter() {
-        if process == j {
-            continue;
-        }
+    for process in movers(setting.links, subset).without(j).iter() {
         set = set.union(&pairs_before(setting, j, process, rows, pairs, subset));
     }
     set

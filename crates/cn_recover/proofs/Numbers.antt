@@ -1,20 +1,10 @@
 -- The recoverable number up to a limit, beside the number.
-use Rattle.std.proofs.Common.{◌≡◌, ℕ, ◌+◌, ◌-◌, ◌<◌, ◌≤◌, inl, inr, IsSomeAnd, Option, Some, None, arith}
+use Rattle.std.proofs.Common.{ℕ, ◌+◌, ◌-◌, ◌≤◌, inl, inr, IsSomeAnd, Option, Some, None, arith}
 use Rattle.std.proofs.lemmas.Bool.{cases_order}
 use Rattle.cn_table.specs.TypeTable.{TypeTable}
 use Rattle.cn_choice.specs.Discerning.{IsNumberUpTo}
-use Rattle.cn_choice.proofs.NumberLemmas.GreatestNumbers.{greatest_at, no_greatest, unique_greatest}
 use Rattle.cn_recover.specs.Recording.{IsRecording, IsRecoverableNumberUpTo}
-use Rattle.cn_recover.proofs.Recordings.{recording_below, recording_discerns}
-
-pub number_at : (t : TypeTable) (limit n : ℕ) → 2 ≤ n → n ≤ limit → IsRecording t n → (n < limit → ¬ IsRecording t (n + 1)) → IsRecoverableNumberUpTo t limit (Some n)
-number_at t = greatest_at (IsRecording t) (recording_below t)
-
-pub no_number : (t : TypeTable) (limit : ℕ) → ¬ IsRecording t 2 → IsRecoverableNumberUpTo t limit None
-no_number t = no_greatest (IsRecording t) (recording_below t)
-
-pub one_number : (t : TypeTable) (limit : ℕ) (m n : Option ℕ) → IsRecoverableNumberUpTo t limit m → IsRecoverableNumberUpTo t limit n → m ≡ n
-one_number t limit = unique_greatest (IsRecording t) limit (IsRecoverableNumberUpTo t limit) (λ h. h) (λ n h. h)
+use Rattle.cn_recover.proofs.Recordings.{recording_discerns}
 
 -- what is recording is discerning, so the number is no less
 pub at_most : (t : TypeTable) (limit n : ℕ) (number : Option ℕ) → IsRecoverableNumberUpTo t limit (Some n) → IsNumberUpTo t limit number → IsSomeAnd number (λ most. n ≤ most)

@@ -1,10 +1,11 @@
 -- Recording witnesses, of which the state alone tells for good which team moved first, and the
 -- numbers of processes for which a type has one.
-use Rattle.std.specs.Prelude.{◌≡◌, ◌≢◌, ℕ, ◌<◌, ◌≤◌, length, slice_get, Option, Some, None, ⊤}
+use Rattle.std.specs.Prelude.{◌≡◌, ◌≢◌, ℕ, ◌<◌, length, slice_get, Option, Some, ⊤}
 use Rattle.cn_table.specs.TypeTable.{TypeTable}
 use Rattle.cn_choice.specs.declared.team.Team.{Team}
 use Rattle.cn_choice.specs.declared.team.Team.TheVariants.{A, B}
 use Rattle.cn_choice.specs.RawChoices.{RawChoice, IsRawChoice}
+use Rattle.cn_choice.specs.GreatestNumbers.{IsGreatestUpTo}
 use Rattle.cn_outcomes.specs.LeftStates.{LeavesIn}
 use Rattle.cn_search.specs.Numbers.{IsNumberOf}
 use Rattle.cn_search.specs.declared.exact.ConsensusNumber.{ConsensusNumber}
@@ -31,9 +32,7 @@ IsRecording t n = (c : RawChoice) × IsRawChoice t n c × IsRecordingWitness t c
 -- the recoverable number: the greatest n from 2 to the limit for which the type is n-recording, or
 -- none if there is no such n
 abbrev pub IsRecoverableNumberUpTo : TypeTable → ℕ → Option ℕ → Type 0
-IsRecoverableNumberUpTo t limit None = (m : ℕ) → 2 ≤ m → m ≤ limit → ¬ IsRecording t m
-IsRecoverableNumberUpTo t limit (Some n) =
-    (2 ≤ n) × (n ≤ limit) × IsRecording t n × ((m : ℕ) → n < m → m ≤ limit → ¬ IsRecording t m)
+IsRecoverableNumberUpTo t = IsGreatestUpTo (IsRecording t)
 
 -- the recoverable number with no limit
 abbrev pub HasRecoverableNumber : TypeTable → ConsensusNumber → Type 0

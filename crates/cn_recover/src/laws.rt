@@ -1,7 +1,7 @@
 //! The laws that hold of recording witnesses and of recoverable numbers for every type and limit.
 //!
 //! A law is a function that does nothing: its contract is the law.
-ghost use Rattle.std.specs.Prelude.{◌≡◌, ◌≢◌, ◌<◌, ◌≤◌, ◌+◌, ◌-◌, ◌↔◌, ℕ, All, Contains, IsSomeAnd, List, None, Option, Some};
+ghost use Rattle.std.specs.Prelude.{◌≤◌, ◌+◌, ◌-◌, ◌↔◌, ℕ, All, Contains, IsSomeAnd, Option, Some};
 ghost use Rattle.cn_table.specs.TypeTable.{TypeTable};
 ghost use Rattle.cn_choice.specs.Canonical.{Choice, raw_choice_of};
 ghost use Rattle.cn_choice.specs.Discerning.{IsDiscerning, IsNumberUpTo, IsWitness};
@@ -13,8 +13,15 @@ ghost use Rattle.cn_stocks.specs.Records.{SomeRecords};
 ghost use Rattle.cn_recover.specs.Recording.{IsRecording, IsRecordingWitness, IsRecoverableNumberUpTo, Misses};
 
 use cn_choice::laws::{
-    canonical_choices_decide, choice_by_teams, coverage, live_list, witnesses_are_live,
+    Property, canonical_choices_decide, choice_by_teams, coverage, live_list, witnesses_are_live,
 };
+
+/// The property that a type is n-recording.
+pub enum RecordingType {}
+
+impl Property for RecordingType {
+    ghost holds = { IsRecording };
+}
 
 /// A recording witness is a witness: if the state tells which team moved first, the response and
 /// the state do.
@@ -35,30 +42,6 @@ pub fn renumbering()
 /// Monotonicity: for n of at least 3, a type that is n-recording is (n-1)-recording.
 pub fn monotonicity()
     ensures { (t : TypeTable) (n : ℕ) → 3 ≤ n → IsRecording t n → IsRecording t (n - 1) }
-{}
-
-/// By monotonicity one failure is enough: where a type is n-recording and n is the limit or the
-/// type is not (n+1)-recording, n is the recoverable number up to the limit; where it is not
-/// 2-recording there is none.
-pub fn number_before_failure()
-    ensures found { (t : TypeTable) (limit n : ℕ) → 2 ≤ n → n ≤ limit → IsRecording t n
-        → (n < limit → ¬ IsRecording t (n + 1)) → IsRecoverableNumberUpTo t limit (Some n) }
-    ensures none { (t : TypeTable) (limit : ℕ) → ¬ IsRecording t 2
-        → IsRecoverableNumberUpTo t limit None }
-{}
-
-/// A recoverable number below the limit is the one up to each greater limit too, and where there is
-/// none up to the limit there is none at all.
-pub fn number_below_the_limit()
-    ensures { (t : TypeTable) (limit more : ℕ) (number : Option ℕ) → 2 ≤ limit → limit ≤ more
-        → IsRecoverableNumberUpTo t limit number → number ≢ Some limit
-        → IsRecoverableNumberUpTo t more number }
-{}
-
-/// There is only one recoverable number up to a limit.
-pub fn unique_number()
-    ensures { (t : TypeTable) (limit : ℕ) (m n : Option ℕ) → IsRecoverableNumberUpTo t limit m
-        → IsRecoverableNumberUpTo t limit n → m ≡ n }
 {}
 
 /// The recoverable number up to a limit is at most the number up to it.

@@ -1,10 +1,11 @@
 -- Numbers with no evidence, from what was tried.
-use Rattle.std.proofs.Common.{◌≡◌, ◌≢◌, inl, inr, ◌↔◌, ℕ, ◌+◌, ◌≤◌, ◌<◌, Contains, IsTrue, length, Option, Some, None, IfSome, is_some, true, arith, ap, refl, sym, subst, true≢false}
-use Rattle.std.proofs.Math.Nat.{eq-or-lt_of_le}
+use Rattle.std.proofs.Common.{◌≡◌, inl, inr, ◌↔◌, ℕ, ◌+◌, ◌≤◌, ◌<◌, Contains, IsTrue, length, Option, Some, None, IfSome, is_some, true, arith, refl, sym, subst, true≢false}
 use Rattle.std.proofs.lemmas.Bool.{cases_order}
 use Rattle.cn_table.specs.TypeTable.{TypeTable}
 use Rattle.cn_choice.specs.Canonical.{Choice, raw_choice_of}
 use Rattle.cn_choice.specs.Discerning.{IsDiscerning, IsWitness}
+use Rattle.cn_choice.specs.GreatestNumbers.{IsGreatestUpTo, PassesDown}
+use Rattle.cn_choice.proofs.NumberLemmas.GreatestNumbers.{greatest_at, no_greatest}
 use Rattle.cn_stocks.specs.Greatest.{NoneFrom}
 use Rattle.cn_stocks.specs.Splits.{SomeSplits}
 use Rattle.cn_search.specs.Evidence.{IsFirstAmong, IsFirstWitness, IsKnownAt, NoneIsWitness}
@@ -18,29 +19,19 @@ abbrev pub HasTried : (ℕ → Type 0) → ℕ → Option ℕ → Type 0
 HasTried P n None = n ≡ 2
 HasTried P n (Some m) = (n ≡ m + 1) × (2 ≤ m) × P m
 
--- a property of numbers of processes, a limit, and how the greatest number up to it is found
-module _ (P : ℕ → Type 0) (limit : ℕ) (Greatest : Option ℕ → Type 0) (found : (n : ℕ) → 2 ≤ n → n ≤ limit → P n → (n < limit → ¬ P (n + 1)) → Greatest (Some n)) (none : ¬ P 2 → Greatest None) where
+-- a property of numbers of processes that passes down, and a limit
+module _ (P : ℕ → Type 0) (down : PassesDown P) (limit : ℕ) where
   -- n has not the property
-  pub greatest_refuted : (n : ℕ) (number : Option ℕ) → HasTried P n number → n ≤ limit → ¬ P n → Greatest number
-  greatest_refuted n None two within fails = none (subst (λ (k : ℕ). ¬ P k) two fails)
-  greatest_refuted n (Some m) (next, two, is) within fails = found m two (omega (arith, next, within)) is (λ _. subst (λ (k : ℕ). ¬ P k) next fails)
+  pub greatest_refuted : (n : ℕ) (number : Option ℕ) → HasTried P n number → n ≤ limit → ¬ P n → IsGreatestUpTo P limit number
+  greatest_refuted n None two within fails = no_greatest P down limit (subst (λ (k : ℕ). ¬ P k) two fails)
+  greatest_refuted n (Some m) (next, two, is) within fails =
+      greatest_at P down limit m two (omega (arith, next, within)) is (λ _. subst (λ (k : ℕ). ¬ P k) next fails)
 
   -- each number up to the limit was tried
-  pub greatest_passed : (n : ℕ) (number : Option ℕ) → HasTried P n number → 2 ≤ limit → n ≡ limit + 1 → Greatest number
+  pub greatest_passed : (n : ℕ) (number : Option ℕ) → HasTried P n number → 2 ≤ limit → n ≡ limit + 1 → IsGreatestUpTo P limit number
   greatest_passed n None two least end = absurd (omega (arith, two, least, end))
-  greatest_passed n (Some m) (next, two, is) least end = found m two (omega (arith, next, end)) is (λ less. absurd (omega (arith, next, end, less)))
-
-  -- the greatest number up to a lower limit, below that
-  pub greatest_of_lower : (lower : ℕ) (Lower : Option ℕ → Type 0) → (Lower None → (m : ℕ) → 2 ≤ m → m ≤ lower → ¬ P m)
-      → ((n : ℕ) → Lower (Some n) → (2 ≤ n) × (n ≤ lower) × P n × ((m : ℕ) → n < m → m ≤ lower → ¬ P m))
-      → (number : Option ℕ) → 2 ≤ lower → lower ≤ limit → Lower number → number ≢ Some lower → Greatest number
-  greatest_of_lower lower Lower of_none of_some None least within is below = none (of_none is 2 (omega arith) least)
-  greatest_of_lower lower Lower of_none of_some (Some m) least within is below =
-      let at = of_some m is in
-      elim (eq-or-lt_of_le at.1) [
-        | inl same ↦ absurd (below (ap Some same))
-        | inr less ↦ found m at.0 (omega (arith, at.1, within)) at.2 (λ _. at.3 (m + 1) (omega arith) (omega (arith, less)))
-      ]
+  greatest_passed n (Some m) (next, two, is) least end =
+      greatest_at P down limit m two (omega (arith, next, end)) is (λ less. absurd (omega (arith, next, end, less)))
 
 -- a first witness, or that there is none, tells whether the type is discerning
 pub discerning_by_witness : (t : TypeTable) (n : ℕ) → (NoneIsWitness t (live_choices t n) → ¬ IsDiscerning t n)

@@ -1,19 +1,9 @@
 -- The numbers of processes with a property.
-use Rattle.std.specs.Prelude.{ℕ, ◌⊎◌, ◌-◌, ◌<◌, ◌≤◌, length, Option, Some, None}
+use Rattle.std.specs.Prelude.{ℕ, ◌⊎◌, ◌<◌, ◌≤◌, length}
 use Rattle.cn_table.specs.TypeTable.{TypeTable}
 use Rattle.cn_choice.specs.Discerning.{IsDiscerning}
 use Rattle.cn_search.specs.declared.exact.ConsensusNumber.{ConsensusNumber}
 use Rattle.cn_search.specs.declared.exact.ConsensusNumber.TheVariants.{Finite, Infinite, Between}
-
--- from 3 on the property passes from a number to the one before
-abbrev pub PassesDown : (ℕ → Type 0) → Type 0
-PassesDown P = (n : ℕ) → 3 ≤ n → P n → P (n - 1)
-
--- the greatest n from 2 to the limit with the property, or none if there is no such n
-abbrev pub IsGreatestUpTo : (ℕ → Type 0) → ℕ → Option ℕ → Type 0
-IsGreatestUpTo P limit None = (m : ℕ) → 2 ≤ m → m ≤ limit → ¬ P m
-IsGreatestUpTo P limit (Some n) =
-    (2 ≤ n) × (n ≤ limit) × P n × ((m : ℕ) → n < m → m ≤ limit → ¬ P m)
 
 -- which numbers from 2 on have the property, for a type with this number of states: those up to n,
 -- which is 1 if none has it, and which is at most 2 or the number of states; all of them; or those

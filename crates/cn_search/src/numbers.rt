@@ -145,7 +145,7 @@ pub(crate) fn greatest_number<T: Threads + Sync>(
     ensures witness { IfOk result (λ found. MatchOption found.number (found.witness ≡ None)
         (λ n. IsKnownAt table.now n found.witness)) }
 {
-    laws::number_before_failure();
+    laws::monotonicity();
     let mut number = None;
     let mut witness = None;
     for n in 2..limit + 1 {

@@ -22,8 +22,8 @@ is_some_set n l = cases (nat_eq n 0) refl
     cases false e = (λ t. some_bit n l (λ z. true≢false (sym (eq-eqb n 0 z) ∙ e)), λ h. refl)
 
 -- a set of pairs has no response above the length of its row
-pub inside : (row : List ℕ) (r q : ℕ) → length row ≡ 16 → IsBitSet (get_or row r 0) q → r < 16
-inside row r q l b = elim (before_or_behind r 16) [ inl u ↦ u | inr u ↦ absurd (nothing_beyond row 16 r q l u b) ]
+pub inside : (held : List ℕ) (r q : ℕ) → length held ≡ 16 → IsBitSet (get_or held r 0) q → r < 16
+inside held r q l b = elim (before_or_behind r 16) [ inl u ↦ u | inr u ↦ absurd (nothing_beyond held 16 r q l u b) ]
 
 -- where there is no set there is no pair
 pub none_behind : (sets : List PairSet) (place r q : ℕ) → length sets ≤ place → ¬ Has (set_at sets place) r q

@@ -8,3 +8,4 @@ pub mod ReachLemmas
 pub mod Lines
 pub mod Faultless
 pub mod Spelling
+pub mod Restrictions

@@ -11,3 +11,4 @@ pub mod DraftView
 pub mod TableView
 pub mod FaultText
 pub mod Reach
+pub mod Restriction

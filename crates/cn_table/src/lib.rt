@@ -30,6 +30,7 @@ pub mod names;
 mod reach;
 mod read;
 mod resolve;
+mod restriction;
 mod table;
 
 pub use elements::{Operation, Response, State};
@@ -37,4 +38,5 @@ pub use fault::TableFault;
 pub use limits::{LONGEST_NAME, MOST_OPERATIONS, MOST_RESPONSES, MOST_STATES};
 pub use names::is_name;
 pub use read::read_table;
+pub use restriction::restriction_is_a_table;
 pub use table::Table;

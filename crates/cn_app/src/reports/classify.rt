@@ -144,8 +144,8 @@ pub fn check_limit(limit: Option<u8>) -> Result<(), AppFault>
 /// With a limit, the number is the greatest n from 2 to the limit for which the type is
 /// n-discerning; `1` where there is none, and `at least` before it where it is the limit. What
 /// stands there without `at least` is the number for every greater limit too
-/// ([`number_below_the_limit`](cn_search::laws::number_below_the_limit)). `rt` starts the threads
-/// of the search.
+/// ([`greatest_below_the_limit`](cn_choice::laws::greatest_below_the_limit)). `rt` starts the
+/// threads of the search.
 ///
 /// # Errors
 ///

@@ -6,8 +6,8 @@ returns-clause-number c =
     number_accepted (record {
       canonical_decide = c.canonical_choices_decide.ensures.refuted;
       live_decide = c.live_choices_decide.ensures.refuted;
-      number_found = c.number_before_failure.ensures.found;
-      no_number = c.number_before_failure.ensures.none;
+      number_found = λ t. c.greatest_before_failure.ensures.found t (c.monotonicity.ensures t);
+      no_number = λ t. c.greatest_before_failure.ensures.none t (c.monotonicity.ensures t);
       no_witness = c.collision_or_witness.ensures.exactly;
       listed = c.live_list.ensures.listed;
     })
@@ -17,8 +17,8 @@ returns-clause-found c =
     finding_accepted (record {
       canonical_decide = c.canonical_choices_decide.ensures.refuted;
       live_decide = c.live_choices_decide.ensures.refuted;
-      number_found = c.number_before_failure.ensures.found;
-      no_number = c.number_before_failure.ensures.none;
+      number_found = λ t. c.greatest_before_failure.ensures.found t (c.monotonicity.ensures t);
+      no_number = λ t. c.greatest_before_failure.ensures.none t (c.monotonicity.ensures t);
       no_witness = c.collision_or_witness.ensures.exactly;
       listed = c.live_list.ensures.listed;
     })

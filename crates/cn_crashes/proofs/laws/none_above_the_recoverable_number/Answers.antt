@@ -2,7 +2,4 @@ use Rattle.cn_crashes.proofs.RecoverableNumbers.{above, without}
 use Rattle.cn_crashes.proofs.laws.none_above_the_recoverable_number.Goals as goal
 
 pub returns : goal.returns
-returns g c = record {
-  found = above c.number_below_the_limit.ensures;
-  none = without c.number_below_the_limit.ensures;
-}
+returns g c = record { found = above c.monotonicity.ensures; none = without c.monotonicity.ensures }

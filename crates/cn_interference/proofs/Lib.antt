@@ -1,0 +1,3 @@
+pub mod ThirdProcess
+pub mod PairLists
+pub mod TwoProcesses

@@ -1,6 +1,0 @@
-use Rattle.std.proofs.Common.{arith}
-use Rattle.cn_outcomes.proofs.BitSets.{shared}
-use Rattle.cn_outcomes.proofs.bits.share.Goals as goal
-
-pub returns : goal.returns
-returns c = shared c.args.a c.args.b (omega arith)

@@ -1,0 +1,4 @@
+pub mod SetLists
+pub mod FirstSets
+pub mod ExactNumbers
+pub mod WholeSets

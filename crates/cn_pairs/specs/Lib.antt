@@ -1,0 +1,3 @@
+pub mod Sublists
+pub mod SetNumbers
+pub mod Smallest

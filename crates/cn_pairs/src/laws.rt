@@ -1,0 +1,23 @@
+//! The laws of the numbers of sets of operations.
+//!
+//! A law is a function that does nothing: its contract is the law.
+ghost use Rattle.std.specs.Prelude.{◌≡◌, ℕ, length, true};
+ghost use Rattle.cn_table.specs.TypeTable.{TypeTable};
+ghost use Rattle.cn_search.specs.Numbers.{HasNumber};
+ghost use Rattle.cn_search.specs.declared.exact.ConsensusNumber.{ConsensusNumber};
+ghost use Rattle.cn_search.specs.declared.exact.ConsensusNumber.TheVariants.{Between};
+ghost use Rattle.cn_pairs.specs.Smallest.{IsExact, NoneHas, same_number};
+
+/// A type has only one number that is no range.
+pub fn one_number()
+    ensures { (t : TypeTable) (a b : ConsensusNumber) → IsExact a → IsExact b → HasNumber t a
+        → HasNumber t b → same_number a b ≡ true }
+{}
+
+/// Some set of operations is told the number of the type, the set of all of them, unless the number
+/// is told as a range too.
+pub fn whole_type_has_its_number()
+    ensures { (t : TypeTable) (number : ConsensusNumber) → IsExact number → HasNumber t number
+        → NoneHas t (length t.operations) number
+        → (least : ℕ) × (most : ℕ) × HasNumber t (Between least most) }
+{}

@@ -1,0 +1,76 @@
+//! The smallest sets of operations with the number of the type.
+ghost use Rattle.std.specs.Prelude.{◌≡◌, ◌≢◌, ◌≤◌, ◌<◌, ◌+◌, [], ℕ, IfOk, length, map, take};
+ghost use Rattle.std.specs.List.{filter};
+ghost use Rattle.cn_search.specs.declared.exact.ConsensusNumber.{ConsensusNumber};
+ghost use Rattle.cn_pairs.specs.SetNumbers.{set_lists, set_of};
+ghost use Rattle.cn_pairs.specs.Smallest.{AreSmallest, NoneHas, same_number};
+ghost use Rattle.cn_pairs.specs.declared.smallest.TheConstants.{MOST_SETS};
+
+use crate::restricted::{SetNumber, set_numbers};
+use cn_search::ConsensusNumber;
+use cn_table::{Operation, Table};
+use std::alloc::{AllocError, Global};
+use std::thread::Threads;
+
+/// The most sets that are listed.
+pub const MOST_SETS: usize = 12;
+
+/// Whether the two are the same number, or the same range of numbers.
+fn is_same(a: ConsensusNumber, b: ConsensusNumber) -> bool
+    ensures { result ≡ same_number a b }
+{
+    match (a, b) {
+        (ConsensusNumber::Finite(m), ConsensusNumber::Finite(n)) => m == n,
+        (ConsensusNumber::Infinite, ConsensusNumber::Infinite) => true,
+        (ConsensusNumber::Between(least, most), ConsensusNumber::Between(low, high)) => {
+            least == low && most == high
+        }
+        _ => false,
+    }
+}
+
+/// The first of the sets with this number.
+fn sets_with(
+    alloc: Global,
+    sets: &[SetNumber],
+    number: ConsensusNumber,
+) -> Result<Vec<Vec<Operation>>, AllocError>
+    ensures { IfOk result (λ found. set_lists found
+        ≡ map set_of (take MOST_SETS (filter (λ s. same_number s.number number) sets.now))) }
+{
+    let mut found = Vec::new(alloc);
+    for set in sets {
+        if found.len() < MOST_SETS && is_same(set.number, number) {
+            found.push(Vec::from_slice(alloc, set.operations.as_slice())?)?;
+        }
+    }
+    Ok(found)
+}
+
+/// The smallest sets of operations that have this number: of one size, in lexicographic order of
+/// their ascending lists, and at most [`MOST_SETS`] of them. There is none if no set of operations
+/// has the number.
+///
+/// # Errors
+///
+/// `AllocError` if memory is too little for one thread.
+pub fn smallest_sets<T: Threads + Sync>(
+    rt: &T,
+    alloc: Global,
+    table: &Table,
+    number: ConsensusNumber,
+) -> Result<Vec<Vec<Operation>>, AllocError>
+    ensures found { IfOk result (λ sets. sets.items ≢ []
+        → AreSmallest table.now number (set_lists sets)) }
+    ensures none { IfOk result (λ sets. sets.items ≡ [] → (size : ℕ) → 1 ≤ size
+        → size ≤ length table.now.operations → NoneHas table.now size number) }
+{
+    for size in 1..table.operations() + 1 {
+        let sets = set_numbers(rt, alloc, table, size)?;
+        let found = sets_with(alloc, sets.as_slice(), number)?;
+        if !found.is_empty() {
+            return Ok(found);
+        }
+    }
+    Ok(Vec::new(alloc))
+}
