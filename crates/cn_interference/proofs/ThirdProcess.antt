@@ -11,9 +11,9 @@ use Rattle.cn_choice.specs.Discerning.{IsDiscerning, IsNumberUpTo, IsWitness}
 use Rattle.cn_choice.specs.Moves.{answer_of, next_of}
 use Rattle.cn_choice.specs.OutcomeSets.{InOutcomeSet}
 use Rattle.cn_choice.specs.RawChoices.{IsRawChoice, RawChoice}
-use Rattle.cn_choice.proofs.EarlyLists.{alone_gets, known_two, second_gets}
-use Rattle.cn_choice.proofs.LastMoves.{known_last, last_self, order_from, pair_whole}
-use Rattle.cn_choice.proofs.Members.{IsIn}
+use Rattle.cn_choice.proofs.OrderLemmas.ShortOrders.{alone_gets, known_two, second_gets}
+use Rattle.cn_choice.proofs.OrderLemmas.LastMoves.{known_last, last_self, order_from, pair_whole}
+use Rattle.cn_choice.proofs.ListLemmas.Members.{IsIn}
 use Rattle.cn_interference.specs.Interference.{AllHide, AllInterfere, Interfere, NoneAnswers, TellsNothing, next}
 
 -- of the first three numbers, one that is neither k nor l

@@ -11,9 +11,9 @@ use Rattle.cn_choice.specs.Discerning.{IsDiscerning, IsWitness}
 use Rattle.cn_choice.specs.Orders.{IsOrder}
 use Rattle.cn_choice.specs.OutcomeSets.{BeginsIn, InOutcomeSet, operations_of, pair_of, response_of}
 use Rattle.cn_choice.specs.RawChoices.{IsRawChoice, RawChoice}
-use Rattle.cn_choice.proofs.ArrangementLemmas.{Differ}
-use Rattle.cn_choice.proofs.Listing.{differ_from}
-use Rattle.cn_choice.proofs.Walks.{pair_of-response_of, pair_takes_part}
+use Rattle.cn_choice.proofs.ListLemmas.Arrangements.{Differ}
+use Rattle.cn_choice.proofs.OrderLemmas.AllOrders.{differ_from}
+use Rattle.cn_choice.proofs.OrderLemmas.Walks.{pair_of-response_of, pair_takes_part}
 use Rattle.cn_interference.proofs.ThirdProcess.{same_or_not}
 use Rattle.cn_interference.specs.Interference.{AllHide, TellsNothing, answer, next}
 

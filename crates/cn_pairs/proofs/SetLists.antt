@@ -6,8 +6,8 @@ use Rattle.std.proofs.lemmas.List.Elements.{All-from_recursion}
 use Rattle.cn_table.specs.Restriction.{AreOperations}
 use Rattle.cn_table.specs.TypeTable.{TypeTable}
 use Rattle.cn_table.proofs.Lists.{range_first, range_none}
-use Rattle.cn_choice.proofs.Members.{AllPairs-from_Pairs, Contains-from_IsIn, IsIn, IsIn-append_cases, IsIn-at, IsIn-from_Contains, IsIn-map, IsIn-map_from, Pairs, each_from}
-use Rattle.cn_choice.proofs.Permutations.{in_range}
+use Rattle.cn_choice.proofs.ListLemmas.Members.{AllPairs-from_Pairs, Contains-from_IsIn, IsIn, IsIn-append_cases, IsIn-at, IsIn-from_Contains, IsIn-map, IsIn-map_from, Pairs, each_from}
+use Rattle.cn_choice.proofs.ListLemmas.Permutations.{in_range}
 use Rattle.std.specs.Prelude.{Vec}
 use Rattle.std.specs.declared.alloc.Global.{Global}
 use Rattle.cn_table.specs.declared.elements.Operation.{Operation}
