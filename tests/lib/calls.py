@@ -15,7 +15,9 @@ WORDS = usage.words()
 NAMED = [word for word in WORDS if not word.startswith("-")]
 # The program that the words name first, or else the one that ./cnum runs.
 PROGRAM = str(pathlib.Path(NAMED[0]).resolve()) if NAMED else built()
-CERTIFICATES = {it.stem: it.read_text().removesuffix("\n") for it in (TOP / "tests/certificates").glob("*.json")}
+# The files of certificates: that of the examples of the help, and those of the tests.
+CERTIFICATE_FILES = {it.stem: it for folder in ("types", "tests/certificates") for it in (TOP / folder).glob("*.json")}
+CERTIFICATES = {name: path.read_text().removesuffix("\n") for name, path in CERTIFICATE_FILES.items()}
 TYPES = {path.stem: path.read_text() for folder in ("types", "tests/types") for path in (TOP / folder).glob("*.toml")}
 # What a shell does before it runs a program in a folder, and the signals that Python ignores and a shell does not.
 IN_ROOM = 'cd "$0" && { [ -z "$1" ] || ulimit -v "$1"; } && shift && exec "$@"'

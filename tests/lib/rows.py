@@ -23,7 +23,7 @@ The columns SAYS, PRINTS, TELLS and STATUS replace these keys. The column CASE t
 A word is the name of a column, or the word itself. `words` and `files` may be the name of a column with them. Any other
 text is one of these:
   the name of a column
-  a type of types/ or tests/types, or a certificate of tests/certificates without the end of its line: `idle`, `idle_at_2`
+  a type of types/ or tests/types, or a certificate of types/ or tests/certificates without the end of its line: `idle`, `idle_at_2`
   a file of these folders, of tests/refused or a picture of docs/ as it stands there: `idle_at_2.json`
   the text itself
   [TEXT, PART, N]: the text, and then N times the part
@@ -41,7 +41,7 @@ FOLDERS = ("types", "tests/types", "tests/certificates", "tests/refused")
 FILES = [path for folder in FOLDERS for path in (TOP / folder).iterdir()] + [*TOP.glob("docs/*.dot")]
 TEXTS = {path.name: path.read_bytes() for path in FILES}
 TEXTS |= {path.stem: path.read_bytes() for path in FILES if path.suffix == ".toml" and path.parent.name == "types"}
-TEXTS |= {path.stem: path.read_bytes().removesuffix(b"\n") for path in FILES if path.parent.name == "certificates"}
+TEXTS |= {path.stem: path.read_bytes().removesuffix(b"\n") for path in FILES if path.suffix == ".json" and path.parent.name != "refused"}
 
 
 def meaning(value, row, texts=TEXTS):

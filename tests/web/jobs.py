@@ -33,7 +33,7 @@ def hostile_certificates():
     deep = 100000
     made = [b"", b"{", b"[" * deep, b'{"a":' * 60 + b"1" + b"}" * 60, b'{"collisions":' + b"[" * 127, b'{"a":' * deep, b"\xff", b"\xef\xbb\xbf{}"]
     made += [b'"' + b"\\" * (deep - 1), b"1" * deep, b"1e999999999", b" " * 16777217]
-    return made + files("tests/certificates", "tests/forged", "tests/refused")
+    return made + [(TOP / "types/test_and_set_at_3.json").read_bytes()] + files("tests/certificates", "tests/forged", "tests/refused")
 
 
 def files(*folders):

@@ -17,4 +17,4 @@ mod of_tables;
 pub use of_certificates::{agree, check, explain, show};
 pub use of_logs::{replay, serve};
 pub use of_several_tables::{NamedTable, Tell, classify_each};
-pub use of_tables::{classify, draw, find, lint, why};
+pub use of_tables::{classify, draw, find, lint, pairs, why};

@@ -1,14 +1,14 @@
 -- Commands with one more argument, and programs with one more command.
-use Rattle.std.proofs.Common.{◌≡◌, ◌∙◌, ◌&&◌, Bool, true, false, not, Result, Ok, Err, ap, ap₂, refl, subst}
+use Rattle.std.proofs.Common.{◌≡◌, ◌∙◌, ◌&&◌, Bool, true, false, not, List, Result, Ok, Err, ap, ap₂, refl, subst}
 use Rattle.std.specs.Prelude.{IfOk}
 use Rattle.std.proofs.lemmas.Result.{IfOk-weaker}
 use Rattle.clap.specs.Built.{AddsSubcommand}
 use Rattle.clap.specs.Simple.{App, Shape, app_of, with_rule, with_subcommand}
-use Rattle.clap.specs.Walk.{Rule}
+use Rattle.clap.specs.Walk.{Rule, Text}
 use Rattle.clap.specs.declared.builder.arg.Arg.{Arg}
 use Rattle.clap.specs.declared.builder.command.Command.{Command}
 use Rattle.clap.specs.declared.builder.value_parser.ValueParser.{ValueParser}
-use Rattle.cn_words.specs.CommandLine.{AddsArgument, AddsCommand, IsArgument, IsCommand, IsShow, TakesForms, show_words}
+use Rattle.cn_words.specs.CommandLine.{AddsArgument, AddsCommand, IsArgument, IsCommand, IsCommandFor, TakesWords}
 
 -- a fact about the value of a result that is this value
 of_made : {T E : Type 0} (P : T → Type 0) (r : Result T E) (x : T) → IfOk r P → r ≡ Ok x → P x
@@ -42,19 +42,21 @@ command_more program made new app words has is plain adds = IfOk-weaker new _ _ 
     subcommand_more more.0 more.1 c app words (of_made (λ old. app_of old ≡ app) program more.0 has more.2)
     (of_made (IsCommand words) made more.1 is more.3) plain more.4) adds
 
--- show at the end
-pub show_more : {E : Type 0} (program made new : Result Command E) (app : App) → IfOk program (λ old. app_of old ≡ app)
-    → IfOk made IsShow → IfOk new (AddsCommand program made)
-    → IfOk new (λ c. (forms : ValueParser) × TakesForms forms × (app_of c ≡ with_subcommand app (show_words forms)))
-show_more program made new app has is adds = IfOk-weaker new _ _ (λ c more.
-    let show = of_made IsShow made more.1 is more.3 in
-    (show.0, show.1, subcommand_more more.0 more.1 c app (show_words show.0) (of_made (λ old. app_of old ≡ app) program more.0 has more.2) show.2 refl more.4)) adds
-
--- one more command behind show
-pub command_more_for : {E : Type 0} (program made new : Result Command E) (app : ValueParser → App) (words : Shape)
-    → IfOk program (λ old. (forms : ValueParser) × TakesForms forms × (app_of old ≡ app forms))
+-- a program that takes values x, with one more command at the end
+pub command_more_for : {E X : Type 0} (Takes : X → Type 0) (program made new : Result Command E) (app : X → App) (words : Shape)
+    → IfOk program (λ old. (x : X) × Takes x × (app_of old ≡ app x))
     → IfOk made (IsCommand words) → words.is_plain ≡ true → IfOk new (AddsCommand program made)
-    → IfOk new (λ c. (forms : ValueParser) × TakesForms forms × (app_of c ≡ with_subcommand (app forms) words))
-command_more_for program made new app words has is plain adds = IfOk-weaker new _ _ (λ c more.
-    let old = of_made (λ o. (forms : ValueParser) × TakesForms forms × (app_of o ≡ app forms)) program more.0 has more.2 in
+    → IfOk new (λ c. (x : X) × Takes x × (app_of c ≡ with_subcommand (app x) words))
+command_more_for {X} Takes program made new app words has is plain adds = IfOk-weaker new _ _ (λ c more.
+    let old = of_made (λ o. (x : X) × Takes x × (app_of o ≡ app x)) program more.0 has more.2 in
     (old.0, old.1, subcommand_more more.0 more.1 c (app old.0) words old.2 (of_made (IsCommand words) made more.1 is more.3) plain more.4)) adds
+
+-- the same with a command that takes words for a form
+pub form_more : {E X : Type 0} (Takes : X → Type 0) (names : List Text) (program made new : Result Command E) (app : X → App)
+    (words : ValueParser → Shape) → IfOk program (λ old. (x : X) × Takes x × (app_of old ≡ app x))
+    → IfOk made (IsCommandFor names words) → ((p : ValueParser) → (words p).is_plain ≡ true) → IfOk new (AddsCommand program made)
+    → IfOk new (λ c. (y : (X × ValueParser)) × (Takes y.0 × TakesWords names y.1) × (app_of c ≡ with_subcommand (app y.0) (words y.1)))
+form_more {X} Takes names program made new app words has is plain adds = IfOk-weaker new _ _ (λ c more.
+    let old = of_made (λ o. (x : X) × Takes x × (app_of o ≡ app x)) program more.0 has more.2 in
+    let form = of_made (IsCommandFor names words) made more.1 is more.3 in
+    ((old.0, form.0), (old.1, form.1), subcommand_more more.0 more.1 c (app old.0) (words form.0) old.2 form.2 (plain form.0) more.4)) adds

@@ -7,11 +7,10 @@ use Rattle.clap.specs.Simple.{App, HasMatchesOf, app_of, is_simple, subcommand_o
 use Rattle.clap.specs.Values.{kind_of}
 use Rattle.clap.specs.Walk.{Text}
 use Rattle.clap.specs.declared.builder.command.Command.{Command as ClapCommand}
-use Rattle.clap.specs.declared.builder.value_parser.ValueParser.{ValueParser}
 use Rattle.clap.specs.declared.error.Error.{Error}
 use Rattle.clap.specs.declared.error.kind.ErrorKind.TheVariants.{OutOfMemory}
 use Rattle.clap.specs.declared.parser.matches.ArgMatches.{ArgMatches}
-use Rattle.cn_words.specs.CommandLine.{HasCommands, HasCommandsFor, commands}
+use Rattle.cn_words.specs.CommandLine.{Forms, HasCommands, HasCommandsFor, commands}
 use Rattle.cn_words.specs.GivenCommands.{IsInvocation, IsInvocationOf, RefusesCommand}
 use Rattle.cn_words.specs.Replies.{GivesCommand, GivesReply, IsReplyOf, program}
 use Rattle.cn_words.specs.declared.commands.CommandFault.{CommandFault}
@@ -21,18 +20,18 @@ use Rattle.cn_words.specs.declared.replies.Reply.{Reply}
 use Rattle.cn_words.specs.declared.replies.Reply.TheVariants as reply
 
 -- the laws of clap about matches and faults apply to the program
-program_is_simple : (forms : ValueParser) → is_simple (program forms) ≡ true
+program_is_simple : (forms : Forms) → is_simple (program forms) ≡ true
 program_is_simple forms = refl
 
-program_is_free : (forms : ValueParser) → is_simple_and_free (program forms) ≡ true
+program_is_free : (forms : Forms) → is_simple_and_free (program forms) ≡ true
 program_is_free forms = refl
 
 -- the parsed command is that of the words
-met_is : (c : ClapCommand) (m : ArgMatches) (words : List Text) (forms : ValueParser) → HasCommands (commands forms) c → HasMatchesOf (app_of c) words m
+met_is : (c : ClapCommand) (m : ArgMatches) (words : List Text) (forms : Forms) → HasCommands (commands forms) c → HasMatchesOf (app_of c) words m
     → subcommand_rows_of m ≡ subcommand_of (program forms) words
 met_is c m words forms is has = (subst (λ (a : App). HasMatchesOf a words m) is has (program_is_simple forms)).1
 
-fails_by : {T : Type 0} (c : ClapCommand) (r : Result T Error) (words : List Text) (forms : ValueParser) → HasCommands (commands forms) c
+fails_by : {T : Type 0} (c : ClapCommand) (r : Result T Error) (words : List Text) (forms : Forms) → HasCommands (commands forms) c
     → (is_simple_and_free (app_of c) ≡ true → FailsBy (fault_of (app_of c) words) r) → FailsBy (fault_of (program forms) words) r
 fails_by c r words forms is fails =
     subst (λ (a : App). is_simple_and_free a ≡ true → FailsBy (fault_of a words) r) is fails (program_is_free forms)
@@ -57,7 +56,7 @@ fault_given c m words fault.Words has matches refused = (
 )
 
 -- an error other than want of memory is among the faults of the words
-among : (c : ClapCommand) (e : Error) (words : List Text) (forms : ValueParser) → FailsBy {T = ArgMatches} (fault_of (program forms) words) (Err e)
+among : (c : ClapCommand) (e : Error) (words : List Text) (forms : Forms) → FailsBy {T = ArgMatches} (fault_of (program forms) words) (Err e)
     → (kind_of e ≡ OutOfMemory → ⊥) → IsAmong (kind_of e) (fault_of (program forms) words)
 among c e words forms (inl memory) enough = absurd (enough memory)
 among c e words forms (inr is) enough = is

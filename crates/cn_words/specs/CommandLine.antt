@@ -50,13 +50,27 @@ abbrev pub flag : Text → Rule
 flag id = record (new_rule id) { long = Some id; action = Some SetTrue }
 
 -- the words for the forms of a plan
-abbrev pub form_words : List Text
-form_words = codes "text" ∷ codes "json" ∷ codes "dot" ∷ codes "promela" ∷ []
+abbrev pub plan_forms : List Text
+plan_forms = codes "text" ∷ codes "json" ∷ codes "dot" ∷ codes "promela" ∷ []
+
+-- the words for the forms of an answer in a document
+abbrev pub document_forms : List Text
+document_forms = codes "text" ∷ codes "markdown" ∷ []
 
 -- a value is one of these words
-abbrev pub TakesForms : ValueParser → Type 0
-TakesForms (Names names) = texts names.now ≡ form_words
-TakesForms parser = ⊥
+abbrev pub TakesWords : List Text → ValueParser → Type 0
+TakesWords words (Names names) = texts names.now ≡ words
+TakesWords words parser = ⊥
+
+-- the value parsers of the options for a form: that of `pairs`, and that of `show`
+pub record Forms : Type 0 where
+  pub document : ValueParser
+  pub plan : ValueParser
+
+-- each takes the words for its forms
+pub record TakesForms (forms : Forms) : Type 0 where
+  pub document : TakesWords document_forms forms.document
+  pub plan : TakesWords plan_forms forms.plan
 
 -- ---- the commands
 
@@ -91,6 +105,9 @@ explain_words = command_with (codes "explain")
 abbrev pub why_words : Shape
 why_words = command_with (codes "why") (table_word ∷ limit_option ∷ flag (codes "all") ∷ [])
 
+abbrev pub pairs_words : ValueParser → Shape
+pairs_words forms = command_with (codes "pairs") (table_word ∷ form_option forms ∷ [])
+
 abbrev pub show_words : ValueParser → Shape
 show_words forms = command_with (codes "show")
     (certificate_word ∷ form_option forms ∷ table_option ∷ [])
@@ -112,12 +129,13 @@ serve_words = command_with (codes "serve")
     (opening_words ++ required_word (codes "CALLS") ∷ table_option ∷ [])
 
 -- the commands, in the order in which the help names them
-abbrev pub commands : ValueParser → List Shape
+abbrev pub commands : Forms → List Shape
 commands forms = find_words ∷ classify_words ∷ lint_words ∷ check_words ∷ explain_words
-    ∷ why_words ∷ show_words forms ∷ draw_words ∷ agree_words ∷ replay_words ∷ serve_words ∷ []
+    ∷ why_words ∷ pairs_words forms.document ∷ show_words forms.plan ∷ draw_words ∷ agree_words
+    ∷ replay_words ∷ serve_words ∷ []
 
 -- the commands that read the table of the type from standard input if no word says where it is: all
--- but classify and why
+-- but classify, why and pairs
 abbrev pub table_readers : List Text
 table_readers = codes "find" ∷ codes "lint" ∷ codes "check" ∷ codes "explain" ∷ codes "show"
     ∷ codes "draw" ∷ codes "agree" ∷ codes "replay" ∷ codes "serve" ∷ []
@@ -143,9 +161,10 @@ IsArgument rule a = (rule_of a ≡ rule) × (a.global ≡ false)
 abbrev pub IsCommand : Shape → Command → Type 0
 IsCommand words c = app_of c ≡ record { top = words; subs = [] }
 
--- the command is show, whose option takes the forms
-abbrev pub IsShow : Command → Type 0
-IsShow c = (forms : ValueParser) × TakesForms forms × IsCommand (show_words forms) c
+-- the command reads words in this way, by an option that takes these words for a form
+abbrev pub IsCommandFor : List Text → (ValueParser → Shape) → Command → Type 0
+IsCommandFor words shape c =
+    (forms : ValueParser) × TakesWords words forms × IsCommand (shape forms) c
 
 -- `new` is the command `made`, with one more argument at the end
 abbrev pub AddsArgument : {E : Type 0} → Result Command E → Arg → Command → Type 0
@@ -160,6 +179,6 @@ AddsCommand program made new = (old : Command) × (command : Command) × (progra
 abbrev pub HasCommands : List Shape → Command → Type 0
 HasCommands subs c = app_of c ≡ program_with subs
 
--- the same for commands that take the forms of a plan
-abbrev pub HasCommandsFor : (ValueParser → List Shape) → Command → Type 0
-HasCommandsFor subs c = (forms : ValueParser) × TakesForms forms × HasCommands (subs forms) c
+-- the same for commands that take forms
+abbrev pub HasCommandsFor : (Forms → List Shape) → Command → Type 0
+HasCommandsFor subs c = (forms : Forms) × TakesForms forms × HasCommands (subs forms) c

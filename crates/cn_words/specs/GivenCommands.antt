@@ -8,12 +8,14 @@ use Rattle.clap.specs.Matches.{found_of}
 use Rattle.clap.specs.Simple.{subcommand_rows_of}
 use Rattle.clap.specs.Walk.{Row, Text, all_of, first_of, one_of, rows_of}
 use Rattle.clap.specs.declared.parser.matches.ArgMatches.{ArgMatches}
+use Rattle.cn_documents.specs.declared.form.DocumentForm.{DocumentForm}
+use Rattle.cn_documents.specs.declared.form.DocumentForm.TheVariants as document
 use Rattle.cn_forms.specs.declared.plan_forms.Form.{Form}
 use Rattle.cn_forms.specs.declared.plan_forms.Form.TheVariants as form
 use Rattle.cn_words.specs.declared.commands.Command.{Command}
 use Rattle.cn_words.specs.declared.commands.Command.TheVariants.{Find, Classify, Lint, Draw, Check}
-use Rattle.cn_words.specs.declared.commands.Command.TheVariants.{Explain, Why, Show, Agree, Replay}
-use Rattle.cn_words.specs.declared.commands.Command.TheVariants.{Serve}
+use Rattle.cn_words.specs.declared.commands.Command.TheVariants.{Explain, Why, Pairs, Show, Agree}
+use Rattle.cn_words.specs.declared.commands.Command.TheVariants.{Replay, Serve}
 use Rattle.cn_words.specs.declared.commands.CommandFault.{CommandFault}
 use Rattle.cn_words.specs.declared.commands.CommandFault.TheVariants as fault
 use Rattle.cn_words.specs.declared.commands.Invocation.{Invocation}
@@ -65,6 +67,13 @@ form_word form.Promela = codes "promela"
 
 abbrev pub HasForm : List Row → Form → Type 0
 HasForm rows plan = HasWord (codes "as") rows (form_word plan)
+
+abbrev pub document_word : DocumentForm → Text
+document_word document.Text = codes "text"
+document_word document.Markdown = codes "markdown"
+
+abbrev pub HasDocumentForm : List Row → DocumentForm → Type 0
+HasDocumentForm rows form = HasWord (codes "as") rows (document_word form)
 
 -- a word with an @ at its front names a file
 abbrev pub NamesFile : Text → Type 0
@@ -123,6 +132,7 @@ name_of Draw = codes "draw"
 name_of (Check certificate) = codes "check"
 name_of (Explain certificate all) = codes "explain"
 name_of (Why limit all) = codes "why"
+name_of (Pairs form) = codes "pairs"
 name_of (Show certificate plan) = codes "show"
 name_of (Agree certificate inputs schedule steps) = codes "agree"
 name_of (Replay opening events) = codes "replay"
@@ -140,6 +150,7 @@ HasArguments rows (Check certificate) = HasCertificate rows certificate
 HasArguments rows (Explain certificate all) =
     HasCertificate rows certificate × HasFlag (codes "all") rows all
 HasArguments rows (Why limit all) = HasLimit rows limit × HasFlag (codes "all") rows all
+HasArguments rows (Pairs form) = HasDocumentForm rows form
 HasArguments rows (Show certificate plan) = HasCertificate rows certificate × HasForm rows plan
 HasArguments rows (Agree certificate inputs schedule steps) =
     HasCertificate rows certificate × HasList (codes "INPUTS") rows inputs

@@ -2,10 +2,11 @@
 ghost use Rattle.std.specs.Prelude.{◌≡◌, IfOk, MatchResult, codes, map, option_map};
 ghost use Rattle.clap.specs.Simple.{subcommand_rows_of};
 ghost use Rattle.clap.specs.Walk.{first_of};
-ghost use Rattle.cn_words.specs.GivenCommands.{Finds, HasCertificate, HasForm, HasLimit, HasList, HasNumber, HasOpening, HasTable, HasTables, IsInvocation, IsInvocationOf, IsList, IsNamed, RefusesCommand, is_input, is_input_shared, path_in, path_of, rows_in};
+ghost use Rattle.cn_words.specs.GivenCommands.{Finds, HasCertificate, HasDocumentForm, HasForm, HasLimit, HasList, HasNumber, HasOpening, HasTable, HasTables, IsInvocation, IsInvocationOf, IsList, IsNamed, RefusesCommand, is_input, is_input_shared, path_in, path_of, rows_in};
 ghost use Rattle.cn_words.specs.declared.commands.CommandFault.TheVariants.{OutOfMemory};
 
 use clap::ArgMatches;
+use cn_documents::DocumentForm;
 use cn_forms::Form;
 use std::alloc::{AllocError, Global};
 
@@ -80,6 +81,11 @@ pub enum Command<'a> {
         limit: Option<u8>,
         /// Whether all collisions are told.
         all: bool,
+    },
+    /// Writes the numbers of the operations of the type and of their pairs.
+    Pairs {
+        /// The form of the answer.
+        form: DocumentForm,
     },
     /// Writes the plan of the witness.
     Show {
@@ -213,6 +219,16 @@ fn form(words: &ArgMatches<'_>) -> Option<Form>
     }
 }
 
+fn document_form(words: &ArgMatches<'_>) -> Option<DocumentForm>
+    ensures { Finds (HasDocumentForm (rows_in words.now)) result }
+{
+    match word(words, "as")? {
+        "text" => Some(DocumentForm::Text),
+        "markdown" => Some(DocumentForm::Markdown),
+        _ => None,
+    }
+}
+
 fn opening<'a>(words: &ArgMatches<'a>) -> Option<OpeningWords<'a>>
     ensures { Finds (HasOpening (rows_in words.now)) result }
 {
@@ -296,6 +312,14 @@ fn why<'a>(words: &ArgMatches<'a>) -> Option<Command<'a>>
     Some(Command::Why { limit, all })
 }
 
+fn pairs<'a>(words: &ArgMatches<'a>) -> Option<Command<'a>>
+    ensures { Finds (IsNamed (codes "pairs") (rows_in words.now)) result }
+{
+    Some(Command::Pairs {
+        form: document_form(words)?,
+    })
+}
+
 fn show<'a>(words: &ArgMatches<'a>) -> Option<Command<'a>>
     ensures { Finds (IsNamed (codes "show") (rows_in words.now)) result }
 {
@@ -350,6 +374,7 @@ fn command_named<'a>(
         "check" => Ok(check(words)),
         "explain" => Ok(explain(words)),
         "why" => Ok(why(words)),
+        "pairs" => Ok(pairs(words)),
         "show" => Ok(show(words)),
         "agree" => Ok(agree(words)),
         "replay" => Ok(replay(words)),

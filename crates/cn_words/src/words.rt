@@ -3,7 +3,8 @@ ghost use Rattle.std.specs.Prelude.{◌≡◌, [], ◌∷◌, IfOk, MatchOption,
 ghost use Rattle.std.specs.List.{list_any};
 ghost use Rattle.std.specs.Str.{bytes_eq};
 ghost use Rattle.clap.specs.Simple.{new_shape};
-ghost use Rattle.cn_words.specs.CommandLine.{AddsArgument, AddsCommand, HasCommands, HasCommandsFor, IsArgument, IsCommand, IsShow, TakesForms, agree_words, certificate_word, check_words, classify_words, command_with, commands, draw_words, explain_words, find_words, flag, form_option, limit_option, lint_words, opening_words, replay_words, required_word, required_words, serve_words, table_option, table_readers, table_word, value_option, why_words};
+ghost use Rattle.clap.specs.Walk.{texts};
+ghost use Rattle.cn_words.specs.CommandLine.{AddsArgument, AddsCommand, HasCommands, HasCommandsFor, IsArgument, IsCommand, IsCommandFor, TakesWords, agree_words, certificate_word, check_words, classify_words, command_with, commands, document_forms, draw_words, explain_words, find_words, flag, form_option, limit_option, lint_words, opening_words, pairs_words, plan_forms, replay_words, required_word, required_words, serve_words, show_words, table_option, table_readers, table_word, value_option, why_words};
 ghost use Rattle.cn_words.specs.WordTooMany.{IsOption, RefusesWord};
 
 use clap::builder::ValueParser;
@@ -46,9 +47,9 @@ const AFTER: &str = help!(
     "\
 Input: a type table in TOML on standard input, at most 65536 bytes, or in the FILE of --table. CERT
 is a file that holds a certificate, at most 16777216 bytes, or - for standard input where the table
-is in a file. OBJECT is a file that holds the table of an object, at most 65536 bytes. classify and
-why read tables from each FILE. INPUTS, SCHEDULE, EVENTS and CALLS are lists, or @ and the name of a
-file that holds the list, at most 1048576 bytes.
+is in a file. OBJECT is a file that holds the table of an object, at most 65536 bytes. classify, why
+and pairs read tables from each FILE. INPUTS, SCHEDULE, EVENTS and CALLS are lists, or @ and the
+name of a file that holds the list, at most 1048576 bytes.
 Output: on standard output, written at once. After a fault there is none, but for two: lint writes
 the flaws of a refused table, and after a failed write it is open how much went out. A fault is one
 line on standard error. In classify each table has a line of output or of a fault.
@@ -135,7 +136,7 @@ operation leaves the start state unchanged cannot work, and version 2 skips them
 is accepted, and so is a certificate with another witness or other collisions.
 
 ",
-    "  cnum check tests/certificates/test_and_set_at_3.json < types/test_and_set.toml
+    "  cnum check types/test_and_set_at_3.json < types/test_and_set.toml
 writes ok."
 );
 
@@ -150,7 +151,7 @@ for one process more two runs by which one of its processes cannot tell which te
 these choices the first 12 are told, with --all all of them.
 
 ",
-    "  cnum explain tests/certificates/test_and_set_at_3.json < types/test_and_set.toml
+    "  cnum explain types/test_and_set_at_3.json < types/test_and_set.toml
 writes first test_and_set: consensus number 2 (for processes that can read the whole state)."
 );
 
@@ -172,6 +173,26 @@ what explain writes. A search of more than 100000 choices for N processes is ref
 writes first test_and_set: consensus number 2 (for processes that can read the whole state)."
 );
 
+const PAIRS_ABOUT: &str = "Writes the numbers of the operations of the type and of their pairs";
+
+const PAIRS_AFTER: &str = help!(
+    "\
+Reads a type table in TOML from FILE; - is standard input. Writes the consensus number of the type
+with one operation alone and with two operations alone, for each operation and each pair, as a table:
+the cell of an operation with itself is that of the operation alone. A number is written as classify
+writes it. Then it writes the smallest sets of operations with which the type has the number that it
+has with all of them, at most 12 of these.
+
+With --as markdown this is a table and a list for a document.
+
+",
+    "  cnum pairs types/test_and_set.toml
+writes last The number 2 of the type needs all operations."
+);
+
+/// The forms of an answer in a document.
+const DOCUMENT_FORMS: [&str; 2] = ["text", "markdown"];
+
 const SHOW_ABOUT: &str = "Writes the plan of a certificate's witness";
 
 const SHOW_AFTER: &str = help!(
@@ -192,12 +213,12 @@ DOT, for Graphviz; with --as promela, a model in Promela, in which the model che
 all decisions are equal, are the value of a process that has moved, and come in time.
 
 ",
-    "  cnum show tests/certificates/test_and_set_at_3.json < types/test_and_set.toml
+    "  cnum show types/test_and_set_at_3.json < types/test_and_set.toml
 writes five lines, the last of which is process 1: node 0 B role 1."
 );
 
 /// The forms in which `show` writes a plan.
-const FORMS: [&str; 4] = ["text", "json", "dot", "promela"];
+const PLAN_FORMS: [&str; 4] = ["text", "json", "dot", "promela"];
 
 const DRAW_ABOUT: &str = "Draws the states of the type";
 
@@ -234,7 +255,7 @@ INPUTS are from 0 to 18446744073709551615, one for each process, SCHEDULE is pro
 the end or none, and at most 303112 items.
 
 ",
-    "  cnum agree tests/certificates/test_and_set_at_3.json 10,20 1,1,0,0,0,0 < types/test_and_set.toml
+    "  cnum agree types/test_and_set_at_3.json 10,20 1,1,0,0,0,0 < types/test_and_set.toml
 writes 0: 20 and 1: undecided; with --steps, first 1: writes 20 to B of node 0."
 );
 
@@ -257,7 +278,7 @@ and the state S of the object afterwards. Whatever the events, the answers are t
 sequential run, in the order of these lines.
 
 ",
-    "  cnum replay tests/certificates/test_and_set_at_3.json types/counter_3.toml 0 4 i0:inc,s0,s0,s0,s0 < types/test_and_set.toml
+    "  cnum replay types/test_and_set_at_3.json types/counter_3.toml 0 4 i0:inc,s0,s0,s0,s0 < types/test_and_set.toml
 writes entry 0 0 inc 0 1."
 );
 
@@ -282,7 +303,7 @@ where L are the events as the threads came to make them, which replay reads. How
 answers are those of one sequential run, in the order of the entry lines.
 
 ",
-    "  cnum serve tests/certificates/test_and_set_at_3.json types/counter_3.toml 0 4 inc/none < types/test_and_set.toml
+    "  cnum serve types/test_and_set_at_3.json types/counter_3.toml 0 4 inc/none < types/test_and_set.toml
 writes answer 0 0 0, entry 0 0 inc 0 1 and events i0:0,s0,s0,s0,s0,s0,s0."
 );
 
@@ -379,12 +400,13 @@ fn flag<'a>(alloc: Global, id: &'a str, help: &'a str) -> Arg<'a>
         .action(ArgAction::SetTrue)
 }
 
-/// The form in which `show` writes a plan.
-fn form<'a>(alloc: Global) -> Arg<'a>
-    ensures { (forms : _) × TakesForms forms × IsArgument (form_option forms) result }
+/// The form in which a command writes.
+fn form<'a>(alloc: Global, forms: &'static [&'static str], help: &'a str) -> Arg<'a>
+    ensures { (parser : _) × TakesWords (texts forms.entry.now) parser
+        × IsArgument (form_option parser) result }
 {
-    value_option(alloc, "as", "FORM", "The form in which the plan is written")
-        .value_parser(ValueParser::Names(&FORMS))
+    value_option(alloc, "as", "FORM", help)
+        .value_parser(ValueParser::Names(forms))
         .default_value("text")
 }
 
@@ -491,11 +513,21 @@ fn why<'a>(alloc: Global) -> Result<Command<'a>, AllocError>
     with_argument(command, all(alloc))
 }
 
-fn show<'a>(alloc: Global) -> Result<Command<'a>, AllocError>
-    ensures { IfOk result IsShow }
+fn pairs<'a>(alloc: Global) -> Result<Command<'a>, AllocError>
+    ensures { IfOk result (IsCommandFor document_forms pairs_words) }
 {
+    let help = "The form in which the numbers are written";
+    let command = bare_command(alloc, "pairs", PAIRS_ABOUT, PAIRS_AFTER);
+    let command = with_argument(Ok(command), table_word(alloc));
+    with_argument(command, form(alloc, &DOCUMENT_FORMS, help))
+}
+
+fn show<'a>(alloc: Global) -> Result<Command<'a>, AllocError>
+    ensures { IfOk result (IsCommandFor plan_forms show_words) }
+{
+    let help = "The form in which the plan is written";
     let command = with_certificate(alloc, "show", SHOW_ABOUT, SHOW_AFTER);
-    let command = with_argument(command, form(alloc));
+    let command = with_argument(command, form(alloc, &PLAN_FORMS, help));
     with_argument(command, table_option(alloc))
 }
 
@@ -576,7 +608,8 @@ pub fn command<'a>(alloc: Global) -> Result<Command<'a>, AllocError>
     let to_check = with_command(to_lint, check(alloc));
     let to_explain = with_command(to_check, explain(alloc));
     let to_why = with_command(to_explain, why(alloc));
-    let to_show = with_command(to_why, show(alloc));
+    let to_pairs = with_command(to_why, pairs(alloc));
+    let to_show = with_command(to_pairs, show(alloc));
     let to_draw = with_command(to_show, draw(alloc));
     let to_agree = with_command(to_draw, agree(alloc));
     let to_replay = with_command(to_agree, replay(alloc));

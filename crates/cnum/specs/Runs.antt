@@ -2,8 +2,8 @@
 use Rattle.std.specs.Prelude.{◌≡◌, ◌⊎◌, Bool, ℕ, List, Option, Result, Ok, Err}
 use Rattle.cn_words.specs.declared.commands.Command.{Command}
 use Rattle.cn_words.specs.declared.commands.Command.TheVariants.{Find, Classify, Lint, Draw, Check}
-use Rattle.cn_words.specs.declared.commands.Command.TheVariants.{Explain, Why, Show, Agree, Replay}
-use Rattle.cn_words.specs.declared.commands.Command.TheVariants.{Serve}
+use Rattle.cn_words.specs.declared.commands.Command.TheVariants.{Explain, Why, Pairs, Show, Agree}
+use Rattle.cn_words.specs.declared.commands.Command.TheVariants.{Replay, Serve}
 use Rattle.cn_words.specs.declared.commands.ListSource.{ListSource}
 use Rattle.cn_words.specs.declared.commands.OpeningWords.{OpeningWords}
 use Rattle.cn_words.specs.declared.commands.TextSource.{TextSource}
@@ -15,6 +15,7 @@ use Rattle.cn_app.specs.Commands.Draw.{HasDrawReport}
 use Rattle.cn_app.specs.Commands.Explain.{HasExplainReport}
 use Rattle.cn_app.specs.Commands.Find.{HasFindReport}
 use Rattle.cn_app.specs.Commands.Lint.{HasLintReport}
+use Rattle.cn_app.specs.Commands.Pairs.{HasPairsReport}
 use Rattle.cn_app.specs.Commands.Replay.{HasReplayReport, SpellEvents}
 use Rattle.cn_app.specs.Commands.Serve.{HasServeReport, SpellCalls}
 use Rattle.cn_app.specs.Commands.Show.{HasShowReport}
@@ -146,6 +147,9 @@ module _ {S D F W : Type 0} (remaining : S → Option (List ℕ)) (left : LazyFi
   RunsOn stdin table (Why limit all) u v r =
       ReadsTable (left_of remaining left) (left_of remaining left) left contents files table
       (λ t. HasWhyReport t limit all) u v r
+  RunsOn stdin table (Pairs form) u v r =
+      ReadsTable (left_of remaining left) (left_of remaining left) left contents files table
+      (λ t. HasPairsReport t form) u v r
   RunsOn stdin table (Check certificate) u v r = With stdin certificate
       (λ c. ReadsBoth (left_of remaining left) (left_of remaining left) left contents files table c
       (Unit {0}) (λ t d. HasCheckReport t d) u v r)

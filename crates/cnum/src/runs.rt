@@ -205,6 +205,7 @@ pub fn run<T: Threads + Wait + Sync + Disk, S: Read + Copy + Drop, O: Write>(
         Command::Lint => commands::lint(alloc, text, output),
         Command::Draw => commands::draw(alloc, text, output),
         Command::Why { limit, all } => commands::why(rt, alloc, text, output, limit, all),
+        Command::Pairs { form } => commands::pairs(rt, alloc, text, output, form),
         Command::Check { certificate } => {
             let certificate = &mut text_of(rt, alloc, stdin, certificate);
             commands::check(alloc, text, certificate, output)

@@ -4,6 +4,7 @@ ghost use Rattle.cn_app.specs.Commands.Classify.{HasClassReport, given_limit_fau
 ghost use Rattle.cn_app.specs.Commands.Draw.{HasDrawReport};
 ghost use Rattle.cn_app.specs.Commands.Find.{HasFindReport};
 ghost use Rattle.cn_app.specs.Commands.Lint.{HasLintReport};
+ghost use Rattle.cn_app.specs.Commands.Pairs.{HasPairsReport};
 ghost use Rattle.cn_app.specs.Commands.Why.{HasWhyReport};
 ghost use Rattle.cn_app.specs.Streams.Reading.{HasRead, IsUnread};
 ghost use Rattle.cn_app.specs.Streams.Writing.{IsWritable, Reports};
@@ -13,10 +14,11 @@ use crate::readers::table::read_table;
 use crate::report::{Outcome, Report};
 use crate::reports::{
     AskedNumbers, check_limit, draw_report, find_report, limit_for, lint_report, numbers_report,
-    why_report,
+    pairs_report, why_report,
 };
 use crate::streams::output::Output;
 use crate::streams::text::Text;
+use cn_documents::DocumentForm;
 use std::alloc::Global;
 use std::io::{Read, Write};
 use std::thread::Threads;
@@ -69,6 +71,30 @@ pub fn why<T: Threads + Sync, R: Read, W: Write>(
 {
     let table = read_table(alloc, table)?;
     output.report(why_report(rt, alloc, table, limit, all))
+}
+
+/// Reads a type table and writes the numbers of its operations and of their pairs in a form
+/// ([`pairs_report`]).
+///
+/// # Errors
+///
+/// The first of these: those of [`read_table`]; want of memory; the writer fails.
+pub fn pairs<T: Threads + Sync, R: Read, W: Write>(
+    rt: &T,
+    alloc: Global,
+    table: &mut Text<R>,
+    output: &mut Output<W>,
+    form: DocumentForm,
+) -> Result<Outcome, AppFault>
+    requires table { IsUnread table.old }
+    requires output { IsWritable output.old }
+
+    ensures read { HasRead Source.Table R.remaining table.old table.new }
+    ensures told { Reports W.contents (HasPairsReport table.new form)
+        output.old output.new result }
+{
+    let table = read_table(alloc, table)?;
+    output.report(pairs_report(rt, alloc, &table, form))
 }
 
 /// Reads a type table. Answers the line with the numbers asked for ([`numbers_report`]).

@@ -8,6 +8,7 @@ use crate::types::*;
 use cn_app::readers::OpeningArguments;
 use cn_app::reports::AskedNumbers;
 use cn_app::{AppFault, Form, ListText, Outcome, Output, Source, Text, commands};
+use cn_documents::DocumentForm;
 use cn_hall::AlwaysOn;
 use cn_words::{Command, ListSource, OpeningWords, TextSource};
 use std::alloc::Global;
@@ -70,6 +71,57 @@ fn test_and_set_picture() -> &'static str {
 }"#
 }
 
+/// The output of `explain` for the certificate of test-and-set.
+fn test_and_set_explained() -> &'static str {
+    r#"test_and_set: consensus number 2 (for processes that can read the whole state)
+
+         zero        one
+  tas    zero>one    one>one            (response > next state)
+
+Why 2: from state zero, p0 (team A) does tas, p1 (team B) does tas.
+  p0   A first: got zero, reads one     B first: got one, reads one
+  p1   A first: got one, reads one      B first: got zero, reads one
+  No process has a pair on both sides, so each can tell which team was first.
+
+Why not 3: 2 ways to choose a start state, operations and teams; in each a process cannot tell.
+  1. start zero; A: p0 does tas; B: p1 and p2 do tas        p1 cannot tell:
+       A first:  zero --p0 tas/zero--> one --p1 tas/one--> one     p1 got one, reads one
+       B first:  zero --p2 tas/zero--> one --p1 tas/one--> one     p1 got one, reads one
+  2. start one; A: p0 does tas; B: p1 and p2 do tas        p0 cannot tell:
+       A first:  one --p0 tas/one--> one     p0 got one, reads one
+       B first:  one --p1 tas/one--> one --p0 tas/one--> one     p0 got one, reads one
+  Ways that differ only in the numbers of the processes or the names of the teams count as one.
+No protocol at all does it for 3: this is proved (docs/PROVED.md)."#
+}
+
+/// The output of `why` for test-and-set up to 3 processes.
+fn test_and_set_reasons() -> &'static str {
+    r#"test_and_set: consensus number 2 (for processes that can read the whole state)
+
+         zero        one
+  tas    zero>one    one>one            (response > next state)
+
+Why 2: from state zero, p0 (team A) does tas, p1 (team B) does tas.
+  p0   A first: got zero, reads one     B first: got one, reads one
+  p1   A first: got one, reads one      B first: got zero, reads one
+  No process has a pair on both sides, so each can tell which team was first.
+
+Why not 3: 1 way to choose a start state, operations and teams; in it a process cannot tell.
+  1. start zero; A: p0 does tas; B: p1 and p2 do tas        p1 cannot tell:
+       A first:  zero --p0 tas/zero--> one --p1 tas/one--> one     p1 got one, reads one
+       B first:  zero --p2 tas/zero--> one --p1 tas/one--> one     p1 got one, reads one
+  Ways that differ only in the numbers of the processes or the names of the teams count as one.
+  Ways in which an operation leaves the start state unchanged cannot work, and are left out.
+No protocol at all does it for 3: this is proved (docs/PROVED.md)."#
+}
+
+/// The output of `pairs` for test-and-set.
+fn test_and_set_pairs() -> &'static str {
+    r#"     tas
+tas    2
+The number 2 of the type needs all operations."#
+}
+
 /// A worked example: a command, and the lines that it writes if nothing fails.
 #[derive(Drop)]
 pub(crate) struct Example {
@@ -88,7 +140,7 @@ fn opening() -> OpeningWords<'static> {
 }
 
 /// The examples. `run_command` gives them their texts, whatever files they name.
-pub(crate) fn all_examples(alloc: Global) -> [Example; 11] {
+pub(crate) fn all_examples(alloc: Global) -> [Example; 14] {
     let (certificate, form) = (TextSource::File("CERT"), Form::Text);
     let (inputs, schedule) = (ListSource::Word("10,20"), ListSource::Word("1,1,0,0,0,0"));
     let (events, calls) = (ListSource::Word(HELPED), ListSource::Word("0,0/none"));
@@ -114,6 +166,26 @@ pub(crate) fn all_examples(alloc: Global) -> [Example; 11] {
         Example::new(Command::Lint, test_and_set_grid()),
         Example::new(Command::Draw, test_and_set_picture()),
         Example::new(Command::Check { certificate }, "ok"),
+        Example::new(
+            Command::Explain {
+                certificate,
+                all: false,
+            },
+            test_and_set_explained(),
+        ),
+        Example::new(
+            Command::Why {
+                limit: Some(3),
+                all: false,
+            },
+            test_and_set_reasons(),
+        ),
+        Example::new(
+            Command::Pairs {
+                form: DocumentForm::Text,
+            },
+            test_and_set_pairs(),
+        ),
         Example::new(Command::Show { certificate, form }, test_and_set_shown()),
         Example::new(
             Command::Agree {
@@ -201,6 +273,7 @@ fn run_command<T: Threads + Wait + Sync>(
         Command::Lint => commands::lint(alloc, table, output),
         Command::Draw => commands::draw(alloc, table, output),
         Command::Why { limit, all } => commands::why(rt, alloc, table, output, limit, all),
+        Command::Pairs { form } => commands::pairs(rt, alloc, table, output, form),
         Command::Check { .. } => commands::check(alloc, table, certificate, output),
         Command::Explain { all, .. } => commands::explain(alloc, table, certificate, output, all),
         Command::Show { form, .. } => commands::show(alloc, table, certificate, output, form),
@@ -249,7 +322,8 @@ impl Example {
             | Command::Classify { .. }
             | Command::Lint
             | Command::Draw
-            | Command::Why { .. } => source == Source::Table,
+            | Command::Why { .. }
+            | Command::Pairs { .. } => source == Source::Table,
             Command::Check { .. }
             | Command::Explain { .. }
             | Command::Show { .. }
@@ -262,7 +336,7 @@ impl Example {
 /// Whether the command reports each reader that fails after 40 bytes, if it reads it.
 fn tells_readers<R: Threads + Wait + Sync>(rt: &R, alloc: Global, example: &Example) -> bool {
     for source in [Source::Table, Source::Certificate, Source::Object] {
-        let (ended, page) = example.run(rt, alloc, Some(source), 512);
+        let (ended, page) = example.run(rt, alloc, Some(source), 2048);
         let is_told = if example.reads(source) {
             ended == Err(AppFault::Read(source)) && page.written.is_empty()
         } else {

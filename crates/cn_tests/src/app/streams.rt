@@ -30,7 +30,7 @@ impl<'a> Read for Drip<'a> {
 /// A writer on a page, which wants no memory. It takes `room` bytes, and then fails.
 #[derive(Drop)]
 pub(crate) struct Page {
-    pub written: ArrayVec<u8, 512>,
+    pub written: ArrayVec<u8, 2048>,
     pub room: usize,
 }
 

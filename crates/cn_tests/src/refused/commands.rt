@@ -119,7 +119,7 @@ where
     sweep!(
         rt,
         alloc,
-        run = example.run(rt, alloc, None, 512),
+        run = example.run(rt, alloc, None, 2048),
         run_ended(example, run)
     );
 }

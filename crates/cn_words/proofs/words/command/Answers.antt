@@ -1,6 +1,8 @@
 use Rattle.std.proofs.Common.{refl}
-use Rattle.cn_words.specs.CommandLine.{agree_words, check_words, classify_words, draw_words, explain_words, find_words, lint_words, replay_words, serve_words, why_words}
-use Rattle.cn_words.proofs.CommandLemmas.{command_more, command_more_for, show_more}
+use Rattle.std.proofs.lemmas.Result.{IfOk-weaker}
+use Rattle.clap.specs.declared.builder.value_parser.ValueParser.{ValueParser}
+use Rattle.cn_words.specs.CommandLine.{TakesWords, agree_words, check_words, classify_words, document_forms, draw_words, explain_words, find_words, lint_words, pairs_words, plan_forms, replay_words, serve_words, show_words, why_words}
+use Rattle.cn_words.proofs.CommandLemmas.{command_more, command_more_for, form_more}
 use Rattle.cn_words.proofs.words.command.Goals as goal
 
 pub returns : goal.returns
@@ -11,8 +13,15 @@ returns c =
     let to_check = command_more _ _ c.with_command-to_check.result _ check_words to_lint c.check.ensures refl c.with_command-to_check.ensures in
     let to_explain = command_more _ _ c.with_command-to_explain.result _ explain_words to_check c.explain.ensures refl c.with_command-to_explain.ensures in
     let to_why = command_more _ _ c.with_command-to_why.result _ why_words to_explain c.why.ensures refl c.with_command-to_why.ensures in
-    let to_show = show_more _ _ c.with_command-to_show.result _ to_why c.show.ensures c.with_command-to_show.ensures in
-    let to_draw = command_more_for _ _ c.with_command-to_draw.result _ draw_words to_show c.draw.ensures refl c.with_command-to_draw.ensures in
-    let to_agree = command_more_for _ _ c.with_command-to_agree.result _ agree_words to_draw c.agree.ensures refl c.with_command-to_agree.ensures in
-    let to_replay = command_more_for _ _ c.with_command-to_replay.result _ replay_words to_agree c.replay.ensures refl c.with_command-to_replay.ensures in
-    command_more_for _ _ c.with_command.result _ serve_words to_replay c.serve.ensures refl c.with_command.ensures
+    let any : Unit {0} → Type 0 = λ _. Unit {0} in
+    let to_pairs = form_more any document_forms _ _ c.with_command-to_pairs.result (λ _. _) pairs_words
+    (IfOk-weaker c.with_command-to_why.result _ _ (λ _ is. (tt, tt, is)) to_why) c.pairs.ensures (λ _. refl) c.with_command-to_pairs.ensures in
+    let one : Unit {0} × ValueParser → Type 0 = λ y. any y.0 × TakesWords document_forms y.1 in
+    let to_show = form_more one plan_forms _ _ c.with_command-to_show.result _ show_words to_pairs c.show.ensures (λ _. refl) c.with_command-to_show.ensures in
+    let both : (Unit {0} × ValueParser) × ValueParser → Type 0 = λ y. one y.0 × TakesWords plan_forms y.1 in
+    let to_draw = command_more_for both _ _ c.with_command-to_draw.result _ draw_words to_show c.draw.ensures refl c.with_command-to_draw.ensures in
+    let to_agree = command_more_for both _ _ c.with_command-to_agree.result _ agree_words to_draw c.agree.ensures refl c.with_command-to_agree.ensures in
+    let to_replay = command_more_for both _ _ c.with_command-to_replay.result _ replay_words to_agree c.replay.ensures refl c.with_command-to_replay.ensures in
+    let to_serve = command_more_for both _ _ c.with_command.result _ serve_words to_replay c.serve.ensures refl c.with_command.ensures in
+    IfOk-weaker c.with_command.result _ _ (λ _ is.
+    (record { document = is.0.0.1; plan = is.0.1 }, record { document = is.1.0.1; plan = is.1.1 }, is.2)) to_serve

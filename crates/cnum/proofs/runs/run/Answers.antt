@@ -45,6 +45,17 @@ returns-in-Why g c = (
   }),
 )
 
+pub returns-in-Pairs : goal.returns-in-Pairs
+returns-in-Pairs g c = (
+  c.text_of-table.result,
+  c.text_of-table.ensures,
+  rw c.in-Pairs.is (record {
+    after = c.pairs.new.table;
+    read = c.pairs.ensures.read;
+    reported = c.pairs.ensures.told;
+  }),
+)
+
 pub returns-in-Check : goal.returns-in-Check
 returns-in-Check g c = (
   c.text_of-table.result,

@@ -1,0 +1,36 @@
+-- What `pairs` writes: a function of the table that it reads, of the numbers and of the form.
+use Rattle.std.specs.Prelude.{◌≡◌, ◌≢◌, ◌≤◌, ℕ, [], length, Result, Ok, Err, string_bytes}
+use Rattle.cn_table.specs.TypeTable.{TypeTable}
+use Rattle.cn_search.specs.Numbers.{HasNumber}
+use Rattle.cn_pairs.specs.SetNumbers.{AreSetNumbers, set_lists}
+use Rattle.cn_pairs.specs.Smallest.{AreSmallest, NoneHas}
+use Rattle.cn_pairs.specs.declared.pairs.Pairs.{Pairs}
+use Rattle.cn_documents.specs.Forms.{pairs_document}
+use Rattle.cn_documents.specs.declared.form.DocumentForm.{DocumentForm}
+use Rattle.cn_app.specs.Steps.{Then}
+use Rattle.cn_app.specs.Texts.Contents.{GivesTable}
+use Rattle.cn_app.specs.declared.report.Outcome.TheVariants.{Whole}
+use Rattle.cn_app.specs.declared.report.Report.{Report}
+use Rattle.cn_app.specs.declared.streams.text.Text.{Text}
+use Rattle.cn_app.specs.declared.fault.AppFault.{AppFault}
+use Rattle.cn_app.specs.declared.fault.AppFault.TheVariants.{OutOfMemory}
+
+-- the numbers are those of the type, of each of its operations alone and of each pair of them, and
+-- the sets are the smallest with the number of the type; there are none only if no set has it
+pub record ArePairs (t : TypeTable) (p : Pairs) : Type 0 where
+  pub number : HasNumber t p.number
+  pub alone : AreSetNumbers t 1 p.alone.items
+  pub pairs : AreSetNumbers t 2 p.pairs.items
+  pub smallest : p.smallest.items ≢ [] → AreSmallest t p.number (set_lists p.smallest)
+  pub none : p.smallest.items ≡ [] → (size : ℕ) → 1 ≤ size → size ≤ length t.operations
+      → NoneHas t size p.number
+
+-- the result of telling the numbers in a form, unless memory ran out
+abbrev pub IsPairsReport : TypeTable → DocumentForm → Result Report AppFault → Type 0
+IsPairsReport t form (Ok report) = ((p : Pairs) × ArePairs t p
+    × (string_bytes report.text ≡ pairs_document form t p)) × (report.outcome ≡ Whole)
+IsPairsReport t form (Err e) = e ≡ OutOfMemory
+
+-- the result of `pairs` for a text
+abbrev pub HasPairsReport : {R : Type 0} → Text R → DocumentForm → Result Report AppFault → Type 0
+HasPairsReport text form r = Then (GivesTable text) (λ t s. IsPairsReport t form s) r
