@@ -12,11 +12,13 @@ use Rattle.clap.proofs.WalkLemmas.{one_text-rows, raw_values-rows}
 use Rattle.cn_documents.specs.declared.form.DocumentForm.{DocumentForm}
 use Rattle.cn_forms.specs.declared.plan_forms.Form.{Form}
 use Rattle.cn_words.specs.declared.commands.Command.{Command}
-use Rattle.cn_words.specs.declared.commands.Command.TheVariants.{Find, Classify, Lint, Draw, Check, Explain, Why, Pairs, Show, Agree, Replay, Serve}
+use Rattle.cn_words.specs.declared.commands.Command.TheVariants.{Find, Lint, Draw, Check, Explain, Why, Pairs, Show, Agree, Replay, Serve}
+use Rattle.cn_words.specs.declared.commands.Invocation.{Invocation}
+use Rattle.cn_words.specs.declared.commands.Invocation.TheVariants.{Classify, OfTable}
 use Rattle.cn_words.specs.declared.commands.ListSource.{ListSource}
 use Rattle.cn_words.specs.declared.commands.OpeningWords.{OpeningWords}
 use Rattle.cn_words.specs.declared.commands.TextSource.{TextSource}
-use Rattle.cn_words.specs.GivenCommands.{Finds, HasCertificate, HasDocumentForm, HasFlag, HasForm, HasLimit, HasList, HasNumber, HasOpening, HasTables, IsByte, IsNamed, path_in, path_of}
+use Rattle.cn_words.specs.GivenCommands.{Finds, HasCertificate, HasDocumentForm, HasFlag, HasForm, HasLimit, HasList, HasNumber, HasOpening, HasTables, IsByte, IsInvocation, IsNamed, IsOfTable, path_in, path_of}
 
 -- two views of an optional value make their pair
 pub pair_of : {A B C : Type 0} (f : A → B) (g : A → C) (o : Option A) (q : Option (B × C)) → option_map f o ≡ option_map (λ p. p.0) q
@@ -88,7 +90,6 @@ no_tables f tables found given = let bad = found ∙ raw_values-rows f (codes "F
 abbrev pub Wants : Text → List Row → Type 0
 Wants name rows =
     MatchBool (bytes_eq name (codes "find")) ((n : Option ℕ) × HasLimit rows n)
-    (MatchBool (bytes_eq name (codes "classify")) (((n : Option ℕ) × HasLimit rows n) × ((ts : Vec TextSource Global) × HasTables rows ts.items))
     (MatchBool (bytes_eq name (codes "lint")) (Unit {0})
     (MatchBool (bytes_eq name (codes "draw")) (Unit {0})
     (MatchBool (bytes_eq name (codes "check")) ((w : TextSource) × HasCertificate rows w)
@@ -99,12 +100,11 @@ Wants name rows =
     (MatchBool (bytes_eq name (codes "agree")) (((w : TextSource) × HasCertificate rows w) × ((l : ListSource) × HasList (codes "INPUTS") rows l) × ((l : ListSource) × HasList (codes "SCHEDULE") rows l))
     (MatchBool (bytes_eq name (codes "replay")) (((o : OpeningWords) × HasOpening rows o) × ((l : ListSource) × HasList (codes "EVENTS") rows l))
     (MatchBool (bytes_eq name (codes "serve")) (((o : OpeningWords) × HasOpening rows o) × ((l : ListSource) × HasList (codes "CALLS") rows l))
-    ⊥)))))))))))
+    ⊥))))))))))
 
 -- every command of this name has what it requires
 pub wants : (name : Text) (rows : List Row) (c : Command) → IsNamed name rows c → Wants name rows
 wants name rows (Find limit) h = subst (λ n. Wants n rows) (sym h.0) (limit, h.1)
-wants name rows (Classify limit recoverable tables) h = subst (λ n. Wants n rows) (sym h.0) ((limit, h.1.0), (tables, h.1.2))
 wants name rows Lint h = subst (λ n. Wants n rows) (sym h.0) tt
 wants name rows Draw h = subst (λ n. Wants n rows) (sym h.0) tt
 wants name rows (Check certificate) h = subst (λ n. Wants n rows) (sym h.0) (certificate, h.1)
@@ -116,3 +116,16 @@ wants name rows (Agree certificate inputs schedule steps) h =
     subst (λ n. Wants n rows) (sym h.0) ((certificate, h.1.0), (inputs, h.1.1), (schedule, h.1.2))
 wants name rows (Replay opening events) h = subst (λ n. Wants n rows) (sym h.0) ((opening, h.1.0), (events, h.1.1))
 wants name rows (Serve opening calls) h = subst (λ n. Wants n rows) (sym h.0) ((opening, h.1.0), (calls, h.1.1))
+
+-- what `classify` requires of its words
+pub classify_wants : (rows : List Row) (i : Invocation) → IsInvocation (codes "classify") rows i
+    → ((n : Option ℕ) × HasLimit rows n) × ((ts : Vec TextSource Global) × HasTables rows ts.items)
+classify_wants rows (Classify limit recoverable tables) h = ((limit, h.1), (tables, h.3))
+classify_wants rows (OfTable table command) h = absurd (wants (codes "classify") rows command h.arguments)
+
+-- what another name asks for is of one table
+pub of_other_name : (name : Text) (rows : List Row) (i : Invocation) → bytes_eq name (codes "classify") ≡ false → IsInvocation name rows i
+    → (table : TextSource) × (command : Command) × IsOfTable name rows table command
+of_other_name name rows (Classify limit recoverable tables) other h =
+    let bad = subst (λ n. bytes_eq n (codes "classify") ≡ false) h.0 other in cc
+of_other_name name rows (OfTable table command) other h = (table, command, h)

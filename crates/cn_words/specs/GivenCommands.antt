@@ -13,12 +13,13 @@ use Rattle.cn_documents.specs.declared.form.DocumentForm.TheVariants as document
 use Rattle.cn_forms.specs.declared.plan_forms.Form.{Form}
 use Rattle.cn_forms.specs.declared.plan_forms.Form.TheVariants as form
 use Rattle.cn_words.specs.declared.commands.Command.{Command}
-use Rattle.cn_words.specs.declared.commands.Command.TheVariants.{Find, Classify, Lint, Draw, Check}
+use Rattle.cn_words.specs.declared.commands.Command.TheVariants.{Find, Lint, Draw, Check}
 use Rattle.cn_words.specs.declared.commands.Command.TheVariants.{Explain, Why, Pairs, Show, Agree}
 use Rattle.cn_words.specs.declared.commands.Command.TheVariants.{Replay, Serve}
 use Rattle.cn_words.specs.declared.commands.CommandFault.{CommandFault}
 use Rattle.cn_words.specs.declared.commands.CommandFault.TheVariants as fault
 use Rattle.cn_words.specs.declared.commands.Invocation.{Invocation}
+use Rattle.cn_words.specs.declared.commands.Invocation.TheVariants.{Classify, OfTable}
 use Rattle.cn_words.specs.declared.commands.ListSource.{ListSource}
 use Rattle.cn_words.specs.declared.commands.ListSource.TheVariants as list
 use Rattle.cn_words.specs.declared.commands.OpeningWords.{OpeningWords}
@@ -126,7 +127,6 @@ HasOpening rows opening = HasCertificate rows opening.certificate
 
 abbrev pub name_of : Command → Text
 name_of (Find limit) = codes "find"
-name_of (Classify limit recoverable tables) = codes "classify"
 name_of Lint = codes "lint"
 name_of Draw = codes "draw"
 name_of (Check certificate) = codes "check"
@@ -141,9 +141,6 @@ name_of (Serve opening calls) = codes "serve"
 -- each argument is what its word says
 abbrev pub HasArguments : List Row → Command → Type 0
 HasArguments rows (Find limit) = HasLimit rows limit
-HasArguments rows (Classify limit recoverable tables) =
-    HasLimit rows limit × HasFlag (codes "recoverable") rows recoverable
-    × HasTables rows tables.items
 HasArguments rows Lint = Unit {0}
 HasArguments rows Draw = Unit {0}
 HasArguments rows (Check certificate) = HasCertificate rows certificate
@@ -165,10 +162,18 @@ abbrev pub IsNamed : Text → List Row → Command → Type 0
 IsNamed name rows command = (name ≡ name_of command) × HasArguments rows command
 
 -- the same, with the table that the words say, and with standard input not as the certificate too
-pub record IsInvocation (name : Text) (rows : List Row) (invocation : Invocation) : Type 0 where
-  pub command : IsNamed name rows invocation.command
-  pub table : HasTable rows invocation.table
+pub record IsOfTable (name : Text) (rows : List Row) (table : TextSource) (command : Command)
+    : Type 0 where
+  pub arguments : IsNamed name rows command
+  pub source : HasTable rows table
   pub input : is_input_shared rows ≡ false
+
+-- what the words behind the name of a command ask for
+abbrev pub IsInvocation : Text → List Row → Invocation → Type 0
+IsInvocation name rows (Classify limit recoverable tables) = (name ≡ codes "classify")
+    × HasLimit rows limit × HasFlag (codes "recoverable") rows recoverable
+    × HasTables rows tables.items
+IsInvocation name rows (OfTable table command) = IsOfTable name rows table command
 
 -- the invocation of the parsed command, by the words behind its name
 abbrev pub IsInvocationOf : ArgMatches → Invocation → Type 0

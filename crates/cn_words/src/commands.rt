@@ -41,23 +41,14 @@ pub struct OpeningWords<'a> {
     pub capacity: &'a str,
 }
 
-/// A command, with the words for its arguments. The limit, the form and the flags are read; a list,
-/// a state or a number of slots is as it was spelled.
+/// A command of one table, with the words for its arguments. The limit, the form and the flags are
+/// read; a list, a state or a number of slots is as it was spelled.
 #[derive(Drop)]
 pub enum Command<'a> {
     /// Writes the certificate of the type, up to the limit.
     Find {
         /// The greatest number looked for, if one was given.
         limit: Option<u8>,
-    },
-    /// Writes the number of each of these types, up to the limit if one was given.
-    Classify {
-        /// The greatest number looked for, if one was given.
-        limit: Option<u8>,
-        /// Whether the recoverable number is written too.
-        recoverable: bool,
-        /// The tables of the types, at least one.
-        tables: Vec<TextSource<'a>>,
     },
     /// Writes the table, or every flaw of it.
     Lint,
@@ -121,13 +112,25 @@ pub enum Command<'a> {
     },
 }
 
-/// A command, and where its table is read from.
+/// What the words of a command line ask for.
 #[derive(Drop)]
-pub struct Invocation<'a> {
-    /// The table. `classify` names its own.
-    pub table: TextSource<'a>,
-    /// The command.
-    pub command: Command<'a>,
+pub enum Invocation<'a> {
+    /// Writes the number of each of these types, up to the limit if one was given.
+    Classify {
+        /// The greatest number looked for, if one was given.
+        limit: Option<u8>,
+        /// Whether the recoverable number is written too.
+        recoverable: bool,
+        /// The tables of the types, at least one.
+        tables: Vec<TextSource<'a>>,
+    },
+    /// A command of one table.
+    OfTable {
+        /// Where the table is read from.
+        table: TextSource<'a>,
+        /// The command.
+        command: Command<'a>,
+    },
 }
 
 /// Why there is no command.
@@ -271,8 +274,8 @@ fn find<'a>(words: &ArgMatches<'a>) -> Option<Command<'a>>
     })
 }
 
-fn classify<'a>(alloc: Global, words: &ArgMatches<'a>) -> Result<Option<Command<'a>>, AllocError>
-    ensures { IfOk result (Finds (IsNamed (codes "classify") (rows_in words.now))) }
+fn classify<'a>(alloc: Global, words: &ArgMatches<'a>) -> Result<Option<Invocation<'a>>, AllocError>
+    ensures { IfOk result (Finds (IsInvocation (codes "classify") (rows_in words.now))) }
 {
     let Some(limit) = optional_limit(words) else {
         return Ok(None);
@@ -280,7 +283,7 @@ fn classify<'a>(alloc: Global, words: &ArgMatches<'a>) -> Result<Option<Command<
     let Some(tables) = tables(alloc, words)? else {
         return Ok(None);
     };
-    Ok(Some(Command::Classify {
+    Ok(Some(Invocation::Classify {
         limit,
         recoverable: words.get_flag("recoverable"),
         tables,
@@ -358,28 +361,23 @@ fn serve<'a>(words: &ArgMatches<'a>) -> Option<Command<'a>>
     })
 }
 
-// The command of this name, by the words behind the name.
-fn command_named<'a>(
-    alloc: Global,
-    name: &str,
-    words: &ArgMatches<'a>,
-) -> Result<Option<Command<'a>>, AllocError>
-    ensures { IfOk result (Finds (IsNamed name.now (rows_in words.now))) }
+// The command of one table of this name, by the words behind the name.
+fn command_named<'a>(name: &str, words: &ArgMatches<'a>) -> Option<Command<'a>>
+    ensures { Finds (IsNamed name.now (rows_in words.now)) result }
 {
     match name {
-        "find" => Ok(find(words)),
-        "classify" => classify(alloc, words),
-        "lint" => Ok(Some(Command::Lint)),
-        "draw" => Ok(Some(Command::Draw)),
-        "check" => Ok(check(words)),
-        "explain" => Ok(explain(words)),
-        "why" => Ok(why(words)),
-        "pairs" => Ok(pairs(words)),
-        "show" => Ok(show(words)),
-        "agree" => Ok(agree(words)),
-        "replay" => Ok(replay(words)),
-        "serve" => Ok(serve(words)),
-        _ => Ok(None),
+        "find" => find(words),
+        "lint" => Some(Command::Lint),
+        "draw" => Some(Command::Draw),
+        "check" => check(words),
+        "explain" => explain(words),
+        "why" => why(words),
+        "pairs" => pairs(words),
+        "show" => show(words),
+        "agree" => agree(words),
+        "replay" => replay(words),
+        "serve" => serve(words),
+        _ => None,
     }
 }
 
@@ -410,7 +408,7 @@ fn is_input_shared(words: &ArgMatches<'_>) -> bool
     is_input(word(words, "CERT"), false) && is_input(word(words, "table"), true)
 }
 
-// The command of this name, with its table, by the words behind the name.
+// What the command of this name asks for, by the words behind the name.
 fn invocation_named<'a>(
     alloc: Global,
     name: &str,
@@ -418,13 +416,16 @@ fn invocation_named<'a>(
 ) -> Result<Option<Invocation<'a>>, AllocError>
     ensures { IfOk result (Finds (IsInvocation name.now (rows_in words.now))) }
 {
+    if name == "classify" {
+        return classify(alloc, words);
+    }
     if is_input_shared(words) {
         return Ok(None);
     }
-    let Some(command) = command_named(alloc, name, words)? else {
+    let Some(command) = command_named(name, words) else {
         return Ok(None);
     };
-    Ok(Some(Invocation {
+    Ok(Some(Invocation::OfTable {
         table: table(words),
         command,
     }))
@@ -438,7 +439,7 @@ fn command_met<'m, 'a>(matches: &'m ArgMatches<'a>) -> Option<(&'a str, &'m ArgM
     matches.subcommand()
 }
 
-/// The command of a parsed command line, and where its table is read from.
+/// What a parsed command line asks for.
 ///
 /// # Errors
 ///

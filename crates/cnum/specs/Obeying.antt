@@ -1,9 +1,8 @@
 -- What the program does with a command: what becomes of its streams, and how it ends.
-use Rattle.std.specs.Prelude.{◌≡◌, ◌≢◌, ◌⊎◌, Bool, ℕ, List, Option, Result, Vec}
-use Rattle.std.specs.Global.{Global}
+use Rattle.std.specs.Prelude.{◌≡◌, ℕ, List, Option, Result}
 use Rattle.cn_words.specs.declared.commands.Command.{Command}
-use Rattle.cn_words.specs.declared.commands.Command.TheVariants.{Classify}
 use Rattle.cn_words.specs.declared.commands.Invocation.{Invocation}
+use Rattle.cn_words.specs.declared.commands.Invocation.TheVariants.{Classify, OfTable}
 use Rattle.cn_words.specs.declared.commands.TextSource.{TextSource}
 use Rattle.cn_app.specs.Streams.Writing.{IsUnwritten}
 use Rattle.cn_app.specs.declared.fault.AppFault.{AppFault}
@@ -39,16 +38,12 @@ module _ {S F D W : Type 0} (remaining : S → Option (List ℕ)) (left : LazyFi
       (λ _ _ _ _. Unit {0}) (bytes_of (remaining stdin) files)
       sources asked u before v after first × (status ≡ classify_status first)
 
-  -- `classify` classifies the tables that its words name, and every other command takes one table
-  abbrev pub Does : S → TextSource → Command → Output W → Output W → ℕ → Type 0
-  Does stdin table command u v status =
-      ((limit : Option ℕ) × (recoverable : Bool) × (tables : Vec TextSource Global)
-      × (command ≡ Classify limit recoverable tables)
-      × ClassifiesAll stdin (record { limit = limit; recoverable = recoverable })
-      tables.items u v status)
-      ⊎ (((limit : Option ℕ) (recoverable : Bool) (tables : Vec TextSource Global)
-      → command ≢ Classify limit recoverable tables)
-      × RunsOne stdin table command u v status)
+  -- what the words ask for is done: the tables that `classify` names are classified, or a command
+  -- of one table is run
+  abbrev pub Does : S → Invocation → Output W → Output W → ℕ → Type 0
+  Does stdin (Classify limit recoverable tables) u v status = ClassifiesAll stdin
+      (record { limit = limit; recoverable = recoverable }) tables.items u v status
+  Does stdin (OfTable table command) u v status = RunsOne stdin table command u v status
 
 -- in the same terms: the command was done with these streams, of which nothing was used before, and
 -- the writer is handed back as the command left it; a reader over standard input read the command's
@@ -60,5 +55,5 @@ Obeys {S} {F} {D} {W} remaining left contents files stdin stdout given status ba
     (u : Output (PipeWriter W)) × (v : Output (PipeWriter W)) × (awaited : AwaitedInput D S)
     × (u.writer.writer ≡ stdout) × IsUnwritten u
     × (awaited.input ≡ stdin) × (v.writer ≡ back)
-    × Does (λ it. remaining it.input) left (λ pipe. contents pipe.writer) files awaited given.table
-    given.command u v status
+    × Does (λ it. remaining it.input) left (λ pipe. contents pipe.writer) files awaited given u v
+    status

@@ -1,7 +1,7 @@
 -- What a command of one table reads and writes, by the words for its arguments.
 use Rattle.std.specs.Prelude.{◌≡◌, ◌⊎◌, Bool, ℕ, List, Option, Result, Ok, Err}
 use Rattle.cn_words.specs.declared.commands.Command.{Command}
-use Rattle.cn_words.specs.declared.commands.Command.TheVariants.{Find, Classify, Lint, Draw, Check}
+use Rattle.cn_words.specs.declared.commands.Command.TheVariants.{Find, Lint, Draw, Check}
 use Rattle.cn_words.specs.declared.commands.Command.TheVariants.{Explain, Why, Pairs, Show, Agree}
 use Rattle.cn_words.specs.declared.commands.Command.TheVariants.{Replay, Serve}
 use Rattle.cn_words.specs.declared.commands.ListSource.{ListSource}
@@ -27,7 +27,6 @@ use Rattle.cn_app.specs.Texts.Openings.{HaveReadAll}
 use Rattle.cn_app.specs.Threads.Workers.{EachHasOneGate}
 use Rattle.cn_app.specs.declared.arguments.list_text.ListText.{ListText}
 use Rattle.cn_app.specs.declared.fault.AppFault.{AppFault}
-use Rattle.cn_app.specs.declared.fault.AppFault.TheVariants.{Words}
 use Rattle.cn_app.specs.declared.fault.Argument.{Argument}
 use Rattle.cn_app.specs.declared.fault.Argument.TheVariants as argument
 use Rattle.cn_app.specs.declared.fault.Source.TheVariants.{Table}
@@ -134,7 +133,7 @@ module _ {S D F W : Type 0} (remaining : S → Option (List ℕ)) (left : LazyFi
   With stdin source runs = (certificate : Text (TextReader S D F))
       × IsTextFrom left files stdin source certificate × runs certificate
 
-  -- the result of a command of one table, with its arguments; `classify` is none, and is refused
+  -- the result of a command of one table, with its arguments
   abbrev pub RunsOn : S → Text (TextReader S D F) → Command → Output W → Output W
       → Result Outcome AppFault → Type 0
   RunsOn stdin table (Find limit) u v r =
@@ -168,7 +167,6 @@ module _ {S D F W : Type 0} (remaining : S → Option (List ℕ)) (left : LazyFi
   RunsOn stdin table (Serve opening calls) u v r = With stdin opening.certificate
       (λ c. RunsServe (left_of remaining left) (left_of remaining left) left contents files
       table c opening calls u v r)
-  RunsOn stdin table (Classify limit recoverable tables) u v r = (r ≡ Err Words) × IsSilent u v
 
   -- the same for the table of this source, of which nothing was read before
   abbrev pub Runs : S → TextSource → Command → Output W → Output W

@@ -24,7 +24,7 @@ use awaited_input::{AwaitedInput, FirstRead};
 use cn_app::commands::Tell;
 use cn_app::reports::AskedNumbers;
 use cn_app::{AppFault, Outcome, Output};
-use cn_words::{Command, CommandFault, Invocation, Reply};
+use cn_words::{CommandFault, Invocation, Reply};
 use disk::Disk;
 use faults::Faults;
 use pipe_writer::{PipeWriter, is_broken_pipe};
@@ -82,24 +82,26 @@ fn do_command<T: Threads + Wait + Sync + Disk + Eprint, I: Read + Copy + Drop, O
 ) -> ExitCode
     requires { IsWritable output.old }
     ensures { Does I.remaining (left_in T.contents T.Reader.remaining) O.contents
-        (T.contents rt.now) stdin given.now.table given.now.command output.old output.new
-        (exit_status result) }
+        (T.contents rt.now) stdin given.now output.old output.new (exit_status result) }
 {
-    if let Command::Classify {
-        limit,
-        recoverable,
-        tables,
-    } = &given.command
-    {
-        let asked = AskedNumbers {
-            limit: *limit,
-            recoverable: *recoverable,
-        };
-        let first = classify(rt, alloc, stdin, output, faults, asked, tables);
-        return classify_exit(faults, first);
+    match given {
+        Invocation::Classify {
+            limit,
+            recoverable,
+            tables,
+        } => {
+            let asked = AskedNumbers {
+                limit: *limit,
+                recoverable: *recoverable,
+            };
+            let first = classify(rt, alloc, stdin, output, faults, asked, tables);
+            classify_exit(faults, first)
+        }
+        Invocation::OfTable { table, command } => {
+            let end = run(rt, alloc, stdin, output, *table, command);
+            command_exit(faults, end)
+        }
     }
-    let end = run(rt, alloc, stdin, output, given.table, &given.command);
-    command_exit(faults, end)
 }
 
 // Does a command; how the program ends, and the writer as the command left it. It is silent where

@@ -184,8 +184,6 @@ fn serve<T: Threads + Wait + Sync + Disk, I: Read + Drop, C: Read + Drop, O: Wri
 }
 
 /// Runs a command of one table, which is read from its source.
-///
-/// Of several tables ([`classify`]) it refuses the words.
 pub fn run<T: Threads + Wait + Sync + Disk, S: Read + Copy + Drop, O: Write>(
     rt: &T,
     alloc: Global,
@@ -236,6 +234,5 @@ pub fn run<T: Threads + Wait + Sync + Disk, S: Read + Copy + Drop, O: Write>(
             let certificate = text_of(rt, alloc, stdin, opening.certificate);
             serve(rt, alloc, table, certificate, output, opening, calls)
         }
-        Command::Classify { .. } => Err(AppFault::Words),
     }
 }

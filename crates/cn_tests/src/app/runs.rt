@@ -122,10 +122,19 @@ tas    2
 The number 2 of the type needs all operations."#
 }
 
-/// A worked example: a command, and the lines that it writes if nothing fails.
+/// What an example runs.
+#[derive(Drop)]
+pub(crate) enum Work {
+    /// `classify`, of one table.
+    Numbers(AskedNumbers),
+    /// Another command.
+    Command(Command<'static>),
+}
+
+/// A worked example: what it runs, and the lines that this writes if nothing fails.
 #[derive(Drop)]
 pub(crate) struct Example {
-    pub command: Command<'static>,
+    pub work: Work,
     pub lines: &'static str,
 }
 
@@ -140,29 +149,15 @@ fn opening() -> OpeningWords<'static> {
 }
 
 /// The examples. `run_command` gives them their texts, whatever files they name.
-pub(crate) fn all_examples(alloc: Global) -> [Example; 14] {
+pub(crate) fn all_examples() -> [Example; 14] {
     let (certificate, form) = (TextSource::File("CERT"), Form::Text);
     let (inputs, schedule) = (ListSource::Word("10,20"), ListSource::Word("1,1,0,0,0,0"));
     let (events, calls) = (ListSource::Word(HELPED), ListSource::Word("0,0/none"));
-    let (tables, more_tables, opening) = (Vec::new(alloc), Vec::new(alloc), opening());
+    let opening = opening();
     [
         Example::new(Command::Find { limit: Some(3) }, found_test_and_set_at_3()),
-        Example::new(
-            Command::Classify {
-                limit: Some(8),
-                recoverable: false,
-                tables,
-            },
-            "test_and_set: 2",
-        ),
-        Example::new(
-            Command::Classify {
-                limit: Some(8),
-                recoverable: true,
-                tables: more_tables,
-            },
-            "test_and_set: 2, recoverable 1",
-        ),
+        Example::of_numbers(false, "test_and_set: 2"),
+        Example::of_numbers(true, "test_and_set: 2, recoverable 1"),
         Example::new(Command::Lint, test_and_set_grid()),
         Example::new(Command::Draw, test_and_set_picture()),
         Example::new(Command::Check { certificate }, "ok"),
@@ -262,14 +257,6 @@ fn run_command<T: Threads + Wait + Sync>(
     let (table, certificate) = (&mut given.table, &mut given.certificate);
     match *command {
         Command::Find { limit } => commands::find(rt, alloc, table, output, limit),
-        Command::Classify {
-            limit,
-            recoverable,
-            ..
-        } => {
-            let asked = AskedNumbers { limit, recoverable };
-            commands::classify(rt, alloc, table, output, asked)
-        }
         Command::Lint => commands::lint(alloc, table, output),
         Command::Draw => commands::draw(alloc, table, output),
         Command::Why { limit, all } => commands::why(rt, alloc, table, output, limit, all),
@@ -296,9 +283,40 @@ fn run_command<T: Threads + Wait + Sync>(
     }
 }
 
+/// Does the work of an example on the given texts.
+fn do_work<T: Threads + Wait + Sync>(
+    rt: &T,
+    alloc: Global,
+    work: &Work,
+    given: &mut Given,
+    output: &mut Output<Page>,
+) -> Result<Outcome, AppFault>
+    requires given { AreArgumentsUnread given.old }
+    requires output { IsWritable output.old }
+{
+    match work {
+        Work::Numbers(asked) => commands::classify(rt, alloc, &mut given.table, output, *asked),
+        Work::Command(command) => run_command(rt, alloc, command, given, output),
+    }
+}
+
 impl Example {
     fn new(command: Command<'static>, lines: &'static str) -> Example {
-        Example { command, lines }
+        Example {
+            work: Work::Command(command),
+            lines,
+        }
+    }
+
+    /// The number up to 8 processes, and the recoverable number too if it is asked for.
+    fn of_numbers(recoverable: bool, lines: &'static str) -> Example {
+        Example {
+            work: Work::Numbers(AskedNumbers {
+                limit: Some(8),
+                recoverable,
+            }),
+            lines,
+        }
     }
 
     /// Runs the command with at most one reader that fails, and with a writer of this room.
@@ -311,15 +329,17 @@ impl Example {
     ) -> Ran {
         let mut given = given_of(alloc, failing);
         let mut output = Output::new(alloc, Page::new(room));
-        let ended = run_command(rt, alloc, &self.command, &mut given, &mut output);
+        let ended = do_work(rt, alloc, &self.work, &mut given, &mut output);
         (ended, output.into_writer())
     }
 
     /// Whether the command reads this text.
     fn reads(&self, source: Source) -> bool {
-        match self.command {
+        let Work::Command(command) = &self.work else {
+            return source == Source::Table;
+        };
+        match command {
             Command::Find { .. }
-            | Command::Classify { .. }
             | Command::Lint
             | Command::Draw
             | Command::Why { .. }
@@ -357,7 +377,7 @@ fn tells_a_writer<R: Threads + Wait + Sync>(rt: &R, alloc: Global, example: &Exa
 
 #[test]
 fn streams_that_fail_are_told(rt: HostRuntime) {
-    let examples = all_examples(rt.alloc());
+    let examples = all_examples();
     for example in &examples {
         assert!(rt; tells_readers(&rt, rt.alloc(), example));
         assert!(rt; tells_a_writer(&rt, rt.alloc(), example));

@@ -3,7 +3,7 @@ use super::protocol::helped;
 use super::*;
 use crate::app::bytes::{Told, agreed, checked, found, replayed, served, shown};
 use crate::app::runs::{
-    Example, HELPED, Ran, all_examples, helped_lines, test_and_set_served, test_and_set_shown,
+    Example, HELPED, Ran, Work, all_examples, helped_lines, test_and_set_served, test_and_set_shown,
 };
 use crate::certificates::{found_test_and_set_at_3, test_and_set_at_3};
 use crate::fixtures::table_of;
@@ -104,7 +104,7 @@ fn run_ended(example: &Example, run: Ran) -> Ended {
     match outcome {
         Ok(outcome) => Ended::whole_if(outcome == Outcome::Whole && page.has(example.lines)),
         Err(fault) => {
-            let is_thread = matches!(example.command, Command::Serve { .. })
+            let is_thread = matches!(example.work, Work::Command(Command::Serve { .. }))
                 && fault == AppFault::Thread;
             let is_out_of_memory = is_thread || fault == AppFault::OutOfMemory;
             Ended::out_of_memory_if(is_out_of_memory && page.written.is_empty())
@@ -126,7 +126,7 @@ where
 
 #[test]
 fn runs(rt: HostRuntime) {
-    let examples = all_examples(rt.alloc());
+    let examples = all_examples();
     for example in &examples {
         runs_of(&rt, rt.alloc(), example);
     }

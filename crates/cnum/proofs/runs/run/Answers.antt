@@ -1,4 +1,4 @@
-use Rattle.std.proofs.Common.{inr, refl}
+use Rattle.std.proofs.Common.{inr}
 use Rattle.cnum.proofs.runs.run.Goals as goal
 
 pub returns-in-Find : goal.returns-in-Find
@@ -127,6 +127,3 @@ returns-in-Serve g c = (
   c.text_of-table.ensures,
   rw c.in-Serve.is (c.text_of-certificate-in-Serve.result, c.text_of-certificate-in-Serve.ensures, c.serve.ensures),
 )
-
-pub returns-in-Classify : goal.returns-in-Classify
-returns-in-Classify g c = (c.text_of-table.result, c.text_of-table.ensures, rw c.in-Classify.is (refl, record { writer = refl; bytes = refl; progress = refl }))
