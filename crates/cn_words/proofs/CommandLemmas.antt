@@ -8,7 +8,7 @@ use Rattle.clap.specs.Walk.{Rule, Text}
 use Rattle.clap.specs.declared.builder.arg.Arg.{Arg}
 use Rattle.clap.specs.declared.builder.command.Command.{Command}
 use Rattle.clap.specs.declared.builder.value_parser.ValueParser.{ValueParser}
-use Rattle.cn_words.specs.CommandLine.{AddsArgument, AddsCommand, IsArgument, IsCommand, IsCommandFor, TakesWords}
+use Rattle.cn_words.specs.CommandLine.{AddsArgument, AddsCommand, AddsTable, IsArgument, IsCommand, IsCommandFor, TakesWords, file_word, table_option}
 
 -- a fact about the value of a result that is this value
 of_made : {T E : Type 0} (P : T → Type 0) (r : Result T E) (x : T) → IfOk r P → r ≡ Ok x → P x
@@ -27,6 +27,19 @@ pub argument_more : {E : Type 0} (made new : Result Command E) (a : Arg) (app : 
     → IsArgument rule a → IfOk new (AddsArgument made a) → IfOk new (λ c. app_of c ≡ with_rule app rule)
 argument_more made new a app rule was is adds = IfOk-weaker new _ _ (λ c more.
     more.2.shape is.1 ∙ ap₂ with_rule (of_made (λ old. app_of old ≡ app) made more.0 was more.1) is.0) adds
+
+-- the file of the table at the end, as an option and as a word
+pub table_added : {E : Type 0} (made middle new : Result Command E) (option file : Arg) → IsArgument table_option option → IsArgument file_word file
+    → IfOk middle (AddsArgument made option) → IfOk new (AddsArgument middle file) → IfOk new (AddsTable made)
+table_added made middle new option file is_option is_file first adds = IfOk-weaker new _ _ (λ c more.
+    (option, file, is_option, is_file, more.0, of_made (AddsArgument made option) middle more.0 first more.1, more.2)) adds
+
+pub table_more : {E : Type 0} (made new : Result Command E) (app : App) → IfOk made (λ old. app_of old ≡ app)
+    → IfOk new (AddsTable made) → IfOk new (λ c. app_of c ≡ with_rule (with_rule app table_option) file_word)
+table_more made new app was adds = IfOk-weaker new _ _ (λ c more.
+    let before = of_made (λ old. app_of old ≡ app) made more.5.0 was more.5.1 in
+    let middle : app_of more.4 ≡ with_rule app table_option = more.5.2.shape more.2.1 ∙ ap₂ with_rule before more.2.0 in
+    more.6.shape more.3.1 ∙ ap₂ with_rule middle more.3.0) adds
 
 -- one more command at the end, with known words
 subcommand_more : (old command new : Command) (app : App) (words : Shape) → app_of old ≡ app → IsCommand words command → words.is_plain ≡ true

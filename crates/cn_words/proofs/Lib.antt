@@ -1,4 +1,3 @@
 mod CommandLemmas
 mod GivenLemmas
 mod ReplyLemmas
-mod WordLemmas

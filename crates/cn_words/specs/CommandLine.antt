@@ -36,6 +36,10 @@ limit_option =
 abbrev pub table_option : Rule
 table_option = value_option (codes "table")
 
+-- the same file as a last word, which may be left out
+abbrev pub file_word : Rule
+file_word = new_rule (codes "FILE")
+
 -- the same file as a required word
 abbrev pub table_word : Rule
 table_word = record (required_word (codes "table")) { value_names = 1 }
@@ -86,21 +90,21 @@ opening_words = certificate_word ∷ required_word (codes "OBJECT") ∷ required
     ∷ required_word (codes "CAPACITY") ∷ []
 
 abbrev pub find_words : Shape
-find_words = command_with (codes "find") (limit_option ∷ table_option ∷ [])
+find_words = command_with (codes "find") (limit_option ∷ table_option ∷ file_word ∷ [])
 
 abbrev pub classify_words : Shape
 classify_words = command_with (codes "classify")
     (limit_option ∷ flag (codes "recoverable") ∷ required_words (codes "FILE") ∷ [])
 
 abbrev pub lint_words : Shape
-lint_words = command_with (codes "lint") (table_option ∷ [])
+lint_words = command_with (codes "lint") (table_option ∷ file_word ∷ [])
 
 abbrev pub check_words : Shape
-check_words = command_with (codes "check") (certificate_word ∷ table_option ∷ [])
+check_words = command_with (codes "check") (certificate_word ∷ table_option ∷ file_word ∷ [])
 
 abbrev pub explain_words : Shape
 explain_words = command_with (codes "explain")
-    (certificate_word ∷ flag (codes "all") ∷ table_option ∷ [])
+    (certificate_word ∷ flag (codes "all") ∷ table_option ∷ file_word ∷ [])
 
 abbrev pub why_words : Shape
 why_words = command_with (codes "why") (table_word ∷ limit_option ∷ flag (codes "all") ∷ [])
@@ -110,35 +114,29 @@ pairs_words forms = command_with (codes "pairs") (table_word ∷ form_option for
 
 abbrev pub show_words : ValueParser → Shape
 show_words forms = command_with (codes "show")
-    (certificate_word ∷ form_option forms ∷ table_option ∷ [])
+    (certificate_word ∷ form_option forms ∷ table_option ∷ file_word ∷ [])
 
 abbrev pub draw_words : Shape
-draw_words = command_with (codes "draw") (table_option ∷ [])
+draw_words = command_with (codes "draw") (table_option ∷ file_word ∷ [])
 
 abbrev pub agree_words : Shape
 agree_words = command_with (codes "agree")
     (certificate_word ∷ required_word (codes "INPUTS") ∷ required_word (codes "SCHEDULE")
-    ∷ flag (codes "steps") ∷ table_option ∷ [])
+    ∷ flag (codes "steps") ∷ table_option ∷ file_word ∷ [])
 
 abbrev pub replay_words : Shape
 replay_words = command_with (codes "replay")
-    (opening_words ++ required_word (codes "EVENTS") ∷ table_option ∷ [])
+    (opening_words ++ required_word (codes "EVENTS") ∷ table_option ∷ file_word ∷ [])
 
 abbrev pub serve_words : Shape
 serve_words = command_with (codes "serve")
-    (opening_words ++ required_word (codes "CALLS") ∷ table_option ∷ [])
+    (opening_words ++ required_word (codes "CALLS") ∷ table_option ∷ file_word ∷ [])
 
 -- the commands, in the order in which the help names them
 abbrev pub commands : Forms → List Shape
 commands forms = find_words ∷ classify_words ∷ lint_words ∷ check_words ∷ explain_words
     ∷ why_words ∷ pairs_words forms.document ∷ show_words forms.plan ∷ draw_words ∷ agree_words
     ∷ replay_words ∷ serve_words ∷ []
-
--- the commands that read the table of the type from standard input if no word says where it is: all
--- but classify, why and pairs
-abbrev pub table_readers : List Text
-table_readers = codes "find" ∷ codes "lint" ∷ codes "check" ∷ codes "explain" ∷ codes "show"
-    ∷ codes "draw" ∷ codes "agree" ∷ codes "replay" ∷ codes "serve" ∷ []
 
 -- the program with these commands in this order; a command is required
 abbrev pub program_with : List Shape → App
@@ -169,6 +167,12 @@ IsCommandFor words shape c =
 -- `new` is the command `made`, with one more argument at the end
 abbrev pub AddsArgument : {E : Type 0} → Result Command E → Arg → Command → Type 0
 AddsArgument made argument new = (old : Command) × (made ≡ Ok old) × AddsArg old argument new
+
+-- `new` is the command `made`, with the file of the table as an option and as a last word
+abbrev pub AddsTable : {E : Type 0} → Result Command E → Command → Type 0
+AddsTable made new = (option : Arg) × (file : Arg) × IsArgument table_option option
+    × IsArgument file_word file × (middle : Command) × AddsArgument made option middle
+    × AddsArg middle file new
 
 -- `new` is the program `program`, with the command `made` at the end
 abbrev pub AddsCommand : {E : Type 0} → Result Command E → Result Command E → Command → Type 0

@@ -1,6 +1,7 @@
 -- The command that the words of the command line give, by what clap found in them.
 use Rattle.std.specs.Prelude.{◌≡◌, ◌<◌, ◌^◌, ◌++◌, ◌&&◌, ℕ, Bool, true, false, List, Option, Some}
-use Rattle.std.specs.Prelude.{None, MatchOption, if◌then◌else◌, codes, map, option_and_then}
+use Rattle.std.specs.Prelude.{None, MatchOption, if◌then◌else◌, codes, is_some, map}
+use Rattle.std.specs.Prelude.{option_and_then, option_or}
 use Rattle.std.specs.Option.{option_map_or}
 use Rattle.std.specs.Str.{bytes_eq}
 use Rattle.std.specs.Str.Parse.{IsNumeral, digits_value, without_leading_plus}
@@ -108,14 +109,23 @@ abbrev pub HasCertificate : List Row → TextSource → Type 0
 HasCertificate rows certificate =
     (word : Text) × HasWord (codes "CERT") rows word × (path_of certificate ≡ path_in word)
 
+-- the word that says where the table is: the value of the option, or else the last word
+abbrev pub table_in : List Row → Option Text
+table_in rows = option_or (first_of (codes "table") rows) (first_of (codes "FILE") rows)
+
 -- the table is also standard input if no word says where it is
 abbrev pub HasTable : List Row → TextSource → Type 0
-HasTable rows table = path_of table ≡ option_and_then path_in (first_of (codes "table") rows)
+HasTable rows table = path_of table ≡ option_and_then path_in (table_in rows)
+
+-- both words say where the table is
+abbrev pub is_table_twice : List Row → Bool
+is_table_twice rows =
+    is_some (first_of (codes "table") rows) && is_some (first_of (codes "FILE") rows)
 
 -- standard input would be both the table and the certificate
 abbrev pub is_input_shared : List Row → Bool
 is_input_shared rows =
-    is_input (first_of (codes "CERT") rows) false && is_input (first_of (codes "table") rows) true
+    is_input (first_of (codes "CERT") rows) false && is_input (table_in rows) true
 
 abbrev pub HasOpening : List Row → OpeningWords → Type 0
 HasOpening rows opening = HasCertificate rows opening.certificate
@@ -161,11 +171,13 @@ HasArguments rows (Serve opening calls) =
 abbrev pub IsNamed : Text → List Row → Command → Type 0
 IsNamed name rows command = (name ≡ name_of command) × HasArguments rows command
 
--- the same, with the table that the words say, and with standard input not as the certificate too
+-- the same, with the table that the words say; they do not say so twice, and standard input is not
+-- the certificate too
 pub record IsOfTable (name : Text) (rows : List Row) (table : TextSource) (command : Command)
     : Type 0 where
   pub arguments : IsNamed name rows command
   pub source : HasTable rows table
+  pub once : is_table_twice rows ≡ false
   pub input : is_input_shared rows ≡ false
 
 -- what the words behind the name of a command ask for

@@ -1,4 +1,3 @@
 pub mod CommandLine
 pub mod GivenCommands
 pub mod Replies
-pub mod WordTooMany

@@ -2,7 +2,7 @@
 ghost use Rattle.std.specs.Prelude.{◌≡◌, IfOk, MatchResult, codes, map, option_map};
 ghost use Rattle.clap.specs.Simple.{subcommand_rows_of};
 ghost use Rattle.clap.specs.Walk.{first_of};
-ghost use Rattle.cn_words.specs.GivenCommands.{Finds, HasCertificate, HasDocumentForm, HasForm, HasLimit, HasList, HasNumber, HasOpening, HasTable, HasTables, IsInvocation, IsInvocationOf, IsList, IsNamed, RefusesCommand, is_input, is_input_shared, path_in, path_of, rows_in};
+ghost use Rattle.cn_words.specs.GivenCommands.{Finds, HasCertificate, HasDocumentForm, HasForm, HasLimit, HasList, HasNumber, HasOpening, HasTable, HasTables, IsInvocation, IsInvocationOf, IsList, IsNamed, RefusesCommand, is_input, is_input_shared, is_table_twice, path_in, path_of, rows_in, table_in};
 ghost use Rattle.cn_words.specs.declared.commands.CommandFault.TheVariants.{OutOfMemory};
 
 use clap::ArgMatches;
@@ -381,11 +381,28 @@ fn command_named<'a>(name: &str, words: &ArgMatches<'a>) -> Option<Command<'a>>
     }
 }
 
+// The word that says where the table is.
+fn table_word<'a>(words: &ArgMatches<'a>) -> Option<&'a str>
+    ensures { option_map (λ w. w.now) result ≡ table_in (rows_in words.now) }
+{
+    match word(words, "table") {
+        Some(file) => Some(file),
+        None => word(words, "FILE"),
+    }
+}
+
+// Whether both the option and the last word say where the table is.
+fn is_table_twice(words: &ArgMatches<'_>) -> bool
+    ensures { result ≡ is_table_twice (rows_in words.now) }
+{
+    word(words, "table").is_some() && word(words, "FILE").is_some()
+}
+
 // Where the table is read from. Without a word for it, that is standard input.
 fn table<'a>(words: &ArgMatches<'a>) -> TextSource<'a>
     ensures { HasTable (rows_in words.now) result }
 {
-    match word(words, "table") {
+    match table_word(words) {
         Some(file) => TextSource::of(file),
         None => TextSource::StandardInput,
     }
@@ -405,7 +422,7 @@ fn is_input(word: Option<&str>, otherwise: bool) -> bool
 fn is_input_shared(words: &ArgMatches<'_>) -> bool
     ensures { result ≡ is_input_shared (rows_in words.now) }
 {
-    is_input(word(words, "CERT"), false) && is_input(word(words, "table"), true)
+    is_input(word(words, "CERT"), false) && is_input(table_word(words), true)
 }
 
 // What the command of this name asks for, by the words behind the name.
@@ -419,7 +436,7 @@ fn invocation_named<'a>(
     if name == "classify" {
         return classify(alloc, words);
     }
-    if is_input_shared(words) {
+    if is_table_twice(words) || is_input_shared(words) {
         return Ok(None);
     }
     let Some(command) = command_named(name, words) else {
@@ -444,8 +461,8 @@ fn command_met<'m, 'a>(matches: &'m ArgMatches<'a>) -> Option<(&'a str, &'m ArgM
 /// # Errors
 ///
 /// `Words` if there is no command, a word is missing, the limit is no number of one byte, the form
-/// is unknown, or standard input would be both the table and the certificate; `OutOfMemory` for
-/// want of memory.
+/// is unknown, two words say where the table is, or standard input would be both the table and the
+/// certificate; `OutOfMemory` for want of memory.
 pub fn invocation_of<'a>(
     alloc: Global,
     matches: &ArgMatches<'a>,

@@ -6,10 +6,8 @@
 //!
 //! ```text
 //! match parse(alloc, &words) {
-//!     Ok(given) => match given.command {
-//!         Command::Find { limit } => println!(rt; "find, up to {}", limit.unwrap_or(8))?,
-//!         _ => println!(rt; "another command")?,
-//!     },
+//!     Ok(Invocation::Classify { tables, .. }) => println!(rt; "{} tables", tables.len())?,
+//!     Ok(Invocation::OfTable { .. }) => println!(rt; "one table")?,
 //!     Err(Reply::Help(text) | Reply::Refusal(text)) => println!(rt; "{text}")?,
 //!     Err(Reply::Fault(_)) => println!(rt; "no command")?,
 //! }
@@ -24,4 +22,4 @@ pub use commands::{
     Command, CommandFault, Invocation, ListSource, OpeningWords, TextSource, invocation_of,
 };
 pub use replies::{Reply, parse};
-pub use words::{command, reads_input, word_too_many};
+pub use words::command;

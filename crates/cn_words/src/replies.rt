@@ -5,7 +5,7 @@ ghost use Rattle.cn_words.specs.declared.commands.CommandFault.TheVariants as fa
 ghost use Rattle.cn_words.specs.declared.replies.Reply.TheVariants as reply;
 
 use crate::commands::{CommandFault, Invocation, invocation_of};
-use crate::words::{command, reads_input, word_too_many};
+use crate::words::command;
 use clap::Error;
 use clap::error::ErrorKind;
 use std::alloc::{AllocError, Global};
@@ -29,29 +29,14 @@ impl From<AllocError> for Reply {
     }
 }
 
-// The text of clap, with a tip if a word too many may name the file of the table.
-fn text_with_tip(alloc: Global, error: &Error, words: &[String]) -> Result<String, AllocError> {
-    let text = format!(in alloc; "{error}")?;
-    let Some(command) = words.get(1) else {
-        return Ok(text);
-    };
-    if let (Some(word), Some((refused, usage))) = (word_too_many(&text), text.split_once("\n\n")) {
-        if reads_input(command) {
-            let tip = format!(in alloc; "  tip: the table is read from standard input: < {word}")?;
-            return format!(in alloc; "{refused}\n\n{tip}\n\n{usage}");
-        }
-    }
-    Ok(text)
-}
-
 // The reply to an error of clap.
-fn reply_to(alloc: Global, error: &Error, words: &[String]) -> Reply
+fn reply_to(alloc: Global, error: &Error) -> Reply
     ensures { IsReplyOf error.now result }
 {
     if error.kind() == ErrorKind::OutOfMemory {
         return Reply::Fault(CommandFault::OutOfMemory);
     }
-    match text_with_tip(alloc, error, words) {
+    match format!(in alloc; "{error}") {
         Ok(text) if error.use_stderr() => Reply::Refusal(text),
         Ok(text) => Reply::Help(text),
         Err(_) => Reply::Fault(CommandFault::OutOfMemory),
@@ -73,6 +58,6 @@ pub fn parse<'a>(alloc: Global, words: &'a [String]) -> Result<Invocation<'a>, R
             Ok(invocation) => Ok(invocation),
             Err(fault) => Err(Reply::Fault(fault)),
         },
-        Err(error) => Err(reply_to(alloc, &error, words)),
+        Err(error) => Err(reply_to(alloc, &error)),
     }
 }

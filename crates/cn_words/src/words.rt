@@ -1,11 +1,8 @@
 //! The words of the command line, and the help on them.
-ghost use Rattle.std.specs.Prelude.{◌≡◌, [], ◌∷◌, IfOk, MatchOption, codes};
-ghost use Rattle.std.specs.List.{list_any};
-ghost use Rattle.std.specs.Str.{bytes_eq};
+ghost use Rattle.std.specs.Prelude.{◌≡◌, [], ◌∷◌, IfOk, codes};
 ghost use Rattle.clap.specs.Simple.{new_shape};
 ghost use Rattle.clap.specs.Walk.{texts};
-ghost use Rattle.cn_words.specs.CommandLine.{AddsArgument, AddsCommand, HasCommands, HasCommandsFor, IsArgument, IsCommand, IsCommandFor, TakesWords, agree_words, certificate_word, check_words, classify_words, command_with, commands, document_forms, draw_words, explain_words, find_words, flag, form_option, limit_option, lint_words, opening_words, pairs_words, plan_forms, replay_words, required_word, required_words, serve_words, show_words, table_option, table_readers, table_word, value_option, why_words};
-ghost use Rattle.cn_words.specs.WordTooMany.{IsOption, RefusesWord};
+ghost use Rattle.cn_words.specs.CommandLine.{AddsArgument, AddsCommand, AddsTable, HasCommands, HasCommandsFor, IsArgument, IsCommand, IsCommandFor, TakesWords, agree_words, certificate_word, check_words, classify_words, command_with, commands, document_forms, draw_words, explain_words, file_word, find_words, flag, form_option, limit_option, lint_words, opening_words, pairs_words, plan_forms, replay_words, required_word, required_words, serve_words, show_words, table_option, table_word, value_option, why_words};
 
 use clap::builder::ValueParser;
 use clap::{Arg, ArgAction, Command, value_parser};
@@ -45,11 +42,12 @@ const ABOUT: &str = "Finds and checks the consensus number of a shared object ty
 
 const AFTER: &str = help!(
     "\
-Input: a type table in TOML on standard input, at most 65536 bytes, or in the FILE of --table. CERT
+Input: a type table in TOML on standard input, at most 65536 bytes, or in FILE, which is the last
+word or stands behind --table. classify reads one from each FILE, and why and pairs need FILE. CERT
 is a file that holds a certificate, at most 16777216 bytes, or - for standard input where the table
-is in a file. OBJECT is a file that holds the table of an object, at most 65536 bytes. classify, why
-and pairs read tables from each FILE. INPUTS, SCHEDULE, EVENTS and CALLS are lists, or @ and the
-name of a file that holds the list, at most 1048576 bytes.
+is in a file. OBJECT is a file that holds the table of an object, at most 65536 bytes. INPUTS,
+SCHEDULE, EVENTS and CALLS are lists, or @ and the name of a file that holds the list, at most
+1048576 bytes.
 Output: on standard output, written at once. After a fault there is none, but for two: lint writes
 the flaws of a refused table, and after a failed write it is open how much went out. A fault is one
 line on standard error. In classify each table has a line of output or of a fault.
@@ -307,39 +305,6 @@ answers are those of one sequential run, in the order of the entry lines.
 writes answer 0 0 0, entry 0 0 inc 0 1 and events i0:0,s0,s0,s0,s0,s0,s0."
 );
 
-/// The commands that read the table of the type from standard input if no word says where it is.
-const READ_INPUT: [&str; 9] = [
-    "find", "lint", "check", "explain", "show", "draw", "agree", "replay", "serve",
-];
-
-fn has_name(names: &[&str], name: &str) -> bool
-    ensures { result ≡ list_any (λ n. bytes_eq n.now name.now) names.now }
-{
-    names.iter().any(|n| *n == name)
-}
-
-/// Whether the command of this name reads the table of the type from standard input if no word says
-/// where it is.
-pub fn reads_input(command: &str) -> bool
-    ensures { result ≡ list_any (λ name. bytes_eq name command.now) table_readers }
-{
-    has_name(&READ_INPUT, command)
-}
-
-/// The word too many that clap refuses in this text. None if it begins with a dash: then it is an
-/// option, and no file's name.
-pub fn word_too_many(text: &str) -> Option<&str>
-    ensures { MatchOption result ((word : _) → RefusesWord text.now word → IsOption word)
-        (λ w. RefusesWord text.now w.now × ¬ (IsOption w.now)) }
-{
-    let line = text.strip_prefix("error: unexpected argument '")?;
-    let (word, _) = line.split_once("' found\n")?;
-    if word.starts_with('-') {
-        return None;
-    }
-    Some(word)
-}
-
 /// A word that is required.
 fn required_word<'a>(alloc: Global, id: &'a str, help: &'a str) -> Arg<'a>
     ensures { IsArgument (required_word id.entry.now) result }
@@ -383,7 +348,14 @@ fn table_option<'a>(alloc: Global) -> Arg<'a>
     value_option(alloc, "table", "FILE", help)
 }
 
-/// The same file as a word.
+/// The same file as a last word, which may be left out.
+fn file_word<'a>(alloc: Global) -> Arg<'a>
+    ensures { IsArgument file_word result }
+{
+    Arg::new(alloc, "FILE").help("The file that holds the type table, in place of standard input")
+}
+
+/// The same file as a word that is required.
 fn table_word<'a>(alloc: Global) -> Arg<'a>
     ensures { IsArgument table_word result }
 {
@@ -441,12 +413,23 @@ fn with_command<'a>(
     program?.subcommand(command)
 }
 
+/// Adds the file of the table, as an option and as a last word.
+fn with_table<'a>(
+    alloc: Global,
+    command: Result<Command<'a>, AllocError>,
+) -> Result<Command<'a>, AllocError>
+    ensures { IfOk result (AddsTable command.entry) }
+{
+    let with_option = with_argument(command, table_option(alloc));
+    with_argument(with_option, file_word(alloc))
+}
+
 fn find<'a>(alloc: Global) -> Result<Command<'a>, AllocError>
     ensures { IfOk result (IsCommand find_words) }
 {
     let command = bare_command(alloc, "find", FIND_ABOUT, FIND_AFTER);
     let command = with_argument(Ok(command), limit(alloc));
-    with_argument(command, table_option(alloc))
+    with_table(alloc, command)
 }
 
 fn classify<'a>(alloc: Global) -> Result<Command<'a>, AllocError>
@@ -463,7 +446,7 @@ fn lint<'a>(alloc: Global) -> Result<Command<'a>, AllocError>
     ensures { IfOk result (IsCommand lint_words) }
 {
     let command = bare_command(alloc, "lint", LINT_ABOUT, LINT_AFTER);
-    with_argument(Ok(command), table_option(alloc))
+    with_table(alloc, Ok(command))
 }
 
 /// A command that reads a certificate.
@@ -485,7 +468,7 @@ fn check<'a>(alloc: Global) -> Result<Command<'a>, AllocError>
     ensures { IfOk result (IsCommand check_words) }
 {
     let command = with_certificate(alloc, "check", CHECK_ABOUT, CHECK_AFTER);
-    with_argument(command, table_option(alloc))
+    with_table(alloc, command)
 }
 
 /// Whether a command tells all that it has to tell, or the first alone.
@@ -501,7 +484,7 @@ fn explain<'a>(alloc: Global) -> Result<Command<'a>, AllocError>
 {
     let command = with_certificate(alloc, "explain", EXPLAIN_ABOUT, EXPLAIN_AFTER);
     let command = with_argument(command, all(alloc));
-    with_argument(command, table_option(alloc))
+    with_table(alloc, command)
 }
 
 fn why<'a>(alloc: Global) -> Result<Command<'a>, AllocError>
@@ -528,14 +511,14 @@ fn show<'a>(alloc: Global) -> Result<Command<'a>, AllocError>
     let help = "The form in which the plan is written";
     let command = with_certificate(alloc, "show", SHOW_ABOUT, SHOW_AFTER);
     let command = with_argument(command, form(alloc, &PLAN_FORMS, help));
-    with_argument(command, table_option(alloc))
+    with_table(alloc, command)
 }
 
 fn draw<'a>(alloc: Global) -> Result<Command<'a>, AllocError>
     ensures { IfOk result (IsCommand draw_words) }
 {
     let command = bare_command(alloc, "draw", DRAW_ABOUT, DRAW_AFTER);
-    with_argument(Ok(command), table_option(alloc))
+    with_table(alloc, Ok(command))
 }
 
 fn agree<'a>(alloc: Global) -> Result<Command<'a>, AllocError>
@@ -548,7 +531,7 @@ fn agree<'a>(alloc: Global) -> Result<Command<'a>, AllocError>
     let command = with_argument(command, required_word(alloc, "INPUTS", inputs));
     let command = with_argument(command, required_word(alloc, "SCHEDULE", schedule));
     let command = with_argument(command, flag(alloc, "steps", steps));
-    with_argument(command, table_option(alloc))
+    with_table(alloc, command)
 }
 
 /// A command that serves an object.
@@ -575,7 +558,7 @@ fn replay<'a>(alloc: Global) -> Result<Command<'a>, AllocError>
     let events = "The events, in order, or @FILE";
     let command = with_object(alloc, "replay", REPLAY_ABOUT, REPLAY_AFTER);
     let command = with_argument(command, required_word(alloc, "EVENTS", events));
-    with_argument(command, table_option(alloc))
+    with_table(alloc, command)
 }
 
 fn serve<'a>(alloc: Global) -> Result<Command<'a>, AllocError>
@@ -584,7 +567,7 @@ fn serve<'a>(alloc: Global) -> Result<Command<'a>, AllocError>
     let calls = "The calls of each process, in order, or @FILE";
     let command = with_object(alloc, "serve", SERVE_ABOUT, SERVE_AFTER);
     let command = with_argument(command, required_word(alloc, "CALLS", calls));
-    with_argument(command, table_option(alloc))
+    with_table(alloc, command)
 }
 
 /// The program without commands.

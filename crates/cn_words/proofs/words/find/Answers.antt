@@ -1,0 +1,8 @@
+use Rattle.cn_words.proofs.CommandLemmas.{argument_more, table_more}
+use Rattle.cn_words.proofs.words.find.Goals as goal
+
+pub returns : goal.returns
+returns c =
+    table_more _ c.with_table.result _
+    (argument_more _ c.with_argument-command.result _ _ _ c.bare_command-command.ensures c.limit.ensures c.with_argument-command.ensures)
+    c.with_table.ensures
