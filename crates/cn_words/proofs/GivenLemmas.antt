@@ -18,7 +18,7 @@ use Rattle.cn_words.specs.declared.commands.Invocation.TheVariants.{Classify, Of
 use Rattle.cn_words.specs.declared.commands.ListSource.{ListSource}
 use Rattle.cn_words.specs.declared.commands.OpeningWords.{OpeningWords}
 use Rattle.cn_words.specs.declared.commands.TextSource.{TextSource}
-use Rattle.cn_words.specs.GivenCommands.{Finds, HasCertificate, HasDocumentForm, HasFlag, HasForm, HasLimit, HasList, HasNumber, HasOpening, HasTables, IsByte, IsInvocation, IsNamed, IsOfTable, path_in, path_of}
+use Rattle.cn_words.specs.GivenCommands.{Finds, HasCertificate, HasDocumentForm, HasFlag, HasForm, HasLimit, HasList, HasNumber, HasOpening, HasTables, IsByte, IsInvocation, IsNamed, path_in, path_of}
 
 -- two views of an optional value make their pair
 pub pair_of : {A B C : Type 0} (f : A → B) (g : A → C) (o : Option A) (q : Option (B × C)) → option_map f o ≡ option_map (λ p. p.0) q
@@ -122,10 +122,3 @@ pub classify_wants : (rows : List Row) (i : Invocation) → IsInvocation (codes 
     → ((n : Option ℕ) × HasLimit rows n) × ((ts : Vec TextSource Global) × HasTables rows ts.items)
 classify_wants rows (Classify limit recoverable tables) h = ((limit, h.1), (tables, h.3))
 classify_wants rows (OfTable table command) h = absurd (wants (codes "classify") rows command h.arguments)
-
--- what another name asks for is of one table
-pub of_other_name : (name : Text) (rows : List Row) (i : Invocation) → bytes_eq name (codes "classify") ≡ false → IsInvocation name rows i
-    → (table : TextSource) × (command : Command) × IsOfTable name rows table command
-of_other_name name rows (Classify limit recoverable tables) other h =
-    let bad = subst (λ n. bytes_eq n (codes "classify") ≡ false) h.0 other in cc
-of_other_name name rows (OfTable table command) other h = (table, command, h)

@@ -1,8 +1,8 @@
 -- The command that the words of the command line give, by what clap found in them.
 use Rattle.std.specs.Prelude.{◌≡◌, ◌<◌, ◌^◌, ◌++◌, ◌&&◌, ℕ, Bool, true, false, List, Option, Some}
 use Rattle.std.specs.Prelude.{None, MatchOption, if◌then◌else◌, codes, is_some, map}
-use Rattle.std.specs.Prelude.{option_and_then, option_or}
-use Rattle.std.specs.Option.{option_map_or}
+use Rattle.std.specs.Prelude.{option_and_then}
+use Rattle.std.specs.Option.{option_map_or, option_or}
 use Rattle.std.specs.Str.{bytes_eq}
 use Rattle.std.specs.Str.Parse.{IsNumeral, digits_value, without_leading_plus}
 use Rattle.clap.specs.Matches.{found_of}

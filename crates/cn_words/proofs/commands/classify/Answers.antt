@@ -17,9 +17,7 @@ returns-in_default-2 c = λ invocation is.
 pub returns : goal.returns
 returns c = (
   refl,
-  (
-    rw c.in-Some.is at c.optional_limit.ensures,
-    flag_read (found_of c.args.words.now) (codes "recoverable") c.get_flag.result c.get_flag.ensures.none c.get_flag.ensures.value c.get_flag.ensures.other,
-    rw c.in-Some-2.is at c.in_ok-tables.ensures,
-  ),
+  rw c.in-Some.is at c.optional_limit.ensures,
+  flag_read (found_of c.args.words.now) (codes "recoverable") c.get_flag.result c.get_flag.ensures.none c.get_flag.ensures.value c.get_flag.ensures.other,
+  rw c.in-Some-2.is at c.in_ok-tables.ensures,
 )

@@ -1,7 +1,8 @@
-use Rattle.std.proofs.Common.{refl}
+use Rattle.std.proofs.Common.{◌∷◌, [], refl}
 use Rattle.std.proofs.lemmas.Result.{IfOk-weaker}
+use Rattle.clap.specs.Simple.{App}
 use Rattle.clap.specs.declared.builder.value_parser.ValueParser.{ValueParser}
-use Rattle.cn_words.specs.CommandLine.{TakesWords, agree_words, check_words, classify_words, document_forms, draw_words, explain_words, find_words, lint_words, pairs_words, plan_forms, replay_words, serve_words, show_words, why_words}
+use Rattle.cn_words.specs.CommandLine.{TakesWords, agree_words, check_words, classify_words, document_forms, draw_words, explain_words, find_words, lint_words, pairs_words, plan_forms, program_with, replay_words, serve_words, show_words, why_words}
 use Rattle.cn_words.proofs.CommandLemmas.{command_more, command_more_for, form_more}
 use Rattle.cn_words.proofs.words.command.Goals as goal
 
@@ -13,8 +14,9 @@ returns c =
     let to_check = command_more _ _ c.with_command-to_check.result _ check_words to_lint c.check.ensures refl c.with_command-to_check.ensures in
     let to_explain = command_more _ _ c.with_command-to_explain.result _ explain_words to_check c.explain.ensures refl c.with_command-to_explain.ensures in
     let to_why = command_more _ _ c.with_command-to_why.result _ why_words to_explain c.why.ensures refl c.with_command-to_why.ensures in
+    let before_pairs : App = program_with (find_words ∷ classify_words ∷ lint_words ∷ check_words ∷ explain_words ∷ why_words ∷ []) in
     let any : Unit {0} → Type 0 = λ _. Unit {0} in
-    let to_pairs = form_more any document_forms _ _ c.with_command-to_pairs.result (λ _. _) pairs_words
+    let to_pairs = form_more any document_forms _ _ c.with_command-to_pairs.result (λ _. before_pairs) pairs_words
     (IfOk-weaker c.with_command-to_why.result _ _ (λ _ is. (tt, tt, is)) to_why) c.pairs.ensures (λ _. refl) c.with_command-to_pairs.ensures in
     let one : Unit {0} × ValueParser → Type 0 = λ y. any y.0 × TakesWords document_forms y.1 in
     let to_show = form_more one plan_forms _ _ c.with_command-to_show.result _ show_words to_pairs c.show.ensures (λ _. refl) c.with_command-to_show.ensures in
