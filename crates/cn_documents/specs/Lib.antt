@@ -1,0 +1,4 @@
+pub mod Rows
+pub mod Triangle
+pub mod Sentences
+pub mod Documents

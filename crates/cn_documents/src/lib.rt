@@ -1,0 +1,24 @@
+//! Texts of the numbers of types and of their pairs of operations, for people and for documents.
+//!
+//! [`pairs_lines`] answers the numbers of the pairs of operations of a type as a triangle for
+//! people, and [`pairs_table`] as a Markdown table. [`number_head`] and [`number_row`] answer the
+//! head and the rows of a Markdown table of types and their numbers. Each text is a function of the
+//! values that it shows.
+//!
+//! ```text
+//! let pairs = pairs_of(rt, alloc, &table)?;
+//! print!(rt; "{}", pairs_lines(alloc, &table, &pairs)?)?;
+//! print!(rt; "{}", number_head(alloc, false)?)?;
+//! print!(rt; "{}", number_row(alloc, &table, "2", None)?)?;
+//! ```
+#![tactic(auto)]
+
+mod markdown;
+mod numbers;
+mod rows;
+mod sentences;
+mod tables;
+mod triangle;
+
+pub use numbers::{number_head, number_row};
+pub use tables::{pairs_lines, pairs_table};
