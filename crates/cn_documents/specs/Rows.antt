@@ -36,14 +36,14 @@ padding width text = spaces (width - length text)
 
 -- a text in its column: the texts of the first column stand on the left of it, those of each other
 -- column on its right, behind two spaces
-abbrev pub aligned : ℕ → ℕ → List ℕ → List ℕ
-aligned column width text =
+abbrev pub aligned_text : ℕ → ℕ → List ℕ → List ℕ
+aligned_text column width text =
     if column == 0 then text ++ padding width text else codes "  " ++ padding width text ++ text
 
 -- the line of a row; each column is as wide as it is in these rows
 abbrev pub aligned_line : List (List (List ℕ)) → List (List ℕ) → List ℕ
 aligned_line rows row =
-    flat_map (λ c. aligned c (width rows c) (text_at row c)) (range_with_len 0 (length row))
+    flat_map (λ c. aligned_text c (width rows c) (text_at row c)) (range_with_len 0 (length row))
     ++ codes "\n"
 
 abbrev pub aligned_lines : List (List (List ℕ)) → List ℕ

@@ -25,8 +25,8 @@ abbrev pub listed_names : TypeTable → List ℕ → List ℕ
 listed_names t set = flat_map (listed_name t set) (range_with_len 0 (length set))
 
 -- which operations the number needs: all of the type, or only those of the set
-abbrev pub needed : TypeTable → List ℕ → List ℕ
-needed t set =
+abbrev pub needed_operations : TypeTable → List ℕ → List ℕ
+needed_operations t set =
     if length set == length t.operations then codes "all operations"
     else codes "only " ++ listed_names t set
 
@@ -37,7 +37,7 @@ sentence_start mark number =
 
 -- the line of a set, behind a mark
 abbrev pub sentence : List ℕ → TypeTable → ConsensusNumber → List ℕ → List ℕ
-sentence mark t number set = sentence_start mark number ++ needed t set ++ codes ".\n"
+sentence mark t number set = sentence_start mark number ++ needed_operations t set ++ codes ".\n"
 
 -- the lines of the smallest sets
 abbrev pub sentences : List ℕ → TypeTable → Pairs → List ℕ

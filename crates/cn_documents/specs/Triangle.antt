@@ -13,19 +13,19 @@ use Rattle.cn_pairs.specs.declared.pairs.Pairs.{Pairs}
 use Rattle.cn_pairs.specs.declared.restricted.SetNumber.{SetNumber}
 
 -- the number that is told of these operations, if one is
-abbrev pub number_of : List SetNumber → List ℕ → Option ConsensusNumber
-number_of sets operations =
+abbrev pub set_number : List SetNumber → List ℕ → Option ConsensusNumber
+set_number sets operations =
     option_map (λ s. s.number) (find (λ s. bytes_eq (set_of s) operations) sets)
 
 -- its text, or an empty one
-abbrev pub told : List SetNumber → List ℕ → List ℕ
-told sets operations = option_map_or number_text (number_of sets operations) []
+abbrev pub set_number_text : List SetNumber → List ℕ → List ℕ
+set_number_text sets operations = option_map_or number_text (set_number sets operations) []
 
 -- the cell of two operations: the number of both, or of the one if they are the same
 abbrev pub cell : Pairs → ℕ → ℕ → List ℕ
 cell p i j =
-    if nat_lt j i then [] else (if i == j then told p.alone.items (i ∷ [])
-    else told p.pairs.items (i ∷ j ∷ []))
+    if nat_lt j i then [] else (if i == j then set_number_text p.alone.items (i ∷ [])
+    else set_number_text p.pairs.items (i ∷ j ∷ []))
 
 -- the first row: a text for the corner, and the names of the operations
 abbrev pub head : TypeTable → List ℕ → List (List ℕ)

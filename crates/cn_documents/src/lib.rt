@@ -15,10 +15,10 @@
 
 mod markdown;
 mod numbers;
+mod pair_forms;
 mod rows;
 mod sentences;
-mod tables;
 mod triangle;
 
 pub use numbers::{number_head, number_row};
-pub use tables::{pairs_lines, pairs_table};
+pub use pair_forms::{pairs_lines, pairs_table};

@@ -1,7 +1,7 @@
 //! Rows of texts as lines with aligned columns.
 ghost use Rattle.std.specs.Prelude.{◌≡◌, ◌++◌, OnOk, flat_map, length, map, string_bytes};
 ghost use Rattle.std.specs.List.{range_with_len};
-ghost use Rattle.cn_documents.specs.Rows.{aligned, aligned_line, aligned_lines, padding, rows_of, spaces, text_at, texts_of, width};
+ghost use Rattle.cn_documents.specs.Rows.{aligned_text, aligned_line, aligned_lines, padding, rows_of, spaces, text_at, texts_of, width};
 
 use std::alloc::AllocError;
 
@@ -43,14 +43,14 @@ fn push_padding(text: &mut String, width: usize, shown: &str) -> Result<(), Allo
 }
 
 /// The text in its column: on the left of the first column, and on the right of each other one.
-fn push_aligned(
+fn push_aligned_text(
     text: &mut String,
     column: usize,
     width: usize,
     shown: &str,
 ) -> Result<(), AllocError>
     ensures { OnOk result (string_bytes text.new ≡ string_bytes text.old
-        ++ aligned column width shown.now) }
+        ++ aligned_text column width shown.now) }
 {
     if column == 0 {
         text.push_str(shown)?;
@@ -63,11 +63,11 @@ fn push_aligned(
 
 fn push_columns(text: &mut String, rows: &[Vec<String>], row: &[String]) -> Result<(), AllocError>
     ensures { OnOk result (string_bytes text.new ≡ string_bytes text.old
-        ++ flat_map (λ c. aligned c (width (rows_of rows.now) c) (text_at (texts_of row.now) c))
+        ++ flat_map (λ c. aligned_text c (width (rows_of rows.now) c) (text_at (texts_of row.now) c))
         (range_with_len 0 (length row.now))) }
 {
     for column in 0..row.len() {
-        push_aligned(text, column, width(rows, column), text_at(row, column))?;
+        push_aligned_text(text, column, width(rows, column), text_at(row, column))?;
     }
     Ok(())
 }

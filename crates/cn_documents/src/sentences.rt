@@ -3,7 +3,7 @@ ghost use Rattle.std.specs.Prelude.{◌≡◌, ◌<◌, ◌++◌, OnOk, length, 
 ghost use Rattle.cn_table.specs.Names.{name_at};
 ghost use Rattle.cn_table.specs.TypeTable.{operation_names};
 ghost use Rattle.cn_pairs.specs.SetNumbers.{numbers};
-ghost use Rattle.cn_documents.specs.Sentences.{listed_name, listed_names, needed, sentence, sentence_start, sentences, separator};
+ghost use Rattle.cn_documents.specs.Sentences.{listed_name, listed_names, needed_operations, sentence, sentence_start, sentences, separator};
 
 use cn_pairs::Pairs;
 use cn_search::ConsensusNumber;
@@ -60,9 +60,13 @@ fn push_names(text: &mut String, table: &Table, set: &[Operation]) -> Result<(),
 }
 
 /// Which operations are needed: all of the type, or only those of the set.
-fn push_needed(text: &mut String, table: &Table, set: &[Operation]) -> Result<(), AllocError>
+fn push_needed_operations(
+    text: &mut String,
+    table: &Table,
+    set: &[Operation],
+) -> Result<(), AllocError>
     ensures { OnOk result (string_bytes text.new ≡ string_bytes text.old
-        ++ needed table.now (numbers set.now)) }
+        ++ needed_operations table.now (numbers set.now)) }
 {
     if set.len() == table.operations() as usize {
         return text.push_str("all operations");
@@ -71,7 +75,11 @@ fn push_needed(text: &mut String, table: &Table, set: &[Operation]) -> Result<()
     push_names(text, table, set)
 }
 
-fn push_start(text: &mut String, mark: &str, number: ConsensusNumber) -> Result<(), AllocError>
+fn push_sentence_start(
+    text: &mut String,
+    mark: &str,
+    number: ConsensusNumber,
+) -> Result<(), AllocError>
     ensures { OnOk result (string_bytes text.new ≡ string_bytes text.old
         ++ sentence_start mark.now number) }
 {
@@ -89,8 +97,8 @@ fn push_sentence(
     ensures { OnOk result (string_bytes text.new ≡ string_bytes text.old
         ++ sentence mark.now table.now number (numbers set.now)) }
 {
-    push_start(text, mark, number)?;
-    push_needed(text, table, set)?;
+    push_sentence_start(text, mark, number)?;
+    push_needed_operations(text, table, set)?;
     text.push_str(".\n")
 }
 

@@ -4,7 +4,7 @@ ghost use Rattle.std.specs.Str.{bytes_eq};
 ghost use Rattle.cn_table.specs.DraftView.{texts_view};
 ghost use Rattle.cn_pairs.specs.SetNumbers.{numbers, set_of};
 ghost use Rattle.cn_documents.specs.Rows.{rows_of};
-ghost use Rattle.cn_documents.specs.Triangle.{cell, head, number_of, row, rows, told};
+ghost use Rattle.cn_documents.specs.Triangle.{cell, head, set_number, row, rows, set_number_text};
 
 use cn_pairs::{Pairs, SetNumber};
 use cn_search::ConsensusNumber;
@@ -19,8 +19,8 @@ fn is_set(set: &SetNumber, operations: &[Operation]) -> bool
 }
 
 /// The number that is told of these operations, if one is.
-fn number_of(sets: &[SetNumber], operations: &[Operation]) -> Option<ConsensusNumber>
-    ensures { result ≡ number_of sets.now (numbers operations.now) }
+fn set_number(sets: &[SetNumber], operations: &[Operation]) -> Option<ConsensusNumber>
+    ensures { result ≡ set_number sets.now (numbers operations.now) }
 {
     for set in sets {
         if is_set(set, operations) {
@@ -31,11 +31,15 @@ fn number_of(sets: &[SetNumber], operations: &[Operation]) -> Option<ConsensusNu
 }
 
 /// The text of the number that is told of these operations. It is empty if none is.
-fn told(alloc: Global, sets: &[SetNumber], operations: &[Operation]) -> Result<String, AllocError>
+fn set_number_text(
+    alloc: Global,
+    sets: &[SetNumber],
+    operations: &[Operation],
+) -> Result<String, AllocError>
     ensures { IfOk result (λ text. string_bytes text
-        ≡ told sets.now (numbers operations.now)) }
+        ≡ set_number_text sets.now (numbers operations.now)) }
 {
-    match number_of(sets, operations) {
+    match set_number(sets, operations) {
         Some(number) => format!(in alloc; "{number}"),
         None => Ok(String::new(alloc)),
     }
@@ -54,9 +58,9 @@ fn cell(
         return Ok(String::new(alloc));
     }
     if first == second {
-        return told(alloc, pairs.alone.as_slice(), &[first]);
+        return set_number_text(alloc, pairs.alone.as_slice(), &[first]);
     }
-    told(alloc, pairs.pairs.as_slice(), &[first, second])
+    set_number_text(alloc, pairs.pairs.as_slice(), &[first, second])
 }
 
 /// The first row: a text for the corner, and the names of the operations.
