@@ -3,7 +3,8 @@
 //! [`pairs_lines`] answers the numbers of the pairs of operations of a type as a triangle for
 //! people, and [`pairs_table`] as a Markdown table. [`number_head`] and [`number_row`] answer the
 //! head and the rows of a Markdown table of types and their numbers. Each text is a function of the
-//! values that it shows.
+//! values that it shows. By [`laws::cells_tell_numbers`] the cells of the triangle tell the numbers
+//! of the type with these operations alone.
 //!
 //! ```text
 //! let pairs = pairs_of(rt, alloc, &table)?;
@@ -13,6 +14,7 @@
 //! ```
 #![tactic(auto)]
 
+pub mod laws;
 mod markdown;
 mod numbers;
 mod pair_forms;
