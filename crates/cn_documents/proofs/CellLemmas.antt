@@ -48,8 +48,8 @@ pair_in a (suc m) i j low less high =
     let first : List (List ℕ) = map (λ (rest : List ℕ). a ∷ rest) (sublists 1 later) in
     elim (eq-or-lt_of_le low) [
       | inl is ↦
-      IsIn-append_left (i ∷ j ∷ []) first (sublists 2 later)
-      (subst (λ (x : ℕ). IsIn (x ∷ j ∷ []) first) is (IsIn-map (λ (rest : List ℕ). a ∷ rest) (j ∷ []) (sublists 1 later) (single_in (a + 1) m j (omega (arith, is, less)) (omega (arith, high)))))
+          IsIn-append_left (i ∷ j ∷ []) first (sublists 2 later)
+          (subst (λ (x : ℕ). IsIn (x ∷ j ∷ []) first) is (IsIn-map (λ (rest : List ℕ). a ∷ rest) (j ∷ []) (sublists 1 later) (single_in (a + 1) m j (omega (arith, is, less)) (omega (arith, high)))))
       | inr more ↦ IsIn-append_right (i ∷ j ∷ []) first (sublists 2 later) (pair_in (a + 1) m i j (omega (arith, more)) less (omega (arith, high)))
     ]
 
