@@ -1,0 +1,59 @@
+//! A Markdown table of types and their numbers.
+ghost use Rattle.std.specs.Prelude.{◌≡◌, ◌++◌, IfOk, OnOk, flat_map, option_map, option_to_list, string_bytes};
+ghost use Rattle.cn_documents.specs.Documents.{numbers_head, numbers_row};
+ghost use Rattle.cn_documents.specs.Rows.{markdown_cell};
+
+use crate::markdown::push_cell;
+use cn_table::Table;
+use std::alloc::{AllocError, Global};
+
+/// The head of a Markdown table of types and their numbers, with the line below it: a column for
+/// the type, one for its consensus number, and one for its recoverable number if that is told.
+///
+/// # Errors
+///
+/// `AllocError` if memory runs out.
+pub fn number_head(alloc: Global, recoverable: bool) -> Result<String, AllocError>
+    ensures { IfOk result (λ text. string_bytes text ≡ numbers_head recoverable) }
+{
+    if recoverable {
+        return String::from_str(
+            alloc,
+            "| Type | Consensus number | Recoverable |\n| --- | ---: | ---: |\n",
+        );
+    }
+    String::from_str(alloc, "| Type | Consensus number |\n| --- | ---: |\n")
+}
+
+fn push_recoverable(text: &mut String, recoverable: Option<&str>) -> Result<(), AllocError>
+    ensures { OnOk result (string_bytes text.new ≡ string_bytes text.old
+        ++ flat_map markdown_cell (option_to_list (option_map (λ r. r.now) recoverable.entry))) }
+{
+    match recoverable {
+        Some(number) => push_cell(text, number),
+        None => Ok(()),
+    }
+}
+
+/// The row of a type in the table of [`number_head`]: its name, its number, and its recoverable
+/// number if that is told. The numbers are given as words, as `2`, `infinite` or `at least 8`.
+///
+/// # Errors
+///
+/// `AllocError` if memory runs out.
+pub fn number_row(
+    alloc: Global,
+    table: &Table,
+    number: &str,
+    recoverable: Option<&str>,
+) -> Result<String, AllocError>
+    ensures { IfOk result (λ text. string_bytes text
+        ≡ numbers_row table.now.name number.now (option_map (λ r. r.now) recoverable.entry)) }
+{
+    let mut text = String::from_str(alloc, "|")?;
+    push_cell(&mut text, table.name())?;
+    push_cell(&mut text, number)?;
+    push_recoverable(&mut text, recoverable)?;
+    text.push_str("\n")?;
+    Ok(text)
+}
