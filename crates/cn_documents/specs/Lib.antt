@@ -3,3 +3,4 @@ pub mod Triangle
 pub mod NumbersTold
 pub mod Sentences
 pub mod Documents
+pub mod Forms

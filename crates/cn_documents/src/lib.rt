@@ -14,6 +14,7 @@
 //! ```
 #![tactic(auto)]
 
+mod form;
 pub mod laws;
 mod markdown;
 mod numbers;
@@ -22,5 +23,6 @@ mod rows;
 mod sentences;
 mod triangle;
 
+pub use form::{DocumentForm, pairs_as};
 pub use numbers::{number_head, number_row};
 pub use pair_forms::{pairs_lines, pairs_table};

@@ -10,6 +10,7 @@ mod common;
 use crate::plan_forms::as_dot::plan_dot;
 use crate::plan_forms::as_json::plan_json;
 use crate::plan_forms::as_promela::plan_promela;
+use cn_code::{as_c, as_rust};
 use cn_proto::Plan;
 use std::alloc::{AllocError, Global};
 
@@ -24,6 +25,10 @@ pub enum Form {
     Dot,
     /// A model in Promela, for the model checker SPIN.
     Promela,
+    /// A program in Rust.
+    Rust,
+    /// A program in C.
+    C,
 }
 
 /// The text of a plan in a form; its last byte is a line feed. Each form writes the same plan.
@@ -41,6 +46,8 @@ pub enum Form {
 ///   as the value. Assertions say of each decision that it is the value of a process that has
 ///   moved, that it equals every other decision, and that it comes with action 4k, where k is the
 ///   number of places on the path; 4k is at most 4(n-1) for n processes.
+/// - [`Form::Rust`] and [`Form::C`]: consensus for the processes of the plan as one file of source
+///   code ([`as_rust`], [`as_c`]).
 ///
 /// Names consist of lower case letters, digits and underscores, so no form escapes them.
 ///
@@ -55,5 +62,7 @@ pub fn plan_as(alloc: Global, plan: &Plan, form: Form) -> Result<String, AllocEr
         Form::Json => plan_json(alloc, plan),
         Form::Dot => plan_dot(alloc, plan),
         Form::Promela => plan_promela(alloc, plan),
+        Form::Rust => as_rust(alloc, plan),
+        Form::C => as_c(alloc, plan),
     }
 }

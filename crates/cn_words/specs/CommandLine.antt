@@ -55,7 +55,8 @@ flag id = record (new_rule id) { long = Some id; action = Some SetTrue }
 
 -- the words for the forms of a plan
 abbrev pub plan_forms : List Text
-plan_forms = codes "text" ∷ codes "json" ∷ codes "dot" ∷ codes "promela" ∷ []
+plan_forms = codes "text" ∷ codes "json" ∷ codes "dot" ∷ codes "promela" ∷ codes "rust" ∷ codes "c"
+    ∷ []
 
 -- the words for the forms of an answer in a document
 abbrev pub document_forms : List Text

@@ -66,6 +66,8 @@ form_word form.Text = codes "text"
 form_word form.Json = codes "json"
 form_word form.Dot = codes "dot"
 form_word form.Promela = codes "promela"
+form_word form.Rust = codes "rust"
+form_word form.C = codes "c"
 
 abbrev pub HasForm : List Row → Form → Type 0
 HasForm rows plan = HasWord (codes "as") rows (form_word plan)

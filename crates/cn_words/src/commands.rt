@@ -218,6 +218,8 @@ fn form(words: &ArgMatches<'_>) -> Option<Form>
         "json" => Some(Form::Json),
         "dot" => Some(Form::Dot),
         "promela" => Some(Form::Promela),
+        "rust" => Some(Form::Rust),
+        "c" => Some(Form::C),
         _ => None,
     }
 }

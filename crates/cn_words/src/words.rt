@@ -208,7 +208,8 @@ processes.
 
 With --as json this is one JSON object; with --as dot, the tournament as a picture in the language
 DOT, for Graphviz; with --as promela, a model in Promela, in which the model checker spin finds that
-all decisions are equal, are the value of a process that has moved, and come in time.
+all decisions are equal, are the value of a process that has moved, and come in time; with --as rust
+and --as c, a file of source code by which threads agree over an object of the type.
 
 ",
     "  cnum show types/test_and_set_at_3.json < types/test_and_set.toml
@@ -216,7 +217,7 @@ writes five lines, the last of which is process 1: node 0 B role 1."
 );
 
 /// The forms in which `show` writes a plan.
-const PLAN_FORMS: [&str; 4] = ["text", "json", "dot", "promela"];
+const PLAN_FORMS: [&str; 6] = ["text", "json", "dot", "promela", "rust", "c"];
 
 const DRAW_ABOUT: &str = "Draws the states of the type";
 
