@@ -1,0 +1,7 @@
+//! The answers of the program as JSON.
+#![tactic(auto)]
+
+mod draft;
+mod flaws;
+
+pub use flaws::flaws_json;
