@@ -1,2 +1,3 @@
-pub mod Tokens
 pub mod Flaws
+pub mod Tokens
+pub mod Values

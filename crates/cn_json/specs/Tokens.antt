@@ -1,8 +1,9 @@
 -- The tokens of a JSON value, in which a text is written.
-use Rattle.std.specs.Prelude.{◌≡◌, ℕ, List, ◌∷◌, ◌++◌, OnOk, Result}
+use Rattle.std.specs.Prelude.{◌≡◌, ℕ, List, ◌∷◌, ◌++◌, OnOk, Result, map}
 use Rattle.json.specs.Token.{Token, key}
 use Rattle.json.specs.Tree.{json_tokens, items_tokens}
-use Rattle.serde_json.specs.Data.{Data, Items}
+use Rattle.serde_json.specs.Data.{Data}
+use Rattle.serde_json.specs.View.{items_of}
 use Rattle.serde_json.specs.Written.{outline, items_outline}
 
 abbrev pub value_tokens : Data → List Token
@@ -12,9 +13,9 @@ value_tokens d = json_tokens (outline d)
 abbrev pub member_tokens : List ℕ → Data → List Token
 member_tokens k d = key k ∷ value_tokens d
 
--- the items that are left of an array, and its end
-abbrev pub array_rest : Items → List Token
-array_rest ds = items_tokens (items_outline ds)
+-- a value for each thing, and the end of the array
+abbrev pub list_rest : {X : Type 0} → (X → Data) → List X → List Token
+list_rest value xs = items_tokens (items_outline (items_of (map value xs)))
 
 -- these tokens stand behind the old ones, unless memory ran out
 pub record Appends {T E : Type 0} (r : Result T E) (old new tokens : List Token) : Type 0 where

@@ -1,28 +1,27 @@
-//! The answer of `lint`: the flaws of a text.
+//! The flaws of a text as JSON.
 ghost use Rattle.std.specs.Prelude.{◌≡◌, IfOk, map, string_bytes};
-ghost use Rattle.serde_json.specs.View.{items_of};
 ghost use Rattle.serde_json.specs.Written.{compact_text};
 ghost use Rattle.cn_flaws.specs.Flaws.{flaw_view};
 ghost use Rattle.cn_json.specs.Flaws.{flaw_data, flaws_data};
-ghost use Rattle.cn_json.specs.Tokens.{Appends, array_rest, value_tokens};
+ghost use Rattle.cn_json.specs.Tokens.{Appends, list_rest, value_tokens};
 
-use crate::draft::{Draft, write_number, write_text};
+use crate::json_text::JsonText;
 use cn_flaws::Flaw;
 use std::alloc::{AllocError, Global};
 
-fn write_flaw(out: &mut Draft, flaw: &Flaw) -> Result<(), AllocError>
+fn write_flaw(out: &mut JsonText, flaw: &Flaw) -> Result<(), AllocError>
     ensures { Appends result out.old out.new (value_tokens (flaw_data (flaw_view flaw.now))) }
 {
     out.begin_object()?;
-    write_text(out, "kind", flaw.fault.name())?;
-    write_number(out, "number", u64::from(flaw.fault.number()))?;
-    write_text(out, "text", flaw.text.as_str())?;
+    out.text_at("kind", flaw.fault.name())?;
+    out.number_at("number", u64::from(flaw.fault.number()))?;
+    out.text_at("text", flaw.text.as_str())?;
     out.end_object()
 }
 
 /// Writes the flaws, and the end of their array.
-fn write_each_flaw(out: &mut Draft, flaws: &[Flaw]) -> Result<(), AllocError>
-    ensures { Appends result out.old out.new (array_rest (items_of (map flaw_data (map flaw_view flaws.now)))) }
+fn write_each_flaw(out: &mut JsonText, flaws: &[Flaw]) -> Result<(), AllocError>
+    ensures { Appends result out.old out.new (list_rest flaw_data (map flaw_view flaws.now)) }
 {
     for flaw in flaws {
         write_flaw(out, flaw)?;
@@ -30,8 +29,9 @@ fn write_each_flaw(out: &mut Draft, flaws: &[Flaw]) -> Result<(), AllocError>
     out.end_array()
 }
 
-fn write_flaws(out: &mut Draft, flaws: &[Flaw]) -> Result<(), AllocError>
-    ensures { Appends result out.old out.new (value_tokens (flaws_data (map flaw_view flaws.now))) }
+fn write_flaws(out: &mut JsonText, flaws: &[Flaw]) -> Result<(), AllocError>
+    ensures { Appends result out.old out.new
+        (value_tokens (flaws_data (map flaw_view flaws.now))) }
 {
     out.begin_object()?;
     out.key("flaws")?;
@@ -40,8 +40,9 @@ fn write_flaws(out: &mut Draft, flaws: &[Flaw]) -> Result<(), AllocError>
     out.end_object()
 }
 
-/// The flaws of the text of a table as one JSON object, `{"flaws":[..]}`, with a member for each
-/// flaw, in order: `kind`, the name of its fault, `number`, that of the fault, and `text`.
+/// The flaws of the text of a table, as one compact JSON object: `{"flaws":[..]}`. Each flaw, in
+/// order, is an object with `kind`, the name of its fault; `number`, that of the fault; and `text`,
+/// what is wrong, and where.
 ///
 /// # Errors
 ///
@@ -50,7 +51,7 @@ pub fn flaws_json(alloc: Global, flaws: &[Flaw]) -> Result<String, AllocError>
     ensures { IfOk result (λ text. string_bytes text
         ≡ compact_text (flaws_data (map flaw_view flaws.now))) }
 {
-    let mut out = Draft::new(alloc);
+    let mut out = JsonText::new(alloc);
     write_flaws(&mut out, flaws)?;
-    Ok(out.text())
+    Ok(out.finish())
 }

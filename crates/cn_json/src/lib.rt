@@ -1,7 +1,7 @@
 //! The answers of the program as JSON.
 #![tactic(auto)]
 
-mod draft;
 mod flaws;
+mod json_text;
 
 pub use flaws::flaws_json;

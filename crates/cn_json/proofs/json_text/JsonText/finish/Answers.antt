@@ -1,7 +1,7 @@
 use Rattle.std.proofs.Common.{◌≡◌, ◌++◌, ap, ◌∙◌, string_bytes}
 use Rattle.json.specs.Print.{print}
 use Rattle.serde_json.proofs.Texts.{print-outline}
-use Rattle.cn_json.proofs.draft.Draft.text.Goals as goal
+use Rattle.cn_json.proofs.json_text.JsonText.finish.Goals as goal
 
 pub returns : goal.returns
 returns c = λ d written.
