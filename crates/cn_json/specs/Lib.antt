@@ -1,3 +1,4 @@
 pub mod Flaws
 pub mod Tokens
 pub mod Values
+pub mod Course
