@@ -2,3 +2,4 @@ pub mod Flaws
 pub mod Tokens
 pub mod Values
 pub mod Course
+pub mod Numbers
