@@ -11,3 +11,8 @@ behind (Err x) before now new p q here last = tt
 -- a piece, and behind it what a last call adds
 pub piece : {T E U F : Type 0} {x : T} {r : Result U F} {before now new p q : List Token} → Appends {T = T} {E = E} (Ok x) before now p → Appends r now new q → Appends r before new (p ++ q)
 piece {r = r} {before = before} {now = now} {new = new} {p = p} {q = q} here last = record { ok = behind r before now new p q here.ok last.ok }
+
+-- a last call that ends what was begun
+pub closing : {T E : Type 0} (r : Result T E) (before now new last all : List Token) → Appends r now new last → now ++ last ≡ before ++ all → Appends r before new all
+closing (Ok x) before now new last all here same = record { ok = here.ok ∙ same }
+closing (Err x) before now new last all here same = record { ok = tt }

@@ -3,3 +3,4 @@ pub mod Tokens
 pub mod Values
 pub mod Course
 pub mod Numbers
+pub mod Log

@@ -13,9 +13,13 @@ value_tokens d = json_tokens (outline d)
 abbrev pub member_tokens : List ℕ → Data → List Token
 member_tokens k d = key k ∷ value_tokens d
 
+-- the values that are left of an array, and its end
+abbrev pub values_rest : List Data → List Token
+values_rest ds = items_tokens (items_outline (items_of ds))
+
 -- a value for each thing, and the end of the array
 abbrev pub list_rest : {X : Type 0} → (X → Data) → List X → List Token
-list_rest value xs = items_tokens (items_outline (items_of (map value xs)))
+list_rest value xs = values_rest (map value xs)
 
 -- the members that are left of an object, and its end
 abbrev pub members_rest : Members → List Token

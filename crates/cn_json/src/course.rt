@@ -177,8 +177,7 @@ fn write_decisions(out: &mut JsonText, decisions: &[Option<u64>]) -> Result<(), 
     ensures { Appends result out.old out.new (value_tokens (decisions_data decisions.now)) }
 {
     out.begin_object()?;
-    out.key("decisions")?;
-    out.begin_array()?;
+    out.begin_array_at("decisions")?;
     write_each_decision(out, decisions)?;
     out.end_object()
 }
@@ -188,11 +187,9 @@ fn write_course(out: &mut JsonText, table: &Table, course: &Course) -> Result<()
     ensures { Appends result out.old out.new (value_tokens (course_data table.now course.now)) }
 {
     out.begin_object()?;
-    out.key("decisions")?;
-    out.begin_array()?;
+    out.begin_array_at("decisions")?;
     write_each_decision(out, course.decisions.as_slice())?;
-    out.key("steps")?;
-    out.begin_array()?;
+    out.begin_array_at("steps")?;
     write_each_step(out, table, course.records.as_slice())?;
     out.end_object()
 }

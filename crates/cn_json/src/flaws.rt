@@ -34,8 +34,7 @@ fn write_flaws(out: &mut JsonText, flaws: &[Flaw]) -> Result<(), AllocError>
         (value_tokens (flaws_data (map flaw_view flaws.now))) }
 {
     out.begin_object()?;
-    out.key("flaws")?;
-    out.begin_array()?;
+    out.begin_array_at("flaws")?;
     write_each_flaw(out, flaws)?;
     out.end_object()
 }

@@ -117,4 +117,12 @@ impl JsonText {
         self.key(name)?;
         self.number(n)
     }
+
+    /// A key and the beginning of an array.
+    pub(crate) fn begin_array_at(&mut self, name: &str) -> Result<(), AllocError>
+        ensures { Appends result self.old self.new (key name.now ∷ begin_array ∷ []) }
+    {
+        self.key(name)?;
+        self.begin_array()
+    }
 }
