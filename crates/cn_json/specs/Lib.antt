@@ -1,0 +1,6 @@
+pub mod Flaws
+pub mod Tokens
+pub mod Values
+pub mod Course
+pub mod Numbers
+pub mod Log

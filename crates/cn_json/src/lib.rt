@@ -1,0 +1,13 @@
+//! The answers of the program as JSON.
+#![tactic(auto)]
+
+mod course;
+mod flaws;
+mod json_text;
+mod log;
+mod numbers;
+
+pub use course::{course_json, decisions_json};
+pub use flaws::flaws_json;
+pub use log::{Answer, AnswerOf, log_json, service_json};
+pub use numbers::{Classification, TypeNumber, classification_json};

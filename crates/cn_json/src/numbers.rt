@@ -1,0 +1,128 @@
+//! The numbers of a type as JSON.
+ghost use Rattle.std.specs.Prelude.{◌≡◌, IfOk, string_bytes};
+ghost use Rattle.serde_json.specs.Written.{compact_text};
+ghost use Rattle.cn_json.specs.Numbers.{at_least_data, classification_data, exact_data, limited_data, range_data, recoverable_members, type_number_data};
+ghost use Rattle.cn_json.specs.Tokens.{Appends, members_rest, value_tokens};
+
+use crate::json_text::JsonText;
+use cn_search::ConsensusNumber;
+use std::alloc::{AllocError, Global};
+
+/// The consensus number of a type, or its recoverable number.
+#[derive(Clone, Copy, Debug)]
+pub enum TypeNumber {
+    /// The number, with no limit.
+    Exact(ConsensusNumber),
+    /// The number up to a limit: the greatest n from 2 to the limit for which the type has the
+    /// property, or none.
+    UpTo(u8, Option<u8>),
+}
+
+/// The numbers of a type.
+#[derive(Clone, Copy, Debug)]
+pub struct Classification<'a> {
+    /// The name of the type.
+    pub name: &'a str,
+    /// Its consensus number.
+    pub number: TypeNumber,
+    /// Its recoverable number, if it is asked for.
+    pub recoverable: Option<TypeNumber>,
+}
+
+fn write_range(out: &mut JsonText, least: u8, most: u8) -> Result<(), AllocError>
+    ensures { Appends result out.old out.new (value_tokens (range_data least most)) }
+{
+    out.begin_object()?;
+    out.number_at("from", u64::from(least))?;
+    out.number_at("to", u64::from(most))?;
+    out.end_object()
+}
+
+fn write_at_least(out: &mut JsonText, n: u8) -> Result<(), AllocError>
+    ensures { Appends result out.old out.new (value_tokens (at_least_data n)) }
+{
+    out.begin_object()?;
+    out.number_at("at_least", u64::from(n))?;
+    out.end_object()
+}
+
+/// Writes a number with no limit: the number; `"infinite"`; or `{"from":N,"to":M}`.
+pub(crate) fn write_exact(out: &mut JsonText, number: ConsensusNumber) -> Result<(), AllocError>
+    ensures { Appends result out.old out.new (value_tokens (exact_data number)) }
+{
+    match number {
+        ConsensusNumber::Finite(n) => out.number(u64::from(n)),
+        ConsensusNumber::Infinite => out.text("infinite"),
+        ConsensusNumber::Between(least, most) => write_range(out, least, most),
+    }
+}
+
+/// Writes a number up to a limit: 1 where there is none, and `{"at_least":N}` where it is the
+/// limit.
+fn write_limited(out: &mut JsonText, limit: u8, number: Option<u8>) -> Result<(), AllocError>
+    ensures { Appends result out.old out.new (value_tokens (limited_data limit number)) }
+{
+    match number {
+        None => out.number(1),
+        Some(n) if n < limit => out.number(u64::from(n)),
+        Some(n) => write_at_least(out, n),
+    }
+}
+
+fn write_type_number(out: &mut JsonText, number: TypeNumber) -> Result<(), AllocError>
+    ensures { Appends result out.old out.new (value_tokens (type_number_data number)) }
+{
+    match number {
+        TypeNumber::Exact(number) => write_exact(out, number),
+        TypeNumber::UpTo(limit, number) => write_limited(out, limit, number),
+    }
+}
+
+/// Writes the recoverable number, if it is there, and the end of the object.
+fn write_recoverable(out: &mut JsonText, recoverable: Option<TypeNumber>) -> Result<(), AllocError>
+    ensures { Appends result out.old out.new (members_rest (recoverable_members recoverable)) }
+{
+    let Some(number) = recoverable else {
+        return out.end_object();
+    };
+    out.key("recoverable")?;
+    write_type_number(out, number)?;
+    out.end_object()
+}
+
+fn write_classification(
+    out: &mut JsonText,
+    classification: Classification<'_>,
+) -> Result<(), AllocError>
+    ensures { Appends result out.old out.new
+        (value_tokens (classification_data classification.entry)) }
+{
+    out.begin_object()?;
+    out.text_at("name", classification.name)?;
+    out.key("number")?;
+    write_type_number(out, classification.number)?;
+    write_recoverable(out, classification.recoverable)
+}
+
+/// The numbers of a type, as one compact JSON object: `{"name":..,"number":..}`, and behind these
+/// `"recoverable":..`, if the recoverable number is asked for. A number is
+///
+/// - `N`: it is this number, with no limit and up to any limit above it;
+/// - `"infinite"`, with no limit;
+/// - `{"from":N,"to":M}`: with no limit, it is one of these;
+/// - `{"at_least":N}`: it is at least the limit N.
+///
+/// # Errors
+///
+/// `AllocError` if memory runs out.
+pub fn classification_json(
+    alloc: Global,
+    classification: Classification<'_>,
+) -> Result<String, AllocError>
+    ensures { IfOk result (λ text. string_bytes text
+        ≡ compact_text (classification_data classification.entry)) }
+{
+    let mut out = JsonText::new(alloc);
+    write_classification(&mut out, classification)?;
+    Ok(out.finish())
+}
