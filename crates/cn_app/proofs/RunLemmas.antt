@@ -1,5 +1,5 @@
 -- Commands over readers and a writer of a caller: what a command says of its texts and its output holds of the bytes and of the writer.
-use Rattle.std.proofs.Common.{◌≡◌, ◌⊎◌, ◌∙◌, inl, inr, ℕ, false, List, ◌++◌, map, Option, Some, None, Result, Ok, Err, refl, ap, sym, string_bytes, subst}
+use Rattle.std.proofs.Common.{◌≡◌, ◌⊎◌, ◌∙◌, inl, inr, ℕ, List, ◌++◌, map, Option, Some, None, Result, Ok, Err, refl, ap, sym, string_bytes, subst}
 use Rattle.std.specs.Io.KnownBytes.{Appends}
 use Rattle.cn_table.specs.Faults as table
 use Rattle.cn_cert.specs.Reading as certificate
@@ -16,7 +16,7 @@ use Rattle.cn_app.specs.Commands.Find.{HasFindReport, IsFindReport, IsLimitFor}
 use Rattle.cn_app.specs.Commands.Replay.{HasReplayReport, IsReplayReport}
 use Rattle.cn_app.specs.Commands.Serve.{HasServeReport, IsServeReport}
 use Rattle.cn_app.specs.Commands.Show.{HasShowReport, IsShowReport}
-use Rattle.cn_app.specs.Runs.{HandsOn, OfBytes, Reads, ReadsCertificate, ReadsChecked, ReadsObject, ReadsOpening, ReadsTable, WritesReport, agree_of, check_of, find_of, replay_of, serve_of, show_of}
+use Rattle.cn_app.specs.Runs.{HandsOn, OfBytes, Reads, ReadsCertificate, ReadsChecked, ReadsObject, ReadsOpening, ReadsTable, WritesReport, agree_of, check_of, decisions_in_lines, find_of, replay_of, serve_of, show_of}
 use Rattle.cn_app.specs.Steps.{Then}
 use Rattle.cn_app.specs.Streams.Reading.{FailsReading, Gives, HasRead}
 use Rattle.cn_app.specs.Streams.Writing.{IsUnwritten, Reports}
@@ -113,11 +113,11 @@ module _ {R C : Type 0} (t : Text R) (c : Text C) (table_bytes certificate_bytes
   pub show_is : (r : Result Report AppFault) → HasShowReport t c form.Text r → show_of table_bytes certificate_bytes r
   show_is r h = then_same (GivesChecked t c) (ReadsChecked table_bytes certificate_bytes) (λ checked. IsShowReport checked form.Text) checked_is r h
 
-  pub agree_is : (inputs schedule : ListText) (r : Result Report AppFault) → HasAgreeReport t c inputs schedule false r → agree_of table_bytes certificate_bytes inputs schedule r
+  pub agree_is : (inputs schedule : ListText) (r : Result Report AppFault) → HasAgreeReport t c inputs schedule decisions_in_lines r → agree_of table_bytes certificate_bytes inputs schedule r
   agree_is inputs schedule r h =
-      then_next (GivesLists inputs schedule) (λ l. Then (GivesChecked t c) (λ checked. IsAgreeReport checked l.inputs.items l.schedule.items false))
-      (λ l. Then (ReadsChecked table_bytes certificate_bytes) (λ checked. IsAgreeReport checked l.inputs.items l.schedule.items false))
-      (λ l. then_same (GivesChecked t c) (ReadsChecked table_bytes certificate_bytes) (λ checked. IsAgreeReport checked l.inputs.items l.schedule.items false) checked_is) r h
+      then_next (GivesLists inputs schedule) (λ l. Then (GivesChecked t c) (λ checked. IsAgreeReport checked l.inputs.items l.schedule.items decisions_in_lines))
+      (λ l. Then (ReadsChecked table_bytes certificate_bytes) (λ checked. IsAgreeReport checked l.inputs.items l.schedule.items decisions_in_lines))
+      (λ l. then_same (GivesChecked t c) (ReadsChecked table_bytes certificate_bytes) (λ checked. IsAgreeReport checked l.inputs.items l.schedule.items decisions_in_lines) checked_is) r h
 
 -- a table, a certificate and an object, by the bytes of each
 module _ {R C O : Type 0} (given : OpeningArguments R C O) (table_bytes certificate_bytes object_bytes : List ℕ)

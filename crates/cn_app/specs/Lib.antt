@@ -3,6 +3,7 @@ pub mod Arguments
 pub mod Commands
 pub mod ConsensusNumber
 pub mod FaultText
+pub mod Forms
 pub mod Headline
 pub mod Lines
 pub mod Outcomes

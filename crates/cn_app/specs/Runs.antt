@@ -6,6 +6,7 @@ use Rattle.cn_table.specs.TypeTable.{TypeTable}
 use Rattle.cn_cert.specs.Certificate.{Certificate}
 use Rattle.cn_log.specs.Opening.{Log, Opening}
 use Rattle.cn_forms.specs.declared.plan_forms.Form.TheVariants as form
+use Rattle.cn_json.specs.declared.form.AnswerForm.TheVariants as answer
 use Rattle.cn_app.specs.Arguments.Calls.{GivesCalls, calls_in}
 use Rattle.cn_app.specs.Arguments.Events.{GivesCapacity, GivesEvents, events_in, words_of}
 use Rattle.cn_app.specs.Arguments.Lists.{GivesLists}
@@ -27,6 +28,7 @@ use Rattle.cn_app.specs.declared.fault.Source.TheVariants as source
 use Rattle.cn_app.specs.declared.readers.checked.Checked.{Checked}
 use Rattle.cn_app.specs.declared.report.Outcome.{Outcome}
 use Rattle.cn_app.specs.declared.report.Report.{Report}
+use Rattle.cn_app.specs.declared.reports.agree.AskedRun.{AskedRun}
 use Rattle.cn_app.specs.declared.threads.workers.ProcessHistory.{ProcessHistory}
 
 -- these are all bytes that a reader has left, if those are known
@@ -80,10 +82,14 @@ abbrev pub show_of : List ℕ → List ℕ → Result Report AppFault → Type 0
 show_of table certificate r =
     Then (ReadsChecked table certificate) (λ checked. IsShowReport checked form.Text) r
 
+-- the decisions alone, in lines
+abbrev pub decisions_in_lines : AskedRun
+decisions_in_lines = record { steps = false; form = answer.Text }
+
 abbrev pub agree_of : List ℕ → List ℕ → ListText → ListText → Result Report AppFault → Type 0
 agree_of table certificate inputs schedule r =
     Then (GivesLists inputs schedule) (λ lists. Then (ReadsChecked table certificate)
-    (λ checked. IsAgreeReport checked lists.inputs.items lists.schedule.items false)) r
+    (λ checked. IsAgreeReport checked lists.inputs.items lists.schedule.items decisions_in_lines)) r
 
 abbrev pub replay_of : List ℕ → List ℕ → List ℕ → List ℕ → List ℕ → ListText
     → Result Report AppFault → Type 0

@@ -1,7 +1,8 @@
 //! Reports: what a command writes, and how it ends.
-ghost use Rattle.std.specs.Prelude.{◌≡◌};
+ghost use Rattle.std.specs.Prelude.{◌≡◌, ◌++◌, IfOk, codes, string_bytes};
 
 use cn_table::TableFault;
+use std::alloc::AllocError;
 
 /// How a command that wrote its output ended.
 #[derive(Clone, Copy, Debug, PartialEq, Eq)]
@@ -46,4 +47,12 @@ impl Report {
             outcome: Outcome::Whole,
         }
     }
+}
+
+/// A text with a line feed behind it.
+pub(crate) fn with_line_feed(mut text: String) -> Result<String, AllocError>
+    ensures { IfOk result (λ line. string_bytes line ≡ string_bytes text.entry ++ codes "\n") }
+{
+    text.push_str("\n")?;
+    Ok(text)
 }

@@ -16,7 +16,7 @@ mod serve;
 mod show;
 mod why;
 
-pub use agree::agree_report;
+pub use agree::{AskedRun, agree_report};
 pub use check::check_report;
 pub use classify::{AskedNumbers, check_limit, class_report, numbers_report, recoverable_report};
 pub use draw::draw_report;

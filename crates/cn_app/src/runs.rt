@@ -15,10 +15,12 @@ use crate::commands;
 use crate::fault::AppFault;
 use crate::readers::opening::OpeningArguments;
 use crate::report::Outcome;
+use crate::reports::AskedRun;
 use crate::streams::output::Output;
 use crate::streams::text::Text;
 use cn_forms::Form;
 use cn_hall::Gate;
+use cn_json::AnswerForm;
 use std::alloc::Global;
 use std::io::{self, Read, Sink, Write};
 use std::sync::Wait;
@@ -147,6 +149,10 @@ pub fn run_agree<T, R: Read + Drop, C: Read + Drop, W: Write>(
     let mut certificate = Text::new(alloc, certificate);
     let mut output = kept(alloc);
     let (inputs, schedule) = (ListText::Word(inputs), ListText::Word(schedule));
+    let asked = AskedRun {
+        steps: false,
+        form: AnswerForm::Text,
+    };
     let ended = commands::agree(
         alloc,
         &mut table,
@@ -154,7 +160,7 @@ pub fn run_agree<T, R: Read + Drop, C: Read + Drop, W: Write>(
         &mut output,
         inputs,
         schedule,
-        false,
+        asked,
     );
     hand_over(writer, &output, ended)
 }

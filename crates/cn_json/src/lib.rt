@@ -3,11 +3,13 @@
 
 mod course;
 mod flaws;
+mod form;
 mod json_text;
 mod log;
 mod numbers;
 
 pub use course::{course_json, decisions_json};
 pub use flaws::flaws_json;
+pub use form::AnswerForm;
 pub use log::{Answer, AnswerOf, log_json, service_json};
 pub use numbers::{Classification, TypeNumber, classification_json};

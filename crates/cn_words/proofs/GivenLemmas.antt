@@ -11,6 +11,7 @@ use Rattle.clap.specs.declared.parser.matches.Found.{Found}
 use Rattle.clap.proofs.WalkLemmas.{one_text-rows, raw_values-rows}
 use Rattle.cn_documents.specs.declared.form.DocumentForm.{DocumentForm}
 use Rattle.cn_forms.specs.declared.plan_forms.Form.{Form}
+use Rattle.cn_json.specs.declared.form.AnswerForm.{AnswerForm}
 use Rattle.cn_words.specs.declared.commands.Command.{Command}
 use Rattle.cn_words.specs.declared.commands.Command.TheVariants.{Find, Lint, Draw, Check, Explain, Why, Pairs, Show, Agree, Replay, Serve}
 use Rattle.cn_words.specs.declared.commands.Invocation.{Invocation}
@@ -18,7 +19,7 @@ use Rattle.cn_words.specs.declared.commands.Invocation.TheVariants.{Classify, Of
 use Rattle.cn_words.specs.declared.commands.ListSource.{ListSource}
 use Rattle.cn_words.specs.declared.commands.OpeningWords.{OpeningWords}
 use Rattle.cn_words.specs.declared.commands.TextSource.{TextSource}
-use Rattle.cn_words.specs.GivenCommands.{Finds, HasCertificate, HasDocumentForm, HasFlag, HasForm, HasLimit, HasList, HasNumber, HasOpening, HasTables, IsByte, IsInvocation, IsNamed, path_in, path_of}
+use Rattle.cn_words.specs.GivenCommands.{Finds, HasAnswerForm, HasCertificate, HasDocumentForm, HasFlag, HasForm, HasLimit, HasList, HasNumber, HasOpening, HasTables, IsByte, IsInvocation, IsNamed, path_in, path_of}
 
 -- two views of an optional value make their pair
 pub pair_of : {A B C : Type 0} (f : A → B) (g : A → C) (o : Option A) (q : Option (B × C)) → option_map f o ≡ option_map (λ p. p.0) q
@@ -90,14 +91,14 @@ no_tables f tables found given = let bad = found ∙ raw_values-rows f (codes "F
 abbrev pub Wants : Text → List Row → Type 0
 Wants name rows =
     MatchBool (bytes_eq name (codes "find")) ((n : Option ℕ) × HasLimit rows n)
-    (MatchBool (bytes_eq name (codes "lint")) (Unit {0})
+    (MatchBool (bytes_eq name (codes "lint")) ((form : AnswerForm) × HasAnswerForm rows form)
     (MatchBool (bytes_eq name (codes "draw")) (Unit {0})
     (MatchBool (bytes_eq name (codes "check")) ((w : TextSource) × HasCertificate rows w)
     (MatchBool (bytes_eq name (codes "explain")) ((w : TextSource) × HasCertificate rows w)
     (MatchBool (bytes_eq name (codes "why")) ((n : Option ℕ) × HasLimit rows n)
     (MatchBool (bytes_eq name (codes "pairs")) ((form : DocumentForm) × HasDocumentForm rows form)
     (MatchBool (bytes_eq name (codes "show")) (((w : TextSource) × HasCertificate rows w) × ((plan : Form) × HasForm rows plan))
-    (MatchBool (bytes_eq name (codes "agree")) (((w : TextSource) × HasCertificate rows w) × ((l : ListSource) × HasList (codes "INPUTS") rows l) × ((l : ListSource) × HasList (codes "SCHEDULE") rows l))
+    (MatchBool (bytes_eq name (codes "agree")) (((w : TextSource) × HasCertificate rows w) × ((l : ListSource) × HasList (codes "INPUTS") rows l) × ((l : ListSource) × HasList (codes "SCHEDULE") rows l) × ((form : AnswerForm) × HasAnswerForm rows form))
     (MatchBool (bytes_eq name (codes "replay")) (((o : OpeningWords) × HasOpening rows o) × ((l : ListSource) × HasList (codes "EVENTS") rows l))
     (MatchBool (bytes_eq name (codes "serve")) (((o : OpeningWords) × HasOpening rows o) × ((l : ListSource) × HasList (codes "CALLS") rows l))
     ⊥))))))))))
@@ -105,15 +106,15 @@ Wants name rows =
 -- every command of this name has what it requires
 pub wants : (name : Text) (rows : List Row) (c : Command) → IsNamed name rows c → Wants name rows
 wants name rows (Find limit) h = subst (λ n. Wants n rows) (sym h.0) (limit, h.1)
-wants name rows Lint h = subst (λ n. Wants n rows) (sym h.0) tt
+wants name rows (Lint form) h = subst (λ n. Wants n rows) (sym h.0) (form, h.1)
 wants name rows Draw h = subst (λ n. Wants n rows) (sym h.0) tt
 wants name rows (Check certificate) h = subst (λ n. Wants n rows) (sym h.0) (certificate, h.1)
 wants name rows (Explain certificate all) h = subst (λ n. Wants n rows) (sym h.0) (certificate, h.1.0)
 wants name rows (Why limit all) h = subst (λ n. Wants n rows) (sym h.0) (limit, h.1.0)
 wants name rows (Pairs form) h = subst (λ n. Wants n rows) (sym h.0) (form, h.1)
 wants name rows (Show certificate plan) h = subst (λ n. Wants n rows) (sym h.0) ((certificate, h.1.0), (plan, h.1.1))
-wants name rows (Agree certificate inputs schedule steps) h =
-    subst (λ n. Wants n rows) (sym h.0) ((certificate, h.1.0), (inputs, h.1.1), (schedule, h.1.2))
+wants name rows (Agree certificate inputs schedule steps form) h =
+    subst (λ n. Wants n rows) (sym h.0) ((certificate, h.1.0), (inputs, h.1.1), (schedule, h.1.2), (form, h.1.4))
 wants name rows (Replay opening events) h = subst (λ n. Wants n rows) (sym h.0) ((opening, h.1.0), (events, h.1.1))
 wants name rows (Serve opening calls) h = subst (λ n. Wants n rows) (sym h.0) ((opening, h.1.0), (calls, h.1.1))
 

@@ -58,6 +58,10 @@ abbrev pub plan_forms : List Text
 plan_forms = codes "text" ∷ codes "json" ∷ codes "dot" ∷ codes "promela" ∷ codes "rust" ∷ codes "c"
     ∷ []
 
+-- the words for the forms of an answer
+abbrev pub answer_forms : List Text
+answer_forms = codes "text" ∷ codes "json" ∷ []
+
 -- the words for the forms of an answer in a document
 abbrev pub document_forms : List Text
 document_forms = codes "text" ∷ codes "markdown" ∷ []
@@ -67,15 +71,19 @@ abbrev pub TakesWords : List Text → ValueParser → Type 0
 TakesWords words (Names names) = texts names.now ≡ words
 TakesWords words parser = ⊥
 
--- the value parsers of the options for a form: that of `pairs`, and that of `show`
+-- the value parsers of the options for a form: those of `lint`, `pairs`, `show` and `agree`
 pub record Forms : Type 0 where
-  pub document : ValueParser
-  pub plan : ValueParser
+  pub lint : ValueParser
+  pub pairs : ValueParser
+  pub show : ValueParser
+  pub agree : ValueParser
 
 -- each takes the words for its forms
 pub record TakesForms (forms : Forms) : Type 0 where
-  pub document : TakesWords document_forms forms.document
-  pub plan : TakesWords plan_forms forms.plan
+  pub lint : TakesWords answer_forms forms.lint
+  pub pairs : TakesWords document_forms forms.pairs
+  pub show : TakesWords plan_forms forms.show
+  pub agree : TakesWords answer_forms forms.agree
 
 -- ---- the commands
 
@@ -97,8 +105,8 @@ abbrev pub classify_words : Shape
 classify_words = command_with (codes "classify")
     (limit_option ∷ flag (codes "recoverable") ∷ required_words (codes "FILE") ∷ [])
 
-abbrev pub lint_words : Shape
-lint_words = command_with (codes "lint") (table_option ∷ file_word ∷ [])
+abbrev pub lint_words : ValueParser → Shape
+lint_words forms = command_with (codes "lint") (form_option forms ∷ table_option ∷ file_word ∷ [])
 
 abbrev pub check_words : Shape
 check_words = command_with (codes "check") (certificate_word ∷ table_option ∷ file_word ∷ [])
@@ -120,10 +128,10 @@ show_words forms = command_with (codes "show")
 abbrev pub draw_words : Shape
 draw_words = command_with (codes "draw") (table_option ∷ file_word ∷ [])
 
-abbrev pub agree_words : Shape
-agree_words = command_with (codes "agree")
+abbrev pub agree_words : ValueParser → Shape
+agree_words forms = command_with (codes "agree")
     (certificate_word ∷ required_word (codes "INPUTS") ∷ required_word (codes "SCHEDULE")
-    ∷ flag (codes "steps") ∷ table_option ∷ file_word ∷ [])
+    ∷ flag (codes "steps") ∷ form_option forms ∷ table_option ∷ file_word ∷ [])
 
 abbrev pub replay_words : Shape
 replay_words = command_with (codes "replay")
@@ -135,9 +143,9 @@ serve_words = command_with (codes "serve")
 
 -- the commands, in the order in which the help names them
 abbrev pub commands : Forms → List Shape
-commands forms = find_words ∷ classify_words ∷ lint_words ∷ check_words ∷ explain_words
-    ∷ why_words ∷ pairs_words forms.document ∷ show_words forms.plan ∷ draw_words ∷ agree_words
-    ∷ replay_words ∷ serve_words ∷ []
+commands forms = find_words ∷ classify_words ∷ lint_words forms.lint ∷ check_words ∷ explain_words
+    ∷ why_words ∷ pairs_words forms.pairs ∷ show_words forms.show ∷ draw_words
+    ∷ agree_words forms.agree ∷ replay_words ∷ serve_words ∷ []
 
 -- the program with these commands in this order; a command is required
 abbrev pub program_with : List Shape → App

@@ -13,6 +13,8 @@ use Rattle.cn_documents.specs.declared.form.DocumentForm.{DocumentForm}
 use Rattle.cn_documents.specs.declared.form.DocumentForm.TheVariants as document
 use Rattle.cn_forms.specs.declared.plan_forms.Form.{Form}
 use Rattle.cn_forms.specs.declared.plan_forms.Form.TheVariants as form
+use Rattle.cn_json.specs.declared.form.AnswerForm.{AnswerForm}
+use Rattle.cn_json.specs.declared.form.AnswerForm.TheVariants as answer
 use Rattle.cn_words.specs.declared.commands.Command.{Command}
 use Rattle.cn_words.specs.declared.commands.Command.TheVariants.{Find, Lint, Draw, Check}
 use Rattle.cn_words.specs.declared.commands.Command.TheVariants.{Explain, Why, Pairs, Show, Agree}
@@ -71,6 +73,13 @@ form_word form.C = codes "c"
 
 abbrev pub HasForm : List Row → Form → Type 0
 HasForm rows plan = HasWord (codes "as") rows (form_word plan)
+
+abbrev pub answer_word : AnswerForm → Text
+answer_word answer.Text = codes "text"
+answer_word answer.Json = codes "json"
+
+abbrev pub HasAnswerForm : List Row → AnswerForm → Type 0
+HasAnswerForm rows form = HasWord (codes "as") rows (answer_word form)
 
 abbrev pub document_word : DocumentForm → Text
 document_word document.Text = codes "text"
@@ -139,21 +148,21 @@ HasOpening rows opening = HasCertificate rows opening.certificate
 
 abbrev pub name_of : Command → Text
 name_of (Find limit) = codes "find"
-name_of Lint = codes "lint"
+name_of (Lint form) = codes "lint"
 name_of Draw = codes "draw"
 name_of (Check certificate) = codes "check"
 name_of (Explain certificate all) = codes "explain"
 name_of (Why limit all) = codes "why"
 name_of (Pairs form) = codes "pairs"
 name_of (Show certificate plan) = codes "show"
-name_of (Agree certificate inputs schedule steps) = codes "agree"
+name_of (Agree certificate inputs schedule steps form) = codes "agree"
 name_of (Replay opening events) = codes "replay"
 name_of (Serve opening calls) = codes "serve"
 
 -- each argument is what its word says
 abbrev pub HasArguments : List Row → Command → Type 0
 HasArguments rows (Find limit) = HasLimit rows limit
-HasArguments rows Lint = Unit {0}
+HasArguments rows (Lint form) = HasAnswerForm rows form
 HasArguments rows Draw = Unit {0}
 HasArguments rows (Check certificate) = HasCertificate rows certificate
 HasArguments rows (Explain certificate all) =
@@ -161,9 +170,10 @@ HasArguments rows (Explain certificate all) =
 HasArguments rows (Why limit all) = HasLimit rows limit × HasFlag (codes "all") rows all
 HasArguments rows (Pairs form) = HasDocumentForm rows form
 HasArguments rows (Show certificate plan) = HasCertificate rows certificate × HasForm rows plan
-HasArguments rows (Agree certificate inputs schedule steps) =
+HasArguments rows (Agree certificate inputs schedule steps form) =
     HasCertificate rows certificate × HasList (codes "INPUTS") rows inputs
     × HasList (codes "SCHEDULE") rows schedule × HasFlag (codes "steps") rows steps
+    × HasAnswerForm rows form
 HasArguments rows (Replay opening events) =
     HasOpening rows opening × HasList (codes "EVENTS") rows events
 HasArguments rows (Serve opening calls) =

@@ -2,12 +2,13 @@
 ghost use Rattle.std.specs.Prelude.{◌≡◌, IfOk, MatchResult, codes, map, option_map};
 ghost use Rattle.clap.specs.Simple.{subcommand_rows_of};
 ghost use Rattle.clap.specs.Walk.{first_of};
-ghost use Rattle.cn_words.specs.GivenCommands.{Finds, HasCertificate, HasDocumentForm, HasForm, HasLimit, HasList, HasNumber, HasOpening, HasTable, HasTables, IsInvocation, IsInvocationOf, IsList, IsNamed, RefusesCommand, is_input, is_input_shared, is_table_twice, path_in, path_of, rows_in, table_in};
+ghost use Rattle.cn_words.specs.GivenCommands.{Finds, HasAnswerForm, HasCertificate, HasDocumentForm, HasForm, HasLimit, HasList, HasNumber, HasOpening, HasTable, HasTables, IsInvocation, IsInvocationOf, IsList, IsNamed, RefusesCommand, is_input, is_input_shared, is_table_twice, path_in, path_of, rows_in, table_in};
 ghost use Rattle.cn_words.specs.declared.commands.CommandFault.TheVariants.{OutOfMemory};
 
 use clap::ArgMatches;
 use cn_documents::DocumentForm;
 use cn_forms::Form;
+use cn_json::AnswerForm;
 use std::alloc::{AllocError, Global};
 
 /// A list, as a word gives it.
@@ -51,7 +52,10 @@ pub enum Command<'a> {
         limit: Option<u8>,
     },
     /// Writes the table, or every flaw of it.
-    Lint,
+    Lint {
+        /// The form of the answer.
+        form: AnswerForm,
+    },
     /// Draws the states of the type.
     Draw,
     /// Checks the certificate.
@@ -95,6 +99,8 @@ pub enum Command<'a> {
         schedule: ListSource<'a>,
         /// Whether each step is written.
         steps: bool,
+        /// The form of the answer.
+        form: AnswerForm,
     },
     /// Serves an object by a list of events.
     Replay {
@@ -224,6 +230,16 @@ fn form(words: &ArgMatches<'_>) -> Option<Form>
     }
 }
 
+fn answer_form(words: &ArgMatches<'_>) -> Option<AnswerForm>
+    ensures { Finds (HasAnswerForm (rows_in words.now)) result }
+{
+    match word(words, "as")? {
+        "text" => Some(AnswerForm::Text),
+        "json" => Some(AnswerForm::Json),
+        _ => None,
+    }
+}
+
 fn document_form(words: &ArgMatches<'_>) -> Option<DocumentForm>
     ensures { Finds (HasDocumentForm (rows_in words.now)) result }
 {
@@ -292,6 +308,14 @@ fn classify<'a>(alloc: Global, words: &ArgMatches<'a>) -> Result<Option<Invocati
     }))
 }
 
+fn lint<'a>(words: &ArgMatches<'a>) -> Option<Command<'a>>
+    ensures { Finds (IsNamed (codes "lint") (rows_in words.now)) result }
+{
+    Some(Command::Lint {
+        form: answer_form(words)?,
+    })
+}
+
 fn check<'a>(words: &ArgMatches<'a>) -> Option<Command<'a>>
     ensures { Finds (IsNamed (codes "check") (rows_in words.now)) result }
 {
@@ -342,6 +366,7 @@ fn agree<'a>(words: &ArgMatches<'a>) -> Option<Command<'a>>
         inputs: list(words, "INPUTS")?,
         schedule: list(words, "SCHEDULE")?,
         steps: words.get_flag("steps"),
+        form: answer_form(words)?,
     })
 }
 
@@ -369,7 +394,7 @@ fn command_named<'a>(name: &str, words: &ArgMatches<'a>) -> Option<Command<'a>>
 {
     match name {
         "find" => find(words),
-        "lint" => Some(Command::Lint),
+        "lint" => lint(words),
         "draw" => Some(Command::Draw),
         "check" => check(words),
         "explain" => explain(words),

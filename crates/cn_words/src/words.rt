@@ -2,7 +2,7 @@
 ghost use Rattle.std.specs.Prelude.{◌≡◌, [], ◌∷◌, IfOk, codes};
 ghost use Rattle.clap.specs.Simple.{new_shape};
 ghost use Rattle.clap.specs.Walk.{texts};
-ghost use Rattle.cn_words.specs.CommandLine.{AddsArgument, AddsCommand, AddsTable, HasCommands, HasCommandsFor, IsArgument, IsCommand, IsCommandFor, TakesWords, agree_words, certificate_word, check_words, classify_words, command_with, commands, document_forms, draw_words, explain_words, file_word, find_words, flag, form_option, limit_option, lint_words, opening_words, pairs_words, plan_forms, replay_words, required_word, required_words, serve_words, show_words, table_option, table_word, value_option, why_words};
+ghost use Rattle.cn_words.specs.CommandLine.{AddsArgument, AddsCommand, AddsTable, HasCommands, HasCommandsFor, IsArgument, IsCommand, IsCommandFor, TakesWords, agree_words, answer_forms, certificate_word, check_words, classify_words, command_with, commands, document_forms, draw_words, explain_words, file_word, find_words, flag, form_option, limit_option, lint_words, opening_words, pairs_words, plan_forms, replay_words, required_word, required_words, serve_words, show_words, table_option, table_word, value_option, why_words};
 
 use clap::builder::ValueParser;
 use clap::{Arg, ArgAction, Command, value_parser};
@@ -187,6 +187,9 @@ With --as markdown this is a table and a list for a document.
     "  cnum pairs types/test_and_set.toml
 writes last The number 2 of the type needs all operations."
 );
+
+/// The forms of an answer.
+const ANSWER_FORMS: [&str; 2] = ["text", "json"];
 
 /// The forms of an answer in a document.
 const DOCUMENT_FORMS: [&str; 2] = ["text", "markdown"];
@@ -444,10 +447,12 @@ fn classify<'a>(alloc: Global) -> Result<Command<'a>, AllocError>
 }
 
 fn lint<'a>(alloc: Global) -> Result<Command<'a>, AllocError>
-    ensures { IfOk result (IsCommand lint_words) }
+    ensures { IfOk result (IsCommandFor answer_forms lint_words) }
 {
+    let help = "The form in which the table or its flaws are written";
     let command = bare_command(alloc, "lint", LINT_ABOUT, LINT_AFTER);
-    with_table(alloc, Ok(command))
+    let command = with_argument(Ok(command), form(alloc, &ANSWER_FORMS, help));
+    with_table(alloc, command)
 }
 
 /// A command that reads a certificate.
@@ -523,15 +528,17 @@ fn draw<'a>(alloc: Global) -> Result<Command<'a>, AllocError>
 }
 
 fn agree<'a>(alloc: Global) -> Result<Command<'a>, AllocError>
-    ensures { IfOk result (IsCommand agree_words) }
+    ensures { IfOk result (IsCommandFor answer_forms agree_words) }
 {
     let inputs = "The numbers that the processes begin with, or @FILE";
     let schedule = "The processes in the order of their steps, or @FILE";
     let steps = "Tells what each step does, before the decisions";
+    let help = "The form in which the run is written";
     let command = with_certificate(alloc, "agree", AGREE_ABOUT, AGREE_AFTER);
     let command = with_argument(command, required_word(alloc, "INPUTS", inputs));
     let command = with_argument(command, required_word(alloc, "SCHEDULE", schedule));
     let command = with_argument(command, flag(alloc, "steps", steps));
+    let command = with_argument(command, form(alloc, &ANSWER_FORMS, help));
     with_table(alloc, command)
 }
 

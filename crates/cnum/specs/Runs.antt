@@ -1,5 +1,5 @@
 -- What a command of one table reads and writes, by the words for its arguments.
-use Rattle.std.specs.Prelude.{◌≡◌, ◌⊎◌, Bool, ℕ, List, Option, Result, Ok, Err}
+use Rattle.std.specs.Prelude.{◌≡◌, ◌⊎◌, ℕ, List, Option, Result, Ok, Err}
 use Rattle.cn_words.specs.declared.commands.Command.{Command}
 use Rattle.cn_words.specs.declared.commands.Command.TheVariants.{Find, Lint, Draw, Check}
 use Rattle.cn_words.specs.declared.commands.Command.TheVariants.{Explain, Why, Pairs, Show, Agree}
@@ -33,6 +33,7 @@ use Rattle.cn_app.specs.declared.fault.Source.TheVariants.{Table}
 use Rattle.cn_app.specs.declared.readers.opening.OpeningArguments.{OpeningArguments}
 use Rattle.cn_app.specs.declared.report.Outcome.{Outcome}
 use Rattle.cn_app.specs.declared.report.Report.{Report}
+use Rattle.cn_app.specs.declared.reports.agree.AskedRun.{AskedRun}
 use Rattle.cn_app.specs.declared.streams.output.Output.{Output}
 use Rattle.cn_app.specs.declared.streams.text.Text.{Text}
 use Rattle.cnum.specs.GivenLists.{GivesList, HasText}
@@ -100,12 +101,13 @@ module _ {R C L W : Type 0} (remaining : R → Option (List ℕ)) (rest : C → 
 
   -- `agree` with a table, a certificate and these words: the lists are read first, from left to
   -- right
-  abbrev pub RunsAgree : Text R → Text C → ListSource → ListSource → Bool → Output W → Output W
+  abbrev pub RunsAgree : Text R → Text C → ListSource → ListSource → AskedRun → Output W
+      → Output W
       → Result Outcome AppFault → Type 0
-  RunsAgree table certificate inputs schedule steps u v r =
+  RunsAgree table certificate inputs schedule asked u v r =
       ReadsList inputs argument.Inputs (λ xs. ReadsList schedule argument.Schedule
       (λ ps. ReadsBoth table certificate (SpellLists xs ps)
-      (λ t c. HasAgreeReport t c xs ps steps))) u v r
+      (λ t c. HasAgreeReport t c xs ps asked))) u v r
 
   -- `replay` and `serve` with a table, a certificate and these words: the list is read first
   abbrev pub RunsReplay : Text R → Text C → OpeningWords → ListSource → Output W → Output W
@@ -139,8 +141,8 @@ module _ {S D F W : Type 0} (remaining : S → Option (List ℕ)) (left : LazyFi
   RunsOn stdin table (Find limit) u v r =
       ReadsTable (left_of remaining left) (left_of remaining left) left contents files table
       (λ t. HasFindReport t limit) u v r
-  RunsOn stdin table Lint u v r = ReadsTable (left_of remaining left) (left_of remaining left) left
-      contents files table (λ t. HasLintReport t) u v r
+  RunsOn stdin table (Lint form) u v r = ReadsTable (left_of remaining left)
+      (left_of remaining left) left contents files table (λ t. HasLintReport t form) u v r
   RunsOn stdin table Draw u v r = ReadsTable (left_of remaining left) (left_of remaining left) left
       contents files table (λ t. HasDrawReport t) u v r
   RunsOn stdin table (Why limit all) u v r =
@@ -158,9 +160,9 @@ module _ {S D F W : Type 0} (remaining : S → Option (List ℕ)) (left : LazyFi
   RunsOn stdin table (Show certificate form) u v r = With stdin certificate
       (λ c. ReadsBoth (left_of remaining left) (left_of remaining left) left contents files table c
       (Unit {0}) (λ t d. HasShowReport t d form) u v r)
-  RunsOn stdin table (Agree certificate inputs schedule steps) u v r = With stdin certificate
+  RunsOn stdin table (Agree certificate inputs schedule steps form) u v r = With stdin certificate
       (λ c. RunsAgree (left_of remaining left) (left_of remaining left) left contents files table c
-      inputs schedule steps u v r)
+      inputs schedule (record { steps = steps; form = form }) u v r)
   RunsOn stdin table (Replay opening events) u v r = With stdin opening.certificate
       (λ c. RunsReplay (left_of remaining left) (left_of remaining left) left contents files
       table c opening events u v r)

@@ -12,7 +12,7 @@ use crate::lazy_file::{LazyFile, file_text};
 use crate::text_reader::TextReader;
 use cn_app::commands::{self, NamedTable, Tell};
 use cn_app::readers::OpeningArguments;
-use cn_app::reports::AskedNumbers;
+use cn_app::reports::{AskedNumbers, AskedRun};
 use cn_app::{AppFault, Argument, Outcome, Output, Text};
 use cn_hall::AlwaysOn;
 use cn_words::{Command, ListSource, OpeningWords, TextSource};
@@ -125,12 +125,12 @@ fn agree<D: Disk, I: Read, C: Read, O: Write>(
     certificate: &mut Text<C>,
     output: &mut Output<O>,
     lists: (ListSource<'_>, ListSource<'_>),
-    steps: bool,
+    asked: AskedRun,
 ) -> Result<Outcome, AppFault>
     requires texts { IsUnread table.old × IsUnread certificate.old }
     requires output { IsWritable output.old }
     ensures { RunsAgree I.remaining C.remaining (left_in D.contents D.Reader.remaining) O.contents
-        (D.contents disk.now) table.old certificate.old lists.entry.0 lists.entry.1 steps
+        (D.contents disk.now) table.old certificate.old lists.entry.0 lists.entry.1 asked
         output.old output.new result }
 {
     let (inputs, schedule) = lists;
@@ -138,7 +138,7 @@ fn agree<D: Disk, I: Read, C: Read, O: Write>(
     let inputs = input_list.text();
     let schedule_list = GivenList::read(disk, alloc, schedule, Argument::Schedule)?;
     let schedule = schedule_list.text();
-    commands::agree(alloc, table, certificate, output, inputs, schedule, steps)
+    commands::agree(alloc, table, certificate, output, inputs, schedule, asked)
 }
 
 // Reads the events, and serves an object by them.
@@ -200,7 +200,7 @@ pub fn run<T: Threads + Wait + Sync + Disk, S: Read + Copy + Drop, O: Write>(
     let text = &mut table;
     match *command {
         Command::Find { limit } => commands::find(rt, alloc, text, output, limit),
-        Command::Lint => commands::lint(alloc, text, output),
+        Command::Lint { form } => commands::lint(alloc, text, output, form),
         Command::Draw => commands::draw(alloc, text, output),
         Command::Why { limit, all } => commands::why(rt, alloc, text, output, limit, all),
         Command::Pairs { form } => commands::pairs(rt, alloc, text, output, form),
@@ -221,10 +221,12 @@ pub fn run<T: Threads + Wait + Sync + Disk, S: Read + Copy + Drop, O: Write>(
             inputs,
             schedule,
             steps,
+            form,
         } => {
             let certificate = &mut text_of(rt, alloc, stdin, certificate);
             let lists = (inputs, schedule);
-            agree(rt, alloc, text, certificate, output, lists, steps)
+            let asked = AskedRun { steps, form };
+            agree(rt, alloc, text, certificate, output, lists, asked)
         }
         Command::Replay { opening, events } => {
             let certificate = text_of(rt, alloc, stdin, opening.certificate);

@@ -1,9 +1,15 @@
--- What `lint` writes: a function of the bytes that it reads.
-use Rattle.std.specs.Prelude.{◌≡◌, ◌≤◌, ℕ, List, ◌++◌, codes, flat_map, length, IsOk, Err, Ok}
+-- What `lint` writes: a function of the bytes that it reads and of the form.
+use Rattle.std.specs.Prelude.{◌≡◌, ◌≤◌, ℕ, List, [], ◌++◌, codes, flat_map, length, IsOk, Err, Ok}
 use Rattle.std.specs.Prelude.{Result, MatchResult, string_bytes}
+use Rattle.serde_json.specs.Written.{compact_text}
 use Rattle.cn_table.specs.Faults.{reading}
+use Rattle.cn_table.specs.TypeTable.{TypeTable}
 use Rattle.cn_forms.specs.Grid.{IsGrid}
 use Rattle.cn_flaws.specs.Flaws.{Flaw, flaws_at}
+use Rattle.cn_json.specs.Flaws.{flaws_data}
+use Rattle.cn_json.specs.declared.form.AnswerForm.{AnswerForm}
+use Rattle.cn_json.specs.declared.form.AnswerForm.TheVariants as form
+use Rattle.cn_app.specs.Forms.{if_json}
 use Rattle.cn_app.specs.Steps.{Then}
 use Rattle.cn_app.specs.Streams.Reading.{EndsText}
 use Rattle.cn_app.specs.declared.report.Outcome.{Outcome}
@@ -18,16 +24,25 @@ use Rattle.cn_app.specs.declared.fault.Source.TheVariants.{Table}
 abbrev pub flaw_lines : List Flaw → List ℕ
 flaw_lines flaws = flat_map (λ f. f.text ++ codes "\n") flaws
 
--- the lines of the flaws of bytes that spell no table; bytes that are no TOML have one flaw, at
--- some place in them
-abbrev pub HasFlawLines : List ℕ → List ℕ → Type 0
-HasFlawLines bytes text =
-    (place : ℕ) × (place ≤ length bytes) × (text ≡ flaw_lines (flaws_at place bytes))
+-- the flaws as one JSON value
+abbrev pub flaw_json : List Flaw → List ℕ
+flaw_json flaws = compact_text (flaws_data flaws) ++ codes "\n"
 
--- the grid of the table that the bytes spell, or else the lines of their flaws
-abbrev pub IsLinted : List ℕ → List ℕ → Type 0
-IsLinted bytes text =
-    MatchResult (reading bytes) (λ t. IsGrid t text) (λ _. HasFlawLines bytes text)
+-- the text of the flaws of bytes that spell no table; bytes that are no TOML have one flaw, at some
+-- place in them
+abbrev pub HasFlawText : AnswerForm → List ℕ → List ℕ → Type 0
+HasFlawText told bytes text = (place : ℕ) × (place ≤ length bytes)
+    × (text ≡ if_json told (flaw_json (flaws_at place bytes)) (flaw_lines (flaws_at place bytes)))
+
+-- the grid of a table, or as JSON that it has no flaws
+abbrev pub IsTableText : AnswerForm → TypeTable → List ℕ → Type 0
+IsTableText form.Text t text = IsGrid t text
+IsTableText form.Json t text = text ≡ flaw_json []
+
+-- the text of the table that the bytes spell, or else that of their flaws
+abbrev pub IsLinted : AnswerForm → List ℕ → List ℕ → Type 0
+IsLinted told bytes text =
+    MatchResult (reading bytes) (λ t. IsTableText told t text) (λ _. HasFlawText told bytes text)
 
 -- the bytes spell a table, or this is their fault
 abbrev pub Tells : Outcome → List ℕ → Type 0
@@ -36,11 +51,12 @@ Tells (Refused fault) bytes = reading bytes ≡ Err fault
 Tells Cut bytes = ⊥
 
 -- the result of `lint` for bytes, unless memory ran out
-abbrev pub IsLintReport : List ℕ → Result Report AppFault → Type 0
-IsLintReport bytes (Ok report) =
-    IsLinted bytes (string_bytes report.text) × Tells report.outcome bytes
-IsLintReport bytes (Err e) = e ≡ OutOfMemory
+abbrev pub IsLintReport : AnswerForm → List ℕ → Result Report AppFault → Type 0
+IsLintReport told bytes (Ok report) =
+    IsLinted told bytes (string_bytes report.text) × Tells report.outcome bytes
+IsLintReport told bytes (Err e) = e ≡ OutOfMemory
 
 -- the result of `lint` for a text
-abbrev pub HasLintReport : {R : Type 0} → Text R → Result Report AppFault → Type 0
-HasLintReport text r = Then (EndsText Table text) (λ _. IsLintReport text.bytes.items) r
+abbrev pub HasLintReport : {R : Type 0} → Text R → AnswerForm → Result Report AppFault → Type 0
+HasLintReport text told r =
+    Then (EndsText Table text) (λ _. IsLintReport told text.bytes.items) r

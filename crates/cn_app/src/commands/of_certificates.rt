@@ -17,7 +17,7 @@ use crate::readers::checked::read_checked;
 use crate::readers::table::read_table;
 use crate::report::Outcome;
 use crate::reports::check::ok_report;
-use crate::reports::{agree_report, explain_report, show_report};
+use crate::reports::{AskedRun, agree_report, explain_report, show_report};
 use crate::streams::output::Output;
 use crate::streams::text::Text;
 use cn_forms::Form;
@@ -102,7 +102,7 @@ pub fn show<R: Read, C: Read, W: Write>(
 
 /// Reads a type table and a certificate, checks the certificate against the table, and runs the
 /// plan of the certificate's witness under a schedule ([`agree_report`]). Writes a line for each
-/// process: its decision, or that it has none. With `steps`, a line for each step comes first.
+/// process: its decision, or that it has none. With the steps, a line for each step comes first.
 ///
 /// `inputs` are the numbers that the processes begin with. `schedule` has the processes in the
 /// order of their steps. Both are written as for [`read_inputs`](crate::read_inputs) and
@@ -120,7 +120,7 @@ pub fn agree<R: Read, C: Read, W: Write>(
     output: &mut Output<W>,
     inputs: ListText<'_>,
     schedule: ListText<'_>,
-    steps: bool,
+    asked: AskedRun,
 ) -> Result<Outcome, AppFault>
     requires texts { IsUnread table.old × IsUnread certificate.old }
     requires output { IsWritable output.old }
@@ -130,10 +130,10 @@ pub fn agree<R: Read, C: Read, W: Write>(
     ensures order { AreUntouched table.old table.new certificate.old certificate.new
         ⊎ SpellLists inputs.entry schedule.entry }
     ensures agreed { Reports W.contents
-        (HasAgreeReport table.new certificate.new inputs.entry schedule.entry steps)
+        (HasAgreeReport table.new certificate.new inputs.entry schedule.entry asked)
         output.old output.new result }
 {
     let lists = read_run_lists(alloc, inputs, schedule)?;
     let checked = read_checked(alloc, table, certificate)?;
-    output.report(agree_report(alloc, &checked, &lists.inputs, &lists.schedule, steps))
+    output.report(agree_report(alloc, &checked, &lists.inputs, &lists.schedule, asked))
 }

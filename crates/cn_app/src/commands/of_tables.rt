@@ -19,6 +19,7 @@ use crate::reports::{
 use crate::streams::output::Output;
 use crate::streams::text::Text;
 use cn_documents::DocumentForm;
+use cn_json::AnswerForm;
 use std::alloc::Global;
 use std::io::{Read, Write};
 use std::thread::Threads;
@@ -156,15 +157,17 @@ pub fn lint<R: Read, W: Write>(
     alloc: Global,
     table: &mut Text<R>,
     output: &mut Output<W>,
+    form: AnswerForm,
 ) -> Result<Outcome, AppFault>
     requires table { IsUnread table.old }
     requires output { IsWritable output.old }
 
     ensures read { HasRead Source.Table R.remaining table.old table.new }
-    ensures linted { Reports W.contents (HasLintReport table.new) output.old output.new result }
+    ensures linted { Reports W.contents (HasLintReport table.new form)
+        output.old output.new result }
 {
     table.fill(Source::Table)?;
-    output.report(lint_report(alloc, &table.bytes))
+    output.report(lint_report(alloc, &table.bytes, form))
 }
 
 /// Reads a type table and writes a picture of it for Graphviz ([`draw_report`]).

@@ -1,14 +1,16 @@
 //! The report of `lint`.
 ghost use Rattle.std.specs.Prelude.{◌≡◌, ◌≤◌, ◌<◌, ◌^◌, IfOk, length, map, string_bytes};
 ghost use Rattle.cn_flaws.specs.Flaws.{flaw_view};
-ghost use Rattle.cn_app.specs.Commands.Lint.{flaw_lines, HasFlawLines, IsLintReport};
+ghost use Rattle.cn_app.specs.Commands.Lint.{HasFlawText, IsLintReport, IsTableText, flaw_json, flaw_lines};
+ghost use Rattle.cn_app.specs.Forms.{if_json};
 ghost use Rattle.cn_app.specs.declared.limits.TheConstants.{MOST_TABLE_BYTES};
 
 use crate::fault::AppFault;
-use crate::report::{Outcome, Report};
+use crate::report::{Outcome, Report, with_line_feed};
 use cn_flaws::{Flaw, flaws};
 use cn_forms::grid_of;
-use cn_table::{TableFault, read_table};
+use cn_json::{AnswerForm, flaws_json};
+use cn_table::{Table, TableFault, read_table};
 use std::alloc::{AllocError, Global};
 
 fn lines_of(alloc: Global, flaws: &[Flaw]) -> Result<String, AllocError>
@@ -22,33 +24,54 @@ fn lines_of(alloc: Global, flaws: &[Flaw]) -> Result<String, AllocError>
     Ok(lines)
 }
 
-/// A line for each flaw of the bytes.
-fn flaw_lines(alloc: Global, bytes: &[u8]) -> Result<String, AllocError>
+/// The text of flaws.
+fn flaw_text(alloc: Global, flaws: &[Flaw], form: AnswerForm) -> Result<String, AllocError>
+    ensures { IfOk result (λ text. string_bytes text ≡ if_json form
+        (flaw_json (map flaw_view flaws.now)) (flaw_lines (map flaw_view flaws.now))) }
+{
+    match form {
+        AnswerForm::Text => lines_of(alloc, flaws),
+        AnswerForm::Json => with_line_feed(flaws_json(alloc, flaws)?),
+    }
+}
+
+/// The text of the flaws of the bytes.
+fn text_of_flaws(alloc: Global, bytes: &[u8], form: AnswerForm) -> Result<String, AllocError>
     requires { length bytes.now < 2 ^ 63 }
-    ensures { IfOk result (λ lines. HasFlawLines bytes.now (string_bytes lines)) }
+    ensures { IfOk result (λ text. HasFlawText form bytes.now (string_bytes text)) }
 {
     let flaws = flaws(alloc, bytes)?;
-    lines_of(alloc, &flaws)
+    flaw_text(alloc, &flaws, form)
+}
+
+/// The text of a table, which has no flaws.
+fn table_text(alloc: Global, table: &Table, form: AnswerForm) -> Result<String, AllocError>
+    ensures { IfOk result (λ text. IsTableText form table.now (string_bytes text)) }
+{
+    match form {
+        AnswerForm::Text => grid_of(alloc, table),
+        AnswerForm::Json => with_line_feed(flaws_json(alloc, &[])?),
+    }
 }
 
 /// The output of `lint`: the grid of a table ([`grid_of`](cn_forms::grid_of)), or a line for each
 /// flaw of bytes that spell none ([`flaws`](cn_flaws::flaws)). If the bytes are refused, the
-/// outcome has their fault.
+/// outcome has their fault. As JSON, the output has the flaws, none of a table ([`flaws_json`]).
 ///
-/// The output is empty for bytes that are not UTF-8.
+/// Without JSON, the output is empty for bytes that are not UTF-8.
 ///
 /// # Errors
 ///
 /// `OutOfMemory`.
-pub fn lint_report(alloc: Global, bytes: &[u8]) -> Result<Report, AppFault>
+pub fn lint_report(alloc: Global, bytes: &[u8], form: AnswerForm) -> Result<Report, AppFault>
     requires { length bytes.now ≤ MOST_TABLE_BYTES }
-    ensures { IsLintReport bytes.now result }
+    ensures { IsLintReport form bytes.now result }
 {
     match read_table(alloc, bytes) {
-        Ok(table) => Ok(Report::whole(grid_of(alloc, &table)?)),
+        Ok(table) => Ok(Report::whole(table_text(alloc, &table, form)?)),
         Err(TableFault::OutOfMemory) => Err(AppFault::OutOfMemory),
         Err(fault) => Ok(Report {
-            text: flaw_lines(alloc, bytes)?,
+            text: text_of_flaws(alloc, bytes, form)?,
             outcome: Outcome::Refused(fault),
         }),
     }

@@ -6,10 +6,11 @@ use super::streams::{Drip, Page};
 use crate::certificates::*;
 use crate::types::*;
 use cn_app::readers::OpeningArguments;
-use cn_app::reports::AskedNumbers;
+use cn_app::reports::{AskedNumbers, AskedRun};
 use cn_app::{AppFault, Form, ListText, Outcome, Output, Source, Text, commands};
 use cn_documents::DocumentForm;
 use cn_hall::AlwaysOn;
+use cn_json::AnswerForm;
 use cn_words::{Command, ListSource, OpeningWords, TextSource};
 use std::alloc::Global;
 use std::process::Abort;
@@ -52,6 +53,19 @@ fn test_and_set_steps() -> &'static str {
 0: decides 20
 0: 20
 1: undecided"#
+}
+
+/// The same as JSON.
+fn test_and_set_course() -> &'static str {
+    concat!(
+        r#"{"decisions":[20,null],"steps":["#,
+        r#"{"action":"write","node":0,"process":1,"team":"B","value":20},"#,
+        r#"{"action":"apply","node":0,"operation":"tas","process":1,"response":"zero"},"#,
+        r#"{"action":"write","node":0,"process":0,"team":"A","value":10},"#,
+        r#"{"action":"apply","node":0,"operation":"tas","process":0,"response":"one"},"#,
+        r#"{"action":"read","judged":"B","node":0,"process":0,"state":"one"},"#,
+        r#"{"action":"decide","process":0,"value":20}]}"#
+    )
 }
 
 /// The output of `lint` for test-and-set.
@@ -149,16 +163,16 @@ fn opening() -> OpeningWords<'static> {
 }
 
 /// The examples. `run_command` gives them their texts, whatever files they name.
-pub(crate) fn all_examples() -> [Example; 14] {
+pub(crate) fn all_examples() -> [Example; 17] {
     let (certificate, form) = (TextSource::File("CERT"), Form::Text);
-    let (inputs, schedule) = (ListSource::Word("10,20"), ListSource::Word("1,1,0,0,0,0"));
     let (events, calls) = (ListSource::Word(HELPED), ListSource::Word("0,0/none"));
     let opening = opening();
     [
         Example::new(Command::Find { limit: Some(3) }, found_test_and_set_at_3()),
         Example::of_numbers(false, "test_and_set: 2"),
         Example::of_numbers(true, "test_and_set: 2, recoverable 1"),
-        Example::new(Command::Lint, test_and_set_grid()),
+        Example::of_lint(AnswerForm::Text, test_and_set_grid()),
+        Example::of_lint(AnswerForm::Json, r#"{"flaws":[]}"#),
         Example::new(Command::Draw, test_and_set_picture()),
         Example::new(Command::Check { certificate }, "ok"),
         Example::new(
@@ -182,24 +196,10 @@ pub(crate) fn all_examples() -> [Example; 14] {
             test_and_set_pairs(),
         ),
         Example::new(Command::Show { certificate, form }, test_and_set_shown()),
-        Example::new(
-            Command::Agree {
-                certificate,
-                inputs,
-                schedule,
-                steps: false,
-            },
-            "0: 20\n1: undecided",
-        ),
-        Example::new(
-            Command::Agree {
-                certificate,
-                inputs,
-                schedule,
-                steps: true,
-            },
-            test_and_set_steps(),
-        ),
+        Example::of_run(false, AnswerForm::Text, "0: 20\n1: undecided"),
+        Example::of_run(true, AnswerForm::Text, test_and_set_steps()),
+        Example::of_run(false, AnswerForm::Json, r#"{"decisions":[20,null]}"#),
+        Example::of_run(true, AnswerForm::Json, test_and_set_course()),
         Example::new(Command::Replay { opening, events }, helped_lines()),
         Example::new(Command::Serve { opening, calls }, test_and_set_served()),
     ]
@@ -257,7 +257,7 @@ fn run_command<T: Threads + Wait + Sync>(
     let (table, certificate) = (&mut given.table, &mut given.certificate);
     match *command {
         Command::Find { limit } => commands::find(rt, alloc, table, output, limit),
-        Command::Lint => commands::lint(alloc, table, output),
+        Command::Lint { form } => commands::lint(alloc, table, output, form),
         Command::Draw => commands::draw(alloc, table, output),
         Command::Why { limit, all } => commands::why(rt, alloc, table, output, limit, all),
         Command::Pairs { form } => commands::pairs(rt, alloc, table, output, form),
@@ -268,10 +268,12 @@ fn run_command<T: Threads + Wait + Sync>(
             inputs,
             schedule,
             steps,
+            form,
             ..
         } => {
             let (inputs, schedule) = (list_text(inputs), list_text(schedule));
-            commands::agree(alloc, table, certificate, output, inputs, schedule, steps)
+            let asked = AskedRun { steps, form };
+            commands::agree(alloc, table, certificate, output, inputs, schedule, asked)
         }
         Command::Replay { events, .. } => {
             commands::replay(alloc, given, output, list_text(events))
@@ -308,6 +310,23 @@ impl Example {
         }
     }
 
+    /// `lint` in this form.
+    fn of_lint(form: AnswerForm, lines: &'static str) -> Example {
+        Example::new(Command::Lint { form }, lines)
+    }
+
+    /// `agree` of two processes, with the steps if they are asked for, in this form.
+    fn of_run(steps: bool, form: AnswerForm, lines: &'static str) -> Example {
+        let command = Command::Agree {
+            certificate: TextSource::File("CERT"),
+            inputs: ListSource::Word("10,20"),
+            schedule: ListSource::Word("1,1,0,0,0,0"),
+            steps,
+            form,
+        };
+        Example::new(command, lines)
+    }
+
     /// The number up to 8 processes, and the recoverable number too if it is asked for.
     fn of_numbers(recoverable: bool, lines: &'static str) -> Example {
         Example {
@@ -340,7 +359,7 @@ impl Example {
         };
         match command {
             Command::Find { .. }
-            | Command::Lint
+            | Command::Lint { .. }
             | Command::Draw
             | Command::Why { .. }
             | Command::Pairs { .. } => source == Source::Table,

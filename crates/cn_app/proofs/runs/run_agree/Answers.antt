@@ -1,6 +1,6 @@
-use Rattle.std.proofs.Common.{None, false}
+use Rattle.std.proofs.Common.{None}
 use Rattle.cn_app.specs.Commands.Agree.{HasAgreeReport}
-use Rattle.cn_app.specs.Runs.{agree_of}
+use Rattle.cn_app.specs.Runs.{agree_of, decisions_in_lines}
 use Rattle.cn_app.specs.declared.arguments.list_text.ListText.TheVariants.{Word}
 use Rattle.cn_app.proofs.RunLemmas.{agree_is, of_certificate, of_table, written}
 use Rattle.cn_app.proofs.runs.run_agree.Goals as goal
@@ -18,7 +18,7 @@ returns g c =
         (
           d.0,
           d.1,
-          written (λ _. None) g.W.Write.contents (HasAgreeReport c.agree-ended.new.table c.agree-ended.new.certificate xs ps false) (agree_of t.0 d.0 xs ps) c.kept-output.result c.agree-ended.new.output
+          written (λ _. None) g.W.Write.contents (HasAgreeReport c.agree-ended.new.table c.agree-ended.new.certificate xs ps decisions_in_lines) (agree_of t.0 d.0 xs ps) c.kept-output.result c.agree-ended.new.output
               c.kept-output.ensures (agree_is c.agree-ended.new.table c.agree-ended.new.certificate t.0 d.0 t.2 d.2 xs ps) c.args.writer.now c.hand_over.new.writer c.agree-ended.result c.hand_over.result c.agree-ended.ensures.agreed c.hand_over.ensures,
         ),
       );
