@@ -118,6 +118,8 @@ Of a table that is refused, writes a line for each thing that is wrong with it, 
 first, each with its place; then the fault stands on standard error, as with every command. Names,
 counts and rows are looked at where no key is missing and each value is of its kind.
 
+With --as json writes one JSON object with the flaws, of which a table has none.
+
 ",
     "  cnum lint < types/test_and_set.toml
 writes three lines; the last is of tas, with zero>one below zero and one>one below one."
@@ -250,6 +252,8 @@ P: writes V to T of node N, where V is its value and T its team; P: applies O at
 operation with the response; P: reads S at node N: team T, the state, and the team that it judges
 to have come first; P: takes V from T of node N, the value of that team, with which it goes on;
 P: decides V, the same at the last node of its path; and P: has decided, where it takes no step.
+
+With --as json writes the decisions, and the steps if they are asked for, as one JSON object.
 
 A list is numbers with a comma and no space between two, at most 65536 of them, or the word none.
 INPUTS are from 0 to 18446744073709551615, one for each process, SCHEDULE is processes from 0 on.
