@@ -3,4 +3,3 @@ pub mod Triangle
 pub mod NumbersTold
 pub mod Sentences
 pub mod Documents
-pub mod Forms

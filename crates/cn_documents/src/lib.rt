@@ -14,7 +14,6 @@
 //! ```
 #![tactic(auto)]
 
-mod form;
 pub mod laws;
 mod markdown;
 mod numbers;
@@ -23,6 +22,5 @@ mod rows;
 mod sentences;
 mod triangle;
 
-pub use form::{DocumentForm, pairs_as};
 pub use numbers::{number_head, number_row};
 pub use pair_forms::{pairs_lines, pairs_table};

@@ -4,3 +4,4 @@ pub mod Values
 pub mod Course
 pub mod Numbers
 pub mod Log
+pub mod Pairs

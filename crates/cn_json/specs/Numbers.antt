@@ -1,5 +1,5 @@
 -- The numbers of a type as JSON values.
-use Rattle.std.specs.Prelude.{ℕ, List, Option, Some, None, codes, nat_lt, if◌then◌else◌}
+use Rattle.std.specs.Prelude.{ℕ, Option, Some, None, codes, nat_lt, if◌then◌else◌}
 use Rattle.serde_json.specs.Data.{Data, Members, object, member, no_members}
 use Rattle.cn_search.specs.declared.exact.ConsensusNumber.{ConsensusNumber}
 use Rattle.cn_search.specs.declared.exact.ConsensusNumber.TheVariants.{Finite, Infinite, Between}

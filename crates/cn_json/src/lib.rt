@@ -7,9 +7,11 @@ mod form;
 mod json_text;
 mod log;
 mod numbers;
+mod pairs;
 
 pub use course::{course_json, decisions_json};
 pub use flaws::flaws_json;
-pub use form::AnswerForm;
+pub use form::{AnswerForm, DocumentForm};
 pub use log::{Answer, AnswerOf, log_json, service_json};
 pub use numbers::{Classification, TypeNumber, classification_json};
+pub use pairs::pairs_json;

@@ -9,7 +9,7 @@ use Rattle.clap.specs.Matches.{ReadsOne, matched_of, one_text, raw_values}
 use Rattle.clap.specs.Walk.{Row, Text, first_of, one_of, row_text, rows_of}
 use Rattle.clap.specs.declared.parser.matches.Found.{Found}
 use Rattle.clap.proofs.WalkLemmas.{one_text-rows, raw_values-rows}
-use Rattle.cn_documents.specs.declared.form.DocumentForm.{DocumentForm}
+use Rattle.cn_json.specs.declared.form.DocumentForm.{DocumentForm}
 use Rattle.cn_forms.specs.declared.plan_forms.Form.{Form}
 use Rattle.cn_json.specs.declared.form.AnswerForm.{AnswerForm}
 use Rattle.cn_words.specs.declared.commands.Command.{Command}

@@ -64,7 +64,7 @@ answer_forms = codes "text" ∷ codes "json" ∷ []
 
 -- the words for the forms of an answer in a document
 abbrev pub document_forms : List Text
-document_forms = codes "text" ∷ codes "markdown" ∷ []
+document_forms = codes "text" ∷ codes "json" ∷ codes "markdown" ∷ []
 
 -- a value is one of these words
 abbrev pub TakesWords : List Text → ValueParser → Type 0

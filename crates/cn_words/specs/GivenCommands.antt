@@ -9,8 +9,8 @@ use Rattle.clap.specs.Matches.{found_of}
 use Rattle.clap.specs.Simple.{subcommand_rows_of}
 use Rattle.clap.specs.Walk.{Row, Text, all_of, first_of, one_of, rows_of}
 use Rattle.clap.specs.declared.parser.matches.ArgMatches.{ArgMatches}
-use Rattle.cn_documents.specs.declared.form.DocumentForm.{DocumentForm}
-use Rattle.cn_documents.specs.declared.form.DocumentForm.TheVariants as document
+use Rattle.cn_json.specs.declared.form.DocumentForm.{DocumentForm}
+use Rattle.cn_json.specs.declared.form.DocumentForm.TheVariants as document
 use Rattle.cn_forms.specs.declared.plan_forms.Form.{Form}
 use Rattle.cn_forms.specs.declared.plan_forms.Form.TheVariants as form
 use Rattle.cn_json.specs.declared.form.AnswerForm.{AnswerForm}
@@ -83,6 +83,7 @@ HasAnswerForm rows form = HasWord (codes "as") rows (answer_word form)
 
 abbrev pub document_word : DocumentForm → Text
 document_word document.Text = codes "text"
+document_word document.Json = codes "json"
 document_word document.Markdown = codes "markdown"
 
 abbrev pub HasDocumentForm : List Row → DocumentForm → Type 0

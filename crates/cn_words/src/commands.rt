@@ -6,9 +6,8 @@ ghost use Rattle.cn_words.specs.GivenCommands.{Finds, HasAnswerForm, HasCertific
 ghost use Rattle.cn_words.specs.declared.commands.CommandFault.TheVariants.{OutOfMemory};
 
 use clap::ArgMatches;
-use cn_documents::DocumentForm;
 use cn_forms::Form;
-use cn_json::AnswerForm;
+use cn_json::{AnswerForm, DocumentForm};
 use std::alloc::{AllocError, Global};
 
 /// A list, as a word gives it.
@@ -245,6 +244,7 @@ fn document_form(words: &ArgMatches<'_>) -> Option<DocumentForm>
 {
     match word(words, "as")? {
         "text" => Some(DocumentForm::Text),
+        "json" => Some(DocumentForm::Json),
         "markdown" => Some(DocumentForm::Markdown),
         _ => None,
     }

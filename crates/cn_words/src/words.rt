@@ -183,7 +183,7 @@ the cell of an operation with itself is that of the operation alone. A number is
 writes it. Then it writes the smallest sets of operations with which the type has the number that it
 has with all of them, at most 12 of these.
 
-With --as markdown this is a table and a list for a document.
+With --as markdown this is a table and a list for a document; with --as json, one JSON object.
 
 ",
     "  cnum pairs types/test_and_set.toml
@@ -194,7 +194,7 @@ writes last The number 2 of the type needs all operations."
 const ANSWER_FORMS: [&str; 2] = ["text", "json"];
 
 /// The forms of an answer in a document.
-const DOCUMENT_FORMS: [&str; 2] = ["text", "markdown"];
+const DOCUMENT_FORMS: [&str; 3] = ["text", "json", "markdown"];
 
 const SHOW_ABOUT: &str = "Writes the plan of a certificate's witness";
 

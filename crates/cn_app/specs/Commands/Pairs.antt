@@ -1,12 +1,16 @@
 -- What `pairs` writes: a function of the table that it reads, of the numbers and of the form.
-use Rattle.std.specs.Prelude.{◌≡◌, ◌≢◌, ◌≤◌, ℕ, [], length, Result, Ok, Err, string_bytes}
+use Rattle.std.specs.Prelude.{◌≡◌, ◌≢◌, ◌≤◌, ◌++◌, ℕ, List, [], codes, length, Result, Ok, Err}
+use Rattle.std.specs.Prelude.{string_bytes}
 use Rattle.cn_table.specs.TypeTable.{TypeTable}
 use Rattle.cn_search.specs.Numbers.{HasNumber}
 use Rattle.cn_pairs.specs.SetNumbers.{AreSetNumbers, set_lists}
 use Rattle.cn_pairs.specs.Smallest.{AreSmallest, NoneHas}
 use Rattle.cn_pairs.specs.declared.pairs.Pairs.{Pairs}
-use Rattle.cn_documents.specs.Forms.{pairs_document}
-use Rattle.cn_documents.specs.declared.form.DocumentForm.{DocumentForm}
+use Rattle.serde_json.specs.Written.{compact_text}
+use Rattle.cn_documents.specs.Documents.{pairs_markdown, pairs_text}
+use Rattle.cn_json.specs.Pairs.{pairs_data}
+use Rattle.cn_json.specs.declared.form.DocumentForm.{DocumentForm}
+use Rattle.cn_json.specs.declared.form.DocumentForm.TheVariants as form
 use Rattle.cn_app.specs.Steps.{Then}
 use Rattle.cn_app.specs.Texts.Contents.{GivesTable}
 use Rattle.cn_app.specs.declared.report.Outcome.TheVariants.{Whole}
@@ -25,12 +29,18 @@ pub record ArePairs (t : TypeTable) (p : Pairs) : Type 0 where
   pub none : p.smallest.items ≡ [] → (size : ℕ) → 1 ≤ size → size ≤ length t.operations
       → NoneHas t size p.number
 
+-- the text of the numbers in a form
+abbrev pub pairs_in : DocumentForm → TypeTable → Pairs → List ℕ
+pairs_in form.Text t p = pairs_text t p
+pairs_in form.Json t p = compact_text (pairs_data t p) ++ codes "\n"
+pairs_in form.Markdown t p = pairs_markdown t p
+
 -- the result of telling the numbers in a form, unless memory ran out
 abbrev pub IsPairsReport : TypeTable → DocumentForm → Result Report AppFault → Type 0
-IsPairsReport t form (Ok report) = ((p : Pairs) × ArePairs t p
-    × (string_bytes report.text ≡ pairs_document form t p)) × (report.outcome ≡ Whole)
-IsPairsReport t form (Err e) = e ≡ OutOfMemory
+IsPairsReport t told (Ok report) = ((p : Pairs) × ArePairs t p
+    × (string_bytes report.text ≡ pairs_in told t p)) × (report.outcome ≡ Whole)
+IsPairsReport t told (Err e) = e ≡ OutOfMemory
 
 -- the result of `pairs` for a text
 abbrev pub HasPairsReport : {R : Type 0} → Text R → DocumentForm → Result Report AppFault → Type 0
-HasPairsReport text form r = Then (GivesTable text) (λ t s. IsPairsReport t form s) r
+HasPairsReport text told r = Then (GivesTable text) (λ t s. IsPairsReport t told s) r

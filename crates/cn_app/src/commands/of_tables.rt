@@ -18,8 +18,7 @@ use crate::reports::{
 };
 use crate::streams::output::Output;
 use crate::streams::text::Text;
-use cn_documents::DocumentForm;
-use cn_json::AnswerForm;
+use cn_json::{AnswerForm, DocumentForm};
 use std::alloc::Global;
 use std::io::{Read, Write};
 use std::thread::Threads;

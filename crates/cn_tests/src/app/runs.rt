@@ -8,9 +8,8 @@ use crate::types::*;
 use cn_app::readers::OpeningArguments;
 use cn_app::reports::{AskedNumbers, AskedRun};
 use cn_app::{AppFault, Form, ListText, Outcome, Output, Source, Text, commands};
-use cn_documents::DocumentForm;
 use cn_hall::AlwaysOn;
-use cn_json::AnswerForm;
+use cn_json::{AnswerForm, DocumentForm};
 use cn_words::{Command, ListSource, OpeningWords, TextSource};
 use std::alloc::Global;
 use std::process::Abort;
@@ -136,6 +135,14 @@ tas    2
 The number 2 of the type needs all operations."#
 }
 
+/// The same as JSON.
+fn test_and_set_numbers() -> &'static str {
+    concat!(
+        r#"{"alone":[{"number":2,"operations":["tas"]}],"name":"test_and_set","number":2,"#,
+        r#""pairs":[],"smallest":[["tas"]]}"#
+    )
+}
+
 /// What an example runs.
 #[derive(Drop)]
 pub(crate) enum Work {
@@ -163,7 +170,7 @@ fn opening() -> OpeningWords<'static> {
 }
 
 /// The examples. `run_command` gives them their texts, whatever files they name.
-pub(crate) fn all_examples() -> [Example; 17] {
+pub(crate) fn all_examples() -> [Example; 18] {
     let (certificate, form) = (TextSource::File("CERT"), Form::Text);
     let (events, calls) = (ListSource::Word(HELPED), ListSource::Word("0,0/none"));
     let opening = opening();
@@ -189,12 +196,8 @@ pub(crate) fn all_examples() -> [Example; 17] {
             },
             test_and_set_reasons(),
         ),
-        Example::new(
-            Command::Pairs {
-                form: DocumentForm::Text,
-            },
-            test_and_set_pairs(),
-        ),
+        Example::of_pairs(DocumentForm::Text, test_and_set_pairs()),
+        Example::of_pairs(DocumentForm::Json, test_and_set_numbers()),
         Example::new(Command::Show { certificate, form }, test_and_set_shown()),
         Example::of_run(false, AnswerForm::Text, "0: 20\n1: undecided"),
         Example::of_run(true, AnswerForm::Text, test_and_set_steps()),
@@ -308,6 +311,11 @@ impl Example {
             work: Work::Command(command),
             lines,
         }
+    }
+
+    /// `pairs` in this form.
+    fn of_pairs(form: DocumentForm, lines: &'static str) -> Example {
+        Example::new(Command::Pairs { form }, lines)
     }
 
     /// `lint` in this form.
