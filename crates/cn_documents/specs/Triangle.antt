@@ -1,5 +1,5 @@
 -- The numbers of single operations and of pairs of operations, as rows of texts.
-use Rattle.std.specs.Prelude.{ℕ, ◌==◌, Bool, List, [], ◌∷◌, length, map, find, nat_lt}
+use Rattle.std.specs.Prelude.{ℕ, ◌==◌, List, [], ◌∷◌, length, map, find, nat_lt}
 use Rattle.std.specs.Prelude.{Option, option_map, if◌then◌else◌}
 use Rattle.std.specs.List.{range_with_len}
 use Rattle.std.specs.Option.{option_map_or}

@@ -1,4 +1,4 @@
-use Rattle.std.proofs.Common.{◌≡◌, ◌∷◌, [], string_bytes}
+use Rattle.std.proofs.Common.{◌∷◌, [], string_bytes}
 use Rattle.cn_table.specs.Names.{name_at}
 use Rattle.cn_table.specs.TypeTable.{operation_names}
 use Rattle.cn_documents.specs.Triangle.{cell}
