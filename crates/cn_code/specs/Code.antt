@@ -188,3 +188,11 @@ tables_code l plan =
 
 unfoldable pub code_text : Language → Plan → List ℕ
 code_text l plan = head_code l plan ++ tables_code l plan ++ word l Program
+
+-- the program in Rust
+abbrev pub rust_text : Plan → List ℕ
+rust_text plan = code_text Rust plan
+
+-- the program in C
+abbrev pub c_text : Plan → List ℕ
+c_text plan = code_text C plan

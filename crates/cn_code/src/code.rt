@@ -1,7 +1,6 @@
 //! The text of a plan's program.
 ghost use Rattle.std.specs.Prelude.{◌≡◌, ◌++◌, IfOk, OnOk, string_bytes};
-ghost use Rattle.cn_code.specs.Code.{code_text, head_code, start_code, tables_code};
-ghost use Rattle.cn_code.specs.declared.language.Language.TheVariants.{C, Rust};
+ghost use Rattle.cn_code.specs.Code.{c_text, code_text, head_code, rust_text, start_code, tables_code};
 
 use crate::judgements::push_judgements;
 use crate::language::{Language, Part};
@@ -26,7 +25,7 @@ use std::alloc::{AllocError, Global};
 ///
 /// `AllocError` if memory runs out.
 pub fn as_rust(alloc: Global, plan: &Plan) -> Result<String, AllocError>
-    ensures { IfOk result (λ text. string_bytes text ≡ code_text Rust plan.now) }
+    ensures { IfOk result (λ text. string_bytes text ≡ rust_text plan.now) }
 {
     code_of(alloc, Language::Rust, plan)
 }
@@ -41,7 +40,7 @@ pub fn as_rust(alloc: Global, plan: &Plan) -> Result<String, AllocError>
 ///
 /// `AllocError` if memory runs out.
 pub fn as_c(alloc: Global, plan: &Plan) -> Result<String, AllocError>
-    ensures { IfOk result (λ text. string_bytes text ≡ code_text C plan.now) }
+    ensures { IfOk result (λ text. string_bytes text ≡ c_text plan.now) }
 {
     code_of(alloc, Language::C, plan)
 }

@@ -2,8 +2,7 @@
 use Rattle.std.specs.Prelude.{ℕ, List}
 use Rattle.cn_proto.specs.Plan.{Plan}
 use Rattle.cn_proto.specs.PlanText.{plan_text}
-use Rattle.cn_code.specs.Code.{code_text}
-use Rattle.cn_code.specs.declared.language.Language.TheVariants as language
+use Rattle.cn_code.specs.Code.{c_text, rust_text}
 use Rattle.cn_forms.specs.Dot.{plan_dot}
 use Rattle.cn_forms.specs.Json.{plan_json}
 use Rattle.cn_forms.specs.Promela.{plan_promela}
@@ -15,5 +14,5 @@ form_text Text plan = plan_text plan
 form_text Json plan = plan_json plan
 form_text Dot plan = plan_dot plan
 form_text Promela plan = plan_promela plan
-form_text Rust plan = code_text language.Rust plan
-form_text C plan = code_text language.C plan
+form_text Rust plan = rust_text plan
+form_text C plan = c_text plan
