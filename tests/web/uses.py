@@ -1,11 +1,18 @@
 """The page in a browser, used as a person uses it. Each function here is a part of tests/web/run, and gives cases,
 (about, whether it is right, what was seen) each.
 """
+import base64
+import contextlib
+import functools
+import http.server
 import json
 import pathlib
 import random
+import re
 import tempfile
+import threading
 import time
+import tomllib
 
 import jobs
 from calls import TOP, TYPES, called, found
@@ -27,6 +34,26 @@ response = ["done", "done", "done"]
 next = ["b", "b", "b"]
 """
 
+TOO_LONG = "The table is longer than 65536 bytes. (cnum: table: too long)"
+FRAMED = "#example=types/three_shot&view=run"
+# Links that name what is not there.
+WRONG_LINKS = ["#limit=99", "#run=q,1,x", "#example=nosuch", "#inputs=abc,1&run=0", "#view=all", "#example=types/idle&table=AAAA"]
+WRONG_LINKS += ["#run=5", "#inputs=1,2,3&run=0", "#inputs=1,18446744073709551616&run=0", "#example=types/idle&run=1", "#exmaple=types/idle"]
+
+# The slot, with another name for its first state, without its second one.
+WITHOUT_A = """name = "slot"
+states = ["none_yet", "b"]
+responses = ["done"]
+[[operation]]
+name = "put_a"
+response = ["done", "done"]
+next = ["a", "b"]
+[[operation]]
+name = "put_b"
+response = ["done", "done"]
+next = ["b", "b"]
+"""
+
 LONG = TYPES["climbed_16_8"]  # the number takes longest of the types of tests/types
 
 # Questions to the page, in its own language.
@@ -46,6 +73,28 @@ ACTS = """(async acts => {
     for (const [process, stops] of acts) columns[process].querySelectorAll('.buttons button')[stops ? 1 : 0].click();
     await Cnum.page.protocol.update();
 })(%s)"""
+# The state that is lit in each picture, and the text of the last operation.
+LIT = """[...document.querySelectorAll('svg.states')].flatMap(it => [
+    [...it.querySelectorAll('.node.lit')].map(one => one.dataset.state),
+    [...it.querySelectorAll('.label text.lit')].map(one => one.dataset.operation),
+])"""
+# The texts of a picture that lie on another. Their boxes have the white around the letters, 4 points.
+TEXTS_MEET = """(() => {
+    const boxes = [...document.querySelectorAll('%s text')].map(it => [it.textContent, it.getBoundingClientRect()]);
+    const meets = (p, q) => p.left + 4 < q.right && q.left + 4 < p.right && p.top + 8 < q.bottom && q.top + 8 < p.bottom;
+    return boxes.flatMap(([a, p], i) => boxes.slice(i + 1).filter(([, q]) => meets(p, q)).map(([b]) => [a, b]));
+})()"""
+TRIED = "/agree|breaks/.test(document.querySelector('.trial').textContent)"
+# For each button of a process: whether the last line of the log is seen when the button is.
+FROM_BUTTON_TO_LOG = """[...document.querySelectorAll('.process button')].map(it => {
+    it.scrollIntoView({ block: 'center' });
+    const last = document.querySelector('.log li:last-child').getBoundingClientRect();
+    return last.top >= 0 && last.bottom <= innerHeight;
+})"""
+# The height of a letter of the picture, in points of the window.
+LETTER = "(it => it ? 13 * it.clientWidth / it.getAttribute('width') : 0)(document.querySelector('#picture svg'))"
+OBJECTS = ["starts in bot", "a1 → a2, y answered a"]
+ACTS_SHOWN = ["writes 20", "x/a", "writes 30", "y/a", "writes 10", "stops", "reads a2"]
 FOCUSABLE = "a[href], button:not(:disabled), input, select, textarea, [tabindex='0'], summary"
 MARK_FOCUSED = """(it => {
     window.reached = window.reached || new Map();
@@ -79,13 +128,35 @@ class Use:
     """The page in a browser, and how a person uses it."""
 
     def __init__(self, browser):
-        self.browser, self.value, self.until, self.call = browser, browser.value, browser.until, browser.call
+        self.browser, self.value, self.call = browser, browser.value, browser.call
 
-    def open(self, link=""):
+    def open(self, link="", page=TOP / "web/index.html", ready=READY):
         """Opens the page anew, and waits until it is all there."""
         self.browser.open("about:blank")
-        self.browser.open(PAGE + link)
-        return self.until(READY)
+        self.browser.open(page.as_uri() + link)
+        return self.until(ready)
+
+    def until(self, text, seconds=60):
+        """Whether an expression holds within this time. While a page is loaded, it may fail."""
+        end = time.monotonic() + seconds
+        while time.monotonic() < end:
+            with contextlib.suppress(RuntimeError):
+                if self.value(text):
+                    return True
+            time.sleep(0.02)
+        return False
+
+    def saved(self, room, action, before=""):
+        """The file that an action offers, written to this folder."""
+        self.value("(() => { Cnum.offer = (...words) => (window.offered = words); })()")
+        self.do(f"await {action};")
+        name, content = self.value("window.offered.slice(0, 2)")
+        pathlib.Path(room, before + name).write_text(content)
+        return pathlib.Path(room, before + name)
+
+    def seen(self):
+        """The table, the number, and the run that the page shows."""
+        return self.table(), self.text("number"), self.texts(".log li"), self.value("Cnum.page.protocol.inputs")
 
     def text(self, name):
         return self.value(f"document.getElementById('{name}').textContent")
@@ -115,7 +186,26 @@ class Use:
         self.value(f"(() => {{ Cnum.page.text = {json.dumps(table)}; Cnum.page.refresh(); }})()")
 
     def choose(self, path):
-        self.do(f"document.getElementById('example').value = {json.dumps(path)}; await Cnum.page.choose({json.dumps(path)});")
+        self.do(f"await Cnum.page.choose({json.dumps(path)});")
+
+    def tool(self, name):
+        """Presses a button of the picture."""
+        self.value(f"document.querySelector('#picture-tools [aria-label={name}]').click()")
+
+    def press_key(self, place, key, **how):
+        """Presses a key at an element, as an event of the page alone."""
+        made = json.dumps({"key": key, "bubbles": True, "cancelable": True, **how})
+        self.value(f"(() => {{ document.querySelector({json.dumps(place)}).dispatchEvent(new KeyboardEvent('keydown', {made})); }})()")
+
+    def search(self, query):
+        """Types this into the field of the examples. The names that are found."""
+        field = "document.getElementById('example')"
+        self.value(f"(it => {{ it.focus(); it.value = {json.dumps(query)}; it.dispatchEvent(new Event('input')); }})({field})")
+        return self.texts("#examples [role=option] strong")
+
+    def type(self, text):
+        """Puts a text behind the table, as typing does."""
+        self.value(f"(it => {{ it.value += {json.dumps(text)}; it.dispatchEvent(new Event('input')); }})(document.getElementById('table'))")
 
     def limit(self, limit):
         self.do(f"document.getElementById('limit').value = '{limit}'; await Cnum.page.refresh();")
@@ -130,11 +220,29 @@ class Use:
 
     def press(self, label):
         """Presses a button of the protocol."""
-        self.value(f"[...document.querySelectorAll('#protocol > .buttons button')].find(it => it.textContent === {label!r}).click()")
+        self.value(f"[...document.querySelectorAll('#protocol .controls button')].find(it => it.textContent === {label!r}).click()")
 
-    def key(self, key, code, alt=False):
+    def slide(self, count):
+        """Leads to a place of the run by the slider."""
+        events = "it.dispatchEvent(new Event('input')); it.dispatchEvent(new Event('change'));"
+        self.value(f"(it => {{ it.value = {count}; {events} }})(document.getElementById('run-place'))")
+
+    def trial(self):
+        return self.value("document.querySelector('.trial').textContent")
+
+    def offered(self, action):
+        """The name and the content of the file that an action offers."""
+        self.value("(() => { window.offered = null; Cnum.offer = (...words) => (window.offered = words); })()")
+        self.value(f"(() => {{ {action} }})()")
+        self.until("window.offered")
+        content = "typeof window.offered[1] === 'string' ? new Blob([window.offered[1]]) : window.offered[1]"
+        letters = f"new Response({content}).arrayBuffer().then(it => btoa(String.fromCharCode(...new Uint8Array(it))))"
+        return self.value("window.offered[0]"), base64.b64decode(self.value(letters))
+
+    def key(self, key, code, alt=False, shift=False, name=None):
+        how = {"key": key, "code": name or key, "windowsVirtualKeyCode": code, "modifiers": alt + 8 * shift}
         for kind in ("rawKeyDown", "keyUp"):
-            self.call("Input.dispatchKeyEvent", type=kind, key=key, code=key, windowsVirtualKeyCode=code, modifiers=int(alt))
+            self.call("Input.dispatchKeyEvent", type=kind, **how)
 
 
 def native_number(table):
@@ -162,7 +270,8 @@ def flaws(use):
     use.call("Input.insertText", text='"onee"')
     yield "a flaw while one types", use.until("document.querySelectorAll('#flaws li').length === 1"), use.text("flaws")
     lint = called(["lint"], table[:place] + '"onee"' + table[place + 5 :])
-    yield "it reads as lint has it", (use.text("flaws") + "\n", use.text("fault")) == (lint[0].decode(), lint[1].decode()), use.text("flaws")
+    yield "it reads as lint has it", (use.text("flaws") + "\n", use.text("fault")) == (lint[0].decode(), lint[1].decode().strip()), use.text("flaws")
+    yield "there is no legend without a picture", use.is_hidden("legend"), ""
     yield "it is marked in the text", use.texts("#marks mark") == ['"onee"'], use.texts("#marks mark")
     yield "there is no number", use.text("number") == "–", use.text("number")
     use.value("document.querySelector('#flaws button').click()")
@@ -175,7 +284,7 @@ def flaws(use):
         yield f"the flaws of {given!r}", lines == called(["lint"], given)[0].decode(), lines
         yield f"what is marked of {given!r}", use.texts("#marks mark") == marked, use.texts("#marks mark")
     use.give("\xe9" * 40000)
-    yield "a table that is too long", (use.text("fault"), use.text("number")) == ("cnum: table: too long\n", "–"), use.text("fault")
+    yield "a table that is too long", (use.text("fault"), use.text("number")) == (TOO_LONG, "–"), use.text("fault")
 
 
 def flawed(table):
@@ -224,6 +333,8 @@ def meanings(use):
         use.give(TYPES[name] if name in TYPES else (TOP / f"catalogue/{name}.toml").read_text())
         said = use.text("meaning")
         yield f"the number of {name}", use.text("number") == number, use.text("number")
+        recoverable = called(["classify", "--recoverable", "-"], use.table())[0].decode().partition(", recoverable ")[2].strip()
+        yield f"the recoverable number of {name}", use.text("recoverable").startswith(f"Recoverable number: {recoverable}. "), use.text("recoverable")
         yield f"what it says of {name}", all(it in said for it in told) and ("No protocol" in said) == (number != "infinite"), said
 
 
@@ -238,6 +349,45 @@ def pictures(use):
         use.give(table)
         about = f"a picture of {table.count('[[')} operations, {time.monotonic() - began:.1f} s"
         yield about, use.value(OVERLAPS) == [] and use.count("#picture svg") == 1, use.value(OVERLAPS)
+
+
+def picture_tools(use):
+    """Letters that can be read, larger and smaller, and the choice of operations."""
+    use.open()
+    use.limit(2)
+    use.give(random_table(random.Random(7), 16, 8))
+    for about, size in (("a window", None), ("a phone", PHONE)):
+        if size:
+            use.call("Emulation.setDeviceMetricsOverride", **size)
+        use.until(f"{LETTER} > 0")
+        letter = use.value(LETTER)
+        yield f"letters of 16 states and 8 operations in {about}", letter >= 11, letter
+        before = use.value("document.querySelector('#picture svg').clientWidth")
+        use.tool("larger")
+        yield "larger", use.value("document.querySelector('#picture svg').clientWidth") > before, before
+        use.tool("smaller")
+        use.value("[...document.querySelectorAll('#picture-tools button')].find(it => it.textContent === 'Fit').click()")
+        yield "and back", use.value("document.querySelector('#picture svg').clientWidth") == before, before
+    use.call("Emulation.clearDeviceMetricsOverride")
+    use.choose("types/three_shot")
+    labels = use.texts("#picture .label text:not(.badge)")
+    use.value("document.querySelector('#operations input').click()")
+    left = use.texts("#picture .label text:not(.badge)")
+    yield "an operation is left out", left == [it for it in labels if not it.startswith("x/")] and use.value(OVERLAPS) == [], left
+    use.value("document.querySelector('#operations input').click()")
+    yield "and comes back", use.texts("#picture .label text:not(.badge)") == labels, ""
+
+
+def words(use):
+    """The words of the subject, explained where they stand."""
+    use.open("#example=types/test_and_set")
+    for place, word in (("#legend", "witness"), ("#why", "team"), ("#protocol", "nodes"), ("#protocol", "registers")):
+        at = f"[...document.querySelectorAll('{place} .word')].find(it => it.textContent.toLowerCase().startsWith({word!r}))"
+        note = f"document.getElementById({at}.getAttribute('aria-controls'))"
+        before = use.value(f"{note}.hidden")
+        use.value(f"{at}.click()")
+        told = use.value(f"[{note}.checkVisibility(), {at}.getAttribute('aria-expanded'), {note}.textContent.length > 20]")
+        yield f"{word} at {place}", before and told == [True, "true", True], (before, told)
 
 
 def random_table(source, states, operations):
@@ -272,7 +422,71 @@ def grid(use):
     use.edit("rename", "states", 0, "none_yet")
     yield "a state has another name", '"none_yet"' in use.table() and use.text("fault") == "", use.text("fault")
     use.edit("removeState", 1)
-    yield "a state in the middle is taken away", use.text("fault") == "" and '"a"' not in use.table(), use.table()
+    yield "a state in the middle is taken away, and what led to it stays", use.table() == WITHOUT_A, use.table()
+    marked = use.texts("#marks mark"), use.count("#grid td [aria-invalid]"), use.texts("#grid .trouble")
+    wanted = ['"a"'], 1, ["Choose anew what is marked: 1 entry names what is not there any more."]
+    yield "and is marked, in the text and in the grid", marked == wanted, marked
+
+
+def changes(use):
+    """Undo and redo, limits for what is added, a table of one's own."""
+    use.open()
+    first = use.table()
+    use.type("# mine\n")
+    typed = use.table()
+    use.choose("types/idle")
+    use.do(f"await Cnum.page.edit({json.dumps(SLOT)});")
+    seen = [use.table()]
+    for _ in range(3):
+        use.value("document.getElementById('undo').click()")
+        seen.append(use.table())
+    yield "typing, an example and another table are undone", seen == [SLOT, jobs.TABLES["types/idle"].decode(), typed, first], seen
+    yield "no more than there is", use.value("document.getElementById('undo').disabled"), ""
+    for place, key, how, wanted in (
+        ("#table", "z", {"ctrlKey": True, "shiftKey": True}, typed),
+        ("body", "y", {"ctrlKey": True}, seen[1]),
+        ("#table", "z", {"metaKey": True}, typed),
+        ("#redo", "Z", {"ctrlKey": True, "shiftKey": True}, seen[1]),
+        ("#example", "z", {"ctrlKey": True}, seen[1]),
+    ):
+        use.press_key(place, key, **how)
+        yield f"the keys {key} {how} at {place}", use.table() == wanted, use.table()
+    use.until("!document.getElementById('redo').disabled")
+    use.type("x")
+    yield "a change forgets what was undone", use.until("document.getElementById('redo').disabled", 5), ""
+    use.value("document.getElementById('own').click()")
+    yield "a table of one's own", use.has_number("1") and use.table().startswith('name = "my_type"'), use.table()
+    for label, most, count in (("Add a state", 16, 20), ("Add an operation", 8, 12), ("Add a response", 16, 20)):
+        button = f"document.querySelector('#grid [aria-label=\"{label}\"]')"
+        use.value(f"{button}.focus()")
+        for _ in range(count):
+            use.do(f"{button}.click(); await Cnum.page.refresh();")
+        noun = {"s": "states", "o": "operation", "r": "responses"}[label.split()[-1][0]]
+        made = use.value(f"new Cnum.TableText(Cnum.page.text).items('{noun}').length")
+        focused = use.value(f"document.activeElement === {button}")
+        yield f"{label}: at most {most}, and the focus stays", made == most and focused and use.text("flaws") == "", (made, focused)
+
+
+def example_search(use):
+    use.open()
+    yield "compare and swap is found", "cas_3" in use.search("compare and swap"), use.search("compare and swap")
+    yield "a name comes first", use.search("queue_2")[0] == "queue_2", use.search("queue_2")
+    yield "by its literature", "cas_3" in use.search("loui abu amara") and "queue_2" not in use.search("loui abu"), ""
+    yield "what is not there is said", use.search("nosuchword") == [] and "No example" in use.text("examples"), use.text("examples")
+    use.search("three shot")
+    use.press_key("#example", "Enter")
+    yield "Enter takes the first one", use.has_number("3") and use.value("document.getElementById('example').value") == "three_shot", use.table()
+    use.until("document.querySelectorAll('#example-number option').length > 5")
+    use.value("(it => { it.value = '3'; it.dispatchEvent(new Event('change')); })(document.getElementById('example-number'))")
+    names = use.texts("#examples [role=option] strong")
+    wanted = [it for it in jobs.TABLES if not it.startswith("tests/") and native_number(jobs.TABLES[it].decode()) == "3"]
+    yield "by their number", sorted(names) == sorted(it.split("/")[1] for it in wanted), names
+    for _ in range(2):
+        use.press_key("#example", "ArrowDown")
+    chosen = use.value("document.querySelector('#examples [aria-selected=true] strong').textContent")
+    yield "arrow keys go through them", chosen == names[1], (chosen, names)
+    use.press_key("#example", "Escape")
+    yield "Escape leaves all as it was", use.is_hidden("examples") and use.has_number("3"), use.text("number")
 
 
 def schedules(use):
@@ -287,25 +501,23 @@ def schedules(use):
             inputs = ",".join(str(10 * (p + 1)) for p in range(n))
             for turn in range(25):
                 acts = random_acts(source, n)
-                use.do("Cnum.page.protocol.acts = []; await Cnum.page.protocol.update();")
+                use.do("await Cnum.page.protocol.set([]);")
                 use.value(ACTS % json.dumps(acts))
                 schedule = ",".join(str(p) for p, stops in acts if not stops) or "none"
-                wanted = called(["agree", certificate, inputs, schedule], TYPES[name])[0].decode().splitlines()
+                lines = called(["agree", "--steps", certificate, inputs, schedule], TYPES[name])[0].decode().splitlines()
                 told = [it.split(", ")[1].removeprefix("decides ") for it in use.texts(".decision")]
-                yield f"{name}, schedule {turn}: the decisions", [f"{p}: {it}" for p, it in enumerate(told)] == wanted, (told, wanted)
+                yield f"{name}, schedule {turn}: the decisions", [f"{p}: {it}" for p, it in enumerate(told)] == lines[-n:], (told, lines[-n:])
                 going = [told[p] for p in range(n) if [p, True] not in acts]
                 yield f"{name}, schedule {turn}: agreement", len({*told} - {"undecided"}) == 1 and "undecided" not in going, told
-                yield f"{name}, schedule {turn}: a line for each act", use.count(".log li") == len(acts), use.texts(".log li")
-            yield from steps(use, name, certificate, inputs, schedule)
+                shown, wanted = use.texts(".log li"), log_of(acts, lines, TYPES[name], "bot" if name == "three_shot" else None)
+                yield f"{name}, schedule {turn}: a line for each act", shown == wanted, (shown, wanted)
     use.press("Undo")
-    yield "undo takes an act back", use.until(f"document.querySelectorAll('.log li').length === {len(acts) - 1}"), ""
+    yield "undo takes an act back", use.until(f"document.querySelectorAll('.log li').length === {len(wanted) - 1}"), ""
     for label in ("Let all run", "Random run"):
         use.press("Start over")
         use.until("document.querySelectorAll('.log li').length === 0")
         use.press(label)
         yield label, use.until(DECIDED), use.texts(".decision")
-    use.do("Cnum.page.protocol.inputs[0] = 'x'; await Cnum.page.protocol.update();")
-    yield "a refused input is told", "argument" in use.texts("#protocol .trouble")[0], use.texts("#protocol .trouble")
 
 
 def random_acts(source, n):
@@ -320,11 +532,99 @@ def random_acts(source, n):
     return acts
 
 
-def steps(use, name, certificate, inputs, schedule):
-    """The page shows the lines of the program, one for each step."""
-    lines = called(["agree", "--steps", certificate, inputs, schedule], TYPES[name])[0].decode().splitlines()
-    shown = [it.removeprefix("process ") for it in use.texts(".log li") if not it.endswith("stops for good")]
-    yield f"{name}: the lines of the steps", shown == lines[: len(shown)], (shown, lines)
+def log_of(acts, lines, table, start):
+    """What the page is to tell of these acts: the program's line of each step, with the state before and after an operation. A
+    process that has decided takes no more steps, and cannot stop. Without a start, the state that is named first is the start."""
+    type_ = tomllib.loads(table)
+    moves = {it["name"]: dict(zip(type_["states"], it["next"])) for it in type_["operation"]}
+    states, decided, told, steps = {}, set(), [], iter(lines)
+    for process, stops in acts:
+        line = "stops for good" if stops else next(steps)[3:]
+        if process in decided:
+            continue
+        decided |= {process} if line.startswith("decides") else set()
+        applied = re.match(r"applies (\w+) at node (\d+)", line)
+        if applied:
+            before = states.get(applied[2], start or type_["states"][0])
+            states[applied[2]] = moves[applied[1]][before]
+            line += f" ({before} → {states[applied[2]]})"
+        told.append(f"process {process}: {line}")
+    return told
+
+
+def pictured_runs(use):
+    """A run as a picture: the states of objects, the space-time diagram, the slider, the keys."""
+    use.open("#example=types/three_shot&run=1,1,2,2,0,x0,1")
+    yield "what became of the objects", use.texts("#protocol td:nth-child(2)") == OBJECTS, use.texts("#protocol td:nth-child(2)")
+    yield "the state of the object is lit", use.value(LIT) == [["a2"], ["y"]] * 2, use.value(LIT)
+    yield "the diagram has each act", use.texts(".space-time .mark-of-step text:first-of-type") == ACTS_SHOWN, use.texts(".space-time text")
+    yield "no text of it lies on another", use.value(TEXTS_MEET % ".space-time") == [], use.value(TEXTS_MEET % ".space-time")
+    yield "nor in the tournament", use.value(TEXTS_MEET % ".tournament") == [], use.value(TEXTS_MEET % ".tournament")
+    use.slide(2)
+    told = use.texts(".log li")
+    yield "the slider leads to a place of the run", len(told) == 2 and use.value(LIT)[0] == ["a1"], (told, use.value(LIT))
+    use.slide(7)
+    yield "and back to its end", use.count(".log li") == 7, use.texts(".log li")
+    kept = use.until("location.hash.endsWith('run=1,1,2,2,0,x0,1')", 5)
+    yield "the link has the run up to that place", kept, use.value("location.hash")
+    use.do("await Cnum.page.protocol.runAll();")
+    pressable = use.value("[...document.querySelectorAll('.process button')].filter(it => !it.disabled).length")
+    yield "who has decided or stopped takes no step and cannot stop", pressable == 0, pressable
+    with tempfile.TemporaryDirectory() as room:
+        for part, index, beginning in (("run", 0, b"<svg"), ("run", 1, b"\x89PNG"), ("tournament", 2, b"<svg"), ("tournament", 3, b"\x89PNG")):
+            name, content = use.offered(f"[...document.querySelectorAll('#protocol .buttons button')].filter(it => /^Save/.test(it.textContent))[{index}].click()")
+            well = content.startswith(beginning) and name == f"three_shot_3_{part}.{'png' if index % 2 else 'svg'}"
+            yield f"the picture {name} is saved", well, (name, content[:9])
+        for form, beginning in (("svg", b"<svg"), ("png", b"\x89PNG")):
+            name, content = use.offered(f"document.getElementById('picture-{form}').click()")
+            yield f"the picture {name} is saved", content.startswith(beginning) and name == f"three_shot_3_states.{form}", content[:9]
+    use.value("(it => { it.value = 'abc'; it.dispatchEvent(new Event('change')); })(document.getElementById('input-1'))")
+    told = use.text("input-1-wrong"), use.value("document.getElementById('input-1').getAttribute('aria-invalid')")
+    yield "a proposal that is no number is marked", "is no number" in told[0] and told[1] == "true", told
+    yield "and changes nothing", use.value("Cnum.page.protocol.inputs[1]") == "20", ""
+
+
+def adversaries(use):
+    """Schedules that are tried, with how many there are, counted by hand: of two processes with four steps each, 70; of three with
+    their first five steps in any order, 10 in which one has decided, with 2 orders of the others, and 232 with 6."""
+    use.open()
+    use.press("Try to break it")
+    yield "all schedules of two", use.until(TRIED, 60) and use.trial().startswith("All 70 schedules agree"), use.trial()
+    yield "the one with the most turns is shown", use.count(".log li") == 8, use.texts(".log li")
+    use.choose("types/three_shot")
+    use.press("Try to break it")
+    yield "schedules of three", use.until(TRIED, 120) and use.trial().startswith("All 1412 schedules agree"), use.trial()
+    use.choose("catalogue/cas_3")
+    use.press("Try to break it")
+    yield "schedules of four, at random", use.until(TRIED, 120) and use.trial().startswith("500 schedules, chosen at random"), use.trial()
+    use.press("Try to break it")
+    use.until("/^[1-9]/.test(document.querySelector('.trial').textContent)")
+    use.press("Break it off")
+    yield "it can be broken off", use.trial() == "The trial was broken off.", use.trial()
+
+
+def keys(use):
+    """The protocol stepped by keys, and on a phone."""
+    use.open("#example=types/three_shot")
+    use.value("document.querySelector('.process button').focus()")
+    for key, code, shift, wanted in (("1", 49, False, 1), ("2", 50, True, 2), ("2", 50, False, 2), ("7", 55, False, 2), ("0", 48, False, 3), ("u", 85, False, 2)):
+        use.key(key, code, shift=shift, name="KeyU" if key == "u" else f"Digit{key}")
+        well = use.until(f"document.querySelectorAll('.log li').length === {wanted}", 5)
+        yield f"key {key}{' with Shift' if shift else ''}", well, use.texts(".log li")
+    use.value("document.getElementById('input-0').focus()")
+    use.key("1", 49, name="Digit1")
+    yield "a key in a field is text", use.count(".log li") == 2, use.texts(".log li")
+    use.value("document.querySelectorAll('.process button')[0].focus()")
+    for _ in range(4):
+        use.key("0", 48, name="Digit0")
+        use.do("await Cnum.page.protocol.update();")
+    use.key("1", 49, name="Digit1")
+    yield "the keys go on after a decision", use.until("document.querySelectorAll('.log li').length === 7", 5), use.texts(".log li")
+    use.call("Emulation.setDeviceMetricsOverride", **PHONE)
+    use.open("#example=types/three_shot&run=0,1,2,0,1,2,1,1")
+    distances = use.value(FROM_BUTTON_TO_LOG)
+    yield "on a phone the log is seen at each button", distances and all(distances), distances
+    use.call("Emulation.clearDeviceMetricsOverride")
 
 
 def links(use):
@@ -340,9 +640,89 @@ def links(use):
     link, text = use.value("location.hash"), use.table()
     use.open(link)
     yield "a link holds a table", kept and use.table() == text, link
-    for broken in ("#table=%%%", "#table=AAAA", "#limit=99&run=q,1,x", "#example=nosuch&run=9"):
-        use.open(broken)
-        yield f"a broken link {broken}", use.text("number") == "2", use.text("number")
+    use.value("document.getElementById('skip').click()")
+    yield "the skip link keeps the table", use.value("location.hash") == link and use.table() == text, use.value("location.hash")
+    use.open()
+    use.value("Cnum.page.copyLink()")
+    yield "a link of a file says so", "on this machine only" in use.text("link-said"), use.text("link-said")
+    for number, damaged in enumerate((link[:-6], link.replace("limit=", "limi="), "#table=%%%", "#table=AAAA", *WRONG_LINKS)):
+        use.open(damaged)
+        told = use.text("trouble")
+        yield f"damaged link {number}", told.startswith("This link cannot be shown: ") and use.is_hidden("content"), (damaged, told)
+    use.value("document.querySelector('#trouble a').click()")
+    well = use.has_number("2") and not use.is_hidden("content") and use.text("trouble") == ""
+    yield "from there one begins with an example", well, use.text("trouble")
+    for part, view in (("number-part", "number"), ("why-part", "why"), ("picture-part", "states"), ("protocol-part", "run")):
+        use.open(f"#example=types/three_shot&run=0,1&view={view}")
+        shown = use.value("[...document.querySelectorAll('main > section')].filter(it => it.checkVisibility()).map(it => it.id)")
+        yield f"the view {view}", shown == [part] and use.value("location.hash").endswith(f"view={view}"), shown
+
+
+def one_file(use):
+    """The page in one file, alone in an empty folder, and saved with a table and a run."""
+    with tempfile.TemporaryDirectory() as room:
+        alone = pathlib.Path(room, "cnum.html")
+        alone.write_bytes((TOP / "web/cnum.html").read_bytes())
+        began = time.monotonic()
+        use.open(page=alone)
+        yield "it answers alone in a folder", use.has_number("2"), use.text("trouble")
+        seconds = time.monotonic() - began
+        yield f"in less than {FIRST} s", seconds < FIRST, seconds
+        use.open("#example=types/three_shot&run=0,1,x1", page=alone)
+        use.value("Cnum.page.protocol.update()")
+        names = [use.saved(room, "Cnum.page.savePage()")]
+        before = use.seen()
+        use.open(page=names[0])
+        yield "a saved page shows its table and its run", use.seen() == before and names[0].name == "three_shot.html", use.seen()
+        names.append(use.saved(room, "Cnum.page.savePage()", "again_"))
+        yield "it can be saved again, the same", names[0].read_bytes() == names[1].read_bytes(), ""
+        use.give(SLOT)
+        use.open(page=use.saved(room, "Cnum.page.savePage()"))
+        yield "a saved page with a table of one's own", use.table() == SLOT and use.has_number("1"), use.table()
+
+
+def on_a_server(use):
+    """The page in one file on a server, and in a frame of another page."""
+    with tempfile.TemporaryDirectory() as room:
+        pathlib.Path(room, "cnum.html").write_bytes((TOP / "web/cnum.html").read_bytes())
+        pathlib.Path(room, "course.html").write_text(f'<!doctype html><iframe src="cnum.html{FRAMED}"></iframe>')
+        server = http.server.ThreadingHTTPServer(("127.0.0.1", 0), functools.partial(Quiet, directory=room))
+        threading.Thread(target=server.serve_forever, daemon=True).start()
+        address = f"http://127.0.0.1:{server.server_port}"
+        use.browser.open(f"{address}/cnum.html")
+        yield "it answers from a server", use.until(READY) and use.has_number("2"), ""
+        use.value("Cnum.page.copyLink()")
+        yield "its link is for everyone", "this machine" not in use.text("link-said"), use.text("link-said")
+        use.browser.open(f"{address}/course.html")
+        sections = "[...frames[0].document.querySelectorAll('main > section')].filter(it => it.checkVisibility()).map(it => it.id).join()"
+        yield "a part of it stands in a frame", use.until(f"frames[0].{READY} && {sections} === 'protocol-part'"), ""
+        whole = use.value("frames[0].document.getElementById('whole-link').href")
+        yield "with a link to the whole page", whole.endswith("/cnum.html#example=types/three_shot&limit=4"), whole
+        server.shutdown()
+
+
+class Quiet(http.server.SimpleHTTPRequestHandler):
+    """A server that reports nothing."""
+
+    def log_message(self, *_):
+        pass
+
+
+def missing_parts(use):
+    """A folder that lacks a part of the page, or all of them."""
+    parts = [it.relative_to(TOP / "web") for it in sorted((TOP / "web").rglob("*")) if it.suffix in (".js", ".css")]
+    for absent in ([it] for it in (*parts, None)):
+        absent = absent if absent[0] else parts
+        with tempfile.TemporaryDirectory() as room:
+            for it in [pathlib.Path("index.html"), *(it for it in parts if it not in absent)]:
+                pathlib.Path(room, it).parent.mkdir(exist_ok=True)
+                pathlib.Path(room, it).write_bytes((TOP / "web" / it).read_bytes())
+            use.browser.open("about:blank")
+            use.browser.open(pathlib.Path(room, "index.html").as_uri())
+            use.until("document.readyState === 'complete'")
+            told = use.text("trouble")
+            well = told.startswith("The folder of this page lacks ") and all(it.name in told for it in absent)
+            yield f"without {absent[0] if len(absent) == 1 else 'any part'}", well and use.is_hidden("content"), told
 
 
 def certificates(use):
@@ -355,12 +735,28 @@ def certificates(use):
         dataTransfer.items.add(new File([text], name));
         document.getElementById('claim').dispatchEvent(new DragEvent('drop', { dataTransfer, bubbles: true, cancelable: true }));
     })(%s)"""
-    for text, told in ((whole, "ok\n"), (whole.replace('"number":2', '"number":3'), "cnum: check: "), ("{", "cnum: certificate: ")):
+    for text, told in (
+        (whole, "claim.json is right: it is a certificate of this table."),
+        (whole.replace('"number":2', '"number":3'), "claim.json is refused. Its witness does not fit its number"),
+        (whole.replace("test_and_set", "idle"), "claim.json is refused. It is a certificate of another type"),
+        ("{", "claim.json is refused. It is no JSON, and so no certificate. (cnum: certificate: 1 NotJson)"),
+    ):
         use.value(drop % f"'claim.json', {json.dumps(text)}")
-        well = use.until(f"document.getElementById('claim-said').textContent.startsWith({json.dumps('claim.json: ' + told)})", 10)
-        yield f"a certificate that is dropped: {told.strip()}", well, use.text("claim-said")
-    use.value(drop % f"'slot.toml', {json.dumps(SLOT)}")
-    yield "a table that is dropped", use.until(f"Cnum.page.text === {json.dumps(SLOT)}", 10) and use.has_number("1"), use.table()
+        well = use.until(f"document.getElementById('claim-said').textContent.startsWith({json.dumps(told)})", 10)
+        yield f"a certificate that is dropped: {told}", well, use.text("claim-said")
+        box = use.value("(it => [it.top, it.bottom, innerHeight])(document.getElementById('notice').getBoundingClientRect())")
+        seen = use.text("notice-text").startswith(told) and 0 <= box[0] and box[1] <= box[2]
+        yield "it is answered where one looks", seen, (box, use.text("notice-text"))
+    use.value("document.getElementById('notice-close').click()")
+    yield "the answer can be closed", use.is_hidden("notice"), ""
+    for name in ("slot.toml", "SLOT.TOML", "slot.toml.txt"):
+        use.choose("types/idle")
+        use.value(drop % f"{json.dumps(name)}, {json.dumps(SLOT)}")
+        well = use.until(f"Cnum.page.text === {json.dumps(SLOT)}", 10) and use.has_number("1") and use.text("notice-text") == f"{name} is the table now."
+        yield f"the table {name} that is dropped", well, (use.table(), use.text("notice-text"))
+    use.choose("types/idle")
+    use.value(drop % f"'wide.toml', new Uint8Array({list(SLOT.encode('utf-16'))})")
+    yield "a table in UTF-16", use.until(f"Cnum.page.text === {json.dumps(SLOT)}", 10), use.table()
 
 
 def explanations(use):
@@ -374,7 +770,15 @@ def explanations(use):
             words = wanted.partition("\n\nWhy")[2].replace("(--all tells them)", "").split()
             missing = [it for it in words if it.isalnum() and it not in shown]
             yield f"all of it is shown for {name}", missing == [], missing
+    use.limit(8)
+    said = "A certificate for 8 processes would be too long. Why and the protocol are for 7 at most."
+    use.choose("catalogue/cas_3")
+    yield "a limit that is too large gives the greatest that is not", use.text("limit-said") == said and use.count(".process") == 7, use.text("limit-said")
+    use.choose("types/three_shot")
     use.limit(5)
+    label = use.value("document.querySelector('#why > button').textContent")
+    whole = use.value("JSON.parse(Cnum.page.certificate).collisions.length")
+    yield "how many more there are, of how many", label == f"Show {min(100, whole - 12)} more of {whole}", label
     while not use.value("document.querySelector('#why > button').hidden"):
         before = use.count(".collisions > li")
         use.value("document.querySelector('#why > button').click()")
@@ -396,6 +800,9 @@ def searches(use):
     use.until("!document.getElementById('running').hidden", 20)
     use.choose("types/idle")
     yield "another table breaks it off too", use.text("number") == "1" and use.is_hidden("running"), use.text("number")
+    use.value(f"(() => {{ Cnum.page.text = {json.dumps(TYPES['three_shot'])}; Cnum.page.refresh(); Cnum.page.text += 'x'; }})()")
+    well = use.until("document.querySelectorAll('.process').length === 3", 20) and use.has_number("3")
+    yield "letters that are typed meanwhile do not disturb it", well, use.text("number")
 
 
 def without(use):
@@ -411,7 +818,7 @@ def without(use):
 
 
 def for_all(use):
-    """Keyboard, screen readers, contrast, a phone, paper."""
+    """Keyboard, screen readers, contrast, a phone."""
     shown = "#example=types/three_shot&run=0,1,x1"
     use.open(shown)
     wants_name = {"button", "combobox", "textbox", "link", "region", "img", "spinbutton"}
@@ -443,14 +850,80 @@ def for_all(use):
         width = use.value("document.documentElement.scrollWidth")
         yield f"{path} on a phone", width <= PHONE["width"], width
     use.call("Emulation.clearDeviceMetricsOverride")
+
+
+def paper(use):
+    """The page in print: one sheet for a small type, nothing cut, and no controls."""
+    for link, most in (("#example=types/test_and_set&run=1,1,0,0,0,0,1,1", 1), ("#example=types/binary_register", 1), ("#example=types/wide", 2)):
+        use.open(link)
+        printed = base64.b64decode(use.call("Page.printToPDF", paperWidth=8.27, paperHeight=11.69, preferCSSPageSize=True)["data"])
+        sheets = len(re.findall(rb"/Type\s*/Page\b", printed))
+        yield f"{link} on {most} sheets", 1 <= sheets <= most, sheets
+    use.call("Emulation.setEmulatedMedia", media="print")
+    use.call("Emulation.setDeviceMetricsOverride", width=711, height=1000, deviceScaleFactor=1, mobile=False)
+    for path in ("types/wide", "catalogue/ll_sc_2", "types/three_shot"):
+        use.open(f"#example={path}&run=" if "wide" in path else f"#example={path}&run=0,1,1")
+        widths = use.value("[document, ...document.querySelectorAll('#grid, #marks, .wide')].map(it => it.documentElement || it).map(it => it.scrollWidth - it.clientWidth)")
+        yield f"{path}: nothing is cut", max(widths) <= 1, widths
+        text = use.value("(it => [it.checkVisibility(), it.textContent.trimEnd(), it.scrollHeight - it.clientHeight])(document.getElementById('marks'))")
+        yield f"{path}: the whole text", text[0] and text[1] == use.table().rstrip() and text[2] <= 1, text
+        cells = use.value("[...document.querySelectorAll('#grid td')].map(it => it.innerText.replace(/\\s/g, ''))")
+        wanted = use.value("[...document.querySelectorAll('#grid td')].map(it => [...it.querySelectorAll('select')].map(one => one.value).join('→'))")
+        yield f"{path}: the whole grid", cells == wanted and cells, cells
+        controls = use.value("[...document.querySelectorAll('input, select, textarea, button:not(.word)')].filter(it => it.checkVisibility()).map(it => it.outerHTML)")
+        yield f"{path}: no controls", controls == [], controls
+    use.call("Emulation.setEmulatedMedia", media="")
+    use.call("Emulation.clearDeviceMetricsOverride")
+
+
+def slides(use):
+    """One part alone, large."""
+    use.call("Emulation.setDeviceMetricsOverride", width=1920, height=1080, deviceScaleFactor=1, mobile=False)
+    size = "parseFloat(getComputedStyle(document.querySelector(%r)).fontSize)"
+    for view, place, least in (("number", "#number", 150), ("number", "#meaning", 24), ("why", "#why p", 20), ("states", "#type-name", 24), ("run", ".decision", 20)):
+        use.open(f"#example=types/three_shot&run=0,1&view={view}")
+        seen = use.value(size % place)
+        yield f"{place} in the view {view}", seen >= least, seen
+    use.open("#example=types/three_shot&view=states")
+    width, height = use.value("(it => [it.width, it.height])(document.querySelector('#picture svg').getBoundingClientRect())")
+    yield "the picture fills the view", height > 700, (width, height)
+    use.call("Emulation.clearDeviceMetricsOverride")
+
+
+def languages(use):
+    """The page in German, and back in English."""
+    use.open("#example=types/three_shot&run=0,1,x1&lang=de")
+    head = use.value("[document.documentElement.lang, document.querySelector('h1').textContent, document.title]")
+    yield "the page is German", head[0] == "de" and head[1].startswith("Wie viele Prozesse") and "einigen" in head[2], head
+    yield "with what was said before in English", use.text("meaning").startswith("3 Prozesse können sich einigen, durch"), use.text("meaning")
+    yield "the log too", use.texts(".log li")[2] == "Prozess 1: hält für immer an", use.texts(".log li")
+    yield "the link says so", use.until("location.hash.endsWith('&lang=de')", 5), use.value("location.hash")
+    empty = use.value("[...document.querySelectorAll('[data-text]')].filter(it => !it.textContent.trim()).map(it => it.dataset.text)")
+    yield "no text is empty", empty == [], empty
+    use.value("(it => { it.value = 'en'; it.dispatchEvent(new Event('change')); })(document.getElementById('language'))")
+    well = use.until(f"{READY} && document.documentElement.lang === 'en' && document.querySelectorAll('.log li').length === 3")
+    yield "and English again, with the same run", well and use.has_number("3"), use.value("location.hash")
+    use.open("#lang=xx")
+    yield "a language without texts", "language “xx”" in use.text("trouble") and use.is_hidden("content"), use.text("trouble")
+
+
+def foot(use):
+    """What is said at the end of the page, and the link at its beginning."""
     use.open()
-    yield "on paper", len(use.call("Page.printToPDF")["data"]) > 10000, ""
+    told = use.value("document.querySelector('footer').textContent")
+    program, _, proof = called(["--version"])[0].decode().strip().partition(", proved ")
+    yield "the page says what program is in it", f"come from the program {program}. It is proved ({proof})" in told, told
+    yield "and what it does not do", "each command of the program but serve" in told, told
+    use.value("document.getElementById('skip').focus()")
+    meets = "(([a, b]) => a.right > b.left && a.bottom > b.top && b.bottom > a.top)(['#skip', 'h1'].map(it => document.querySelector(it).getBoundingClientRect()))"
+    yield "the skip link does not cover the heading", not use.value(meets), ""
 
 
 def quiet(use):
     """What the browser reported in all of this."""
     asked = [it["request"]["url"] for it in use.browser.told("Network.requestWillBeSent")]
-    away = {it for it in asked if not it.startswith(((TOP / "web").as_uri() + "/", "blob:", "data:", "about:"))}
+    here = ((TOP / "web").as_uri() + "/", pathlib.Path(tempfile.gettempdir()).as_uri() + "/", "blob:", "data:", "about:")
+    away = {it for it in asked if not it.startswith(here)}
     yield "no request to anywhere", not away and asked, away
     thrown = [it["exceptionDetails"].get("exception", {}).get("description", it) for it in use.browser.told("Runtime.exceptionThrown")]
     yield "no exception", thrown == [], thrown
@@ -458,4 +931,13 @@ def quiet(use):
     yield "no error is logged", logged == [], logged
 
 
-ALL = (first_answer, flaws, examples, meanings, pictures, grid, schedules, links, certificates, explanations, searches, without, for_all, quiet)
+ALL = (
+    first_answer, flaws, examples, meanings, pictures, picture_tools, words, grid, changes, example_search, schedules,
+    pictured_runs, adversaries, keys, links, certificates, explanations, searches, one_file, without, for_all, paper, slides, languages,
+    foot, quiet, on_a_server, missing_parts,
+)
+# The parts that also run in a browser that is not driven by DevTools.
+WITHOUT_DEVTOOLS = (
+    first_answer, meanings, pictures, words, grid, changes, example_search, schedules, pictured_runs, adversaries, links,
+    certificates, explanations, searches, one_file, languages, foot, on_a_server, missing_parts,
+)

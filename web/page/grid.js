@@ -5,9 +5,13 @@ var Cnum = globalThis.Cnum || {};
 (() => {
     'use strict';
 
-    const { button, edits, element } = Cnum;
-    const NO_GRID = 'The grid comes back once each operation has a response and a next state for each state.';
+    const { button, edits, element, say } = Cnum;
+    const MOST_ON_PAPER = 6; // states of a grid for which half of a sheet is enough
+    const MOST = { states: 16, responses: 16, operation: 8 };
     const STEPS = { ArrowUp: [-1, 0], ArrowDown: [1, 0], ArrowLeft: [0, -1], ArrowRight: [0, 1] };
+
+    // A field, and its value for paper, where there are no fields.
+    const onPaper = (field, value) => [field, element('span', { class: 'on-paper' }, value)];
 
     // A choice among names, as a cell has two. It also shows a name that is none of them.
     function choice(label, names, chosen, choose) {
@@ -17,7 +21,7 @@ var Cnum = globalThis.Cnum || {};
         select.value = chosen;
         if (!isKnown) select.setAttribute('aria-invalid', 'true');
         select.addEventListener('change', () => choose(select.value));
-        return select;
+        return onPaper(select, chosen);
     }
 
     // A name that can be changed. Its field is as wide as the name.
@@ -25,7 +29,7 @@ var Cnum = globalThis.Cnum || {};
         const size = Math.max(2, name.length);
         const field = element('input', { 'aria-label': label, title: label, value: name, size, spellcheck: 'false', autocomplete: 'off' });
         field.addEventListener('change', () => change(field.value));
-        return field;
+        return onPaper(field, name);
     }
 
     // A button that takes away what has a name. The last one of its kind stays.
@@ -47,10 +51,10 @@ var Cnum = globalThis.Cnum || {};
             const focused = this.focusedPlace();
             this.table = new Cnum.TableText(text);
             if (this.table.isGrid()) {
-                this.place.replaceChildren(this.cells(), this.responses(), this.additions());
+                this.place.replaceChildren(this.cells(), ...this.left(), this.responses(), this.additions());
                 if (focused) this.focus(focused);
             } else {
-                this.place.replaceChildren(element('p', { class: 'quiet' }, NO_GRID));
+                this.place.replaceChildren(element('p', { class: 'quiet' }, say('no_grid')));
             }
         }
 
@@ -61,16 +65,23 @@ var Cnum = globalThis.Cnum || {};
 
         cells() {
             const table = this.table;
-            const type = nameField('name of the type', table.entry('name').value.text, name => this.change(edits.renameType(table, name)));
-            const corner = element('th', { scope: 'col' }, element('span', { class: 'hidden' }, 'Operation'));
+            const type = nameField(say('type_label'), table.entry('name').value.text, name => this.change(edits.renameType(table, name)));
+            const corner = element('th', { scope: 'col' }, element('span', { class: 'hidden' }, say('operation_head')));
             const heads = this.listed('state', 'states', edits.removeState).map(its => element('th', { scope: 'col' }, ...its));
             return element(
                 'table',
-                {},
-                element('caption', {}, 'Name of the type: ', type),
+                { class: table.items('states').length > MOST_ON_PAPER ? 'broad' : '' },
+                element('caption', {}, say('name_of_type'), ...type),
                 element('thead', {}, element('tr', {}, corner, ...heads)),
                 element('tbody', {}, ...table.operations.map((operation, index) => this.row(operation, index))),
             );
+        }
+
+        // What is said if entries name a state or a response that is not there.
+        left() {
+            const unknown = (items, list) => items.filter(it => !this.names(list).includes(it.text)).length;
+            const count = this.table.operations.reduce((sum, it) => sum + unknown(it.next, 'states') + unknown(it.response, 'responses'), 0);
+            return count ? [element('p', { class: 'trouble', role: 'status' }, say(count === 1 ? 'entry_left' : 'entries_left', { count }))] : [];
         }
 
         row(operation, index) {
@@ -85,14 +96,14 @@ var Cnum = globalThis.Cnum || {};
         cell(index, state) {
             const table = this.table;
             const operation = table.operations[index];
-            const about = `${operation.name.text} in ${this.names('states')[state]}`;
+            const about = { operation: operation.name.text, state: this.names('states')[state] };
             const put = row => name => this.change(edits.entry(table, index, row, state, name));
             return element(
                 'td',
                 {},
-                choice(`response of ${about}`, this.names('responses'), operation.response[state].text, put('response')),
+                ...choice(say('response_of', about), this.names('responses'), operation.response[state].text, put('response')),
                 element('span', { 'aria-hidden': 'true' }, '→'),
-                choice(`state after ${about}`, this.names('states'), operation.next[state].text, put('next')),
+                ...choice(say('state_after', about), this.names('states'), operation.next[state].text, put('next')),
             );
         }
 
@@ -107,20 +118,25 @@ var Cnum = globalThis.Cnum || {};
         }
 
         named(kind, name, canRemove, rename, remove) {
-            const about = `${kind} ${name}`;
-            const field = nameField(`name of ${about}`, name, text => this.change(rename(text)));
-            return [field, removal(`remove ${about}`, canRemove, () => this.change(remove()))];
+            const about = { kind: say(`kind_${kind}`), name };
+            const field = nameField(say('name_of', about), name, text => this.change(rename(text)));
+            return [...field, removal(say('remove', about), canRemove, () => this.change(remove()))];
         }
 
         responses() {
             const items = this.listed('response', 'responses', edits.removeResponse).map(its => element('li', {}, ...its));
-            const label = element('span', { id: 'responses-label' }, 'Responses: ');
+            const label = element('span', { id: 'responses-label' }, say('responses_label'));
             return element('div', { class: 'responses' }, label, element('ul', { 'aria-labelledby': 'responses-label' }, ...items));
         }
 
         additions() {
-            const kinds = { 'Add a state': edits.addState, 'Add an operation': edits.addOperation, 'Add a response': edits.addResponse };
-            const buttons = Object.keys(kinds).map(label => button(label, () => this.change(kinds[label](this.table))));
+            const kinds = [['add_state', 'states', edits.addState], ['add_operation', 'operation', edits.addOperation], ['add_response', 'responses', edits.addResponse]];
+            const buttons = kinds.map(([label, list, add]) => {
+                const isFull = this.table.items(list).length >= MOST[list];
+                const made = button(say(label), () => isFull || this.change(add(this.table)), { 'aria-label': say(label) });
+                if (isFull) Cnum.setAll(made, { 'aria-disabled': 'true', title: say('most', { most: MOST[list] }) });
+                return made;
+            });
             return element('div', { class: 'buttons' }, ...buttons);
         }
 

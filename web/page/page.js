@@ -5,38 +5,65 @@ var Cnum = globalThis.Cnum || {};
 (() => {
     'use strict';
 
-    const { element } = Cnum;
+    const { element, say } = Cnum;
+    const pageWith = Cnum.pageToSave();
     const AFTER_TYPING = 150;
     const BEFORE_TEAMS = 400;
+    const BEFORE_LINK = 150;
     const FIRST_EXAMPLE = 'types/test_and_set';
     const FIRST_LIMIT = '4';
     const CLASS = /: (infinite|(\d+)(?: to (\d+))?)\n$/;
+    const RECOVERABLE = /, recoverable (.+)\n$/;
+    const PROVED = /^(.*?), proved (by .*)\n$/;
+    const TOO_MANY = /^cnum: find: \d+ TooManyChoices/;
     const CERTIFICATE = 'certificate';
     const NO_NUMBER = '–';
-    // The meaning of a number.
-    const ALONE = 'One process alone decides.';
-    const TOGETHER =
-        'processes can agree through objects of this type and registers, however fast each of them is and wherever the others stop.';
-    const TOO_LONG = 'To tell which of these the number is would take too long.';
+    // The parts of the page that can be shown alone, by their names in a link.
+    const VIEWS = { number: 'number-part', why: 'why-part', states: 'picture-part', run: 'protocol-part' };
 
     const at = id => document.getElementById(id);
     const examples = new Map(Cnum.examples.flatMap(group => group.types).map(it => [it.path, it]));
 
     class Page {
         constructor(module) {
+            this.module = module;
             this.quick = new Cnum.Runner(module);
             this.search = new Cnum.Runner(module);
+            this.adversary = new Cnum.Runner(module);
             this.round = 0;
-            this.undone = [];
+            this.past = new Cnum.Past();
             this.certificate = '';
             this.editor = new Cnum.Editor(at('table'), at('marks'), at('flaws'));
             this.grid = new Cnum.Grid(at('grid'), text => this.edit(text));
-            this.protocol = new Cnum.Protocol(at('protocol'), {
-                agree: words => this.agree(words),
-                changed: () => this.keepLink(),
-                say: text => (at('step-said').textContent = text),
-            });
+            this.picture = new Cnum.PictureView(
+                { place: at('picture'), tools: at('picture-tools'), choice: at('operations'), part: at('picture-part') },
+                () => this.protocol.relight(),
+            );
+            this.examples = new Cnum.ExampleSearch(
+                { field: at('example'), list: at('examples'), number: at('example-number') },
+                { choose: path => this.choose(path), classify: paths => this.classify(paths) },
+            );
+            this.protocol = new Cnum.Protocol(at('protocol'), this.forProtocol());
             this.listen();
+        }
+
+        // What the protocol needs of the page.
+        forProtocol() {
+            return {
+                agree: words => this.agree(this.quick, words),
+                tryOut: words => this.agree(this.adversary, words),
+                breakOff: () => this.adversary.breakOff(),
+                next: () => Cnum.run.movesOf(this.table),
+                picture: () => Cnum.pictureOf(this.dot, this.picture.plan),
+                mainPicture: () => this.mainPicture(),
+                changed: () => this.keepLinkSoon(),
+                say: text => (at('step-said').textContent = text),
+                save: (part, picture, form) => this.savePicture(part, picture, form),
+            };
+        }
+
+        mainPicture() {
+            return this.picture.picture();
         }
 
         get text() {
@@ -51,23 +78,48 @@ var Cnum = globalThis.Cnum || {};
             let typed;
             at('table').addEventListener('input', () => {
                 clearTimeout(typed);
-                this.undone = [];
+                this.past.put(this.text, { isTyped: true, now: performance.now() });
                 typed = setTimeout(() => this.refresh(), AFTER_TYPING);
             });
-            at('example').addEventListener('change', () => this.choose(at('example').value));
+            at('own').addEventListener('click', () => this.edit(Cnum.FIRST_TABLE));
             at('limit').addEventListener('change', () => this.refresh());
-            at('undo').addEventListener('click', () => this.undo());
+            this.listenToUndo();
             at('break-off').addEventListener('click', () => this.breakOff());
             const offers = {
                 download: () => ['json', this.certificate, 'application/json'],
                 'download-table': () => ['toml', this.text, 'application/toml'],
-                'download-picture': () => ['svg', Cnum.savedPicture(at('picture').firstElementChild), 'image/svg+xml'],
             };
             for (const id of Object.keys(offers)) at(id).addEventListener('click', () => this.offer(...offers[id]()));
+            for (const form of ['svg', 'png']) {
+                at(`picture-${form}`).addEventListener('click', () => this.savePicture('states', this.mainPicture(), form));
+            }
             at('copy-link').addEventListener('click', () => this.copyLink());
+            at('save-page').addEventListener('click', () => this.savePage());
+            at('save-page').hidden = !pageWith;
+            at('language').addEventListener('change', () => this.speak(at('language').value));
+            at('skip').addEventListener('click', event => this.skip(event));
             at('claim-file').addEventListener('change', () => this.check(at('claim-file').files[0]));
+            at('notice-close').addEventListener('click', () => this.notice(''));
             this.listenToDrops();
             window.addEventListener('hashchange', () => this.follow());
+        }
+
+        // Undo and redo by their buttons, by keys, and as the browser's own commands in the text.
+        listenToUndo() {
+            at('undo').addEventListener('click', () => this.goBack(-1));
+            at('redo').addEventListener('click', () => this.goBack(1));
+            const commands = { historyUndo: -1, historyRedo: 1 };
+            at('table').addEventListener('beforeinput', event => {
+                if (!(event.inputType in commands)) return;
+                event.preventDefault();
+                this.goBack(commands[event.inputType]);
+            });
+            document.addEventListener('keydown', event => {
+                const by = undoKey(event);
+                if (!by || event.target.matches('input:not([type=range]):not([type=file])')) return;
+                event.preventDefault();
+                this.goBack(by);
+            });
         }
 
         // A file can be dropped anywhere: a table becomes the text, and any other file is checked as a
@@ -83,20 +135,41 @@ var Cnum = globalThis.Cnum || {};
         }
 
         async take(file) {
-            if (!file || !file.name.endsWith('.toml')) {
+            if (!file) return;
+            if (Cnum.isTableName(file.name)) {
+                const table = Cnum.textOf(new Uint8Array(await file.arrayBuffer()));
+                const editing = this.edit(table);
+                this.notice(say('table_taken', { name: file.name }));
+                await editing;
+            } else {
                 await this.check(file);
-                return;
             }
-            this.text = await file.text();
-            this.undone = [];
-            await this.refresh();
+        }
+
+        // Tells something where the reader looks, wherever that is on the page.
+        notice(text) {
+            at('notice-text').textContent = text;
+            at('notice').hidden = !text;
         }
 
         // Offers a file under the name of the type, if the text tells it.
         offer(ending, content, kind) {
+            const separator = ending.includes('.') ? '_' : '.';
+            Cnum.offer(`${this.nameOfType() || 'type'}${separator}${ending}`, content, kind);
+        }
+
+        // The name in the text, if it tells one.
+        nameOfType() {
             const name = new Cnum.TableText(this.text).entry('name');
-            const isPlain = name && /^\w+$/.test(name.value.text);
-            Cnum.offer(`${isPlain ? name.value.text : 'type'}.${ending}`, content, kind);
+            return name && /^\w+$/.test(name.value.text) ? name.value.text : '';
+        }
+
+        // Offers a picture. Its file has the name of the type, its number, and the part that it shows.
+        async savePicture(part, picture, form) {
+            const number = at('number').textContent.replace(/ /g, '_');
+            const content = form === 'png' ? await Cnum.pngOf(picture) : Cnum.svgText(picture);
+            const ending = [...(number === NO_NUMBER ? [] : [number]), part].join('_');
+            this.offer(`${ending}.${form}`, content, form === 'png' ? 'image/png' : 'image/svg+xml');
         }
 
         // The example of this text, if it is one.
@@ -105,65 +178,140 @@ var Cnum = globalThis.Cnum || {};
         }
 
         choose(path) {
-            if (!examples.has(path)) return undefined;
-            this.text = examples.get(path).text;
-            this.undone = [];
-            return this.refresh();
+            return examples.has(path) ? this.edit(examples.get(path).text) : undefined;
         }
 
-        // A change in the grid; it can be undone.
+        // Another table; it can be undone.
         edit(text) {
-            this.undone.push(this.text);
+            this.notice('');
             this.text = text;
             return this.refresh();
         }
 
-        undo() {
-            this.text = this.undone.pop();
-            return this.refresh();
+        // The table before the last change, or after it. The cursor goes to the place of the change.
+        async goBack(by) {
+            if (!this.past.canMove(by)) return;
+            const before = this.text;
+            this.text = this.past.move(by);
+            const end = Cnum.endOfChange(this.text, before);
+            at('table').setSelectionRange(end, end);
+            await this.refresh();
         }
 
+        // The numbers of these examples, a line each.
+        async classify(paths) {
+            const files = Object.fromEntries(paths.map(path => [path, examples.get(path).text]));
+            const runner = new Cnum.Runner(this.module);
+            const answer = await runner.run(['classify', ...paths], '', files);
+            runner.end();
+            return answer.stdout;
+        }
+
+        // Shows what the address says, or else what the file of the page holds.
         async follow() {
             if (location.hash === this.link) return;
-            const linked = await Cnum.linkedBy(location.hash);
-            const path = examples.has(linked.example) ? linked.example : FIRST_EXAMPLE;
-            at('limit').value = [...at('limit').options].some(it => it.value === linked.limit) ? linked.limit : FIRST_LIMIT;
-            this.text = linked.text === undefined ? examples.get(path).text : linked.text;
+            const linked = await Cnum.linkedBy(location.hash || Cnum.savedLink());
+            if (linked.fault) {
+                this.refuseLink(linked.fault);
+                return;
+            }
+            if ((linked.lang || Cnum.FIRST_LANGUAGE) !== Cnum.language) {
+                location.reload();
+                return;
+            }
+            this.showView(linked.view);
+            at('limit').value = linked.limit || FIRST_LIMIT;
+            this.text = linked.text === undefined ? examples.get(linked.example || FIRST_EXAMPLE).text : linked.text;
             await this.refresh(linked);
         }
 
+        // Says why a link cannot be shown, and shows nothing else.
+        refuseLink(why) {
+            this.round++;
+            this.search.breakOff();
+            this.link = location.hash;
+            const first = element('a', { href: `#example=${FIRST_EXAMPLE}` }, say('link_first'));
+            at('trouble').replaceChildren(say('link_refused', { why }), ' ', first);
+            at('content').hidden = true;
+        }
+
+        // Shows this part alone, or the whole page if there is none.
+        showView(view) {
+            this.view = view;
+            at('trouble').replaceChildren();
+            at('content').hidden = false;
+            document.body.classList.toggle('one-part', Boolean(view));
+            for (const name of Object.keys(VIEWS)) at(VIEWS[name]).classList.toggle('shown', name === view);
+            at('whole').hidden = !view;
+        }
+
+        // A browser takes so many addresses at a time, and one can step faster.
+        keepLinkSoon() {
+            clearTimeout(this.keeping);
+            this.keeping = setTimeout(() => this.keepLink(), BEFORE_LINK);
+        }
+
         async keepLink() {
-            const { inputs, acts } = this.protocol;
+            clearTimeout(this.keeping);
+            const inputs = this.protocol.inputs;
+            const acts = this.protocol.shownActs();
             const example = this.example();
-            const link = await Cnum.linkOf({ example: example && example.path, text: this.text, limit: at('limit').value, inputs, acts });
+            const shown = { example: example && example.path, text: this.text, limit: at('limit').value, inputs, acts, lang: Cnum.language };
+            const link = await Cnum.linkOf({ ...shown, view: this.view });
+            at('whole-link').href = await Cnum.linkOf(shown);
             this.link = link;
             history.replaceState(null, '', link);
         }
 
         async copyLink() {
             await this.keepLink();
+            let told = say('link_copied');
             try {
                 await navigator.clipboard.writeText(location.href);
-                at('link-said').textContent = 'Copied.';
             } catch {
-                at('link-said').textContent = 'The address of this page is the link.';
+                told = say('link_address');
             }
+            const ofFile = say(pageWith ? 'link_of_file' : 'link_of_folder');
+            at('link-said').textContent = location.protocol === 'file:' ? `${told} ${ofFile}` : told;
         }
 
-        // Runs a command on the table. The answer is null if another table has come since.
+        // Shows the same in another language.
+        async speak(lang) {
+            Cnum.useLanguage(lang);
+            await this.keepLink();
+            location.reload();
+        }
+
+        async savePage() {
+            await this.keepLink();
+            this.offer('html', pageWith(this.link), 'text/html');
+        }
+
+        // Leads to the number. The address holds the link, and so has no place for the name of a part.
+        skip(event) {
+            event.preventDefault();
+            at('number-part').focus();
+        }
+
+        // Runs a command on the table that is shown. The answer is null if another table has come since.
         async ask(runner, words, files) {
             const round = this.round;
-            const answer = await runner.run(words, this.text, files);
+            const answer = await runner.run(words, this.table, files);
             return round === this.round && !answer.isBrokenOff ? answer : null;
         }
 
         // Shows all anew: the flaws, the picture, the number, why, and the protocol, after this run of it.
         async refresh(linked = { inputs: [], acts: [] }) {
             this.round++;
+            this.table = this.text;
             this.search.breakOff();
+            this.adversary.breakOff();
             const example = this.example();
-            at('undo').disabled = !this.undone.length;
-            at('example').value = example ? example.path : '';
+            this.past.put(this.text);
+            at('type-name').textContent = this.nameOfType();
+            at('undo').disabled = !this.past.canMove(-1);
+            at('redo').disabled = !this.past.canMove(1);
+            this.examples.show(example && example.path);
             at('about').textContent = example ? example.about : '';
             this.grid.show(this.text);
             const lint = await this.ask(this.quick, ['lint']);
@@ -171,11 +319,11 @@ var Cnum = globalThis.Cnum || {};
             const lines = lint.stdout.trimEnd().split('\n');
             const isTable = lint.status === 0;
             this.editor.show(isTable || !lint.stdout ? [] : lines);
-            at('fault').textContent = lint.stderr;
+            at('fault').textContent = lint.stderr && Cnum.inWords(lint.stderr);
             at('notes').textContent = isTable ? lines.filter(it => /^(state|operation) \w+: /.test(it)).join('\n') : '';
-            this.forget(isTable ? '' : 'A number comes once the table has no flaw.');
+            this.forget(isTable ? '' : say('no_number'));
             if (isTable) await this.find(linked);
-            this.keepLink();
+            if (!at('content').hidden) await this.keepLink();
         }
 
         // Takes away what was said of another table.
@@ -185,10 +333,13 @@ var Cnum = globalThis.Cnum || {};
             at('number').textContent = NO_NUMBER;
             at('meaning').textContent = why;
             at('why').replaceChildren();
-            at('picture').replaceChildren();
+            this.picture.clear();
             at('claim-said').textContent = '';
             at('claim-file').value = '';
-            at('download').disabled = at('download-picture').disabled = true;
+            at('recoverable').textContent = '';
+            at('limit-said').textContent = '';
+            at('legend').hidden = true;
+            at('download').disabled = at('picture-svg').disabled = at('picture-png').disabled = true;
             this.protocol.clear(why);
         }
 
@@ -203,7 +354,7 @@ var Cnum = globalThis.Cnum || {};
 
         // Finds the number, and shows it, and then the evidence up to the limit.
         async showNumber(linked) {
-            at('meaning').textContent = 'Searching.';
+            at('meaning').textContent = say('searching');
             const classify = await this.timed(this.ask(this.search, ['classify', '-']));
             if (!classify) return;
             if (classify.status !== 0) {
@@ -212,11 +363,18 @@ var Cnum = globalThis.Cnum || {};
             }
             this.tellNumber(CLASS.exec(classify.stdout));
             await this.showEvidence(linked);
+            await this.showRecoverable();
+        }
+
+        async showRecoverable() {
+            const answer = await this.timed(this.ask(this.search, ['classify', '--recoverable', '-']));
+            const found = answer && RECOVERABLE.exec(answer.stdout);
+            if (found) at('recoverable').textContent = say('recoverable', { number: found[1] });
         }
 
         // Finds the certificate for the number up to the limit, and shows its explanation and the protocol.
         async showEvidence(linked) {
-            const find = await this.timed(this.ask(this.search, ['find', '--limit', at('limit').value]));
+            const find = await this.timed(this.findUpTo(at('limit').value));
             if (!find) return;
             if (find.status !== 0) {
                 this.refuse(find.stderr);
@@ -226,15 +384,33 @@ var Cnum = globalThis.Cnum || {};
             at('download').disabled = false;
             const explain = await this.ask(this.search, ['explain', CERTIFICATE], this.files());
             if (!explain) return;
+            if (explain.status !== 0) {
+                this.refuse(explain.stderr);
+                return;
+            }
             Cnum.showExplanation(at('why'), explain.stdout, () => this.explainAll());
+            Cnum.explainWords(at('why'));
             await this.showProtocol(linked);
+        }
+
+        // The certificate up to this limit. If it would be too long, that of the greatest limit that the
+        // program permits for a table of this size.
+        async findUpTo(limit) {
+            const find = await this.ask(this.search, ['find', '--limit', limit]);
+            if (!find || !TOO_MANY.test(find.stderr)) return find;
+            const lower = await this.ask(this.search, ['find']);
+            if (lower && lower.status === 0) {
+                at('limit-said').textContent = say('limit_lower', { limit, least: JSON.parse(lower.stdout).limit });
+            }
+            return lower;
         }
 
         // Says why there is no evidence, and so no protocol.
         refuse(why) {
+            const words = Cnum.inWords(why);
             this.draw(null);
-            at('why').replaceChildren(element('p', {}, why));
-            this.protocol.clear(why);
+            at('why').replaceChildren(element('p', {}, words));
+            this.protocol.clear(words);
         }
 
         files() {
@@ -247,8 +423,9 @@ var Cnum = globalThis.Cnum || {};
         async showProtocol(linked) {
             const { number } = JSON.parse(this.certificate);
             if (number === null) {
+                if (!this.hasFittingRun(linked, 1)) return;
                 this.draw(null);
-                this.protocol.clear('One process alone has nobody to agree with.');
+                this.protocol.clear(say('nobody'));
                 return;
             }
             const find = await this.ask(this.search, ['find', '--limit', String(number)]);
@@ -257,16 +434,25 @@ var Cnum = globalThis.Cnum || {};
             const show = await this.ask(this.search, ['show', '--as', 'json', CERTIFICATE], this.witness);
             if (!show) return;
             const plan = JSON.parse(show.stdout);
+            if (!this.hasFittingRun(linked, plan.processes)) return;
             this.draw(plan);
             await this.protocol.show(plan, linked.inputs, linked.acts);
+        }
+
+        // Whether the run of a link is one of so many processes. If it is not, the page refuses the link.
+        hasFittingRun({ inputs, acts }, processes) {
+            const count = Math.max(inputs.length, ...acts.map(it => it.process + 1));
+            const fits = inputs.length ? count === processes : count <= processes;
+            if (!fits) this.refuseLink(say('link_processes', { linked: count, processes }));
+            return fits;
         }
 
         // The picture, with the start and the teams of this plan, if there is one.
         draw(plan) {
             clearTimeout(this.early);
-            at('picture').replaceChildren(Cnum.pictureOf(this.dot, plan));
+            this.picture.show(this.dot, plan);
             at('legend').hidden = !plan;
-            at('download-picture').disabled = false;
+            at('picture-svg').disabled = at('picture-png').disabled = false;
         }
 
         // Shows that a search runs, and for how long, until it ends.
@@ -275,7 +461,7 @@ var Cnum = globalThis.Cnum || {};
             const seconds = () => ((performance.now() - began) / 1000).toFixed(1);
             const tick = setInterval(() => {
                 at('running').hidden = false;
-                at('elapsed').textContent = `${seconds()} s`;
+                at('elapsed').textContent = say('running', { seconds: seconds() });
             }, 100);
             const round = this.round;
             try {
@@ -288,14 +474,14 @@ var Cnum = globalThis.Cnum || {};
 
         breakOff() {
             this.search.breakOff();
-            if (at('number').textContent === NO_NUMBER) at('meaning').textContent = 'The search was broken off.';
-            else this.refuse('The search for a certificate was broken off.');
+            if (at('number').textContent === NO_NUMBER) at('meaning').textContent = say('search_broken_off');
+            else this.refuse(say('certificate_broken_off'));
         }
 
         // A number, that there is no greatest, or a range in which the number is.
         tellNumber([, words, least, most]) {
             at('number').textContent = words;
-            at('meaning').textContent = least ? meaningOf(Number(least), most && Number(most)) : `Any number of ${TOGETHER}`;
+            at('meaning').textContent = least ? meaningOf(Number(least), most && Number(most)) : say('any_together', { how: say('how') });
         }
 
         async explainAll() {
@@ -303,8 +489,8 @@ var Cnum = globalThis.Cnum || {};
             return answer && answer.stdout;
         }
 
-        agree(words) {
-            return this.quick.run(['agree', '--steps', CERTIFICATE, ...words], this.text, this.witness);
+        agree(runner, words) {
+            return runner.run(['agree', '--steps', CERTIFICATE, ...words], this.table, this.witness);
         }
 
         // Checks a certificate of somebody else by this table.
@@ -312,36 +498,56 @@ var Cnum = globalThis.Cnum || {};
             if (!file) return;
             const claim = new Uint8Array(await file.arrayBuffer());
             const answer = await this.ask(this.quick, ['check', CERTIFICATE], { [CERTIFICATE]: claim });
-            if (answer) at('claim-said').textContent = `${file.name}: ${answer.stdout}${answer.stderr}`;
+            if (!answer) return;
+            const { name } = file;
+            const told = answer.status === 0 ? say('certificate_ok', { name }) : say('certificate_wrong', { name, why: Cnum.inWords(answer.stderr) });
+            at('claim-said').textContent = told;
+            this.notice(told);
         }
 
         async begin() {
-            at('example').append(element('option', { value: '' }, 'a table of your own'), ...Cnum.examples.map(exampleGroup));
+            Cnum.explainWords(at('legend'));
             await this.follow();
             const version = await this.quick.run(['--version']);
-            at('version').textContent = version.stdout.trim();
+            const [, program, proof] = PROVED.exec(version.stdout) || ['', version.stdout.trim(), ''];
+            at('made-by').textContent = say('made_by', { program, proof });
         }
     }
 
     // What a number says, or a range, of which the second number is the greatest.
     function meaningOf(least, most) {
-        const can = least === 1 ? ALONE : `${least} ${TOGETHER}`;
-        return `${can} No protocol lets ${(most || least) + 1} agree.${most ? ` ${TOO_LONG}` : ''}`;
+        const can = least === 1 ? say('alone') : say('together', { count: least, how: say('how') });
+        const sentences = [can, say('no_more', { count: (most || least) + 1 }), ...(most ? [say('too_long')] : [])];
+        return sentences.join(' ');
     }
 
-    function exampleGroup(group) {
-        const options = group.types.map(it => element('option', { value: it.path }, it.path.split('/').pop()));
-        return element('optgroup', { label: group.name }, ...options);
+    // What a key undoes: -1 for undo, 1 for redo, 0 for none.
+    function undoKey({ key, ctrlKey, metaKey, shiftKey, altKey }) {
+        if (!(ctrlKey || metaKey) || altKey) return 0;
+        const letter = key.toLowerCase();
+        if (letter === 'z') return shiftKey ? 1 : -1;
+        return letter === 'y' ? 1 : 0;
+    }
+
+    function offerLanguages() {
+        const codes = Object.keys(Cnum.languages);
+        at('language').append(...codes.map(it => element('option', { value: it, lang: it }, Cnum.languages[it].name)));
+        at('language').value = Cnum.language;
     }
 
     async function begin() {
+        if (document.documentElement.dataset.lacks) return;
+        Cnum.useLanguage(Cnum.languageOf(location.hash || Cnum.savedLink()));
+        Cnum.fillTexts();
         let module;
         try {
             module = await Cnum.load();
         } catch (error) {
             at('trouble').textContent = error.message;
+            at('content').hidden = true;
             return;
         }
+        offerLanguages();
         Cnum.page = new Page(module);
         await Cnum.page.begin();
         document.documentElement.dataset.ready = 'yes';
