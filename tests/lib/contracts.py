@@ -4,13 +4,7 @@ import collections
 import re
 
 from built import TOP
-
-# What stands in comments and between quotes.
-HIDDEN = re.compile(r"//[^\n]*|r#\".*?\"#|\"(?:\\.|[^\"\\])*\"|'(?:\\.[^']*|[^'\\\n])'", re.S)
-NAME = re.compile(r"[^\W\d]\w*")
-IMPORT = re.compile(r"\buse (Rattle[\w.]*)\.\{([^}]*)\}")
-HEAD = re.compile(r"^[ \t]*(?:pub(?:\(\w+\))? )?(impl|trait)\b([^{;]*)\{", re.M)
-FUNCTION = re.compile(r"^([ \t]*(?:pub(?:\(\w+\))? )?)(?:unsafe |const )*fn (\w+)", re.M)
+from rattle import NAME, functions, heads, imports_of
 
 # A function: its place (crate, modules, and the names in the head of its impl or trait, which are its owners), and its
 # clauses, a list of texts for each name.
@@ -18,46 +12,6 @@ Function = collections.namedtuple("Function", "crate name places owners is_publi
 Impl = collections.namedtuple("Impl", "names members")
 # A definition of specs: its text, and its fields if it is a record.
 Definition = collections.namedtuple("Definition", "module name text fields")
-
-
-def masked(text):
-    """A text of the same length, without comments and without what stands between quotes."""
-    return HIDDEN.sub(lambda it: re.sub(r"[^\n]", " ", it[0]), text)
-
-
-def end_of(text, start):
-    """The place behind the bracket that closes the one here."""
-    depth = 0
-    for place in range(start, len(text)):
-        depth += (text[place] in "{([") - (text[place] in "})]")
-        if depth == 0:
-            return place + 1
-    return len(text)
-
-
-def imports_of(text):
-    """The names that a file imports, each with its module and its name there."""
-    given = {}
-    for line in IMPORT.finditer(text):
-        for item in line[2].split(","):
-            name, _, other = item.strip().partition(" as ")
-            given[other or name] = line[1], name
-    return given
-
-
-def contract(text, plain, place):
-    """The clauses of the function whose name ends here, and the place behind it."""
-    clauses, start = collections.defaultdict(list), place
-    while place < len(plain) and plain[place] != ";":
-        end = end_of(plain, place) if plain[place] in "([{" else place + 1
-        if plain[place] == "{":
-            clause = re.search(r"\b(?:requires|ensures)\b\*?\s*(\w*)\s*$", plain[start:place])
-            if not clause:
-                return clauses, end
-            clauses[clause[1]].append(text[place + 1 : end - 1])
-            start = end
-        place = end
-    return clauses, place
 
 
 class Sources:
@@ -74,21 +28,15 @@ class Sources:
 
     def read_source(self, path):
         text = path.read_text()
-        plain, imports = masked(text), imports_of(text)
+        imports, around = imports_of(text), heads(text)
         crate, _, *modules = path.relative_to(TOP / "crates").with_suffix("").parts
-        heads = []
-        for head in HEAD.finditer(plain):
-            names, end = set(NAME.findall(re.sub(r"\bwhere\b.*", "", head[2], flags=re.S))), end_of(plain, head.end() - 1)
-            heads.append((head.end(), end, names, head[1] == "trait" or "for" in names))
-            self.impls.append(Impl(names, set(re.findall(r"\bghost (\w+)\s*[:=]", plain[head.end() : end]))))
-        place = 0
-        while item := FUNCTION.search(plain, place):
-            clauses, place = contract(text, plain, item.end())
-            around = [it for it in heads if it[0] <= item.start() < it[1]]
-            owners = {name for it in around for name in it[2]}
-            is_public = item[1].strip() == "pub" or any(it[3] for it in around)
-            function = Function(crate, item[2], {crate, *modules, *owners}, owners, is_public, clauses, imports)
-            self.functions[item[2]].append(function)
+        self.impls += [Impl(it.names, it.members) for it in around]
+        for it in functions(text):
+            near = [head for head in around if head.start <= it.start < head.end]
+            owners = {name for head in near for name in head.names}
+            is_public = it.is_pub or any(head.is_of_trait for head in near)
+            function = Function(crate, it.name, {crate, *modules, *owners}, owners, is_public, it.clauses, imports)
+            self.functions[it.name].append(function)
 
     def read_specs(self, path):
         module = ".".join(["Rattle", *path.relative_to(TOP / "crates").with_suffix("").parts])

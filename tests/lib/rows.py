@@ -28,10 +28,13 @@ text is one of these:
   the text itself
   [TEXT, PART, N]: the text, and then N times the part
   { bytes = TEXT }: a byte for each character, by its number
+
+In what is printed or told, a line `$NAME` stands for the text NAME of the table `texts` of the file.
 """
 import json
 import os
 import pathlib
+import re
 import tempfile
 import tomllib
 
@@ -59,9 +62,10 @@ def meaning(value, row, texts=TEXTS):
 class Row:
     """A row of a table of a file: one run of the program."""
 
-    def __init__(self, file, table, values):
+    def __init__(self, path, place, number, table, values, texts):
+        self.path, self.place, self.number, self.texts = path, place, number, texts
         self.table, self.cells = table, dict(zip(table.get("columns", []), values, strict=True))
-        self.about = f"{file}, {table['about']}: {values}"
+        self.about = f"{path.stem}, {table['about']}: {values}"
 
     def value(self, key, otherwise):
         """What the column of a key says in this row, or else what the key of the table says."""
@@ -92,11 +96,14 @@ class Row:
         """What has to be printed, told and answered; for a judged row its number."""
         if self.table.get("judged"):
             return self.cells["NUMBER"], (b"ok\n", b"", 0)
-        says = meaning(self.value("says", ""), self.cells)
-        prints, tells = (meaning(self.value(key, ""), self.cells) for key in ("prints", "tells"))
+        says, prints, tells = (self.whole(meaning(self.value(key, ""), self.cells)) for key in ("says", "prints", "tells"))
         if says and not says.endswith(b"\n"):
             says, tells = b"", b"cnum: " + says + b"\n"
         return says or prints, tells, self.value("status", 0)
+
+    def whole(self, text):
+        """A text with the texts of its file in the place of their names."""
+        return re.sub(rb"^\$(\w+)\n", lambda it: self.texts[it[1].decode()].encode(), text, flags=re.M)
 
     def found(self):
         """What the program prints, tells and answers; for a judged row the number that it finds, and the answer of `check`."""
@@ -128,9 +135,10 @@ def ran(words, stdin, files, output=None, memory=None):
 def rows():
     """All rows of the tables of tests/rows, in order."""
     for path in sorted((TOP / "tests/rows").glob("*.toml")):
-        for table in tomllib.loads(path.read_text())["table"]:
-            for values in table.get("rows", [[]]):
-                yield Row(path.stem, table, values)
+        file = tomllib.loads(path.read_text())
+        for place, table in enumerate(file["table"]):
+            for number, values in enumerate(table.get("rows", [[]])):
+                yield Row(path, place, number, table, values, file.get("texts", {}))
 
 
 def printed(file, about):

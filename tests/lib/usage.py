@@ -20,6 +20,11 @@ def words():
     return given
 
 
+def cases():
+    """The words behind PROGRAM that choose cases: those whose names have all of these words."""
+    return [word for word in words()[1:] if not word.startswith("-")]
+
+
 def refuse():
     """Ends the script, since it does not take these words."""
     print(f"usage: {LINE}", file=sys.stderr)
