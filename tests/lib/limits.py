@@ -2,13 +2,15 @@
 import functools
 import re
 
+import rattle
 from built import TOP
 
 
 @functools.cache
 def constants():
     """The public constants of the crates that are numbers."""
-    sources = " ".join(path.read_text() for path in TOP.glob("crates/*/src/**/*.rt"))
+    without_texts = lambda source: rattle.TOKEN.sub(lambda token: '""' if token["text"] else token[0], source)
+    sources = " ".join(without_texts(path.read_text()) for path in TOP.glob("crates/*/src/**/*.rt"))
     texts = dict(re.findall(r"\bpub const ([A-Z_]+): (?:u8|u16|u32|u64|usize) =\s+([^;]+);", sources))
 
     def value(text):
