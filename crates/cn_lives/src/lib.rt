@@ -1,0 +1,14 @@
+//! Lives.
+#![tactic(auto)]
+
+pub mod laws;
+mod lives;
+mod local;
+mod plan;
+mod schedule;
+mod turn;
+
+pub use lives::Lives;
+pub use local::{Local, Stage};
+pub use plan::RecordingPlan;
+pub use schedule::Event;
