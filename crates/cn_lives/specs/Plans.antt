@@ -1,12 +1,17 @@
 -- The plan of a recording witness: of its states alone a process tells which team came first.
-use Rattle.std.specs.Prelude.{◌≡◌, ◌<◌, ◌↔◌, ℕ, List, length, nat_eq, slice_index, slice_index_or}
-use Rattle.cn_choice.specs.Canonical.{raw_choice_of}
+use Rattle.std.specs.Prelude.{◌≡◌, ◌<◌, ◌↔◌, ℕ, IsBitSet, List, length, nat_eq, Result, Ok, Err}
+use Rattle.std.specs.Prelude.{slice_index, slice_index_or}
+use Rattle.cn_table.specs.TypeTable.{TypeTable}
+use Rattle.cn_choice.specs.Canonical.{Choice, raw_choice_of}
 use Rattle.cn_choice.specs.declared.team.Team.{Team}
 use Rattle.cn_choice.specs.declared.team.Team.TheVariants.{A, B}
 use Rattle.cn_outcomes.specs.LeftStates.{LeavesIn}
 use Rattle.cn_proto.specs.Plan.{IsPlan, Plan, protocol_of}
 use Rattle.cn_recover.specs.Recording.{IsRecordingWitness}
 use Rattle.cn_crashes.specs.RecoverableRound.{RecoverablePlan}
+use Rattle.cn_lives.specs.declared.fault.RecordingFault.{RecordingFault}
+use Rattle.cn_lives.specs.declared.fault.RecordingFault.TheVariants.{ComesBack, NotRecording}
+use Rattle.cn_lives.specs.declared.fault.RecordingFault.TheVariants.{OutOfMemory}
 
 -- the plan of the witness, and for each state the team that came first where it is read
 pub record RecordingPlan : Type 0 where
@@ -32,3 +37,18 @@ recoverable_plan p = record {
   judge = λ q. slice_index_or p.first_teams q B;
   lone = nat_eq (length p.plan.choice.a) 1;
 }
+
+-- for each of this many states, whether it is in the set: team A if it is, else team B
+pub record AreTeamsOf (set states : ℕ) (teams : List Team) : Type 0 where
+  pub count : length teams ≡ states
+  pub each : (q : ℕ) → q < states → (slice_index_or teams q B ≡ A) ↔ IsBitSet set q
+
+-- the plan of the choice exactly for a recording witness none of whose orders that begin in team A
+-- leaves the start state; or memory ran out
+abbrev pub IsRecordingPlanned : TypeTable → Choice → Result RecordingPlan RecordingFault → Type 0
+IsRecordingPlanned t c (Ok p) = IsRecordingWitness t (raw_choice_of c)
+    × (¬ LeavesIn t (raw_choice_of c) A c.state) × (p.plan.table ≡ t) × (p.plan.choice ≡ c)
+IsRecordingPlanned t c (Err NotRecording) = ¬ IsRecordingWitness t (raw_choice_of c)
+IsRecordingPlanned t c (Err ComesBack) =
+    IsRecordingWitness t (raw_choice_of c) × LeavesIn t (raw_choice_of c) A c.state
+IsRecordingPlanned t c (Err OutOfMemory) = Unit {0}

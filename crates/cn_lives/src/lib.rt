@@ -1,6 +1,7 @@
 //! Lives.
 #![tactic(auto)]
 
+mod fault;
 pub mod laws;
 mod lives;
 mod local;
@@ -8,7 +9,8 @@ mod plan;
 mod schedule;
 mod turn;
 
+pub use fault::RecordingFault;
 pub use lives::Lives;
 pub use local::{Local, Stage};
 pub use plan::RecordingPlan;
-pub use schedule::Event;
+pub use schedule::{Event, run_lives};

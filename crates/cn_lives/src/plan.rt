@@ -1,11 +1,19 @@
 //! Plans of recording witnesses.
-ghost use Rattle.std.specs.Prelude.{◌≡◌, ◌<◌, ◌≤◌, length};
-ghost use Rattle.cn_lives.specs.Plans.{IsRecordingPlan, recoverable_plan};
+ghost use Rattle.std.specs.Prelude.{◌≡◌, ◌<◌, ◌≤◌, IfOk, length};
+ghost use Rattle.cn_choice.specs.Canonical.{FitsTable, raw_choice_of};
+ghost use Rattle.cn_recover.specs.Recording.{IsRecordingWitness};
+ghost use Rattle.cn_lives.specs.Plans.{AreTeamsOf, IsRecordingPlan, IsRecordingPlanned};
+ghost use Rattle.cn_lives.specs.Plans.{recoverable_plan};
 
-use cn_choice::Team;
-use cn_proto::Plan;
+use crate::fault::RecordingFault;
+use cn_choice::{Choice, RawChoice, Team};
+use cn_outcomes::{Bits, left_states};
 use cn_proto::laws::plans_are_sound;
-use cn_table::State;
+use cn_proto::{Plan, PlanFault};
+use cn_recover::is_recording_witness;
+use cn_recover::laws::recording_witness_is_witness;
+use cn_table::{State, Table};
+use std::alloc::{AllocError, Global};
 use std::marker::Model;
 
 /// The plan of a recording witness, and for each state the team that came first.
@@ -27,6 +35,37 @@ impl Model for RecordingPlan {
 }
 
 impl RecordingPlan {
+    /// The plan of a recording witness none of whose orders that begin in team A leaves the start
+    /// state.
+    ///
+    /// The choice is one of the table, for 2 to [`MOST_PROCESSES`](cn_choice::MOST_PROCESSES)
+    /// processes.
+    ///
+    /// # Errors
+    ///
+    /// `NotRecording` if the choice is no recording witness; `ComesBack` if an order that begins in
+    /// team A leaves the start state. `OutOfMemory` can come in place of a plan.
+    pub fn from_witness(
+        alloc: Global,
+        table: &Table,
+        choice: &Choice,
+    ) -> Result<RecordingPlan, RecordingFault>
+        requires { FitsTable table.now choice.now }
+        ensures { IsRecordingPlanned table.now choice.now result }
+    {
+        if !is_recording_witness(table, choice) {
+            return Err(RecordingFault::NotRecording);
+        }
+        let left_by_a = left_states(table, &RawChoice::of(choice), Team::A);
+        if left_by_a.contains(choice.state.0) {
+            return Err(RecordingFault::ComesBack);
+        }
+        let plan = witness_plan(alloc, table, choice)?;
+        plans_are_sound(&plan);
+        let first_teams = teams_of(alloc, left_by_a, table.states())?;
+        Ok(RecordingPlan { plan, first_teams })
+    }
+
     /// The plan of the witness: its table, and the paths and operations of its processes.
     pub fn plan(&self) -> &Plan
         ensures { result.now ≡ self.now.plan }
@@ -56,4 +95,31 @@ impl RecordingPlan {
     {
         let _ = &self.first_teams;
     }
+}
+
+/// The plan of a recording witness.
+fn witness_plan(alloc: Global, table: &Table, choice: &Choice) -> Result<Plan, AllocError>
+    requires fits { FitsTable table.now choice.now }
+    requires recording { IsRecordingWitness table.now (raw_choice_of choice.now) }
+    ensures table { IfOk result (λ plan. plan.table ≡ table.now) }
+    ensures choice { IfOk result (λ plan. plan.choice ≡ choice.now) }
+{
+    recording_witness_is_witness();
+    match Plan::from_witness(alloc, table, choice) {
+        Ok(plan) => Ok(plan),
+        Err(PlanFault::OutOfMemory) => Err(AllocError),
+        // A recording witness is a witness.
+        Err(PlanFault::Meets(_)) => unreachable!(),
+    }
+}
+
+/// For each of this many states team A if the state is in the set, else team B.
+fn teams_of(alloc: Global, set: Bits, states: u8) -> Result<Vec<Team>, AllocError>
+    ensures { IfOk result (λ teams. AreTeamsOf set states teams.items) }
+{
+    let mut teams = Vec::new(alloc);
+    for state in 0..states {
+        teams.push(if set.contains(state) { Team::A } else { Team::B })?;
+    }
+    Ok(teams)
 }
