@@ -1,7 +1,7 @@
 -- Lives fit their plan: their lists have the lengths of the plan, each process is at a place of its
 -- path, and each object is in a state of the table.
 use Rattle.std.proofs.Common.{◌≡◌, ℕ, ◌+◌, ◌*◌, ◌<◌, inl, inr, List, [], ◌∷◌, length, refl, sym, ap}
-use Rattle.std.proofs.Common.{◌∙◌, subst, arith, Bool, true, false, nat_lt, Option, Some, None}
+use Rattle.std.proofs.Common.{◌∙◌, subst, Bool, true, false, nat_lt, Option, Some, None}
 use Rattle.std.proofs.Common.{slice_index_or, slice_set, length-set, get_or-set_same}
 use Rattle.std.proofs.Common.{get_or-set_other}
 use Rattle.std.specs.Prelude.{slice_index, if◌then◌else◌}
@@ -19,7 +19,6 @@ use Rattle.cn_proto.proofs.PlanLemmas.{operation_known}
 use Rattle.cn_consensus.proofs.Tables.{table_closed}
 use Rattle.cn_solvable.specs.RoundProtocol.{register_of}
 use Rattle.cn_crashes.specs.Execution.{Event, IsExecution}
-use Rattle.cn_crashes.specs.RecoverableRound.{RecoverablePlan}
 use Rattle.cn_crashes.specs.Execution.Event.{Step, Crash}
 use Rattle.cn_lives.specs.Plans.{RecordingPlan, recoverable_plan}
 use Rattle.cn_lives.specs.Runs.{AreLivesOf, after_events, first_world}

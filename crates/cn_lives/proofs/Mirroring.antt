@@ -1,12 +1,11 @@
 -- Lives step and crash as the protocol of their plan does.
-use Rattle.std.proofs.Common.{◌≡◌, ◌≢◌, ℕ, suc, ◌+◌, ◌*◌, ◌<◌, inl, inr, List, [], ◌∷◌, length, refl}
+use Rattle.std.proofs.Common.{◌≡◌, ℕ, suc, ◌+◌, ◌*◌, ◌<◌, inl, inr, List, [], ◌∷◌, length, refl}
 use Rattle.std.proofs.Common.{sym, ap, ◌∙◌, subst, arith, Bool, true, false, cond, nat_eq, nat_lt}
 use Rattle.std.proofs.Common.{Option, Some, None, slice_index_or, slice_set}
 use Rattle.std.proofs.Common.{get_or-set_same, get_or-set_other}
 use Rattle.std.specs.Prelude.{slice_index, option_map, if◌then◌else◌}
 use Rattle.std.proofs.lemmas.Bool.{cases_eq}
 use Rattle.std.proofs.lemmas.List.{get_or-map, get_or-replicate}
-use Rattle.cn_table.specs.TypeTable.{TypeTable, transition}
 use Rattle.cn_table.specs.declared.elements.State.{State}
 use Rattle.cn_choice.specs.declared.team.Team.{Team}
 use Rattle.cn_choice.specs.declared.team.Team.TheVariants.{A, B}
@@ -34,7 +33,7 @@ use Rattle.cn_lives.specs.Mirrors.{Mirrors, inputs_of, lives_protocol, local_of,
 use Rattle.cn_lives.specs.Plans.{RecordingPlan, recoverable_plan}
 use Rattle.cn_lives.specs.Runs.{after_events, decision_of, first_world}
 use Rattle.cn_lives.specs.Steps.{World, after_action, after_crash, after_step, after_step_from}
-use Rattle.cn_lives.specs.Steps.{first_stage, held_at, local_after, local_at, onward, onward_if}
+use Rattle.cn_lives.specs.Steps.{first_stage, held_at, local_at, onward, onward_if}
 use Rattle.cn_lives.specs.Steps.{stage_seen, state_at}
 use Rattle.cn_lives.specs.declared.local.Local.{Local}
 use Rattle.cn_lives.specs.declared.local.Local.TheVariants.{Active, Decided}

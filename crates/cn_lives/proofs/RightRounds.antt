@@ -1,16 +1,14 @@
 -- Right rounds while an execution runs: their decisions agree, and a process that does not crash
 -- decides in time.
-use Rattle.std.proofs.Common.{◌≡◌, ◌≢◌, ℕ, ◌+◌, ◌*◌, ◌-◌, ◌<◌, ◌≤◌, inl, inr, List, [], ◌∷◌, ◌++◌}
+use Rattle.std.proofs.Common.{◌≡◌, ◌≢◌, ℕ, ◌*◌, ◌-◌, ◌<◌, ◌≤◌, inl, inr, List, [], ◌∷◌, ◌++◌}
 use Rattle.std.proofs.Common.{length, refl, sym, ap, ◌∙◌, subst, arith, Bool, Some}
 use Rattle.std.proofs.lemmas.Bool.{cases_eq, eq-eqb, ne_eqb}
 use Rattle.cn_table.specs.TypeTable.{TypeTable}
-use Rattle.cn_proto.specs.Protocol.{place_of}
 use Rattle.cn_consensus.specs.Configuration.{decided_by, decision, initial, perform, put, step}
-use Rattle.cn_consensus.specs.Protocol.{Protocol}
 use Rattle.cn_consensus.specs.Types.{all_of}
 use Rattle.cn_consensus.proofs.Alike.{others_stepped, put-other, put-same}
 use Rattle.cn_consensus.proofs.Counting.{hit}
-use Rattle.cn_crashes.specs.Execution.{Event, HasDecidedIn, IsExecution, NeverCrashes, after_crash}
+use Rattle.cn_crashes.specs.Execution.{Event, HasDecidedIn, IsExecution, NeverCrashes}
 use Rattle.cn_crashes.specs.Execution.{after_event, after_execution, process_of, steps_of}
 use Rattle.cn_crashes.specs.Execution.Event.{Step, Crash}
 use Rattle.cn_crashes.specs.RecoverableRound.{RecoverableLocal, RecoverablePlan, local_action}

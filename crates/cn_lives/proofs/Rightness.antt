@@ -1,6 +1,6 @@
 -- The judge of a recording plan is right.
-use Rattle.std.proofs.Common.{◌≡◌, ◌≢◌, ℕ, ◌+◌, ◌<◌, ◌≤◌, List, [], ◌∷◌, length, refl, sym, subst}
-use Rattle.std.proofs.Common.{arith, Bool, true, false, inl, inr, nat_eq, nat_lt}
+use Rattle.std.proofs.Common.{◌≡◌, ◌≢◌, ℕ, ◌+◌, ◌<◌, List, [], ◌∷◌, length, refl, subst}
+use Rattle.std.proofs.Common.{arith, Bool, true, false, inl, inr, nat_lt}
 use Rattle.std.specs.Prelude.{if◌then◌else◌, slice_index_or}
 use Rattle.std.proofs.lemmas.Bool.{cases_lt, eqb-true, eqb-false, ltb-true}
 use Rattle.cn_table.specs.TypeTable.{TypeTable}

@@ -1,6 +1,6 @@
 -- Lives while an execution runs.
 use Rattle.std.proofs.Common.{◌≡◌, ℕ, ◌+◌, ◌<◌, List, [], ◌∷◌, ◌++◌, length, refl, sym, ap, ◌∙◌}
-use Rattle.std.proofs.Common.{subst, get_or, drop}
+use Rattle.std.proofs.Common.{get_or, drop}
 use Rattle.std.specs.Prelude.{All}
 use Rattle.std.specs.List.{AllByRecursion}
 use Rattle.std.proofs.lemmas.List.{drop_more}
@@ -16,7 +16,7 @@ use Rattle.cn_lives.specs.Runs.{world_after}
 use Rattle.cn_lives.specs.Schedules.{event_of, execution_of, named, process_of as named_by}
 use Rattle.cn_lives.specs.declared.schedule.Event.{Event as ScheduleEvent}
 use Rattle.cn_lives.specs.declared.schedule.Event.TheVariants.{Step as StepOf, Crash as CrashOf}
-use Rattle.cn_lives.specs.Steps.{World, after_crash, after_step, after_step_from, local_at}
+use Rattle.cn_lives.specs.Steps.{World, after_step_from, local_at}
 use Rattle.cn_lives.specs.declared.local.Local.{Local}
 use Rattle.cn_lives.specs.declared.local.Local.TheVariants.{Active, Decided}
 use Rattle.cn_crashes.proofs.Executions.{execution-append}

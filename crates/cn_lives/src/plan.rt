@@ -119,7 +119,11 @@ fn teams_of(alloc: Global, set: Bits, states: u8) -> Result<Vec<Team>, AllocErro
 {
     let mut teams = Vec::new(alloc);
     for state in 0..states {
-        teams.push(if set.contains(state) { Team::A } else { Team::B })?;
+        teams.push(if set.contains(state) {
+            Team::A
+        } else {
+            Team::B
+        })?;
     }
     Ok(teams)
 }

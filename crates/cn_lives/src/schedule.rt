@@ -87,11 +87,7 @@ fn take_all(plan: &RecordingPlan, lives: &mut Lives, schedule: &[Event])
 }
 
 /// The decision of each of this number of processes.
-fn decisions_of(
-    alloc: Global,
-    lives: &Lives,
-    processes: u8,
-) -> Result<Vec<Option<u64>>, AllocError>
+fn decisions_of(alloc: Global, lives: &Lives, processes: u8) -> Result<Vec<Option<u64>>, AllocError>
     requires { processes ≡ length (world_of lives.now).locals }
     ensures { IfOk result (λ decisions. decisions.items ≡ decisions_of (world_of lives.now)) }
 {

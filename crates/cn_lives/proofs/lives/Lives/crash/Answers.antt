@@ -1,4 +1,4 @@
-use Rattle.std.proofs.Common.{rules, arith, ◌++◌, ◌∷◌, [], sym, subst}
+use Rattle.std.proofs.Common.{arith, ◌++◌, ◌∷◌, [], sym, subst}
 use Rattle.std.proofs.lemmas.Grind.{common_steps}
 use Rattle.cn_crashes.specs.Execution.Event.{Crash}
 use Rattle.cn_lives.specs.Lives.{world_of}

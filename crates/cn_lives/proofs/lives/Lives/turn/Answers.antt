@@ -1,4 +1,4 @@
-use Rattle.std.proofs.Common.{◌<◌, ◌∙◌, ap, length, slice_index_or, arith}
+use Rattle.std.proofs.Common.{◌∙◌, ap, length, slice_index_or, arith}
 use Rattle.cn_proto.specs.Plan.{Plan, protocol_of}
 use Rattle.cn_proto.specs.Protocol.{nowhere}
 use Rattle.cn_lives.specs.Lives.{world_of}

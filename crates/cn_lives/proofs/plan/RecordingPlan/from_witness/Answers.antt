@@ -1,4 +1,4 @@
-use Rattle.std.proofs.Common.{◌≡◌, ◌∙◌, ◌↔◌, ℕ, ap, sym, subst, true≢false}
+use Rattle.std.proofs.Common.{◌∙◌, ◌↔◌, ℕ, ap, sym, subst, true≢false}
 use Rattle.std.specs.Prelude.{IsBitSet}
 use Rattle.cn_choice.specs.Canonical.{Choice, raw_choice_of}
 use Rattle.cn_choice.specs.RawChoices.{RawChoice}
