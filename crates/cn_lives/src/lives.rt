@@ -1,20 +1,27 @@
 //! One instance of consensus, one step or crash at a time.
-ghost use Rattle.std.specs.Prelude.{◌≡◌, ◌<◌, ◌++◌, ◌∷◌, [], ℕ, List, length, map, IfNone, IfOk, IfSome, IsSome};
+ghost use Rattle.std.specs.Prelude.{◌≡◌, ◌<◌, ◌++◌, ◌∷◌, [], ℕ, Bool, List, Option, length, map};
+ghost use Rattle.std.specs.Prelude.{IfNone, IfOk, IfSome, IsSome};
 ghost use Rattle.cn_proto.specs.Plan.{processes_of};
+ghost use Rattle.cn_consensus.specs.Configuration.{Configuration, step};
+ghost use Rattle.cn_consensus.specs.Types.{all_of};
+ghost use Rattle.cn_solvable.specs.RoundProtocol.{register_of as register_number};
+ghost use Rattle.cn_crashes.specs.Execution.{Event, after_crash as crash_of_protocol};
+ghost use Rattle.cn_crashes.specs.Execution.Event.{Step, Crash};
+ghost use Rattle.cn_crashes.specs.RecoverableRound.{RecoverableLocal};
 ghost use Rattle.cn_lives.specs.Lives.{world_of};
+ghost use Rattle.cn_lives.specs.Mirrors.{Mirrors, inputs_of, lives_protocol};
 ghost use Rattle.cn_lives.specs.Plans.{recoverable_plan};
 ghost use Rattle.cn_lives.specs.Runs.{AreLivesOf, LiveBy, decision_at, first_world};
-ghost use Rattle.cn_lives.specs.Steps.{after_crash, after_step};
+ghost use Rattle.cn_lives.specs.Steps.{after_crash, after_step, held_at, local_at, state_at};
 ghost use Rattle.cn_lives.specs.Turns.{IsTurn};
-ghost use Rattle.cn_crashes.specs.Execution.{Event};
-ghost use Rattle.cn_crashes.specs.Execution.Event.{Step, Crash};
 ghost use Rattle.cn_lives.specs.declared.local.Local.TheVariants.{Active};
 ghost use Rattle.cn_lives.specs.declared.local.Stage.TheVariants.{Write};
 
 use crate::laws::recording_plans_are_sound;
 use crate::local::{Local, Stage};
 use crate::plan::RecordingPlan;
-use crate::turn::{Turn, local_after, share};
+use crate::turn::{Turn, local_after, register_of, share};
+use cn_choice::Team;
 use cn_table::State;
 use std::alloc::{AllocError, Global};
 
@@ -89,7 +96,12 @@ impl Lives {
             ≡ after_step (recoverable_plan plan.now) p (world_of self.old) }
         ensures of_plan { (events : List Event) → AreLivesOf plan.now events (world_of self.old)
             → AreLivesOf plan.now (events ++ Step p ∷ []) (world_of self.new) }
+        ensures protocol { (f : ℕ → Bool) (c : Configuration RecoverableLocal (Option Bool))
+            → Mirrors plan.now f (world_of self.old) c
+            → Mirrors plan.now f (world_of self.new)
+            (step (all_of plan.now.plan.table) (lives_protocol plan.now) c p) }
     {
+        recording_plans_are_sound(plan);
         if let Some(turn) = self.turn(plan, p) {
             let next = local_after(plan, turn, &self.registers, &self.objects);
             share(plan, turn, &mut self.registers, &mut self.objects);
@@ -106,9 +118,37 @@ impl Lives {
         ensures world { world_of self.new ≡ after_crash p (world_of self.old) }
         ensures of_plan { (events : List Event) → AreLivesOf plan.now events (world_of self.old)
             → AreLivesOf plan.now (events ++ Crash p ∷ []) (world_of self.new) }
+        ensures protocol { (f : ℕ → Bool) (c : Configuration RecoverableLocal (Option Bool))
+            → Mirrors plan.now f (world_of self.old) c
+            → Mirrors plan.now f (world_of self.new) (crash_of_protocol (lives_protocol plan.now)
+            (inputs_of f (world_of self.old).inputs) c p) }
     {
         recording_plans_are_sound(plan);
         self.locals[usize::from(p)] = Local::first(self.inputs[usize::from(p)]);
+    }
+
+    /// The local state of process `p`.
+    pub fn local(&self, p: u8) -> Local
+        requires { p < length (world_of self.now).locals }
+        ensures { result ≡ local_at (world_of self.now) p }
+    {
+        self.locals[usize::from(p)]
+    }
+
+    /// The state of the object of a node.
+    pub fn object(&self, node: u8) -> State
+        requires { node < length (world_of self.now).objects }
+        ensures { result.0 ≡ state_at (world_of self.now).objects node }
+    {
+        self.objects[usize::from(node)]
+    }
+
+    /// The value in the register of a team at a node, if it holds one.
+    pub fn register(&self, node: u8, team: Team) -> Option<u64>
+        requires { register_number node team < length (world_of self.now).registers }
+        ensures { result ≡ held_at (world_of self.now).registers node team }
+    {
+        self.registers[register_of(node, team)]
     }
 
     /// The decision of process `p`, if it has one. A crash takes it away, and the process decides

@@ -1,5 +1,6 @@
 //! Whole schedules: lists of steps and crashes.
-ghost use Rattle.std.specs.Prelude.{◌≡◌, ◌⊎◌, ◌<◌, [], All, length, map, Err, IfErr, IfOk, OnOk, None, Some, nat_le, position};
+ghost use Rattle.std.specs.Prelude.{◌≡◌, ◌⊎◌, ◌<◌, [], All, length, nat_le, position};
+ghost use Rattle.std.specs.Prelude.{Err, IfErr, IfOk, OnOk, None, Some};
 ghost use Rattle.cn_proto.specs.Plan.{processes_of};
 ghost use Rattle.cn_agree.specs.Schedules.{schedule_fault};
 ghost use Rattle.cn_agree.specs.declared.fault.ScheduleFault.{ScheduleFault as FaultOf};
@@ -8,7 +9,8 @@ ghost use Rattle.cn_lives.specs.Consensus.{IsRecoverableConsensus};
 ghost use Rattle.cn_lives.specs.Lives.{world_of};
 ghost use Rattle.cn_lives.specs.Plans.{recoverable_plan};
 ghost use Rattle.cn_lives.specs.Runs.{AreLivesOf, LiveBy, after_event, after_events, first_world};
-ghost use Rattle.cn_lives.specs.Schedules.{decisions_after, decisions_of, event_of, execution_of, named, process_of};
+ghost use Rattle.cn_lives.specs.Schedules.{decisions_after, decisions_of, event_of, execution_of};
+ghost use Rattle.cn_lives.specs.Schedules.{named, process_of};
 
 use crate::laws::{lives_reach_consensus, recording_plans_are_sound};
 use crate::lives::Lives;
@@ -113,7 +115,8 @@ fn first_lives(
         → schedule_fault (processes_of plan.now.plan) inputs.now (named schedule.now) ≡ Some e
         → result ≡ Err e }
     ensures refused { IfErr result (λ e. (e ≡ OutOfMemory)
-        ⊎ (schedule_fault (processes_of plan.now.plan) inputs.now (named schedule.now) ≡ Some e)) }
+        ⊎ (schedule_fault (processes_of plan.now.plan) inputs.now (named schedule.now)
+        ≡ Some e)) }
 {
     if let Some(fault) = fault_of(plan, inputs, schedule) {
         return Err(fault);
@@ -155,7 +158,8 @@ pub fn run_lives(
         → schedule_fault (processes_of plan.now.plan) inputs.now (named schedule.now) ≡ Some e
         → result ≡ Err e }
     ensures refused { IfErr result (λ e. (e ≡ OutOfMemory)
-        ⊎ (schedule_fault (processes_of plan.now.plan) inputs.now (named schedule.now) ≡ Some e)) }
+        ⊎ (schedule_fault (processes_of plan.now.plan) inputs.now (named schedule.now)
+        ≡ Some e)) }
 {
     recording_plans_are_sound(plan);
     lives_reach_consensus(plan);

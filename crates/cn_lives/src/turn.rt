@@ -3,7 +3,8 @@ ghost use Rattle.std.specs.Prelude.{◌≡◌, ◌<◌, ◌≤◌, ◌+◌, ◌*
 ghost use Rattle.cn_proto.specs.Plan.{processes_of};
 ghost use Rattle.cn_solvable.specs.RoundProtocol.{register_of};
 ghost use Rattle.cn_lives.specs.Plans.{recoverable_plan};
-ghost use Rattle.cn_lives.specs.Steps.{held_at, local_after, objects_after, onward, onward_if, registers_after, stage_seen, state_at};
+ghost use Rattle.cn_lives.specs.Steps.{held_at, local_after, objects_after, onward, onward_if};
+ghost use Rattle.cn_lives.specs.Steps.{registers_after, stage_seen, state_at};
 ghost use Rattle.cn_lives.specs.declared.local.Local.TheVariants.{Active};
 
 use crate::local::{Local, Stage};
