@@ -1,0 +1,129 @@
+-- The lives of a recording plan reach consensus in every execution.
+use Rattle.std.proofs.Common.{◌≡◌, ℕ, ◌*◌, ◌-◌, ◌<◌, ◌≤◌, List, [], ◌∷◌, ◌++◌, length, refl, sym, ap}
+use Rattle.std.proofs.Common.{◌∙◌, subst, Bool, false, nat_eq, Option, Some, None}
+use Rattle.std.specs.Prelude.{option_map, slice_index}
+use Rattle.std.proofs.lemmas.Bool.{eq-eqb, eqb-true}
+use Rattle.std.proofs.lemmas.Option.{slice_get-get_or}
+use Rattle.cn_proto.specs.Order.{after}
+use Rattle.cn_proto.specs.Plan.{nodes_of, processes_of, protocol_of}
+use Rattle.cn_proto.specs.Sound.{IsSound}
+use Rattle.cn_proto.specs.Tournament.{team_of}
+use Rattle.cn_consensus.specs.Configuration.{decision}
+use Rattle.cn_consensus.specs.Types.{all_of}
+use Rattle.cn_crashes.specs.Execution.{Event, HasDecidedIn, IsExecution}
+use Rattle.cn_crashes.specs.RecoverableConsensus.{HasStrongRecoverableValidity}
+use Rattle.cn_crashes.specs.RecoverableConsensus.{IsRecoverableConsensusProtocol}
+use Rattle.cn_crashes.specs.RecoverableWaitFreedom.{DecidesWithin}
+use Rattle.cn_crashes.proofs.Bounds.{endless}
+use Rattle.cn_crashes.proofs.Executions.{execution-append}
+use Rattle.cn_crashes.proofs.RoundInvariant.{Setting}
+use Rattle.cn_crashes.proofs.StrongValidity.{strongly_valid}
+use Rattle.cn_lives.specs.Consensus.{HasDecided, IsRecoverableConsensus}
+use Rattle.cn_lives.specs.Mirrors.{Mirrors, configuration_after, inputs_of, lives_protocol}
+use Rattle.cn_lives.specs.Plans.{IsRecordingPlan, RecordingPlan, recoverable_plan}
+use Rattle.cn_lives.specs.Runs.{decision_at, world_after}
+use Rattle.cn_lives.proofs.Mirroring.{mirrors_execution, same_decision}
+use Rattle.cn_lives.proofs.RightRounds.{agree, in_time, valid}
+use Rattle.cn_lives.proofs.Rightness.{RunsAreSeen, right}
+
+-- the two parts of an execution
+execution_parts : (n : ℕ) (es us : List Event) → IsExecution n (es ++ us)
+    → IsExecution n es × IsExecution n us
+execution_parts n [] us k = (tt, k)
+execution_parts n (e ∷ es) us k = let r = execution_parts n es us k.1 in ((k.0, r.0), r.1)
+
+some_value : (f : ℕ → Bool) (o : Option ℕ) (b : Bool) → option_map f o ≡ Some b
+    → (x : ℕ) × (o ≡ Some x)
+some_value f None b e = absurd (cc e)
+some_value f (Some x) b e = (x, refl)
+
+module _ (p : RecordingPlan) (is : IsRecordingPlan p)
+    (sound : IsSound (protocol_of p.plan) (processes_of p.plan) (nodes_of p.plan)
+    (team_of (length p.plan.choice.a)))
+    (short : (q : ℕ) → q < processes_of p.plan
+    → length ((protocol_of p.plan).path q) ≤ nodes_of p.plan) (seen : RunsAreSeen)
+    (reachable : (order : List ℕ) → after (protocol_of p.plan).act (protocol_of p.plan).start order
+    < length p.plan.table.states) where
+  abbrev n : ℕ
+  n = processes_of p.plan
+
+  abbrev setting : (ℕ → Bool) → Setting
+  setting inputs = record {
+    table = p.plan.table;
+    plan = recoverable_plan p;
+    count = n;
+    nodes = nodes_of p.plan;
+    team = team_of (length p.plan.choice.a);
+    sound = sound;
+    right = right p is seen reachable;
+    acts = λ role q. refl;
+    inputs = inputs;
+  }
+
+  -- ---- the protocol
+
+  pub bound : (inputs : ℕ → Bool)
+      → DecidesWithin (all_of p.plan.table) n (lives_protocol p) inputs (6 * (n - 1))
+  bound inputs es us k m q lq never often =
+      in_time (setting inputs) short es us k m q lq never often
+
+  pub protocol : IsRecoverableConsensusProtocol (all_of p.plan.table) n (lives_protocol p)
+  protocol = record {
+    agreement = λ inputs es us k m q r x y lq lr d e.
+        agree (setting inputs) es us k m q r x y lq lr d e;
+    validity = λ inputs es k q x lq d. valid (setting inputs) es k q x lq d;
+    wait_freedom = endless (all_of p.plan.table) n (lives_protocol p)
+        (λ inputs. (6 * (n - 1), bound inputs));
+  }
+
+  strong : HasStrongRecoverableValidity (all_of p.plan.table) n (lives_protocol p)
+  strong = strongly_valid (all_of p.plan.table) n (lives_protocol p) protocol.validity
+
+  -- ---- lives
+
+  module _ (inputs : List ℕ) (many : length inputs ≡ n) where
+    pub mirrors : (f : ℕ → Bool) (es : List Event) → IsExecution n es
+        → Mirrors p f (world_after p inputs es) (configuration_after p f inputs es)
+    mirrors f es k = mirrors_execution p is.is_plan sound f inputs es many k
+
+    decision_is : (f : ℕ → Bool) (es : List Event) → IsExecution n es → (q : ℕ) → q < n
+        → decision (lives_protocol p) (configuration_after p f inputs es) q
+        ≡ option_map f (decision_at (world_after p inputs es) q)
+    decision_is f es k q lq = same_decision p is.is_plan sound f q (world_after p inputs es)
+        (configuration_after p f inputs es) lq (mirrors f es k)
+
+    decided : (f : ℕ → Bool) (es : List Event) → IsExecution n es → (q x : ℕ) → q < n
+        → HasDecided p inputs es q x
+        → HasDecidedIn (all_of p.plan.table) (lives_protocol p) (inputs_of f inputs) es q (f x)
+    decided f es k q x lq d = decision_is f es k q lq ∙ ap (option_map f) d
+
+    pub consensus : (events : List Event) → IsExecution n events
+        → IsRecoverableConsensus p inputs events
+    consensus events k = record {
+      agreement = λ es us vs e q r x y lq lr d d'.
+          (let parts = execution_parts n es (us ++ vs) (subst (IsExecution n) e k) in
+          let ke = parts.0 in
+          let ku = (execution_parts n us vs parts.1).0 in
+          let f : ℕ → Bool = λ v. nat_eq v x in
+          let same : nat_eq x x ≡ nat_eq y x =
+          agree (setting (inputs_of f inputs)) es us ke ku q r (nat_eq x x) (nat_eq y x) lq lr
+          (decided f es ke q x lq d)
+          (decided f (es ++ us) (execution-append n es us ke ku) r y lr d') in
+          sym (eqb-true y x (sym same ∙ eq-eqb x x refl)));
+      validity = λ es us e q x lq d.
+          (let ke = (execution_parts n es us (subst (IsExecution n) e k)).0 in
+          let f : ℕ → Bool = λ v. nat_eq v x in
+          let v = strong (inputs_of f inputs) es ke q (nat_eq x x) lq (decided f es ke q x lq d) in
+          let there : v.0 < length inputs = subst (λ (m : ℕ). v.0 < m) (sym many) v.1 in
+          let is : slice_index inputs v.0 ≡ x =
+          eqb-true (slice_index inputs v.0) x (v.2 ∙ eq-eqb x x refl) in
+          (v.0, slice_get-get_or inputs v.0 0 there ∙ ap Some is, v.3));
+      wait_free = λ es us vs e q lq never often.
+          (let parts = execution_parts n es (us ++ vs) (subst (IsExecution n) e k) in
+          let ke = parts.0 in
+          let ku = (execution_parts n us vs parts.1).0 in
+          let f : ℕ → Bool = λ v. false in
+          let d = in_time (setting (inputs_of f inputs)) short es us ke ku q lq never often in
+          some_value f (decision_at (world_after p inputs (es ++ us)) q) d.0
+          (sym (decision_is f (es ++ us) (execution-append n es us ke ku) q lq) ∙ d.1));
+    }

@@ -1,0 +1,54 @@
+-- The plan of a recording witness: of its states alone a process tells which team came first.
+use Rattle.std.specs.Prelude.{◌≡◌, ◌<◌, ◌↔◌, ℕ, IsBitSet, List, length, nat_eq, Result, Ok, Err}
+use Rattle.std.specs.Prelude.{slice_index, slice_index_or}
+use Rattle.cn_table.specs.TypeTable.{TypeTable}
+use Rattle.cn_choice.specs.Canonical.{Choice, raw_choice_of}
+use Rattle.cn_choice.specs.declared.team.Team.{Team}
+use Rattle.cn_choice.specs.declared.team.Team.TheVariants.{A, B}
+use Rattle.cn_outcomes.specs.LeftStates.{LeavesIn}
+use Rattle.cn_proto.specs.Plan.{IsPlan, Plan, protocol_of}
+use Rattle.cn_recover.specs.Recording.{IsRecordingWitness}
+use Rattle.cn_crashes.specs.RecoverableRound.{RecoverablePlan}
+use Rattle.cn_lives.specs.declared.fault.RecordingFault.{RecordingFault}
+use Rattle.cn_lives.specs.declared.fault.RecordingFault.TheVariants.{ComesBack, NotRecording}
+use Rattle.cn_lives.specs.declared.fault.RecordingFault.TheVariants.{OutOfMemory}
+
+-- the plan of the witness, and for each state the team that came first where it is read
+pub record RecordingPlan : Type 0 where
+  pub plan : Plan
+  pub first_teams : List Team
+
+-- the plan of a recording witness: team A came first in the states that orders of team A leave, and
+-- team B in the others, of which the start state is one
+pub record IsRecordingPlan (p : RecordingPlan) : Type 0 where
+  pub is_plan : IsPlan p.plan
+  pub recording : IsRecordingWitness p.plan.table (raw_choice_of p.plan.choice)
+  pub teams_are : length p.first_teams ≡ length p.plan.table.states
+  pub left : (q : ℕ) → q < length p.plan.table.states
+      → (slice_index_or p.first_teams q B ≡ A)
+      ↔ LeavesIn p.plan.table (raw_choice_of p.plan.choice) A q
+  pub home : slice_index_or p.first_teams p.plan.choice.state B ≡ B
+
+-- the same plan as functions
+abbrev pub recoverable_plan : RecordingPlan → RecoverablePlan
+recoverable_plan p = record {
+  round = protocol_of p.plan;
+  operation = λ role. slice_index (raw_choice_of p.plan.choice).operations role;
+  judge = λ q. slice_index_or p.first_teams q B;
+  lone = nat_eq (length p.plan.choice.a) 1;
+}
+
+-- for each of this many states, whether it is in the set: team A if it is, else team B
+pub record AreTeamsOf (set states : ℕ) (teams : List Team) : Type 0 where
+  pub count : length teams ≡ states
+  pub each : (q : ℕ) → q < states → (slice_index_or teams q B ≡ A) ↔ IsBitSet set q
+
+-- the plan of the choice exactly for a recording witness none of whose orders that begin in team A
+-- leaves the start state; or memory ran out
+abbrev pub IsRecordingPlanned : TypeTable → Choice → Result RecordingPlan RecordingFault → Type 0
+IsRecordingPlanned t c (Ok p) = IsRecordingWitness t (raw_choice_of c)
+    × (¬ LeavesIn t (raw_choice_of c) A c.state) × (p.plan.table ≡ t) × (p.plan.choice ≡ c)
+IsRecordingPlanned t c (Err NotRecording) = ¬ IsRecordingWitness t (raw_choice_of c)
+IsRecordingPlanned t c (Err ComesBack) =
+    IsRecordingWitness t (raw_choice_of c) × LeavesIn t (raw_choice_of c) A c.state
+IsRecordingPlanned t c (Err OutOfMemory) = Unit {0}

@@ -1,0 +1,175 @@
+//! One instance of consensus, one step or crash at a time.
+ghost use Rattle.std.specs.Prelude.{◌≡◌, ◌<◌, ◌++◌, ◌∷◌, [], ℕ, Bool, List, Option, length, map};
+ghost use Rattle.std.specs.Prelude.{IfNone, IfOk, IfSome, IsSome};
+ghost use Rattle.cn_proto.specs.Plan.{processes_of};
+ghost use Rattle.cn_consensus.specs.Configuration.{Configuration, step};
+ghost use Rattle.cn_consensus.specs.Types.{all_of};
+ghost use Rattle.cn_solvable.specs.RoundProtocol.{register_of as register_number};
+ghost use Rattle.cn_crashes.specs.Execution.{Event, after_crash as crash_of_protocol};
+ghost use Rattle.cn_crashes.specs.Execution.Event.{Step, Crash};
+ghost use Rattle.cn_crashes.specs.RecoverableRound.{RecoverableLocal};
+ghost use Rattle.cn_lives.specs.Lives.{world_of};
+ghost use Rattle.cn_lives.specs.Mirrors.{Mirrors, inputs_of, lives_protocol};
+ghost use Rattle.cn_lives.specs.Plans.{recoverable_plan};
+ghost use Rattle.cn_lives.specs.Runs.{AreLivesOf, LiveBy, decision_at, first_world};
+ghost use Rattle.cn_lives.specs.Steps.{after_crash, after_step, held_at, local_at, state_at};
+ghost use Rattle.cn_lives.specs.Turns.{IsTurn};
+ghost use Rattle.cn_lives.specs.declared.local.Local.TheVariants.{Active};
+ghost use Rattle.cn_lives.specs.declared.local.Stage.TheVariants.{Write};
+
+use crate::laws::recording_plans_are_sound;
+use crate::local::{Local, Stage};
+use crate::plan::RecordingPlan;
+use crate::turn::{Turn, local_after, register_of, share};
+use cn_choice::Team;
+use cn_table::State;
+use std::alloc::{AllocError, Global};
+
+/// One instance of consensus among the processes of a plan, which may crash and come back.
+///
+/// It has an object and two registers for each node of the plan, which keep their contents when a
+/// process crashes, and a local state for each process, which a crash loses. It also keeps the
+/// input of each process. `new` makes all vectors at full length, and no other call takes memory.
+///
+/// Under every schedule of steps and crashes, all decisions that are ever made are equal, and each
+/// is the input of a process. For n processes, a process that takes 6(n-1) steps without a crash
+/// of its own has decided.
+#[derive(Debug, Drop)]
+pub struct Lives {
+    locals: Vec<Local>,
+    registers: Vec<Option<u64>>,
+    objects: Vec<State>,
+    inputs: Vec<u64>,
+}
+
+impl Lives {
+    /// The processes of the plan begin with their inputs, and none has taken a step.
+    ///
+    /// # Errors
+    ///
+    /// `AllocError` if memory runs out.
+    pub fn new(alloc: Global, plan: &RecordingPlan, inputs: &[u64]) -> Result<Lives, AllocError>
+        requires { length inputs.now ≡ processes_of plan.now.plan }
+        ensures world { IfOk result (λ lives. world_of lives ≡ first_world plan.now inputs.now) }
+        ensures of_plan { IfOk result (λ lives. AreLivesOf plan.now [] (world_of lives)) }
+    {
+        let nodes = usize::from(plan.plan().nodes());
+        Ok(Lives {
+            locals: first_locals(alloc, inputs)?,
+            registers: vec![in alloc; None; 2 * nodes]?,
+            objects: vec![in alloc; plan.plan().start(); nodes]?,
+            inputs: inputs.to_vec(alloc)?,
+        })
+    }
+
+    /// The turn of process `p`, if it has not decided.
+    fn turn(&self, plan: &RecordingPlan, p: u8) -> Option<Turn>
+        requires of_plan { LiveBy plan.now (world_of self.now) }
+        requires process { p < processes_of plan.now.plan }
+        ensures some { IfSome result (IsTurn plan.now (world_of self.now) p) }
+        ensures none { IfNone result (IsSome (decision_at (world_of self.now) p)) }
+    {
+        recording_plans_are_sound(plan);
+        let Local::Active {
+            place,
+            value,
+            stage,
+        } = self.locals[usize::from(p)]
+        else {
+            return None;
+        };
+        let path = plan.plan().path(p);
+        Some(Turn {
+            here: path[place],
+            place,
+            places: path.len(),
+            value,
+            stage,
+        })
+    }
+
+    /// One atomic step of process `p`. A process that has decided takes no step.
+    pub fn step(&mut self, plan: &RecordingPlan, p: u8)
+        requires of_plan { LiveBy plan.now (world_of self.old) }
+        requires process { p < processes_of plan.now.plan }
+        ensures world { world_of self.new
+            ≡ after_step (recoverable_plan plan.now) p (world_of self.old) }
+        ensures of_plan { (events : List Event) → AreLivesOf plan.now events (world_of self.old)
+            → AreLivesOf plan.now (events ++ Step p ∷ []) (world_of self.new) }
+        ensures protocol { (f : ℕ → Bool) (c : Configuration RecoverableLocal (Option Bool))
+            → Mirrors plan.now f (world_of self.old) c
+            → Mirrors plan.now f (world_of self.new)
+            (step (all_of plan.now.plan.table) (lives_protocol plan.now) c p) }
+    {
+        recording_plans_are_sound(plan);
+        if let Some(turn) = self.turn(plan, p) {
+            let next = local_after(plan, turn, &self.registers, &self.objects);
+            share(plan, turn, &mut self.registers, &mut self.objects);
+            self.locals[usize::from(p)] = next;
+        }
+    }
+
+    /// Process `p` crashes: it loses its local state, and begins again with its input, at its first
+    /// place. The objects and the registers keep their contents. A process that has decided may
+    /// crash too.
+    pub fn crash(&mut self, plan: &RecordingPlan, p: u8)
+        requires of_plan { LiveBy plan.now (world_of self.old) }
+        requires process { p < processes_of plan.now.plan }
+        ensures world { world_of self.new ≡ after_crash p (world_of self.old) }
+        ensures of_plan { (events : List Event) → AreLivesOf plan.now events (world_of self.old)
+            → AreLivesOf plan.now (events ++ Crash p ∷ []) (world_of self.new) }
+        ensures protocol { (f : ℕ → Bool) (c : Configuration RecoverableLocal (Option Bool))
+            → Mirrors plan.now f (world_of self.old) c
+            → Mirrors plan.now f (world_of self.new) (crash_of_protocol (lives_protocol plan.now)
+            (inputs_of f (world_of self.old).inputs) c p) }
+    {
+        recording_plans_are_sound(plan);
+        self.locals[usize::from(p)] = Local::first(self.inputs[usize::from(p)]);
+    }
+
+    /// The local state of process `p`.
+    pub fn local(&self, p: u8) -> Local
+        requires { p < length (world_of self.now).locals }
+        ensures { result ≡ local_at (world_of self.now) p }
+    {
+        self.locals[usize::from(p)]
+    }
+
+    /// The state of the object of a node.
+    pub fn object(&self, node: u8) -> State
+        requires { node < length (world_of self.now).objects }
+        ensures { result.0 ≡ state_at (world_of self.now).objects node }
+    {
+        self.objects[usize::from(node)]
+    }
+
+    /// The value in the register of a team at a node, if it holds one.
+    pub fn register(&self, node: u8, team: Team) -> Option<u64>
+        requires { register_number node team < length (world_of self.now).registers }
+        ensures { result ≡ held_at (world_of self.now).registers node team }
+    {
+        self.registers[register_of(node, team)]
+    }
+
+    /// The decision of process `p`, if it has one. A crash takes it away, and the process decides
+    /// the same value again.
+    pub fn decision(&self, p: u8) -> Option<u64>
+        requires { p < length (world_of self.now).locals }
+        ensures { result ≡ decision_at (world_of self.now) p }
+    {
+        match self.locals[usize::from(p)] {
+            Local::Active { .. } => None,
+            Local::Decided(value) => Some(value),
+        }
+    }
+}
+
+fn first_locals(alloc: Global, inputs: &[u64]) -> Result<Vec<Local>, AllocError>
+    ensures { IfOk result (λ locals. locals.items ≡ map (λ x. Active 0 x Write) inputs.now) }
+{
+    let mut locals = Vec::new(alloc);
+    for value in inputs {
+        locals.push(Local::first(*value))?;
+    }
+    Ok(locals)
+}
