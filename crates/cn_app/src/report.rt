@@ -51,7 +51,7 @@ impl Report {
 
 /// A text with a line feed behind it.
 pub(crate) fn with_line_feed(mut text: String) -> Result<String, AllocError>
-    ensures { IfOk result (λ line. string_bytes line ≡ string_bytes text.entry ++ codes "\n") }
+    ensures { IfOk result (λ line. string_bytes line ≡ string_bytes text ++ codes "\n") }
 {
     text.push_str("\n")?;
     Ok(text)
