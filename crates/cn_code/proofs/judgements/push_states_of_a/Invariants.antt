@@ -1,0 +1,8 @@
+use Rattle.std.proofs.Common.{◌≡◌, ◌++◌, flat_map, string_bytes}
+use Rattle.std.specs.List.{range_with_len}
+use Rattle.cn_code.specs.Code.{state_of_a}
+use Rattle.cn_code.proofs.judgements.push_states_of_a.Given as goal
+
+-- the states so far
+abbrev pub invariant-loop-state : goal.invariant-loop-state
+invariant-loop-state l = string_bytes l.text ≡ string_bytes l.initial.text ++ flat_map (state_of_a l.plan l.role l.response.0) (range_with_len 0 l.state)

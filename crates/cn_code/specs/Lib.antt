@@ -1,0 +1,3 @@
+pub mod CWords
+pub mod Code
+pub mod RustWords

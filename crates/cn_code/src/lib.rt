@@ -1,0 +1,20 @@
+//! The program of a plan: consensus for its processes, as one file of source code.
+//!
+//! [`as_rust`] and [`as_c`] answer the text of the file. It compiles as it stands and depends on
+//! nothing else. An object of the type stands behind a trait in Rust, and behind two pointers to
+//! functions in C. Both languages have one writer: what differs are their words.
+//!
+//! ```text
+//! let plan = Plan::from_witness(alloc, &table, &witness)?;
+//! print!(rt; "{}", as_rust(alloc, &plan)?)?;
+//! ```
+#![tactic(auto)]
+
+mod code;
+mod judgements;
+mod language;
+mod names;
+mod places;
+mod words;
+
+pub use code::{as_c, as_rust};

@@ -1,0 +1,96 @@
+//! The tables of names.
+ghost use Rattle.std.specs.Prelude.{◌≡◌, ◌<◌, ◌++◌, OnOk, Some, flat_map, length, slice_get, string_bytes};
+ghost use Rattle.std.specs.List.{range_with_len};
+ghost use Rattle.cn_code.specs.Code.{name_line, name_lines, names_code, names_of, part_of};
+
+use crate::language::{Language, Part};
+use crate::words::{push_number, push_text, push_word};
+use cn_table::{Operation, Response, State, Table};
+use std::alloc::AllocError;
+
+/// What of a type has names.
+#[derive(Clone, Copy)]
+pub(crate) enum Kind {
+    State,
+    Operation,
+    Response,
+}
+
+impl Kind {
+    /// The part before the names.
+    fn part(self) -> Part
+        ensures { result ≡ part_of self }
+    {
+        match self {
+            Kind::State => Part::States,
+            Kind::Operation => Part::Operations,
+            Kind::Response => Part::Responses,
+        }
+    }
+}
+
+/// The table of these names, each with its number.
+pub(crate) fn push_names(
+    text: &mut String,
+    language: Language,
+    table: &Table,
+    kind: Kind,
+) -> Result<(), AllocError>
+    ensures { OnOk result (string_bytes text.new
+        ≡ string_bytes text.old ++ names_code language table.now kind) }
+{
+    push_word(text, language, kind.part())?;
+    push_name_lines(text, language, table, kind)
+}
+
+fn push_name_lines(
+    text: &mut String,
+    language: Language,
+    table: &Table,
+    kind: Kind,
+) -> Result<(), AllocError>
+    ensures { OnOk result (string_bytes text.new
+        ≡ string_bytes text.old ++ name_lines language (names_of table.now kind)) }
+{
+    for number in 0..count_of(table, kind) {
+        push_name_line(text, language, table, kind, number)?;
+    }
+    Ok(())
+}
+
+fn count_of(table: &Table, kind: Kind) -> u8
+    ensures { result ≡ length (names_of table.now kind) }
+{
+    match kind {
+        Kind::State => table.states(),
+        Kind::Operation => table.operations(),
+        Kind::Response => table.responses(),
+    }
+}
+
+fn name_of(table: &Table, kind: Kind, number: u8) -> &str
+    requires { number < length (names_of table.now kind) }
+    ensures { slice_get (names_of table.now kind) number ≡ Some result.now }
+{
+    match kind {
+        Kind::State => table.state_name(State(number)),
+        Kind::Operation => table.operation_name(Operation(number)),
+        Kind::Response => table.response_name(Response(number)),
+    }
+}
+
+fn push_name_line(
+    text: &mut String,
+    language: Language,
+    table: &Table,
+    kind: Kind,
+    number: u8,
+) -> Result<(), AllocError>
+    requires { number < length (names_of table.now kind) }
+    ensures { OnOk result (string_bytes text.new
+        ≡ string_bytes text.old ++ name_line language (names_of table.now kind) number) }
+{
+    push_text(text, language, Part::Name, name_of(table, kind, number))?;
+    push_number(text, language, Part::NameNumber, number)?;
+    push_word(text, language, Part::LineEnd)
+}
