@@ -1,6 +1,7 @@
 //! The answers of the program as JSON.
 #![tactic(auto)]
 
+mod collisions;
 mod course;
 mod flaws;
 mod json_text;
