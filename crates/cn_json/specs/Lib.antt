@@ -6,3 +6,4 @@ pub mod Numbers
 pub mod Log
 pub mod Pairs
 pub mod Collisions
+pub mod Verdict
