@@ -1,6 +1,6 @@
 -- The program of a plan: the parts of a language, and between them what is of the plan. Names stand
 -- in texts and comments alone.
-use Rattle.std.specs.Prelude.{ℕ, zero, suc, List, [], ◌++◌, length, codes, decimal, flat_map}
+use Rattle.std.specs.Prelude.{ℕ, zero, suc, List, [], ◌∷◌, ◌++◌, length, codes, decimal, flat_map}
 use Rattle.std.specs.Prelude.{slice_index}
 use Rattle.std.specs.List.{range_with_len}
 use Rattle.cn_table.specs.Names.{name_at}
@@ -69,6 +69,10 @@ head_code l plan =
     ++ start_code l plan
 
 -- ---- names
+
+-- every name of a type
+abbrev pub names_in : TypeTable → List (List ℕ)
+names_in t = t.name ∷ t.states ++ operation_names t ++ t.responses
 
 abbrev pub names_of : TypeTable → Kind → List (List ℕ)
 names_of t State = t.states

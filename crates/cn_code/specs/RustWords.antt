@@ -5,9 +5,9 @@ use Rattle.cn_code.specs.declared.language.Part.TheVariants.{Title, TypeName, Pr
 
 unfoldable pub rust_word : Part → List ℕ
 rust_word Title = codes "//! Consensus among "
-rust_word TypeName = codes " processes through objects of the type "
+rust_word TypeName = codes " processes through objects of the type `"
 rust_word Processes =
-    codes ".\n"
+    codes "`.\n"
     ++ codes "//!\n"
     ++ codes "//! `cnum` wrote this file. The processes meet in a tournament: each node has an object, and a\n"
     ++ codes "//! register for each of two teams. All processes decide one value, and one of them has proposed it.\n"
@@ -29,9 +29,9 @@ rust_word Nodes =
 rust_word Start =
     codes ";\n"
     ++ codes "\n"
-    ++ codes "/// The state in which each object starts: "
+    ++ codes "/// The state in which each object starts: `"
 rust_word StartNumber =
-    codes ".\n"
+    codes "`.\n"
     ++ codes "pub const START: usize = "
 rust_word States =
     codes ";\n"

@@ -2,7 +2,8 @@
 //!
 //! [`as_rust`] and [`as_c`] answer the text of the file. It compiles as it stands and depends on
 //! nothing else. An object of the type stands behind a trait in Rust, and behind two pointers to
-//! functions in C. Both languages have one writer: what differs are their words.
+//! functions in C. Both languages have one writer: what differs are their words. By
+//! [`laws::names_are_plain`] no name of the type ends a comment or a text in quotes.
 //!
 //! ```text
 //! let plan = Plan::from_witness(alloc, &table, &witness)?;
@@ -13,6 +14,7 @@
 mod code;
 mod judgements;
 mod language;
+pub mod laws;
 mod names;
 mod places;
 mod words;

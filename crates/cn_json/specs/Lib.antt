@@ -5,3 +5,5 @@ pub mod Course
 pub mod Numbers
 pub mod Log
 pub mod Pairs
+pub mod Collisions
+pub mod Verdict

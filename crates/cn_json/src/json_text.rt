@@ -118,6 +118,14 @@ impl JsonText {
         self.number(n)
     }
 
+    /// A key and whether something holds.
+    pub(crate) fn boolean_at(&mut self, name: &str, b: bool) -> Result<(), AllocError>
+        ensures { Appends result self.old self.new (key name.now ∷ boolean b ∷ []) }
+    {
+        self.key(name)?;
+        self.boolean(b)
+    }
+
     /// A key and the beginning of an array.
     pub(crate) fn begin_array_at(&mut self, name: &str) -> Result<(), AllocError>
         ensures { Appends result self.old self.new (key name.now ∷ begin_array ∷ []) }

@@ -5,7 +5,7 @@ ghost use Rattle.cn_code.specs.RustWords.{rust_word};
 use crate::language::Part;
 
 const PROCESSES: &str = "\
-.
+`.
 //!
 //! `cnum` wrote this file. The processes meet in a tournament: each node has an object, and a
 //! register for each of two teams. All processes decide one value, and one of them has proposed it.
@@ -150,11 +150,11 @@ pub(super) fn rust_word(part: Part) -> &'static str
 {
     match part {
         Part::Title => "//! Consensus among ",
-        Part::TypeName => " processes through objects of the type ",
+        Part::TypeName => " processes through objects of the type `",
         Part::Processes => PROCESSES,
         Part::Nodes => NODES,
-        Part::Start => ";\n\n/// The state in which each object starts: ",
-        Part::StartNumber => ".\npub const START: usize = ",
+        Part::Start => ";\n\n/// The state in which each object starts: `",
+        Part::StartNumber => "`.\npub const START: usize = ",
         Part::States => STATES,
         Part::Operations => OPERATIONS,
         Part::Responses => RESPONSES,

@@ -1,0 +1,138 @@
+//! The verdict on a certificate as JSON.
+ghost use Rattle.std.specs.Prelude.{◌≡◌, IfOk, string_bytes};
+ghost use Rattle.serde_json.specs.Written.{compact_text};
+ghost use Rattle.cn_json.specs.Tokens.{Appends, value_tokens};
+ghost use Rattle.cn_json.specs.Verdict.{accepted_data, fault_data, fault_of_entry, fault_of_process, named_fault, refused_data, unread_data, verdict_data};
+ghost use Rattle.cn_cert.specs.FaultText.{cert_fault_name, cert_fault_number};
+
+use crate::json_text::JsonText;
+use cn_cert::CertFault;
+use cn_check::CheckFault;
+use std::alloc::{AllocError, Global};
+
+fn write_named_fault(out: &mut JsonText, name: &str, number: u8) -> Result<(), AllocError>
+    ensures { Appends result out.old out.new (value_tokens (named_fault name.now number)) }
+{
+    out.begin_object()?;
+    out.text_at("name", name)?;
+    out.number_at("number", u64::from(number))?;
+    out.end_object()
+}
+
+/// Writes a fault of the entry at a place.
+fn write_fault_of_entry(
+    out: &mut JsonText,
+    place: u64,
+    name: &str,
+    number: u8,
+) -> Result<(), AllocError>
+    ensures { Appends result out.old out.new
+        (value_tokens (fault_of_entry place name.now number)) }
+{
+    out.begin_object()?;
+    out.number_at("entry", place)?;
+    out.text_at("name", name)?;
+    out.number_at("number", u64::from(number))?;
+    out.end_object()
+}
+
+/// Writes a fault of a process.
+fn write_fault_of_process(
+    out: &mut JsonText,
+    name: &str,
+    number: u8,
+    process: u8,
+) -> Result<(), AllocError>
+    ensures { Appends result out.old out.new
+        (value_tokens (fault_of_process name.now number process)) }
+{
+    out.begin_object()?;
+    out.text_at("name", name)?;
+    out.number_at("number", u64::from(number))?;
+    out.number_at("process", u64::from(process))?;
+    out.end_object()
+}
+
+fn write_fault(out: &mut JsonText, fault: CheckFault) -> Result<(), AllocError>
+    ensures { Appends result out.old out.new (value_tokens (fault_data fault)) }
+{
+    let (name, number) = (fault.name(), fault.number());
+    match fault {
+        CheckFault::WitnessMeets(process) => write_fault_of_process(out, name, number, process),
+        CheckFault::NotNext(place) | CheckFault::NotACollision(place) => {
+            write_fault_of_entry(out, place, name, number)
+        }
+        CheckFault::OtherType | CheckFault::BadNumber | CheckFault::WitnessShape => {
+            write_named_fault(out, name, number)
+        }
+        CheckFault::Unexpected | CheckFault::TooFew => write_named_fault(out, name, number),
+    }
+}
+
+fn write_accepted(out: &mut JsonText) -> Result<(), AllocError>
+    ensures { Appends result out.old out.new (value_tokens accepted_data) }
+{
+    out.begin_object()?;
+    out.boolean_at("ok", true)?;
+    out.end_object()
+}
+
+fn write_refused(out: &mut JsonText, fault: CheckFault) -> Result<(), AllocError>
+    ensures { Appends result out.old out.new (value_tokens (refused_data (fault_data fault))) }
+{
+    out.begin_object()?;
+    out.key("fault")?;
+    write_fault(out, fault)?;
+    out.boolean_at("ok", false)?;
+    out.end_object()
+}
+
+fn write_verdict(out: &mut JsonText, verdict: Result<(), CheckFault>) -> Result<(), AllocError>
+    ensures { Appends result out.old out.new (value_tokens (verdict_data verdict)) }
+{
+    match verdict {
+        Ok(()) => write_accepted(out),
+        Err(fault) => write_refused(out, fault),
+    }
+}
+
+fn write_unread(out: &mut JsonText, fault: CertFault) -> Result<(), AllocError>
+    ensures { Appends result out.old out.new (value_tokens (unread_data fault)) }
+{
+    out.begin_object()?;
+    out.key("fault")?;
+    write_named_fault(out, fault.name(), fault.number())?;
+    out.boolean_at("ok", false)?;
+    out.end_object()
+}
+
+/// The verdict of [`check`](cn_check::check) on a certificate, as one compact JSON object:
+/// `{"ok":true}`, or `{"fault":{..},"ok":false}`. A fault has its `name` and its `number`. If it is
+/// one of an entry, `entry` is the entry's place, from 0; if it is one of a process, `process` is
+/// the number of the process.
+///
+/// # Errors
+///
+/// `AllocError` if memory runs out.
+pub fn verdict_json(alloc: Global, verdict: Result<(), CheckFault>) -> Result<String, AllocError>
+    ensures { IfOk result (λ text. string_bytes text ≡ compact_text (verdict_data verdict)) }
+{
+    let mut out = JsonText::new(alloc);
+    write_verdict(&mut out, verdict)?;
+    Ok(out.finish())
+}
+
+/// The answer for a certificate that could not be read, in the form of [`verdict_json`]:
+/// `{"fault":{"name":..,"number":..},"ok":false}`. No fault of reading has the name of one of the
+/// check.
+///
+/// # Errors
+///
+/// `AllocError` if memory runs out.
+pub fn unread_json(alloc: Global, fault: CertFault) -> Result<String, AllocError>
+    ensures { IfOk result (λ text. string_bytes text ≡ compact_text (unread_data fault)) }
+{
+    let mut out = JsonText::new(alloc);
+    write_unread(&mut out, fault)?;
+    Ok(out.finish())
+}

@@ -1,0 +1,84 @@
+/* Rounds of threads that decide by the file consensus.c, over objects of the table in table.h: rounds ROUNDS */
+#include "consensus.c"
+#include "table.h"
+#include <pthread.h>
+#include <sched.h>
+#include <stdio.h>
+#include <stdlib.h>
+
+static uint64_t rounds;
+static struct consensus *all;
+static uint64_t *decided[CONSENSUS_PROCESSES];
+static _Atomic uint64_t come;
+
+static unsigned apply(void *self, unsigned operation)
+{
+    _Atomic unsigned char *cell = self;
+    unsigned char state = atomic_load(cell);
+    while (!atomic_compare_exchange_weak(cell, &state, rows[operation][state][1]))
+        continue;
+    return rows[operation][state][0];
+}
+
+static unsigned read_state(void *self)
+{
+    return atomic_load((_Atomic unsigned char *)self);
+}
+
+/* Waits until all processes have come to this round. */
+static void meet(uint64_t round)
+{
+    atomic_fetch_add(&come, 1);
+    for (unsigned looks = 0; atomic_load(&come) < (round + 1) * CONSENSUS_PROCESSES; looks++)
+        if (looks > 100)
+            sched_yield();
+}
+
+/* In round r of n processes, process p proposes rn + p. */
+static void *decide_all(void *of)
+{
+    uint64_t **mine = of;
+    unsigned process = (unsigned)(mine - decided);
+    for (uint64_t round = 0; round < rounds; round++) {
+        meet(round);
+        (*mine)[round] = consensus_decide(&all[round], process, round * CONSENSUS_PROCESSES + process);
+    }
+    return NULL;
+}
+
+static void start(void)
+{
+    _Atomic unsigned char *cells = malloc(rounds * CONSENSUS_NODES);
+    all = malloc(rounds * sizeof *all);
+    for (uint64_t round = 0; round < rounds; round++) {
+        struct consensus_object objects[CONSENSUS_NODES];
+        for (unsigned node = 0; node < CONSENSUS_NODES; node++) {
+            atomic_init(&cells[round * CONSENSUS_NODES + node], CONSENSUS_START);
+            objects[node] = (struct consensus_object){&cells[round * CONSENSUS_NODES + node], apply, read_state};
+        }
+        consensus_new(&all[round], objects);
+    }
+}
+
+int main(int count, char **words)
+{
+    pthread_t threads[CONSENSUS_PROCESSES];
+    unsigned winners = 0, won[CONSENSUS_PROCESSES] = {0};
+    rounds = count == 2 ? strtoull(words[1], NULL, 10) : 0;
+    start();
+    for (unsigned p = 0; p < CONSENSUS_PROCESSES; p++)
+        decided[p] = malloc(rounds * sizeof *decided[p]);
+    for (unsigned p = 0; p < CONSENSUS_PROCESSES; p++)
+        pthread_create(&threads[p], NULL, decide_all, &decided[p]);
+    for (unsigned p = 0; p < CONSENSUS_PROCESSES; p++)
+        pthread_join(threads[p], NULL);
+    for (uint64_t round = 0; round < rounds; round++) {
+        uint64_t value = decided[0][round];
+        for (unsigned p = 0; p < CONSENSUS_PROCESSES; p++)
+            if (decided[p][round] != value || value / CONSENSUS_PROCESSES != round)
+                return 1;
+        winners += !won[value % CONSENSUS_PROCESSES]++;
+    }
+    printf("%llu rounds: %s\n", (unsigned long long)rounds, winners > 1 ? "agreed, with several winners" : "one winner");
+    return 0;
+}

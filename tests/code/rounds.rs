@@ -1,0 +1,65 @@
+//! Rounds of threads that decide by the file consensus.rs, over objects of the table in table.rs: rounds ROUNDS
+mod consensus;
+mod table;
+
+use consensus::{Consensus, Object, PROCESSES, START};
+use std::sync::atomic::{AtomicU64, AtomicU8, Ordering::SeqCst};
+use std::thread;
+
+/// An object: its state.
+struct Cell(AtomicU8);
+
+impl Object for Cell {
+    fn apply(&self, operation: usize) -> usize {
+        let row = &table::ROWS[operation];
+        let next = |state: u8| Some(row[usize::from(state)].1);
+        let state = self.0.fetch_update(SeqCst, SeqCst, next).unwrap();
+        row[usize::from(state)].0
+    }
+
+    fn read(&self) -> usize {
+        usize::from(self.0.load(SeqCst))
+    }
+}
+
+/// Waits until all processes have come to this round.
+fn meet(come: &AtomicU64, round: u64) {
+    come.fetch_add(1, SeqCst);
+    let all = (round + 1) * PROCESSES as u64;
+    let mut looks = 0;
+    while come.load(SeqCst) < all {
+        looks += 1;
+        if looks > 100 {
+            thread::yield_now();
+        }
+    }
+}
+
+fn main() {
+    let word = std::env::args().nth(1).expect("usage: rounds ROUNDS");
+    let rounds: u64 = word.parse().expect("ROUNDS is a number");
+    let start = |_| Cell(AtomicU8::new(START as u8));
+    let all: Vec<_> = (0..rounds).map(|_| Consensus::new(std::array::from_fn(start))).collect();
+    let come = AtomicU64::new(0);
+    let (all, come, n) = (&all, &come, PROCESSES as u64);
+    // In round r of n processes, process p proposes rn + p.
+    let decide_all = |process: u64| -> Vec<u64> {
+        let decide = |(round, one): (u64, &Consensus<Cell>)| {
+            meet(come, round);
+            one.decide(process as usize, round * n + process)
+        };
+        (0..).zip(all).map(decide).collect()
+    };
+    let decided: Vec<Vec<u64>> = thread::scope(|scope| {
+        let threads: Vec<_> = (0..n).map(|p| scope.spawn(move || decide_all(p))).collect();
+        threads.into_iter().map(|it| it.join().unwrap()).collect()
+    });
+    let mut firsts = vec![false; PROCESSES];
+    for round in 0..rounds {
+        let value = decided[0][round as usize];
+        assert!(decided.iter().all(|it| it[round as usize] == value), "round {round}: no agreement");
+        assert_eq!(value / n, round, "no value of round {round}");
+        firsts[(value % n) as usize] = true;
+    }
+    println!("{rounds} rounds: {}", if firsts.iter().filter(|it| **it).count() > 1 { "agreed, with several winners" } else { "one winner" });
+}

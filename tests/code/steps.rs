@@ -1,0 +1,68 @@
+//! The next step of a process by the file consensus.rs, after what it has observed: steps PROCESS VALUE OBSERVATION..
+//! Without words it tells the numbers of processes and nodes, and the state in which each object starts.
+mod consensus;
+
+use consensus::{Consensus, Object, NODES, PROCESSES, START};
+
+/// What stands there for std's atomics, and for the objects.
+mod mock {
+    use std::sync::atomic::{AtomicUsize, Ordering::Relaxed};
+
+    pub struct SeqCst;
+    /// A register, by its number.
+    pub struct AtomicU64(usize);
+    /// An object, by its node.
+    pub struct Mock(pub usize);
+
+    static REGISTERS: AtomicUsize = AtomicUsize::new(0);
+    static STEPS: AtomicUsize = AtomicUsize::new(0);
+
+    /// What the process observes by its next step. The program ends with the first step whose observation is not known.
+    fn observed(step: String) -> u64 {
+        let known = std::env::args().nth(3 + STEPS.fetch_add(1, Relaxed));
+        known.unwrap_or_else(|| end(&step)).parse().unwrap()
+    }
+
+    pub fn end(told: &str) -> ! {
+        println!("{told}");
+        std::process::exit(0)
+    }
+
+    impl AtomicU64 {
+        pub fn new(_: u64) -> AtomicU64 {
+            AtomicU64(REGISTERS.fetch_add(1, Relaxed))
+        }
+
+        /// The team and the node of the register.
+        fn place(&self) -> String {
+            format!("{} of node {}", ["A", "B"][self.0 % 2], self.0 / 2)
+        }
+
+        pub fn store(&self, value: u64, _: SeqCst) {
+            observed(format!("writes {value} to {}", self.place()));
+        }
+
+        pub fn load(&self, _: SeqCst) -> u64 {
+            observed(format!("takes from {}", self.place()))
+        }
+    }
+
+    impl super::Object for Mock {
+        fn apply(&self, operation: usize) -> usize {
+            observed(format!("applies {operation} at node {}", self.0)) as usize
+        }
+
+        fn read(&self) -> usize {
+            observed(format!("reads at node {}", self.0)) as usize
+        }
+    }
+}
+
+fn main() {
+    let words: Vec<u64> = std::env::args().skip(1).map(|it| it.parse().unwrap()).collect();
+    let [process, value, ..] = words[..] else {
+        mock::end(&format!("{PROCESSES} {NODES} {START}"));
+    };
+    let one = Consensus::new(std::array::from_fn::<_, NODES, _>(mock::Mock));
+    mock::end(&format!("decides {}", one.decide(process as usize, value)));
+}
