@@ -1,10 +1,14 @@
 """The page in a browser, used as a person uses it. Each function here is a part of tests/web/run, and gives cases,
 (about, whether it is right, what was seen) each.
 """
+import contextlib
+import functools
+import http.server
 import json
 import pathlib
 import random
 import tempfile
+import threading
 import time
 
 import jobs
@@ -26,6 +30,11 @@ name = "put_b"
 response = ["done", "done", "done"]
 next = ["b", "b", "b"]
 """
+
+FRAMED = "#example=types/three_shot&view=run"
+# Links that name what is not there.
+WRONG_LINKS = ["#limit=99", "#run=q,1,x", "#example=nosuch", "#inputs=abc,1&run=0", "#view=all", "#example=types/idle&table=AAAA"]
+WRONG_LINKS += ["#run=5", "#inputs=1,2,3&run=0", "#inputs=1,18446744073709551616&run=0", "#example=types/idle&run=1", "#exmaple=types/idle"]
 
 LONG = TYPES["climbed_16_8"]  # the number takes longest of the types of tests/types
 
@@ -79,13 +88,35 @@ class Use:
     """The page in a browser, and how a person uses it."""
 
     def __init__(self, browser):
-        self.browser, self.value, self.until, self.call = browser, browser.value, browser.until, browser.call
+        self.browser, self.value, self.call = browser, browser.value, browser.call
 
-    def open(self, link=""):
+    def open(self, link="", page=TOP / "web/index.html", ready=READY):
         """Opens the page anew, and waits until it is all there."""
         self.browser.open("about:blank")
-        self.browser.open(PAGE + link)
-        return self.until(READY)
+        self.browser.open(page.as_uri() + link)
+        return self.until(ready)
+
+    def until(self, text, seconds=60):
+        """Whether an expression holds within this time. While a page is loaded, it may fail."""
+        end = time.monotonic() + seconds
+        while time.monotonic() < end:
+            with contextlib.suppress(RuntimeError):
+                if self.value(text):
+                    return True
+            time.sleep(0.02)
+        return False
+
+    def saved(self, room, action, before=""):
+        """The file that an action offers, written to this folder."""
+        self.value("(() => { Cnum.offer = (...words) => (window.offered = words); })()")
+        self.do(f"await {action};")
+        name, content = self.value("window.offered.slice(0, 2)")
+        pathlib.Path(room, before + name).write_text(content)
+        return pathlib.Path(room, before + name)
+
+    def seen(self):
+        """The table, the number, and the run that the page shows."""
+        return self.table(), self.text("number"), self.texts(".log li"), self.value("Cnum.page.protocol.inputs")
 
     def text(self, name):
         return self.value(f"document.getElementById('{name}').textContent")
@@ -340,9 +371,89 @@ def links(use):
     link, text = use.value("location.hash"), use.table()
     use.open(link)
     yield "a link holds a table", kept and use.table() == text, link
-    for broken in ("#table=%%%", "#table=AAAA", "#limit=99&run=q,1,x", "#example=nosuch&run=9"):
-        use.open(broken)
-        yield f"a broken link {broken}", use.text("number") == "2", use.text("number")
+    use.value("document.getElementById('skip').click()")
+    yield "the skip link keeps the table", use.value("location.hash") == link and use.table() == text, use.value("location.hash")
+    use.open()
+    use.value("Cnum.page.copyLink()")
+    yield "a link of a file says so", "on this machine only" in use.text("link-said"), use.text("link-said")
+    for number, damaged in enumerate((link[:-6], link.replace("limit=", "limi="), "#table=%%%", "#table=AAAA", *WRONG_LINKS)):
+        use.open(damaged)
+        told = use.text("trouble")
+        yield f"damaged link {number}", told.startswith("This link cannot be shown: ") and use.is_hidden("content"), (damaged, told)
+    use.value("document.querySelector('#trouble a').click()")
+    well = use.has_number("2") and not use.is_hidden("content") and use.text("trouble") == ""
+    yield "from there one begins with an example", well, use.text("trouble")
+    for part, view in (("number-part", "number"), ("why-part", "why"), ("picture-part", "states"), ("protocol-part", "run")):
+        use.open(f"#example=types/three_shot&run=0,1&view={view}")
+        shown = use.value("[...document.querySelectorAll('main > section')].filter(it => it.checkVisibility()).map(it => it.id)")
+        yield f"the view {view}", shown == [part] and use.value("location.hash").endswith(f"view={view}"), shown
+
+
+def one_file(use):
+    """The page in one file, alone in an empty folder, and saved with a table and a run."""
+    with tempfile.TemporaryDirectory() as room:
+        alone = pathlib.Path(room, "cnum.html")
+        alone.write_bytes((TOP / "web/cnum.html").read_bytes())
+        began = time.monotonic()
+        use.open(page=alone)
+        yield "it answers alone in a folder", use.has_number("2"), use.text("trouble")
+        seconds = time.monotonic() - began
+        yield f"in less than {FIRST} s", seconds < FIRST, seconds
+        use.open("#example=types/three_shot&run=0,1,x1", page=alone)
+        use.value("Cnum.page.protocol.update()")
+        names = [use.saved(room, "Cnum.page.savePage()")]
+        before = use.seen()
+        use.open(page=names[0])
+        yield "a saved page shows its table and its run", use.seen() == before and names[0].name == "three_shot.html", use.seen()
+        names.append(use.saved(room, "Cnum.page.savePage()", "again_"))
+        yield "it can be saved again, the same", names[0].read_bytes() == names[1].read_bytes(), ""
+        use.give(SLOT)
+        use.open(page=use.saved(room, "Cnum.page.savePage()"))
+        yield "a saved page with a table of one's own", use.table() == SLOT and use.has_number("1"), use.table()
+
+
+def on_a_server(use):
+    """The page in one file on a server, and in a frame of another page."""
+    with tempfile.TemporaryDirectory() as room:
+        pathlib.Path(room, "cnum.html").write_bytes((TOP / "web/cnum.html").read_bytes())
+        pathlib.Path(room, "course.html").write_text(f'<!doctype html><iframe src="cnum.html{FRAMED}"></iframe>')
+        server = http.server.ThreadingHTTPServer(("127.0.0.1", 0), functools.partial(Quiet, directory=room))
+        threading.Thread(target=server.serve_forever, daemon=True).start()
+        address = f"http://127.0.0.1:{server.server_port}"
+        use.browser.open(f"{address}/cnum.html")
+        yield "it answers from a server", use.until(READY) and use.has_number("2"), ""
+        use.value("Cnum.page.copyLink()")
+        yield "its link is for everyone", "this machine" not in use.text("link-said"), use.text("link-said")
+        use.browser.open(f"{address}/course.html")
+        sections = "[...frames[0].document.querySelectorAll('main > section')].filter(it => it.checkVisibility()).map(it => it.id).join()"
+        yield "a part of it stands in a frame", use.until(f"frames[0].{READY} && {sections} === 'protocol-part'"), ""
+        whole = use.value("frames[0].document.getElementById('whole-link').href")
+        yield "with a link to the whole page", whole.endswith("/cnum.html#example=types/three_shot&limit=4"), whole
+        server.shutdown()
+
+
+class Quiet(http.server.SimpleHTTPRequestHandler):
+    """A server that reports nothing."""
+
+    def log_message(self, *_):
+        pass
+
+
+def missing_parts(use):
+    """A folder that lacks a part of the page, or all of them."""
+    parts = [it.relative_to(TOP / "web") for it in sorted((TOP / "web").rglob("*")) if it.suffix in (".js", ".css")]
+    for absent in ([it] for it in (*parts, None)):
+        absent = absent if absent[0] else parts
+        with tempfile.TemporaryDirectory() as room:
+            for it in [pathlib.Path("index.html"), *(it for it in parts if it not in absent)]:
+                pathlib.Path(room, it).parent.mkdir(exist_ok=True)
+                pathlib.Path(room, it).write_bytes((TOP / "web" / it).read_bytes())
+            use.browser.open("about:blank")
+            use.browser.open(pathlib.Path(room, "index.html").as_uri())
+            use.until("document.readyState === 'complete'")
+            told = use.text("trouble")
+            well = told.startswith("The folder of this page lacks ") and all(it.name in told for it in absent)
+            yield f"without {absent[0] if len(absent) == 1 else 'any part'}", well and use.is_hidden("content"), told
 
 
 def certificates(use):
@@ -450,7 +561,8 @@ def for_all(use):
 def quiet(use):
     """What the browser reported in all of this."""
     asked = [it["request"]["url"] for it in use.browser.told("Network.requestWillBeSent")]
-    away = {it for it in asked if not it.startswith(((TOP / "web").as_uri() + "/", "blob:", "data:", "about:"))}
+    here = ((TOP / "web").as_uri() + "/", pathlib.Path(tempfile.gettempdir()).as_uri() + "/", "blob:", "data:", "about:")
+    away = {it for it in asked if not it.startswith(here)}
     yield "no request to anywhere", not away and asked, away
     thrown = [it["exceptionDetails"].get("exception", {}).get("description", it) for it in use.browser.told("Runtime.exceptionThrown")]
     yield "no exception", thrown == [], thrown
@@ -458,4 +570,11 @@ def quiet(use):
     yield "no error is logged", logged == [], logged
 
 
-ALL = (first_answer, flaws, examples, meanings, pictures, grid, schedules, links, certificates, explanations, searches, without, for_all, quiet)
+ALL = (
+    first_answer, flaws, examples, meanings, pictures, grid, schedules, links, certificates, explanations, searches, one_file, without, for_all,
+    quiet, on_a_server, missing_parts,
+)
+# The parts that also run in a browser that is not driven by DevTools.
+WITHOUT_DEVTOOLS = (
+    first_answer, meanings, pictures, grid, schedules, links, certificates, explanations, searches, one_file, on_a_server, missing_parts,
+)

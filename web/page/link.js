@@ -1,11 +1,23 @@
-// What the address of the page holds behind its #: the table, the limit, and the run of the protocol. A link
-// so shows all of it again.
+// What the address of the page holds behind its #: the table, the limit, the run of the protocol, and the part
+// that is shown alone. A link so shows all of it again.
 var Cnum = globalThis.Cnum || {};
 
 (() => {
     'use strict';
 
-    const FORM = 'deflate-raw';
+    const { say } = Cnum;
+    const FORM = 'deflate'; // with a checksum
+    const OLD_FORM = 'deflate-raw'; // of links that older pages made
+    const FIRST_BYTE = 0x78; // of a text in the form with a checksum
+    const MOST_INPUT = 2n ** 64n - 1n;
+    const VIEWS = ['number', 'why', 'states', 'run'];
+
+    // Why a link cannot be shown.
+    class Refused extends Error {}
+
+    function refuse(key, words) {
+        throw new Refused(say(key, words));
+    }
 
     async function through(bytes, stream) {
         const answer = new Response(new Blob([bytes]).stream().pipeThrough(stream));
@@ -18,33 +30,70 @@ var Cnum = globalThis.Cnum || {};
     }
 
     async function unpacked(letters) {
-        const bytes = Uint8Array.from(atob(letters.replace(/-/g, '+').replace(/_/g, '/')), it => it.charCodeAt(0));
-        return new TextDecoder().decode(await through(bytes, new DecompressionStream(FORM)));
+        try {
+            const bytes = Uint8Array.from(atob(letters.replace(/-/g, '+').replace(/_/g, '/')), it => it.charCodeAt(0));
+            const form = bytes[0] === FIRST_BYTE ? FORM : OLD_FORM;
+            return new TextDecoder('utf-8', { fatal: true }).decode(await through(bytes, new DecompressionStream(form)));
+        } catch {
+            return refuse('link_table');
+        }
     }
 
     // A list of processes. Each takes a step, or stops if an x stands before it.
     const wordOf = ({ process, stops }) => (stops ? 'x' : '') + process;
     const actOf = word => ({ process: Number(word.replace('x', '')), stops: word.startsWith('x') });
 
+    // How the value of each part is read.
+    const READ = {
+        example(name) {
+            const isThere = Cnum.examples.some(group => group.types.some(it => it.path === name));
+            return isThere ? { example: name } : refuse('link_example', { name });
+        },
+        table: async letters => ({ text: await unpacked(letters) }),
+        limit: limit => (/^[2-8]$/.test(limit) ? { limit } : refuse('link_limit', { limit })),
+        inputs(value) {
+            const inputs = value.split(',');
+            const wrong = inputs.find(it => !Cnum.isInput(it));
+            return wrong === undefined ? { inputs } : refuse('link_inputs', { input: wrong });
+        },
+        run(value) {
+            const words = value.split(',').filter(Boolean);
+            const wrong = words.find(it => !/^x?[0-7]$/.test(it));
+            return wrong === undefined ? { acts: words.map(actOf) } : refuse('link_run', { step: wrong });
+        },
+        view: view => (VIEWS.includes(view) ? { view } : refuse('link_view', { view })),
+    };
+
+    // Whether a process can propose what stands in its field.
+    Cnum.isInput = text => /^\d{1,20}$/.test(text) && BigInt(text) <= MOST_INPUT;
+
     // The part of the address for what the page shows: the path of an example or a text, the limit, the
-    // inputs and the acts.
-    Cnum.linkOf = async function ({ example, text, limit, inputs, acts }) {
+    // inputs and the acts, and the part that is shown alone.
+    Cnum.linkOf = async function ({ example, text, limit, inputs, acts, view }) {
         const parts = [example ? `example=${example}` : `table=${await packed(text)}`, `limit=${limit}`];
         if (acts.length) parts.push(`inputs=${inputs.join(',')}`, `run=${acts.map(wordOf).join(',')}`);
+        if (view) parts.push(`view=${view}`);
         return `#${parts.join('&')}`;
     };
 
-    // What such a part says. It leaves out what is missing or cannot be read.
-    Cnum.linkedBy = async function (hash) {
+    async function read(hash) {
+        const found = { inputs: [], acts: [] };
         const parts = new URLSearchParams(hash.slice(1));
-        const list = name => (parts.get(name) || '').split(',').filter(Boolean);
-        const found = { example: parts.get('example'), limit: parts.get('limit'), inputs: list('inputs') };
-        found.acts = list('run').filter(it => /^x?[0-7]$/.test(it)).map(actOf);
-        try {
-            if (parts.has('table')) found.text = await unpacked(parts.get('table'));
-        } catch {
-            found.text = undefined;
+        if (parts.has('example') && parts.has('table')) refuse('link_twice');
+        for (const [key, value] of parts) {
+            if (!Object.keys(READ).includes(key)) refuse('link_part', { part: key });
+            Object.assign(found, await READ[key](value));
         }
         return found;
+    }
+
+    // What such a part says; or why it cannot be shown, as its `fault`.
+    Cnum.linkedBy = async function (hash) {
+        try {
+            return await read(hash);
+        } catch (error) {
+            if (error instanceof Refused) return { fault: error.message };
+            throw error;
+        }
     };
 })();

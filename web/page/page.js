@@ -5,7 +5,8 @@ var Cnum = globalThis.Cnum || {};
 (() => {
     'use strict';
 
-    const { element } = Cnum;
+    const { element, say } = Cnum;
+    const pageWith = Cnum.pageToSave();
     const AFTER_TYPING = 150;
     const BEFORE_TEAMS = 400;
     const FIRST_EXAMPLE = 'types/test_and_set';
@@ -13,6 +14,8 @@ var Cnum = globalThis.Cnum || {};
     const CLASS = /: (infinite|(\d+)(?: to (\d+))?)\n$/;
     const CERTIFICATE = 'certificate';
     const NO_NUMBER = '–';
+    // The parts of the page that can be shown alone, by their names in a link.
+    const VIEWS = { number: 'number-part', why: 'why-part', states: 'picture-part', run: 'protocol-part' };
     // The meaning of a number.
     const ALONE = 'One process alone decides.';
     const TOGETHER =
@@ -65,6 +68,9 @@ var Cnum = globalThis.Cnum || {};
             };
             for (const id of Object.keys(offers)) at(id).addEventListener('click', () => this.offer(...offers[id]()));
             at('copy-link').addEventListener('click', () => this.copyLink());
+            at('save-page').addEventListener('click', () => this.savePage());
+            at('save-page').hidden = !pageWith;
+            at('skip').addEventListener('click', event => this.skip(event));
             at('claim-file').addEventListener('change', () => this.check(at('claim-file').files[0]));
             this.listenToDrops();
             window.addEventListener('hashchange', () => this.follow());
@@ -123,31 +129,71 @@ var Cnum = globalThis.Cnum || {};
             return this.refresh();
         }
 
+        // Shows what the address says, or else what the file of the page holds.
         async follow() {
             if (location.hash === this.link) return;
-            const linked = await Cnum.linkedBy(location.hash);
-            const path = examples.has(linked.example) ? linked.example : FIRST_EXAMPLE;
-            at('limit').value = [...at('limit').options].some(it => it.value === linked.limit) ? linked.limit : FIRST_LIMIT;
-            this.text = linked.text === undefined ? examples.get(path).text : linked.text;
+            const linked = await Cnum.linkedBy(location.hash || Cnum.savedLink());
+            if (linked.fault) {
+                this.refuseLink(linked.fault);
+                return;
+            }
+            this.showView(linked.view);
+            at('limit').value = linked.limit || FIRST_LIMIT;
+            this.text = linked.text === undefined ? examples.get(linked.example || FIRST_EXAMPLE).text : linked.text;
             await this.refresh(linked);
+        }
+
+        // Says why a link cannot be shown, and shows nothing else.
+        refuseLink(why) {
+            this.round++;
+            this.search.breakOff();
+            this.link = location.hash;
+            const first = element('a', { href: `#example=${FIRST_EXAMPLE}` }, say('link_first'));
+            at('trouble').replaceChildren(say('link_refused', { why }), ' ', first);
+            at('content').hidden = true;
+        }
+
+        // Shows this part alone, or the whole page if there is none.
+        showView(view) {
+            this.view = view;
+            at('trouble').replaceChildren();
+            at('content').hidden = false;
+            document.body.classList.toggle('one-part', Boolean(view));
+            for (const name of Object.keys(VIEWS)) at(VIEWS[name]).classList.toggle('shown', name === view);
+            at('whole').hidden = !view;
         }
 
         async keepLink() {
             const { inputs, acts } = this.protocol;
             const example = this.example();
-            const link = await Cnum.linkOf({ example: example && example.path, text: this.text, limit: at('limit').value, inputs, acts });
+            const shown = { example: example && example.path, text: this.text, limit: at('limit').value, inputs, acts };
+            const link = await Cnum.linkOf({ ...shown, view: this.view });
+            at('whole-link').href = await Cnum.linkOf(shown);
             this.link = link;
             history.replaceState(null, '', link);
         }
 
         async copyLink() {
             await this.keepLink();
+            let told = say('link_copied');
             try {
                 await navigator.clipboard.writeText(location.href);
-                at('link-said').textContent = 'Copied.';
             } catch {
-                at('link-said').textContent = 'The address of this page is the link.';
+                told = say('link_address');
             }
+            const ofFile = say(pageWith ? 'link_of_file' : 'link_of_folder');
+            at('link-said').textContent = location.protocol === 'file:' ? `${told} ${ofFile}` : told;
+        }
+
+        async savePage() {
+            await this.keepLink();
+            this.offer('html', pageWith(this.link), 'text/html');
+        }
+
+        // Leads to the number. The address holds the link, and so has no place for the name of a part.
+        skip(event) {
+            event.preventDefault();
+            at('number-part').focus();
         }
 
         // Runs a command on the table. The answer is null if another table has come since.
@@ -175,7 +221,7 @@ var Cnum = globalThis.Cnum || {};
             at('notes').textContent = isTable ? lines.filter(it => /^(state|operation) \w+: /.test(it)).join('\n') : '';
             this.forget(isTable ? '' : 'A number comes once the table has no flaw.');
             if (isTable) await this.find(linked);
-            this.keepLink();
+            if (!at('content').hidden) await this.keepLink();
         }
 
         // Takes away what was said of another table.
@@ -247,6 +293,7 @@ var Cnum = globalThis.Cnum || {};
         async showProtocol(linked) {
             const { number } = JSON.parse(this.certificate);
             if (number === null) {
+                if (!this.hasFittingRun(linked, 1)) return;
                 this.draw(null);
                 this.protocol.clear('One process alone has nobody to agree with.');
                 return;
@@ -257,8 +304,17 @@ var Cnum = globalThis.Cnum || {};
             const show = await this.ask(this.search, ['show', '--as', 'json', CERTIFICATE], this.witness);
             if (!show) return;
             const plan = JSON.parse(show.stdout);
+            if (!this.hasFittingRun(linked, plan.processes)) return;
             this.draw(plan);
             await this.protocol.show(plan, linked.inputs, linked.acts);
+        }
+
+        // Whether the run of a link is one of so many processes. If it is not, the page refuses the link.
+        hasFittingRun({ inputs, acts }, processes) {
+            const count = Math.max(inputs.length, ...acts.map(it => it.process + 1));
+            const fits = inputs.length ? count === processes : count <= processes;
+            if (!fits) this.refuseLink(say('link_processes', { linked: count, processes }));
+            return fits;
         }
 
         // The picture, with the start and the teams of this plan, if there is one.
@@ -316,6 +372,7 @@ var Cnum = globalThis.Cnum || {};
         }
 
         async begin() {
+            at('whole-link').textContent = say('whole');
             at('example').append(element('option', { value: '' }, 'a table of your own'), ...Cnum.examples.map(exampleGroup));
             await this.follow();
             const version = await this.quick.run(['--version']);
@@ -335,11 +392,13 @@ var Cnum = globalThis.Cnum || {};
     }
 
     async function begin() {
+        if (document.documentElement.dataset.lacks) return;
         let module;
         try {
             module = await Cnum.load();
         } catch (error) {
             at('trouble').textContent = error.message;
+            at('content').hidden = true;
             return;
         }
         Cnum.page = new Page(module);
