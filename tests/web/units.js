@@ -6,7 +6,9 @@ const { describe, it } = require('node:test');
 const vm = require('node:vm');
 
 const WEB = path.join(__dirname, '../../web');
-const PARTS = ['examples.js', 'page/texts.js', 'page/link.js'];
+const PARTS = ['examples.js', 'page/texts.js', 'page/link.js', 'page/table_text.js', 'page/run.js', 'page/schedules.js'];
+// Parts that make elements; here only their places are asked for.
+PARTS.push('page/space_time.js');
 
 globalThis.Cnum = {};
 for (const part of PARTS) vm.runInThisContext(fs.readFileSync(path.join(WEB, part), 'utf8'), part);
@@ -57,4 +59,89 @@ describe('links', () => {
         ['#example=types/idle&table=AAAA', 'it names both an example and a table.'],
     ];
     for (const [link, fault] of REFUSED) it(`refuses ${link}`, async () => assert.deepEqual(await Cnum.linkedBy(link), { fault }));
+});
+
+const step = process => ({ process, stops: false });
+const stop = process => ({ process, stops: true });
+
+describe('a run', () => {
+    const PLAN = { nodes: 1, processes: 2, start: 'zero' };
+    const ACTS = [step(0), step(1), step(1), step(1), step(1), step(1), stop(1), step(0), stop(0), step(0)];
+    const LINES = ['0: writes 10 to A of node 0', '1: writes 20 to B of node 0', '1: applies tas at node 0: zero', '1: reads one at node 0: team B'];
+    LINES.push('1: decides 20', '1: has decided', '0: applies tas at node 0: one');
+    const TABLE = Cnum.examples[0].types[0].text;
+    const { run } = Cnum;
+    const events = run.withStates(run.eventsOf(run.withoutStopped(ACTS), LINES), PLAN, run.movesOf(TABLE));
+
+    it('has no act of a process that has decided or stopped', () => {
+        const kinds = ['writes', 'writes', 'applies', 'reads', 'decides', 'applies', 'stops'];
+        assert.deepEqual(events.map(it => it.kind), kinds);
+    });
+
+    it('has the state before and after each operation', () => {
+        assert.deepEqual(events.filter(it => it.kind === 'applies').map(it => [it.before, it.after]), [['zero', 'one'], ['one', 'one']]);
+    });
+
+    it('tells what holds after it', () => {
+        const { nodes, processes } = run.after(events, PLAN);
+        assert.deepEqual([nodes[0].state, nodes[0].A, nodes[0].B], ['one', '10', '20']);
+        assert.deepEqual(processes, [{ steps: 2, decision: null, hasStopped: true }, { steps: 4, decision: '20', hasStopped: false }]);
+        assert.deepEqual(run.going(processes), []);
+        assert.deepEqual(run.going(run.after(events.slice(0, 5), PLAN).processes), [0]);
+    });
+
+    it('has a place for each act, none on another', () => {
+        const { marks, lines } = Cnum.placeRun(events, ['10', '20'], text => 8 * text.length);
+        assert.deepEqual(marks.map(it => it.y), [44, 122, 122, 122, 122, 44, 44]);
+        for (let at = 1; at < marks.length; at++) {
+            const widths = [marks[at - 1], marks[at]].map(it => 4 * Math.max(...it.texts.map(text => text.length)));
+            assert.ok(marks[at].x - marks[at - 1].x >= widths[0] + widths[1], `place ${at}`);
+        }
+        assert.deepEqual(lines.map(it => [it.to, it.isOpen]), [[marks[6].x, false], [marks[4].x, false]]);
+    });
+});
+
+describe('an adversary', () => {
+    // Runs of processes that take so many steps each, and decide the value that `decide` gives.
+    const runOf = (counts, decide) => schedule => {
+        const taken = counts.map(() => 0);
+        const events = schedule.filter(it => taken[it]++ < counts[it]).map(process => ({ process, kind: 'writes' }));
+        const last = counts.map((_, process) => events.map(it => it.process).lastIndexOf(process));
+        last.forEach((at, process) => (events[at] = { process, kind: 'decides', value: decide(events, process) }));
+        return { events, inputs: counts.map((_, process) => String(process)) };
+    };
+    const always = () => '0';
+    const tried = (counts, decide) => Cnum.tryToBreak(counts.length, async schedule => runOf(counts, decide)(schedule), () => {});
+
+    it('tries each schedule of two processes once', async () => {
+        const seen = new Set();
+        const run = runOf([4, 4], always);
+        const found = await Cnum.tryToBreak(2, async schedule => {
+            const made = run(schedule);
+            seen.add(made.events.map(it => it.process).join(''));
+            return made;
+        }, () => {});
+        assert.deepEqual([found.count, seen.size, found.broken], [70, 70, null]); // 8 over 4
+        assert.equal(found.worst.events.map(it => it.process).join(''), '01010101');
+    });
+
+    it('tries those of processes with different numbers of steps', async () => {
+        assert.equal((await tried([2, 4], always)).count, 15); // 6 over 2
+    });
+
+    it('tries those of three processes up to a bound', async () => {
+        // 3 ** 5 first steps but one, in which a process of 4 steps would take 5. In 10 of them it has decided.
+        assert.equal((await tried([4, 8, 8], always)).count, 10 * 2 + 232 * 6);
+    });
+
+    it('tries more processes at random', async () => assert.equal((await tried([4, 8, 12, 12], always)).count, 500));
+
+    it('finds a schedule in which the processes do not agree', async () => {
+        const first = events => String(events[0].process);
+        assert.equal((await tried([4, 4], first)).broken, null);
+        const split = (events, process) => (events[2].process === 1 ? String(process) : '0');
+        assert.equal((await tried([4, 4], split)).broken.events[2].process, 1);
+        assert.ok((await tried([4, 4], () => '7')).broken, 'a value that nobody proposed');
+        assert.ok((await tried([4, 5], always)).broken, 'a process that takes too many steps');
+    });
 });

@@ -1,15 +1,18 @@
 """The page in a browser, used as a person uses it. Each function here is a part of tests/web/run, and gives cases,
 (about, whether it is right, what was seen) each.
 """
+import base64
 import contextlib
 import functools
 import http.server
 import json
 import pathlib
 import random
+import re
 import tempfile
 import threading
 import time
+import tomllib
 
 import jobs
 from calls import TOP, TYPES, called, found
@@ -55,6 +58,26 @@ ACTS = """(async acts => {
     for (const [process, stops] of acts) columns[process].querySelectorAll('.buttons button')[stops ? 1 : 0].click();
     await Cnum.page.protocol.update();
 })(%s)"""
+# The state that is lit in each picture, and the text of the last operation.
+LIT = """[...document.querySelectorAll('svg.states')].flatMap(it => [
+    [...it.querySelectorAll('.node.lit')].map(one => one.dataset.state),
+    [...it.querySelectorAll('.label text.lit')].map(one => one.dataset.operation),
+])"""
+# The texts of a picture that lie on another. Their boxes have the white around the letters, 4 points.
+TEXTS_MEET = """(() => {
+    const boxes = [...document.querySelectorAll('%s text')].map(it => [it.textContent, it.getBoundingClientRect()]);
+    const meets = (p, q) => p.left + 4 < q.right && q.left + 4 < p.right && p.top + 8 < q.bottom && q.top + 8 < p.bottom;
+    return boxes.flatMap(([a, p], i) => boxes.slice(i + 1).filter(([, q]) => meets(p, q)).map(([b]) => [a, b]));
+})()"""
+TRIED = "/agree|breaks/.test(document.querySelector('.trial').textContent)"
+# For each button of a process: whether the last line of the log is seen when the button is.
+FROM_BUTTON_TO_LOG = """[...document.querySelectorAll('.process button')].map(it => {
+    it.scrollIntoView({ block: 'center' });
+    const last = document.querySelector('.log li:last-child').getBoundingClientRect();
+    return last.top >= 0 && last.bottom <= innerHeight;
+})"""
+OBJECTS = ["starts in bot", "a1 → a2, y answered a"]
+ACTS_SHOWN = ["writes 20", "x/a", "writes 30", "y/a", "writes 10", "stops", "reads a2"]
 FOCUSABLE = "a[href], button:not(:disabled), input, select, textarea, [tabindex='0'], summary"
 MARK_FOCUSED = """(it => {
     window.reached = window.reached || new Map();
@@ -161,11 +184,29 @@ class Use:
 
     def press(self, label):
         """Presses a button of the protocol."""
-        self.value(f"[...document.querySelectorAll('#protocol > .buttons button')].find(it => it.textContent === {label!r}).click()")
+        self.value(f"[...document.querySelectorAll('#protocol .controls button')].find(it => it.textContent === {label!r}).click()")
 
-    def key(self, key, code, alt=False):
+    def slide(self, count):
+        """Leads to a place of the run by the slider."""
+        events = "it.dispatchEvent(new Event('input')); it.dispatchEvent(new Event('change'));"
+        self.value(f"(it => {{ it.value = {count}; {events} }})(document.getElementById('run-place'))")
+
+    def trial(self):
+        return self.value("document.querySelector('.trial').textContent")
+
+    def offered(self, action):
+        """The name and the content of the file that an action offers."""
+        self.value("(() => { window.offered = null; Cnum.offer = (...words) => (window.offered = words); })()")
+        self.value(f"(() => {{ {action} }})()")
+        self.until("window.offered")
+        content = "typeof window.offered[1] === 'string' ? new Blob([window.offered[1]]) : window.offered[1]"
+        letters = f"new Response({content}).arrayBuffer().then(it => btoa(String.fromCharCode(...new Uint8Array(it))))"
+        return self.value("window.offered[0]"), base64.b64decode(self.value(letters))
+
+    def key(self, key, code, alt=False, shift=False, name=None):
+        how = {"key": key, "code": name or key, "windowsVirtualKeyCode": code, "modifiers": alt + 8 * shift}
         for kind in ("rawKeyDown", "keyUp"):
-            self.call("Input.dispatchKeyEvent", type=kind, key=key, code=key, windowsVirtualKeyCode=code, modifiers=int(alt))
+            self.call("Input.dispatchKeyEvent", type=kind, **how)
 
 
 def native_number(table):
@@ -318,25 +359,23 @@ def schedules(use):
             inputs = ",".join(str(10 * (p + 1)) for p in range(n))
             for turn in range(25):
                 acts = random_acts(source, n)
-                use.do("Cnum.page.protocol.acts = []; await Cnum.page.protocol.update();")
+                use.do("await Cnum.page.protocol.set([]);")
                 use.value(ACTS % json.dumps(acts))
                 schedule = ",".join(str(p) for p, stops in acts if not stops) or "none"
-                wanted = called(["agree", certificate, inputs, schedule], TYPES[name])[0].decode().splitlines()
+                lines = called(["agree", "--steps", certificate, inputs, schedule], TYPES[name])[0].decode().splitlines()
                 told = [it.split(", ")[1].removeprefix("decides ") for it in use.texts(".decision")]
-                yield f"{name}, schedule {turn}: the decisions", [f"{p}: {it}" for p, it in enumerate(told)] == wanted, (told, wanted)
+                yield f"{name}, schedule {turn}: the decisions", [f"{p}: {it}" for p, it in enumerate(told)] == lines[-n:], (told, lines[-n:])
                 going = [told[p] for p in range(n) if [p, True] not in acts]
                 yield f"{name}, schedule {turn}: agreement", len({*told} - {"undecided"}) == 1 and "undecided" not in going, told
-                yield f"{name}, schedule {turn}: a line for each act", use.count(".log li") == len(acts), use.texts(".log li")
-            yield from steps(use, name, certificate, inputs, schedule)
+                shown, wanted = use.texts(".log li"), log_of(acts, lines, TYPES[name], "bot" if name == "three_shot" else None)
+                yield f"{name}, schedule {turn}: a line for each act", shown == wanted, (shown, wanted)
     use.press("Undo")
-    yield "undo takes an act back", use.until(f"document.querySelectorAll('.log li').length === {len(acts) - 1}"), ""
+    yield "undo takes an act back", use.until(f"document.querySelectorAll('.log li').length === {len(wanted) - 1}"), ""
     for label in ("Let all run", "Random run"):
         use.press("Start over")
         use.until("document.querySelectorAll('.log li').length === 0")
         use.press(label)
         yield label, use.until(DECIDED), use.texts(".decision")
-    use.do("Cnum.page.protocol.inputs[0] = 'x'; await Cnum.page.protocol.update();")
-    yield "a refused input is told", "argument" in use.texts("#protocol .trouble")[0], use.texts("#protocol .trouble")
 
 
 def random_acts(source, n):
@@ -351,11 +390,99 @@ def random_acts(source, n):
     return acts
 
 
-def steps(use, name, certificate, inputs, schedule):
-    """The page shows the lines of the program, one for each step."""
-    lines = called(["agree", "--steps", certificate, inputs, schedule], TYPES[name])[0].decode().splitlines()
-    shown = [it.removeprefix("process ") for it in use.texts(".log li") if not it.endswith("stops for good")]
-    yield f"{name}: the lines of the steps", shown == lines[: len(shown)], (shown, lines)
+def log_of(acts, lines, table, start):
+    """What the page is to tell of these acts: the program's line of each step, with the state before and after an operation. A
+    process that has decided takes no more steps, and cannot stop. Without a start, the state that is named first is the start."""
+    type_ = tomllib.loads(table)
+    moves = {it["name"]: dict(zip(type_["states"], it["next"])) for it in type_["operation"]}
+    states, decided, told, steps = {}, set(), [], iter(lines)
+    for process, stops in acts:
+        line = "stops for good" if stops else next(steps)[3:]
+        if process in decided:
+            continue
+        decided |= {process} if line.startswith("decides") else set()
+        applied = re.match(r"applies (\w+) at node (\d+)", line)
+        if applied:
+            before = states.get(applied[2], start or type_["states"][0])
+            states[applied[2]] = moves[applied[1]][before]
+            line += f" ({before} → {states[applied[2]]})"
+        told.append(f"process {process}: {line}")
+    return told
+
+
+def pictured_runs(use):
+    """A run as a picture: the states of objects, the space-time diagram, the slider, the keys."""
+    use.open("#example=types/three_shot&run=1,1,2,2,0,x0,1")
+    yield "what became of the objects", use.texts("#protocol td:nth-child(2)") == OBJECTS, use.texts("#protocol td:nth-child(2)")
+    yield "the state of the object is lit", use.value(LIT) == [["a2"], ["y"]] * 2, use.value(LIT)
+    yield "the diagram has each act", use.texts(".space-time .mark-of-step text:first-of-type") == ACTS_SHOWN, use.texts(".space-time text")
+    yield "no text of it lies on another", use.value(TEXTS_MEET % ".space-time") == [], use.value(TEXTS_MEET % ".space-time")
+    yield "nor in the tournament", use.value(TEXTS_MEET % ".tournament") == [], use.value(TEXTS_MEET % ".tournament")
+    use.slide(2)
+    told = use.texts(".log li")
+    yield "the slider leads to a place of the run", len(told) == 2 and use.value(LIT)[0] == ["a1"], (told, use.value(LIT))
+    use.slide(7)
+    yield "and back to its end", use.count(".log li") == 7, use.texts(".log li")
+    kept = use.until("location.hash.endsWith('run=1,1,2,2,0,x0,1')", 5)
+    yield "the link has the run up to that place", kept, use.value("location.hash")
+    use.do("await Cnum.page.protocol.runAll();")
+    pressable = use.value("[...document.querySelectorAll('.process button')].filter(it => !it.disabled).length")
+    yield "who has decided or stopped takes no step and cannot stop", pressable == 0, pressable
+    with tempfile.TemporaryDirectory() as room:
+        for part, index, beginning in (("run", 0, b"<svg"), ("run", 1, b"\x89PNG"), ("tournament", 2, b"<svg"), ("tournament", 3, b"\x89PNG")):
+            name, content = use.offered(f"[...document.querySelectorAll('#protocol .buttons button')].filter(it => /^Save/.test(it.textContent))[{index}].click()")
+            well = content.startswith(beginning) and name == f"three_shot_3_{part}.{'png' if index % 2 else 'svg'}"
+            yield f"the picture {name} is saved", well, (name, content[:9])
+        for form, beginning in (("svg", b"<svg"), ("png", b"\x89PNG")):
+            name, content = use.offered(f"document.getElementById('picture-{form}').click()")
+            yield f"the picture {name} is saved", content.startswith(beginning) and name == f"three_shot_3_states.{form}", content[:9]
+    use.value("(it => { it.value = 'abc'; it.dispatchEvent(new Event('change')); })(document.getElementById('input-1'))")
+    told = use.text("input-1-wrong"), use.value("document.getElementById('input-1').getAttribute('aria-invalid')")
+    yield "a proposal that is no number is marked", "is no number" in told[0] and told[1] == "true", told
+    yield "and changes nothing", use.value("Cnum.page.protocol.inputs[1]") == "20", ""
+
+
+def adversaries(use):
+    """Schedules that are tried, with how many there are, counted by hand: of two processes with four steps each, 70; of three with
+    their first five steps in any order, 10 in which one has decided, with 2 orders of the others, and 232 with 6."""
+    use.open()
+    use.press("Try to break it")
+    yield "all schedules of two", use.until(TRIED, 60) and use.trial().startswith("All 70 schedules agree"), use.trial()
+    yield "the one with the most turns is shown", use.count(".log li") == 8, use.texts(".log li")
+    use.choose("types/three_shot")
+    use.press("Try to break it")
+    yield "schedules of three", use.until(TRIED, 120) and use.trial().startswith("All 1412 schedules agree"), use.trial()
+    use.choose("catalogue/cas_3")
+    use.press("Try to break it")
+    yield "schedules of four, at random", use.until(TRIED, 120) and use.trial().startswith("500 schedules, chosen at random"), use.trial()
+    use.press("Try to break it")
+    use.until("/^[1-9]/.test(document.querySelector('.trial').textContent)")
+    use.press("Break it off")
+    yield "it can be broken off", use.trial() == "The trial was broken off.", use.trial()
+
+
+def keys(use):
+    """The protocol stepped by keys, and on a phone."""
+    use.open("#example=types/three_shot")
+    use.value("document.querySelector('.process button').focus()")
+    for key, code, shift, wanted in (("1", 49, False, 1), ("2", 50, True, 2), ("2", 50, False, 2), ("7", 55, False, 2), ("0", 48, False, 3), ("u", 85, False, 2)):
+        use.key(key, code, shift=shift, name="KeyU" if key == "u" else f"Digit{key}")
+        well = use.until(f"document.querySelectorAll('.log li').length === {wanted}", 5)
+        yield f"key {key}{' with Shift' if shift else ''}", well, use.texts(".log li")
+    use.value("document.getElementById('input-0').focus()")
+    use.key("1", 49, name="Digit1")
+    yield "a key in a field is text", use.count(".log li") == 2, use.texts(".log li")
+    use.value("document.querySelectorAll('.process button')[0].focus()")
+    for _ in range(4):
+        use.key("0", 48, name="Digit0")
+        use.do("await Cnum.page.protocol.update();")
+    use.key("1", 49, name="Digit1")
+    yield "the keys go on after a decision", use.until("document.querySelectorAll('.log li').length === 7", 5), use.texts(".log li")
+    use.call("Emulation.setDeviceMetricsOverride", **PHONE)
+    use.open("#example=types/three_shot&run=0,1,2,0,1,2,1,1")
+    distances = use.value(FROM_BUTTON_TO_LOG)
+    yield "on a phone the log is seen at each button", distances and all(distances), distances
+    use.call("Emulation.clearDeviceMetricsOverride")
 
 
 def links(use):
@@ -571,10 +698,11 @@ def quiet(use):
 
 
 ALL = (
-    first_answer, flaws, examples, meanings, pictures, grid, schedules, links, certificates, explanations, searches, one_file, without, for_all,
-    quiet, on_a_server, missing_parts,
+    first_answer, flaws, examples, meanings, pictures, grid, schedules, pictured_runs, adversaries, keys, links, certificates, explanations, searches, one_file,
+    without, for_all, quiet, on_a_server, missing_parts,
 )
 # The parts that also run in a browser that is not driven by DevTools.
 WITHOUT_DEVTOOLS = (
-    first_answer, meanings, pictures, grid, schedules, links, certificates, explanations, searches, one_file, on_a_server, missing_parts,
+    first_answer, meanings, pictures, grid, schedules, pictured_runs, adversaries, links, certificates, explanations, searches, one_file, on_a_server,
+    missing_parts,
 )

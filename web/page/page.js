@@ -9,6 +9,7 @@ var Cnum = globalThis.Cnum || {};
     const pageWith = Cnum.pageToSave();
     const AFTER_TYPING = 150;
     const BEFORE_TEAMS = 400;
+    const BEFORE_LINK = 150;
     const FIRST_EXAMPLE = 'types/test_and_set';
     const FIRST_LIMIT = '4';
     const CLASS = /: (infinite|(\d+)(?: to (\d+))?)\n$/;
@@ -29,17 +30,33 @@ var Cnum = globalThis.Cnum || {};
         constructor(module) {
             this.quick = new Cnum.Runner(module);
             this.search = new Cnum.Runner(module);
+            this.adversary = new Cnum.Runner(module);
             this.round = 0;
             this.undone = [];
             this.certificate = '';
             this.editor = new Cnum.Editor(at('table'), at('marks'), at('flaws'));
             this.grid = new Cnum.Grid(at('grid'), text => this.edit(text));
-            this.protocol = new Cnum.Protocol(at('protocol'), {
-                agree: words => this.agree(words),
-                changed: () => this.keepLink(),
-                say: text => (at('step-said').textContent = text),
-            });
+            this.protocol = new Cnum.Protocol(at('protocol'), this.forProtocol());
             this.listen();
+        }
+
+        // What the protocol needs of the page.
+        forProtocol() {
+            return {
+                agree: words => this.agree(this.quick, words),
+                tryOut: words => this.agree(this.adversary, words),
+                breakOff: () => this.adversary.breakOff(),
+                next: () => Cnum.run.movesOf(this.text),
+                picture: () => this.mainPicture().cloneNode(true),
+                mainPicture: () => this.mainPicture(),
+                changed: () => this.keepLinkSoon(),
+                say: text => (at('step-said').textContent = text),
+                save: (part, picture, form) => this.savePicture(part, picture, form),
+            };
+        }
+
+        mainPicture() {
+            return at('picture').firstElementChild;
         }
 
         get text() {
@@ -64,9 +81,11 @@ var Cnum = globalThis.Cnum || {};
             const offers = {
                 download: () => ['json', this.certificate, 'application/json'],
                 'download-table': () => ['toml', this.text, 'application/toml'],
-                'download-picture': () => ['svg', Cnum.savedPicture(at('picture').firstElementChild), 'image/svg+xml'],
             };
             for (const id of Object.keys(offers)) at(id).addEventListener('click', () => this.offer(...offers[id]()));
+            for (const form of ['svg', 'png']) {
+                at(`picture-${form}`).addEventListener('click', () => this.savePicture('states', this.mainPicture(), form));
+            }
             at('copy-link').addEventListener('click', () => this.copyLink());
             at('save-page').addEventListener('click', () => this.savePage());
             at('save-page').hidden = !pageWith;
@@ -102,7 +121,16 @@ var Cnum = globalThis.Cnum || {};
         offer(ending, content, kind) {
             const name = new Cnum.TableText(this.text).entry('name');
             const isPlain = name && /^\w+$/.test(name.value.text);
-            Cnum.offer(`${isPlain ? name.value.text : 'type'}.${ending}`, content, kind);
+            const separator = ending.includes('.') ? '_' : '.';
+            Cnum.offer(`${isPlain ? name.value.text : 'type'}${separator}${ending}`, content, kind);
+        }
+
+        // Offers a picture. Its file has the name of the type, its number, and the part that it shows.
+        async savePicture(part, picture, form) {
+            const number = at('number').textContent.replace(/ /g, '_');
+            const content = form === 'png' ? await Cnum.pngOf(picture) : Cnum.svgText(picture);
+            const ending = [...(number === NO_NUMBER ? [] : [number]), part].join('_');
+            this.offer(`${ending}.${form}`, content, form === 'png' ? 'image/png' : 'image/svg+xml');
         }
 
         // The example of this text, if it is one.
@@ -163,8 +191,16 @@ var Cnum = globalThis.Cnum || {};
             at('whole').hidden = !view;
         }
 
+        // A browser takes so many addresses at a time, and one can step faster.
+        keepLinkSoon() {
+            clearTimeout(this.keeping);
+            this.keeping = setTimeout(() => this.keepLink(), BEFORE_LINK);
+        }
+
         async keepLink() {
-            const { inputs, acts } = this.protocol;
+            clearTimeout(this.keeping);
+            const inputs = this.protocol.inputs;
+            const acts = this.protocol.shownActs();
             const example = this.example();
             const shown = { example: example && example.path, text: this.text, limit: at('limit').value, inputs, acts };
             const link = await Cnum.linkOf({ ...shown, view: this.view });
@@ -207,6 +243,7 @@ var Cnum = globalThis.Cnum || {};
         async refresh(linked = { inputs: [], acts: [] }) {
             this.round++;
             this.search.breakOff();
+            this.adversary.breakOff();
             const example = this.example();
             at('undo').disabled = !this.undone.length;
             at('example').value = example ? example.path : '';
@@ -234,7 +271,7 @@ var Cnum = globalThis.Cnum || {};
             at('picture').replaceChildren();
             at('claim-said').textContent = '';
             at('claim-file').value = '';
-            at('download').disabled = at('download-picture').disabled = true;
+            at('download').disabled = at('picture-svg').disabled = at('picture-png').disabled = true;
             this.protocol.clear(why);
         }
 
@@ -322,7 +359,7 @@ var Cnum = globalThis.Cnum || {};
             clearTimeout(this.early);
             at('picture').replaceChildren(Cnum.pictureOf(this.dot, plan));
             at('legend').hidden = !plan;
-            at('download-picture').disabled = false;
+            at('picture-svg').disabled = at('picture-png').disabled = false;
         }
 
         // Shows that a search runs, and for how long, until it ends.
@@ -359,8 +396,8 @@ var Cnum = globalThis.Cnum || {};
             return answer && answer.stdout;
         }
 
-        agree(words) {
-            return this.quick.run(['agree', '--steps', CERTIFICATE, ...words], this.text, this.witness);
+        agree(runner, words) {
+            return runner.run(['agree', '--steps', CERTIFICATE, ...words], this.text, this.witness);
         }
 
         // Checks a certificate of somebody else by this table.

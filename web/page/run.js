@@ -1,0 +1,90 @@
+// A run of the protocol as data: reads the lines of `agree --steps`, and tells what holds after each of the
+// acts. An act is { process, stops }: the process takes a step, or stops for good.
+var Cnum = globalThis.Cnum || {};
+
+(() => {
+    'use strict';
+
+    const UNDECIDED = null;
+    // The lines of steps, each with the kind of the step and the names of its parts.
+    const LINES = [
+        [/^\d+: writes (\d+) to ([AB]) of node (\d+)$/, 'writes', ['value', 'team', 'node']],
+        [/^\d+: applies (\w+) at node (\d+): (\w+)$/, 'applies', ['operation', 'node', 'response']],
+        [/^\d+: reads (\w+) at node (\d+): team ([AB])$/, 'reads', ['state', 'node', 'team']],
+        [/^\d+: takes (\d+) from ([AB]) of node (\d+)$/, 'takes', ['value', 'team', 'node']],
+        [/^\d+: decides (\d+)$/, 'decides', ['value']],
+        [/^\d+: has decided$/, 'rests', []],
+    ];
+
+    function readLine(line) {
+        const [pattern, kind, names] = LINES.find(([it]) => it.test(line));
+        const values = pattern.exec(line).slice(1);
+        const step = { kind, line };
+        names.forEach((name, index) => (step[name] = name === 'node' ? Number(values[index]) : values[index]));
+        return step;
+    }
+
+    // The acts without those of a process that has stopped before.
+    function withoutStopped(acts) {
+        const stopped = new Set();
+        return acts.filter(({ process, stops }) => {
+            if (stopped.has(process)) return false;
+            if (stops) stopped.add(process);
+            return true;
+        });
+    }
+
+    // The acts with what the program says of each step. A process that has decided takes no step and cannot
+    // stop, so that such acts are left out.
+    function eventsOf(acts, lines) {
+        const decided = new Set();
+        let count = 0;
+        return acts.flatMap(act => {
+            const step = act.stops ? { kind: 'stops' } : readLine(lines[count++]);
+            if (decided.has(act.process)) return [];
+            if (step.kind === 'decides') decided.add(act.process);
+            return [{ ...act, ...step }];
+        });
+    }
+
+    // Each event of an operation with the state of the object before and after it. `next` gives the state
+    // after an operation in a state.
+    function withStates(events, plan, next) {
+        const states = Array(plan.nodes).fill(plan.start);
+        return events.map(event => {
+            if (event.kind !== 'applies') return event;
+            const before = states[event.node];
+            states[event.node] = next(event.operation, before);
+            return { ...event, before, after: states[event.node] };
+        });
+    }
+
+    // What holds after these events: of each node the state of its object, the last operation on it and its
+    // registers; of each process its steps, its decision and whether it has stopped.
+    function after(events, plan) {
+        const nodes = Array.from({ length: plan.nodes }, () => ({ state: plan.start, last: null, A: '', B: '' }));
+        const processes = Array.from({ length: plan.processes }, () => ({ steps: 0, decision: UNDECIDED, hasStopped: false }));
+        for (const event of events) {
+            const process = processes[event.process];
+            if (event.kind === 'stops') process.hasStopped = true;
+            else process.steps++;
+            if (event.kind === 'decides') process.decision = event.value;
+            if (event.kind === 'writes') nodes[event.node][event.team] = event.value;
+            if (event.kind === 'applies') Object.assign(nodes[event.node], { state: event.after, last: event });
+        }
+        return { nodes, processes };
+    }
+
+    // The processes that have neither decided nor stopped.
+    const going = processes => processes.map((_, process) => process).filter(it => processes[it].decision === UNDECIDED && !processes[it].hasStopped);
+
+    // The function that gives the state after an operation in a state, by the text of a table.
+    function movesOf(text) {
+        const table = new Cnum.TableText(text);
+        const states = table.items('states').map(it => it.text);
+        const rows = new Map(table.operations.map(it => [it.name.text, it.next.map(one => one.text)]));
+        return (operation, state) => rows.get(operation)[states.indexOf(state)];
+    }
+
+    Cnum.run = { UNDECIDED, withoutStopped, eventsOf, withStates, after, going, movesOf };
+})();

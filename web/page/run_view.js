@@ -1,0 +1,211 @@
+// How a run of the protocol is shown: the buttons and the slider, a column for each process, what happened, the
+// space-time diagram, the nodes, the states and the tournament.
+var Cnum = globalThis.Cnum || {};
+
+(() => {
+    'use strict';
+
+    const { button, element, run, say, tableOf, wide } = Cnum;
+
+    // The text of the change of an object.
+    const changeOf = ({ before, after }) => say('object_change', { before, after });
+
+    class RunView {
+        // Shows the run of this protocol in this place.
+        constructor(place, protocol) {
+            Object.assign(this, { place, protocol, plan: protocol.plan });
+            this.columns = this.plan.paths.map((path, process) => this.column(path, process));
+            this.trouble = element('p', { class: 'trouble', role: 'alert' });
+            this.log = element('ol', { class: 'log', tabindex: 0, 'aria-label': say('log') });
+            this.nodes = wide(say('nodes'), '');
+            this.diagram = wide(say('diagram'), '');
+            this.object = element('p', { class: 'object' });
+            place.replaceChildren(
+                this.controls(),
+                element('div', { class: 'stage' }, element('div', { class: 'processes' }, ...this.columns.map(it => it.whole)), this.happened()),
+                this.trouble,
+                ...this.figures(),
+            );
+            this.listen();
+        }
+
+        controls() {
+            const { protocol } = this;
+            this.undoing = button(say('run_undo'), () => protocol.undo());
+            this.slider = element('input', { type: 'range', min: 0, max: 0, value: 0, id: 'run-place' });
+            this.slider.addEventListener('input', () => protocol.moveTo(Number(this.slider.value)));
+            this.slider.addEventListener('change', () => protocol.page.changed());
+            this.count = element('output', { for: 'run-place' });
+            this.trying = button(say('try'), () => protocol.tryToBreak());
+            this.ending = button(say('break_off'), () => protocol.endTrial(), { hidden: '' });
+            this.trial = element('p', { class: 'trial', 'aria-live': 'polite' });
+            const buttons = [
+                this.undoing,
+                button(say('run_anew'), () => protocol.set([])),
+                button(say('run_all'), () => protocol.runAll()),
+                button(say('run_random'), () => protocol.runRandomly()),
+                this.trying,
+                this.ending,
+            ];
+            const place = element('p', { class: 'run-place' }, element('label', { for: 'run-place' }, say('run_place')), this.slider, this.count);
+            const keys = element('p', { class: 'quiet hint keys' }, say('run_keys', { last: this.plan.processes - 1 }));
+            return element('div', { class: 'controls' }, element('div', { class: 'buttons' }, ...buttons), place, keys, this.trial);
+        }
+
+        happened() {
+            return element('div', { class: 'happened' }, element('h3', {}, say('log')), this.log);
+        }
+
+        figures() {
+            this.states = this.protocol.page.picture();
+            const objects = element('div', {}, element('h3', {}, say('nodes')), this.nodes, this.object, wide(say('states_of_run'), this.states));
+            return [
+                element('h3', {}, say('diagram')),
+                this.diagram,
+                this.savings('run', () => this.diagram.firstElementChild),
+                element('div', { class: 'figures' }, objects, ...(this.plan.nodes > 1 ? [this.tournament()] : [])),
+            ];
+        }
+
+        tournament() {
+            const picture = Cnum.tournamentOf(this.plan);
+            const head = element('h3', {}, say('tournament'));
+            return element('div', {}, head, wide(say('tournament'), picture), this.savings('tournament', () => picture));
+        }
+
+        // The buttons that save a picture of this part.
+        savings(part, picture) {
+            const save = form => button(say(`save_${form}`), () => this.protocol.page.save(part, picture(), form));
+            return element('div', { class: 'buttons' }, save('svg'), save('png'));
+        }
+
+        column(path, process) {
+            const { protocol } = this;
+            const step = button(say('step'), () => protocol.act(process, false), { 'aria-label': say('step_of', { process }) });
+            const stop = button(say('stop'), () => protocol.act(process, true), { 'aria-label': say('stop_of', { process }) });
+            const places = path.map(({ node, team, role }) => {
+                const mark = element('span', { class: `team-${team}` }, say('team', { team }));
+                return element('li', {}, say('node_of_path', { node }), mark, `, ${this.plan.roles[role].operation}`);
+            });
+            const decision = element('p', { class: 'decision' });
+            const whole = element(
+                'section',
+                { class: 'process', 'aria-labelledby': `process-${process}` },
+                element('h3', { id: `process-${process}` }, say('process', { process })),
+                ...this.proposal(process),
+                element('ul', {}, ...places),
+                element('div', { class: 'buttons' }, step, stop),
+                decision,
+            );
+            return { whole, step, stop, decision };
+        }
+
+        // The field for what a process proposes. What is no number is marked, and changes nothing.
+        proposal(process) {
+            const id = `input-${process}`;
+            const value = this.protocol.inputs[process];
+            const wrong = element('p', { class: 'trouble', id: `${id}-wrong`, role: 'alert' });
+            const input = element('input', { id, inputmode: 'numeric', value, size: 6, maxlength: 20, autocomplete: 'off', 'aria-describedby': wrong.id });
+            input.addEventListener('change', () => {
+                const text = input.value.trim();
+                const isRight = Cnum.isInput(text);
+                input.setAttribute('aria-invalid', String(!isRight));
+                wrong.textContent = isRight ? '' : say('no_input', { text });
+                if (isRight) this.protocol.propose(process, text);
+            });
+            return [element('label', { for: id }, say('proposes')), input, wrong];
+        }
+
+        // A number lets that process take a step, with Shift it stops, and u takes back what came last.
+        listen() {
+            const section = this.place.closest('section');
+            section.onkeydown = event => {
+                if (event.ctrlKey || event.altKey || event.metaKey || event.target.matches('input:not([type=range])')) return;
+                const digit = /^(?:Digit|Numpad)([0-7])$/.exec(event.code);
+                const isThere = digit && Number(digit[1]) < this.plan.processes && this.protocol.plan;
+                if (!isThere && event.code !== 'KeyU') return;
+                event.preventDefault();
+                if (isThere) this.protocol.act(Number(digit[1]), event.shiftKey);
+                else this.protocol.undo();
+            };
+        }
+
+        fail(why) {
+            this.trouble.textContent = why;
+        }
+
+        showTrial(text, isRunning) {
+            this.trial.textContent = text;
+            this.trying.hidden = isRunning;
+            this.ending.hidden = !isRunning;
+        }
+
+        // Shows a run of `whole` acts after these first events, and what holds there.
+        show(events, whole, now) {
+            this.trouble.textContent = '';
+            this.showTrial('', false);
+            this.undoing.disabled = !events.length;
+            this.slider.max = whole;
+            this.slider.value = events.length;
+            this.count.textContent = say('run_count', { count: events.length, whole });
+            this.columns.forEach((column, process) => this.showColumn(column, now.processes[process]));
+            this.showLog(events);
+            this.showDiagram(events);
+            this.showNodes(now.nodes);
+            this.showObject(events, now.nodes);
+        }
+
+        // A button that had the focus and cannot be pressed any more hands it to the section, so that the keys
+        // still work.
+        showColumn({ step, stop, decision, whole }, { steps, decision: value, hasStopped }) {
+            const hasDecided = value !== run.UNDECIDED;
+            const hadFocus = [step, stop].includes(document.activeElement);
+            step.disabled = stop.disabled = hasStopped || hasDecided;
+            if (hadFocus && step.disabled) this.slider.focus();
+            whole.classList.toggle('stopped', hasStopped);
+            whole.classList.toggle('decided', hasDecided);
+            const count = say(steps === 1 ? 'one_step' : 'steps', { steps });
+            const parts = [count, hasDecided ? say('decides', { value }) : say('undecided'), ...(hasStopped ? [say('stopped')] : [])];
+            decision.textContent = parts.join(', ');
+        }
+
+        showLog(events) {
+            const lineOf = it => (it.stops ? say('stops_for_good', { process: it.process }) : say('process_line', { line: it.line }));
+            const items = events.map(it => element('li', {}, lineOf(it), ...(it.before ? [element('span', { class: 'change' }, changeOf(it))] : [])));
+            this.log.replaceChildren(...items);
+            this.log.scrollTop = this.log.scrollHeight;
+            const last = events[events.length - 1];
+            this.protocol.page.say(last ? lineOf(last) : '');
+        }
+
+        showDiagram(events) {
+            this.diagram.replaceChildren(Cnum.spaceTime(events, this.protocol.inputs, this.plan));
+            this.diagram.scrollLeft = this.diagram.scrollWidth;
+        }
+
+        showNodes(nodes) {
+            const heads = ['node_head', 'object_head', 'register_A', 'register_B', 'comers'].map(it => say(it));
+            const objectOf = ({ state, last }) => (last ? say('object_after', last) : say('object_start', { state }));
+            const rows = nodes.map((it, node) => [say('node', { node }), objectOf(it), it.A, it.B, this.comers(node)]);
+            this.nodes.replaceChildren(tableOf(heads, rows));
+        }
+
+        // The processes that come to a node, each with its team.
+        comers(node) {
+            const places = this.plan.paths.flatMap((path, process) => path.map(it => ({ ...it, process })));
+            return places.filter(it => it.node === node).map(({ process, team }) => say('comer', { process, team })).join(', ');
+        }
+
+        // Lights up the state of the object on which the last operation was, and the arrow of that operation.
+        showObject(events, nodes) {
+            const last = events.filter(it => it.kind === 'applies').pop();
+            const node = last ? last.node : 0;
+            const { state } = nodes[node];
+            const text = last ? say('object_after', last) : say('object_start', { state });
+            this.object.textContent = say('object_of_node', { node, text });
+            for (const picture of [this.states, this.protocol.page.mainPicture()]) Cnum.lightUp(picture, state, last);
+        }
+    }
+
+    Cnum.RunView = RunView;
+})();

@@ -1,0 +1,80 @@
+// The run as a space-time diagram: a line for each process, from left to right a mark for each step with what
+// it did, a cross where a process stops, and its decision at the end of its line.
+var Cnum = globalThis.Cnum || {};
+
+(() => {
+    'use strict';
+
+    const { say, svgElement } = Cnum;
+    const LEFT = 16;
+    const TOP = 44;
+    const APART = 78; // between two lines
+    const GAP = 18; // between the texts of two steps
+    const LEAST = 62; // the width of a step
+    const EMPTY = 260; // the length of a line before the first step
+    const MARK = 6;
+
+    // What a step did, and where, as two short texts.
+    const TEXTS = {
+        writes: it => [say('st_writes', it), say('st_register', it)],
+        applies: it => [say('st_applies', it), say('st_node', it)],
+        reads: it => [say('st_reads', it), say('st_node', it)],
+        takes: it => [say('st_takes', it), say('st_register', it)],
+        decides: it => [say('st_decides', it), ''],
+        stops: () => [say('st_stops'), ''],
+    };
+
+    // The places of a run: for each event its point and texts, and for each process its line. `widthOf` gives
+    // the width of a text.
+    Cnum.placeRun = function (events, inputs, widthOf) {
+        const heads = inputs.map((input, process) => say('st_head', { process, input }));
+        const begin = LEFT + Math.max(...heads.map(widthOf)) + GAP;
+        let right = begin;
+        const marks = events.map(event => {
+            const texts = TEXTS[event.kind](event);
+            const width = Math.max(LEAST, ...texts.map(it => widthOf(it) + GAP));
+            right += width;
+            return { event, texts, x: right - width / 2, y: TOP + APART * event.process };
+        });
+        const lines = heads.map((head, process) => {
+            const last = marks.filter(it => it.event.process === process).pop();
+            const hasEnded = last && ['decides', 'stops'].includes(last.event.kind);
+            return { head, from: begin, to: hasEnded ? last.x : Math.max(right, begin + EMPTY) + GAP, y: TOP + APART * process, isOpen: !hasEnded };
+        });
+        return { marks, lines, width: Math.max(right, begin + EMPTY) + 2 * GAP, height: TOP + APART * (inputs.length - 1) + 44 };
+    };
+
+    const square = (x, y, half, more) => svgElement('rect', { x: x - half, y: y - half, width: 2 * half, height: 2 * half, ...more });
+
+    // The shape of each kind of step.
+    const SHAPES = {
+        writes: ({ x, y }, team) => square(x, y, MARK - 1, { class: team }),
+        applies: ({ x, y }, team) => svgElement('circle', { cx: x, cy: y, r: MARK + 1, class: team }),
+        reads: ({ x, y }) => svgElement('circle', { cx: x, cy: y, r: MARK, class: 'open' }),
+        takes: ({ x, y }) => square(x, y, MARK - 1, { class: 'open' }),
+        decides: ({ x, y }) => svgElement('circle', { cx: x, cy: y, r: MARK + 2, class: 'end' }),
+        stops: ({ x, y }) => svgElement('path', { d: `M${x - 7},${y - 7}l14,14m0,-14l-14,14`, class: 'cross' }),
+    };
+
+    function mark(it, teamOf) {
+        const { event, texts, x, y } = it;
+        const shape = SHAPES[event.kind](it, `team-${teamOf(event)}`);
+        const above = svgElement('text', { x, y: y - 14, 'text-anchor': 'middle', class: event.kind }, texts[0]);
+        const below = svgElement('text', { x, y: y + 24, 'text-anchor': 'middle', class: 'where' }, texts[1]);
+        return svgElement('g', { class: 'mark-of-step' }, shape, above, ...(texts[1] ? [below] : []));
+    }
+
+    function line({ head, from, to, y, isOpen }) {
+        const name = svgElement('text', { x: LEFT, y: y + 4 }, head);
+        return svgElement('g', {}, name, svgElement('path', { class: isOpen ? 'world-line' : 'world-line ended', d: `M${from},${y}H${to}` }));
+    }
+
+    // The diagram as an element. A process has the team of its place at the node of the event.
+    Cnum.spaceTime = function (events, inputs, plan) {
+        const { marks, lines, width, height } = Cnum.placeRun(events, inputs, Cnum.widthOf);
+        const teamOf = ({ process, node }) => (plan.paths[process].find(it => it.node === node) || {}).team;
+        const size = { viewBox: `0 0 ${Math.ceil(width)} ${height}`, width: Math.ceil(width), height };
+        const about = say('st_about', { processes: inputs.length, steps: events.length });
+        return svgElement('svg', { class: 'space-time', role: 'img', 'aria-label': about, ...size }, ...lines.map(line), ...marks.map(it => mark(it, teamOf)));
+    };
+})();
