@@ -8,7 +8,7 @@ const vm = require('node:vm');
 const WEB = path.join(__dirname, '../../web');
 const PARTS = ['examples.js', 'page/texts.js', 'page/link.js', 'page/table_text.js', 'page/run.js', 'page/schedules.js'];
 // Parts that make elements; here only their places are asked for.
-PARTS.push('page/space_time.js');
+PARTS.push('page/space_time.js', 'page/table_edits.js', 'page/flaw_places.js', 'page/past.js', 'page/example_search.js', 'page/points.js', 'page/layout.js');
 
 globalThis.Cnum = {};
 for (const part of PARTS) vm.runInThisContext(fs.readFileSync(path.join(WEB, part), 'utf8'), part);
@@ -143,5 +143,111 @@ describe('an adversary', () => {
         assert.equal((await tried([4, 4], split)).broken.events[2].process, 1);
         assert.ok((await tried([4, 4], () => '7')).broken, 'a value that nobody proposed');
         assert.ok((await tried([4, 5], always)).broken, 'a process that takes too many steps');
+    });
+});
+
+describe('undo', () => {
+    it('goes back over each change, and forward again', () => {
+        const past = new Cnum.Past();
+        for (const text of ['a', 'b', 'b', 'c']) past.put(text);
+        assert.deepEqual([past.move(-1), past.move(-1), past.canMove(-1), past.move(1)], ['b', 'a', false, 'b']);
+        past.put('d');
+        assert.deepEqual([past.canMove(1), past.move(-1), past.move(-1)], [false, 'b', 'a']);
+    });
+
+    it('takes letters without a pause as one change', () => {
+        const past = new Cnum.Past();
+        past.put('');
+        const typed = [['n', 0], ['na', 500], ['nam', 900], ['name', 2500], ['name ', 2600]];
+        for (const [text, now] of typed) past.put(text, { isTyped: true, now });
+        assert.deepEqual([past.move(-1), past.move(-1)], ['nam', '']);
+    });
+
+    it('begins a change after another one is undone', () => {
+        const past = new Cnum.Past();
+        past.put('');
+        past.put('a', { isTyped: true, now: 0 });
+        past.move(-1);
+        past.put('b', { isTyped: true, now: 10 });
+        assert.equal(past.move(-1), '');
+    });
+
+    it('leads the cursor to the place of the change', () => assert.equal(Cnum.endOfChange('one three', 'one two three'), 3));
+});
+
+describe('the search over examples', () => {
+    const index = Cnum.exampleIndex();
+    const names = (query, isOfNumber) => Cnum.foundExamples(index, query, isOfNumber).map(it => it.name);
+
+    it('finds names, words of the literature and groups', () => {
+        assert.ok(names('Compare and swap').includes('cas_3'));
+        assert.ok(names('compare-and-swap 3').includes('cas_3'));
+        assert.equal(names('queue 2')[0], 'queue_2');
+        assert.ok(names('loui abu-amara').length > 0);
+        assert.deepEqual(names('nosuchword'), []);
+        assert.equal(names('').length, index.length);
+    });
+
+    it('finds those of a number', () => assert.deepEqual(names('bit', path => path === 'types/sticky_bit'), ['sticky_bit']));
+
+    it('orders the numbers', () => {
+        const { numbers, kinds } = Cnum.numbersOf('a: 2\nb: infinite\nc: 10\nd: 2\n');
+        assert.deepEqual([numbers, kinds], [['2', 'infinite', '10', '2'], ['2', '10', 'infinite']]);
+    });
+});
+
+describe('edits of a table', () => {
+    const TABLE = Cnum.examples[0].types.find(it => it.path === 'types/three_shot').text;
+    const { edits } = Cnum;
+    const edit = (name, ...words) => edits[name](new Cnum.TableText(TABLE), ...words);
+
+    it('leave what led to a state that is removed', () => {
+        const table = new Cnum.TableText(edit('removeState', 5)); // dead
+        assert.deepEqual(table.items('states').map(it => it.text), ['bot', 'a1', 'a2', 'b1', 'b2']);
+        assert.deepEqual(table.operations[0].next.map(it => it.text), ['a1', 'a2', 'dead', 'b2', 'dead']);
+    });
+
+    it('leave the entries of a response that is removed', () => {
+        const table = new Cnum.TableText(edit('removeResponse', 2)); // none
+        assert.equal(table.operations[0].response[5].text, 'none');
+        assert.deepEqual(table.items('responses').map(it => it.text), ['a', 'b']);
+    });
+
+    it('rename a state everywhere', () => {
+        const text = edit('rename', 'states', 0, 'new');
+        assert.ok(!text.includes('"bot"') && text.includes('states = ["new", '));
+    });
+
+    it('keep remarks and order', () => {
+        const text = `# about\n${TABLE}# end\n`;
+        assert.equal(edits.removeState(new Cnum.TableText(edits.addState(new Cnum.TableText(text))), 6), text);
+    });
+});
+
+describe('places of flaws', () => {
+    const text = 'name = "Tas"\nstates = ["a", "b"]\nresponses = ["r"]\n[[operation]]\nname = "o"\nresponse = ["r", "r"]\nnext = ["a", "c"]\n';
+    const marked = flaw => Cnum.placesOf([flaw], text).map(it => it && text.slice(it.from, it.to));
+
+    it('are those of the text', () => {
+        assert.deepEqual(marked('operation "o", next[1]: "c"'), ['"c"']);
+        assert.deepEqual(marked('name "Tas": 1 to 32 of a to z, 0 to 9, _'), ['"Tas"']);
+        assert.deepEqual(marked('line 2, column 1: not TOML'), ['s']);
+        assert.deepEqual(marked('no such flaw'), [null]);
+    });
+});
+
+describe('the layout', () => {
+    const box = (x, y, width, height) => ({ left: x - width / 2, right: x + width / 2, top: y - height / 2, bottom: y + height / 2 });
+    const meets = (a, b) => a.left < b.right && b.left < a.right && a.top < b.bottom && b.top < a.bottom;
+
+    it('has no label on another or on a node', () => {
+        for (const count of [1, 2, 3, 6, 12]) {
+            const nodes = Array.from({ length: count }, () => ({ width: 50, height: 32 }));
+            const ends = nodes.flatMap((_, from) => [[from, (from + 1) % count], [from, (from * 2) % count]]);
+            const arrows = [...new Map(ends.map(it => [it.join(), it])).values()].map(([from, to]) => ({ from, to, width: 60, height: 34 }));
+            const laid = Cnum.layOut({ nodes, arrows, start: 0 });
+            const boxes = [...laid.nodes.map(it => box(it.x, it.y, it.width, it.height)), ...laid.arrows.map(it => it.label)];
+            for (let i = 0; i < boxes.length; i++) for (let j = 0; j < i; j++) assert.ok(!meets(boxes[i], boxes[j]), `${count} nodes: ${j} and ${i}`);
+        }
     });
 });

@@ -39,6 +39,20 @@ FRAMED = "#example=types/three_shot&view=run"
 WRONG_LINKS = ["#limit=99", "#run=q,1,x", "#example=nosuch", "#inputs=abc,1&run=0", "#view=all", "#example=types/idle&table=AAAA"]
 WRONG_LINKS += ["#run=5", "#inputs=1,2,3&run=0", "#inputs=1,18446744073709551616&run=0", "#example=types/idle&run=1", "#exmaple=types/idle"]
 
+# The slot, with another name for its first state, without its second one.
+WITHOUT_A = """name = "slot"
+states = ["none_yet", "b"]
+responses = ["done"]
+[[operation]]
+name = "put_a"
+response = ["done", "done"]
+next = ["a", "b"]
+[[operation]]
+name = "put_b"
+response = ["done", "done"]
+next = ["b", "b"]
+"""
+
 LONG = TYPES["climbed_16_8"]  # the number takes longest of the types of tests/types
 
 # Questions to the page, in its own language.
@@ -169,7 +183,22 @@ class Use:
         self.value(f"(() => {{ Cnum.page.text = {json.dumps(table)}; Cnum.page.refresh(); }})()")
 
     def choose(self, path):
-        self.do(f"document.getElementById('example').value = {json.dumps(path)}; await Cnum.page.choose({json.dumps(path)});")
+        self.do(f"await Cnum.page.choose({json.dumps(path)});")
+
+    def press_key(self, place, key, **how):
+        """Presses a key at an element, as an event of the page alone."""
+        made = json.dumps({"key": key, "bubbles": True, "cancelable": True, **how})
+        self.value(f"(() => {{ document.querySelector({json.dumps(place)}).dispatchEvent(new KeyboardEvent('keydown', {made})); }})()")
+
+    def search(self, query):
+        """Types this into the field of the examples. The names that are found."""
+        field = "document.getElementById('example')"
+        self.value(f"(it => {{ it.focus(); it.value = {json.dumps(query)}; it.dispatchEvent(new Event('input')); }})({field})")
+        return self.texts("#examples [role=option] strong")
+
+    def type(self, text):
+        """Puts a text behind the table, as typing does."""
+        self.value(f"(it => {{ it.value += {json.dumps(text)}; it.dispatchEvent(new Event('input')); }})(document.getElementById('table'))")
 
     def limit(self, limit):
         self.do(f"document.getElementById('limit').value = '{limit}'; await Cnum.page.refresh();")
@@ -344,7 +373,71 @@ def grid(use):
     use.edit("rename", "states", 0, "none_yet")
     yield "a state has another name", '"none_yet"' in use.table() and use.text("fault") == "", use.text("fault")
     use.edit("removeState", 1)
-    yield "a state in the middle is taken away", use.text("fault") == "" and '"a"' not in use.table(), use.table()
+    yield "a state in the middle is taken away, and what led to it stays", use.table() == WITHOUT_A, use.table()
+    marked = use.texts("#marks mark"), use.count("#grid td [aria-invalid]"), use.texts("#grid .trouble")
+    wanted = ['"a"'], 1, ["Choose anew what is marked: 1 entry names what is not there any more."]
+    yield "and is marked, in the text and in the grid", marked == wanted, marked
+
+
+def changes(use):
+    """Undo and redo, limits for what is added, a table of one's own."""
+    use.open()
+    first = use.table()
+    use.type("# mine\n")
+    typed = use.table()
+    use.choose("types/idle")
+    use.do(f"await Cnum.page.edit({json.dumps(SLOT)});")
+    seen = [use.table()]
+    for _ in range(3):
+        use.value("document.getElementById('undo').click()")
+        seen.append(use.table())
+    yield "typing, an example and another table are undone", seen == [SLOT, jobs.TABLES["types/idle"].decode(), typed, first], seen
+    yield "no more than there is", use.value("document.getElementById('undo').disabled"), ""
+    for place, key, how, wanted in (
+        ("#table", "z", {"ctrlKey": True, "shiftKey": True}, typed),
+        ("body", "y", {"ctrlKey": True}, seen[1]),
+        ("#table", "z", {"metaKey": True}, typed),
+        ("#redo", "Z", {"ctrlKey": True, "shiftKey": True}, seen[1]),
+        ("#example", "z", {"ctrlKey": True}, seen[1]),
+    ):
+        use.press_key(place, key, **how)
+        yield f"the keys {key} {how} at {place}", use.table() == wanted, use.table()
+    use.until("!document.getElementById('redo').disabled")
+    use.type("x")
+    yield "a change forgets what was undone", use.until("document.getElementById('redo').disabled", 5), ""
+    use.value("document.getElementById('own').click()")
+    yield "a table of one's own", use.has_number("1") and use.table().startswith('name = "my_type"'), use.table()
+    for label, most, count in (("Add a state", 16, 20), ("Add an operation", 8, 12), ("Add a response", 16, 20)):
+        button = f"document.querySelector('#grid [aria-label=\"{label}\"]')"
+        use.value(f"{button}.focus()")
+        for _ in range(count):
+            use.do(f"{button}.click(); await Cnum.page.refresh();")
+        noun = {"s": "states", "o": "operation", "r": "responses"}[label.split()[-1][0]]
+        made = use.value(f"new Cnum.TableText(Cnum.page.text).items('{noun}').length")
+        focused = use.value(f"document.activeElement === {button}")
+        yield f"{label}: at most {most}, and the focus stays", made == most and focused and use.text("flaws") == "", (made, focused)
+
+
+def example_search(use):
+    use.open()
+    yield "compare and swap is found", "cas_3" in use.search("compare and swap"), use.search("compare and swap")
+    yield "a name comes first", use.search("queue_2")[0] == "queue_2", use.search("queue_2")
+    yield "by its literature", "cas_3" in use.search("loui abu amara") and "queue_2" not in use.search("loui abu"), ""
+    yield "what is not there is said", use.search("nosuchword") == [] and "No example" in use.text("examples"), use.text("examples")
+    use.search("three shot")
+    use.press_key("#example", "Enter")
+    yield "Enter takes the first one", use.has_number("3") and use.value("document.getElementById('example').value") == "three_shot", use.table()
+    use.until("document.querySelectorAll('#example-number option').length > 5")
+    use.value("(it => { it.value = '3'; it.dispatchEvent(new Event('change')); })(document.getElementById('example-number'))")
+    names = use.texts("#examples [role=option] strong")
+    wanted = [it for it in jobs.TABLES if not it.startswith("tests/") and native_number(jobs.TABLES[it].decode()) == "3"]
+    yield "by their number", sorted(names) == sorted(it.split("/")[1] for it in wanted), names
+    for _ in range(2):
+        use.press_key("#example", "ArrowDown")
+    chosen = use.value("document.querySelector('#examples [aria-selected=true] strong').textContent")
+    yield "arrow keys go through them", chosen == names[1], (chosen, names)
+    use.press_key("#example", "Escape")
+    yield "Escape leaves all as it was", use.is_hidden("examples") and use.has_number("3"), use.text("number")
 
 
 def schedules(use):
@@ -698,11 +791,11 @@ def quiet(use):
 
 
 ALL = (
-    first_answer, flaws, examples, meanings, pictures, grid, schedules, pictured_runs, adversaries, keys, links, certificates, explanations, searches, one_file,
+    first_answer, flaws, examples, meanings, pictures, grid, changes, example_search, schedules, pictured_runs, adversaries, keys, links, certificates, explanations, searches, one_file,
     without, for_all, quiet, on_a_server, missing_parts,
 )
 # The parts that also run in a browser that is not driven by DevTools.
 WITHOUT_DEVTOOLS = (
-    first_answer, meanings, pictures, grid, schedules, pictured_runs, adversaries, links, certificates, explanations, searches, one_file, on_a_server,
+    first_answer, meanings, pictures, grid, changes, example_search, schedules, pictured_runs, adversaries, links, certificates, explanations, searches, one_file, on_a_server,
     missing_parts,
 )

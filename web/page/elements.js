@@ -6,8 +6,12 @@ var Cnum = globalThis.Cnum || {};
 
     const SVG = 'http://www.w3.org/2000/svg';
 
-    function filled(made, attributes, children) {
+    Cnum.setAll = (made, attributes) => {
         for (const name of Object.keys(attributes)) made.setAttribute(name, attributes[name]);
+    };
+
+    function filled(made, attributes, children) {
+        Cnum.setAll(made, attributes);
         made.append(...children);
         return made;
     }

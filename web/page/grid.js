@@ -5,7 +5,8 @@ var Cnum = globalThis.Cnum || {};
 (() => {
     'use strict';
 
-    const { button, edits, element } = Cnum;
+    const { button, edits, element, say } = Cnum;
+    const MOST = { states: 16, responses: 16, operation: 8 };
     const NO_GRID = 'The grid comes back once each operation has a response and a next state for each state.';
     const STEPS = { ArrowUp: [-1, 0], ArrowDown: [1, 0], ArrowLeft: [0, -1], ArrowRight: [0, 1] };
 
@@ -47,7 +48,7 @@ var Cnum = globalThis.Cnum || {};
             const focused = this.focusedPlace();
             this.table = new Cnum.TableText(text);
             if (this.table.isGrid()) {
-                this.place.replaceChildren(this.cells(), this.responses(), this.additions());
+                this.place.replaceChildren(this.cells(), ...this.left(), this.responses(), this.additions());
                 if (focused) this.focus(focused);
             } else {
                 this.place.replaceChildren(element('p', { class: 'quiet' }, NO_GRID));
@@ -71,6 +72,13 @@ var Cnum = globalThis.Cnum || {};
                 element('thead', {}, element('tr', {}, corner, ...heads)),
                 element('tbody', {}, ...table.operations.map((operation, index) => this.row(operation, index))),
             );
+        }
+
+        // What is said if entries name a state or a response that is not there.
+        left() {
+            const unknown = (items, list) => items.filter(it => !this.names(list).includes(it.text)).length;
+            const count = this.table.operations.reduce((sum, it) => sum + unknown(it.next, 'states') + unknown(it.response, 'responses'), 0);
+            return count ? [element('p', { class: 'trouble', role: 'status' }, say(count === 1 ? 'entry_left' : 'entries_left', { count }))] : [];
         }
 
         row(operation, index) {
@@ -119,8 +127,13 @@ var Cnum = globalThis.Cnum || {};
         }
 
         additions() {
-            const kinds = { 'Add a state': edits.addState, 'Add an operation': edits.addOperation, 'Add a response': edits.addResponse };
-            const buttons = Object.keys(kinds).map(label => button(label, () => this.change(kinds[label](this.table))));
+            const kinds = [['add_state', 'states', edits.addState], ['add_operation', 'operation', edits.addOperation], ['add_response', 'responses', edits.addResponse]];
+            const buttons = kinds.map(([label, list, add]) => {
+                const isFull = this.table.items(list).length >= MOST[list];
+                const made = button(say(label), () => isFull || this.change(add(this.table)), { 'aria-label': say(label) });
+                if (isFull) Cnum.setAll(made, { 'aria-disabled': 'true', title: say('most', { most: MOST[list] }) });
+                return made;
+            });
             return element('div', { class: 'buttons' }, ...buttons);
         }
 

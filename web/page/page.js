@@ -28,14 +28,19 @@ var Cnum = globalThis.Cnum || {};
 
     class Page {
         constructor(module) {
+            this.module = module;
             this.quick = new Cnum.Runner(module);
             this.search = new Cnum.Runner(module);
             this.adversary = new Cnum.Runner(module);
             this.round = 0;
-            this.undone = [];
+            this.past = new Cnum.Past();
             this.certificate = '';
             this.editor = new Cnum.Editor(at('table'), at('marks'), at('flaws'));
             this.grid = new Cnum.Grid(at('grid'), text => this.edit(text));
+            this.examples = new Cnum.ExampleSearch(
+                { field: at('example'), list: at('examples'), number: at('example-number') },
+                { choose: path => this.choose(path), classify: paths => this.classify(paths) },
+            );
             this.protocol = new Cnum.Protocol(at('protocol'), this.forProtocol());
             this.listen();
         }
@@ -71,12 +76,12 @@ var Cnum = globalThis.Cnum || {};
             let typed;
             at('table').addEventListener('input', () => {
                 clearTimeout(typed);
-                this.undone = [];
+                this.past.put(this.text, { isTyped: true, now: performance.now() });
                 typed = setTimeout(() => this.refresh(), AFTER_TYPING);
             });
-            at('example').addEventListener('change', () => this.choose(at('example').value));
+            at('own').addEventListener('click', () => this.edit(Cnum.FIRST_TABLE));
             at('limit').addEventListener('change', () => this.refresh());
-            at('undo').addEventListener('click', () => this.undo());
+            this.listenToUndo();
             at('break-off').addEventListener('click', () => this.breakOff());
             const offers = {
                 download: () => ['json', this.certificate, 'application/json'],
@@ -93,6 +98,24 @@ var Cnum = globalThis.Cnum || {};
             at('claim-file').addEventListener('change', () => this.check(at('claim-file').files[0]));
             this.listenToDrops();
             window.addEventListener('hashchange', () => this.follow());
+        }
+
+        // Undo and redo by their buttons, by keys, and as the browser's own commands in the text.
+        listenToUndo() {
+            at('undo').addEventListener('click', () => this.goBack(-1));
+            at('redo').addEventListener('click', () => this.goBack(1));
+            const commands = { historyUndo: -1, historyRedo: 1 };
+            at('table').addEventListener('beforeinput', event => {
+                if (!(event.inputType in commands)) return;
+                event.preventDefault();
+                this.goBack(commands[event.inputType]);
+            });
+            document.addEventListener('keydown', event => {
+                const by = undoKey(event);
+                if (!by || event.target.matches('input:not([type=range]):not([type=file])')) return;
+                event.preventDefault();
+                this.goBack(by);
+            });
         }
 
         // A file can be dropped anywhere: a table becomes the text, and any other file is checked as a
@@ -112,9 +135,7 @@ var Cnum = globalThis.Cnum || {};
                 await this.check(file);
                 return;
             }
-            this.text = await file.text();
-            this.undone = [];
-            await this.refresh();
+            await this.edit(await file.text());
         }
 
         // Offers a file under the name of the type, if the text tells it.
@@ -139,22 +160,32 @@ var Cnum = globalThis.Cnum || {};
         }
 
         choose(path) {
-            if (!examples.has(path)) return undefined;
-            this.text = examples.get(path).text;
-            this.undone = [];
-            return this.refresh();
+            return examples.has(path) ? this.edit(examples.get(path).text) : undefined;
         }
 
-        // A change in the grid; it can be undone.
+        // Another table; it can be undone.
         edit(text) {
-            this.undone.push(this.text);
             this.text = text;
             return this.refresh();
         }
 
-        undo() {
-            this.text = this.undone.pop();
-            return this.refresh();
+        // The table before the last change, or after it. The cursor goes to the place of the change.
+        async goBack(by) {
+            if (!this.past.canMove(by)) return;
+            const before = this.text;
+            this.text = this.past.move(by);
+            const end = Cnum.endOfChange(this.text, before);
+            at('table').setSelectionRange(end, end);
+            await this.refresh();
+        }
+
+        // The numbers of these examples, a line each.
+        async classify(paths) {
+            const files = Object.fromEntries(paths.map(path => [path, examples.get(path).text]));
+            const runner = new Cnum.Runner(this.module);
+            const answer = await runner.run(['classify', ...paths], '', files);
+            runner.end();
+            return answer.stdout;
         }
 
         // Shows what the address says, or else what the file of the page holds.
@@ -245,8 +276,10 @@ var Cnum = globalThis.Cnum || {};
             this.search.breakOff();
             this.adversary.breakOff();
             const example = this.example();
-            at('undo').disabled = !this.undone.length;
-            at('example').value = example ? example.path : '';
+            this.past.put(this.text);
+            at('undo').disabled = !this.past.canMove(-1);
+            at('redo').disabled = !this.past.canMove(1);
+            this.examples.show(example && example.path);
             at('about').textContent = example ? example.about : '';
             this.grid.show(this.text);
             const lint = await this.ask(this.quick, ['lint']);
@@ -410,7 +443,6 @@ var Cnum = globalThis.Cnum || {};
 
         async begin() {
             at('whole-link').textContent = say('whole');
-            at('example').append(element('option', { value: '' }, 'a table of your own'), ...Cnum.examples.map(exampleGroup));
             await this.follow();
             const version = await this.quick.run(['--version']);
             at('version').textContent = version.stdout.trim();
@@ -423,9 +455,12 @@ var Cnum = globalThis.Cnum || {};
         return `${can} No protocol lets ${(most || least) + 1} agree.${most ? ` ${TOO_LONG}` : ''}`;
     }
 
-    function exampleGroup(group) {
-        const options = group.types.map(it => element('option', { value: it.path }, it.path.split('/').pop()));
-        return element('optgroup', { label: group.name }, ...options);
+    // What a key undoes: -1 for undo, 1 for redo, 0 for none.
+    function undoKey({ key, ctrlKey, metaKey, shiftKey, altKey }) {
+        if (!(ctrlKey || metaKey) || altKey) return 0;
+        const letter = key.toLowerCase();
+        if (letter === 'z') return shiftKey ? 1 : -1;
+        return letter === 'y' ? 1 : 0;
     }
 
     async function begin() {

@@ -88,6 +88,11 @@ var Cnum = globalThis.Cnum || {};
             return { status: answer.status, stdout: textOf(answer.stdout), stderr: textOf(answer.stderr) };
         }
 
+        // Ends the worker, after its last run.
+        end() {
+            this.worker.terminate();
+        }
+
         // Ends all runs that are running or waiting.
         breakOff() {
             if (!this.waiting.size) return;

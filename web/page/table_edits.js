@@ -38,6 +38,16 @@ var Cnum = globalThis.Cnum || {};
         return stem + number;
     }
 
+    // A table to begin with.
+    Cnum.FIRST_TABLE = `name = "my_type"
+states = ["s0", "s1"]
+responses = ["ok"]
+[[operation]]
+name = "op0"
+response = ["ok", "ok"]
+next = ["s1", "s1"]
+`;
+
     Cnum.edits = {
         // The entry of an operation in a state: its response, or the next state.
         entry(table, operation, row, state, name) {
@@ -63,15 +73,10 @@ var Cnum = globalThis.Cnum || {};
             return edited(table.text, [added(states, name), ...rows]);
         },
 
-        // One state less. What led to it leads to the first state that is left.
+        // One state less. What led to it still names it, so that the reader chooses anew where it leads.
         removeState(table, index) {
-            const states = table.items('states');
-            const other = states[index ? 0 : 1];
             const rows = table.operations.flatMap(it => [removed(it.response, index), removed(it.next, index)]);
-            const away = new Set(table.operations.map(it => it.next[index]));
-            const left = uses(table, 'states', states[index].text).filter(it => !away.has(it));
-            const turned = left.map(it => replaced(it, quoted(other.text)));
-            return edited(table.text, [removed(states, index), ...rows, ...turned]);
+            return edited(table.text, [removed(table.items('states'), index), ...rows]);
         },
 
         addResponse(table) {
@@ -79,13 +84,8 @@ var Cnum = globalThis.Cnum || {};
             return edited(table.text, [added(responses, freshName(responses, 'r'))]);
         },
 
-        // One response less. The first response that is left takes its place.
-        removeResponse(table, index) {
-            const responses = table.items('responses');
-            const other = responses[index ? 0 : 1];
-            const turned = uses(table, 'responses', responses[index].text).map(it => replaced(it, quoted(other.text)));
-            return edited(table.text, [removed(responses, index), ...turned]);
-        },
+        // One response less. The entries that name it stay, as with a state.
+        removeResponse: (table, index) => edited(table.text, [removed(table.items('responses'), index)]),
 
         // One operation more, which gives the first response and changes nothing.
         addOperation(table) {

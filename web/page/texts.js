@@ -19,6 +19,16 @@ Cnum.texts = {
     link_of_folder: 'The link works on this machine only, since the page is a file here. To hand the table on, open cnum.html, which can be saved with it.',
     whole: 'The whole page',
 
+    // The table.
+    no_example: 'No example has these words.',
+    example_number: '({number})',
+    entries_left: 'Choose anew what is marked: {count} entries name what is not there any more.',
+    entry_left: 'Choose anew what is marked: 1 entry names what is not there any more.',
+    add_state: 'Add a state',
+    add_operation: 'Add an operation',
+    add_response: 'Add a response',
+    most: 'A table has at most {most}.',
+
     // The run.
     run_undo: 'Undo',
     run_anew: 'Start over',

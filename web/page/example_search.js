@@ -1,0 +1,149 @@
+// The search over the examples: by their names, by what is said of them, and by their numbers.
+var Cnum = globalThis.Cnum || {};
+
+(() => {
+    'use strict';
+
+    const { element, say } = Cnum;
+
+    // A text as it is compared: a dash, an underscore and a space are the same.
+    const plain = text => text.toLowerCase().replace(/[-_/\s]+/g, ' ');
+
+    const nameOf = path => path.split('/').pop();
+
+    // The examples with the words by which each is found: its name, its group, what is said of it, and the
+    // first lines of its table, which say what it is and where it is from.
+    Cnum.exampleIndex = function () {
+        const remarks = text => text.split('\n').filter(it => it.startsWith('#')).join(' ');
+        return Cnum.examples.flatMap(({ name: group, types }) =>
+            types.map(({ path, about, text }) => {
+                const name = nameOf(path);
+                return { path, name, group, about, words: plain([name, group, about, remarks(text)].join(' ')) };
+            }),
+        );
+    };
+
+    // How well a name fits: 0 if it is what is asked for, and more the less it fits.
+    function distance(name, asked) {
+        const places = [name === asked, name.startsWith(asked), name.includes(asked), true];
+        return places.indexOf(true);
+    }
+
+    // The examples in which each word of the query stands, those first in whose names it does. With a number,
+    // only those of this number.
+    Cnum.foundExamples = function (index, query, isOfNumber = () => true) {
+        const asked = plain(query.trim());
+        const found = index.filter(it => asked.split(' ').every(word => it.words.includes(word)) && isOfNumber(it.path));
+        const distances = new Map(found.map(it => [it, distance(plain(it.name), asked)]));
+        return found.sort((a, b) => distances.get(a) - distances.get(b));
+    };
+
+    // The numbers in a text of `classify`, by the places of their lines, and each of them once, in order.
+    Cnum.numbersOf = function (text) {
+        const numbers = text.trimEnd().split('\n').map(line => line.replace(/^.*: /, ''));
+        const worth = it => (it === 'infinite' ? Infinity : parseInt(it, 10));
+        return { numbers, kinds: [...new Set(numbers)].sort((a, b) => worth(a) - worth(b)) };
+    };
+
+    class ExampleSearch {
+        // The field, the list and the choice of a number. `choose` is called with the path of an example, and
+        // `classify` gives the text of the numbers of all examples.
+        constructor({ field, list, number }, { choose, classify }) {
+            Object.assign(this, { field, list, number, choose, classify, at: -1, known: null });
+            this.index = Cnum.exampleIndex();
+            field.addEventListener('focus', () => field.select());
+            field.addEventListener('click', () => this.open());
+            field.addEventListener('input', () => this.open());
+            field.addEventListener('keydown', event => this.key(event));
+            field.addEventListener('blur', () => this.close());
+            number.addEventListener('focus', () => this.begin());
+            number.addEventListener('change', () => {
+                field.value = '';
+                field.focus();
+                this.open();
+            });
+            list.addEventListener('mousedown', event => event.preventDefault());
+            list.addEventListener('click', event => this.take(event.target.closest('[role=option]')));
+        }
+
+        // Shows which example the table is; none if it is one's own.
+        show(path) {
+            if (document.activeElement !== this.field) this.field.value = path ? nameOf(path) : '';
+            this.name = path ? nameOf(path) : '';
+        }
+
+        // Asks for the numbers of all examples, once, and shows them when they are there.
+        async begin() {
+            if (this.known) return;
+            this.known = new Map();
+            const { numbers, kinds } = Cnum.numbersOf(await this.classify(this.index.map(it => it.path)));
+            this.index.forEach(({ path }, place) => this.known.set(path, numbers[place]));
+            this.number.append(...kinds.map(it => element('option', { value: it }, it)));
+            if (!this.list.hidden) this.open();
+        }
+
+        open() {
+            this.begin();
+            const wanted = this.number.value;
+            const query = this.field.value === this.name ? '' : this.field.value;
+            const found = Cnum.foundExamples(this.index, query, path => !wanted || this.known.get(path) === wanted);
+            this.list.replaceChildren(...found.map((it, place) => this.option(it, place)));
+            if (!found.length) this.list.append(element('li', { class: 'quiet' }, say('no_example')));
+            this.list.hidden = false;
+            this.field.setAttribute('aria-expanded', 'true');
+            this.mark(query && found.length ? 0 : -1);
+        }
+
+        option({ path, name, group, about }, place) {
+            const number = this.known && this.known.get(path);
+            const head = [element('strong', {}, name), ...(number ? [` ${say('example_number', { number })}`] : []), element('span', { class: 'group' }, group)];
+            return element('li', { role: 'option', id: `example-${place}`, 'data-path': path }, ...head, element('span', { class: 'about' }, about));
+        }
+
+        options() {
+            return [...this.list.querySelectorAll('[role=option]')];
+        }
+
+        mark(place) {
+            this.at = place;
+            this.options().forEach((it, index) => it.setAttribute('aria-selected', String(index === place)));
+            const marked = this.options()[place];
+            if (marked) {
+                this.field.setAttribute('aria-activedescendant', marked.id);
+                marked.scrollIntoView({ block: 'nearest' });
+            } else {
+                this.field.removeAttribute('aria-activedescendant');
+            }
+        }
+
+        key(event) {
+            const steps = { ArrowDown: 1, ArrowUp: -1 };
+            if (event.key in steps) {
+                event.preventDefault();
+                if (this.list.hidden) this.open();
+                const count = this.options().length;
+                if (count) this.mark((Math.max(this.at, event.key === 'ArrowUp' ? 0 : -1) + steps[event.key] + count) % count);
+            } else if (event.key === 'Enter') {
+                this.take(this.options()[this.at]);
+            } else if (event.key === 'Escape') {
+                this.close();
+            }
+        }
+
+        take(option) {
+            if (!option) return;
+            this.name = nameOf(option.dataset.path);
+            this.close();
+            this.choose(option.dataset.path);
+        }
+
+        close() {
+            this.list.hidden = true;
+            this.field.value = this.name || '';
+            this.field.setAttribute('aria-expanded', 'false');
+            this.field.removeAttribute('aria-activedescendant');
+        }
+    }
+
+    Cnum.ExampleSearch = ExampleSearch;
+})();
