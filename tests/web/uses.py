@@ -34,6 +34,7 @@ response = ["done", "done", "done"]
 next = ["b", "b", "b"]
 """
 
+TOO_LONG = "The table is longer than 65536 bytes. (cnum: table: too long)"
 FRAMED = "#example=types/three_shot&view=run"
 # Links that name what is not there.
 WRONG_LINKS = ["#limit=99", "#run=q,1,x", "#example=nosuch", "#inputs=abc,1&run=0", "#view=all", "#example=types/idle&table=AAAA"]
@@ -263,7 +264,8 @@ def flaws(use):
     use.call("Input.insertText", text='"onee"')
     yield "a flaw while one types", use.until("document.querySelectorAll('#flaws li').length === 1"), use.text("flaws")
     lint = called(["lint"], table[:place] + '"onee"' + table[place + 5 :])
-    yield "it reads as lint has it", (use.text("flaws") + "\n", use.text("fault")) == (lint[0].decode(), lint[1].decode()), use.text("flaws")
+    yield "it reads as lint has it", (use.text("flaws") + "\n", use.text("fault")) == (lint[0].decode(), lint[1].decode().strip()), use.text("flaws")
+    yield "there is no legend without a picture", use.is_hidden("legend"), ""
     yield "it is marked in the text", use.texts("#marks mark") == ['"onee"'], use.texts("#marks mark")
     yield "there is no number", use.text("number") == "–", use.text("number")
     use.value("document.querySelector('#flaws button').click()")
@@ -276,7 +278,7 @@ def flaws(use):
         yield f"the flaws of {given!r}", lines == called(["lint"], given)[0].decode(), lines
         yield f"what is marked of {given!r}", use.texts("#marks mark") == marked, use.texts("#marks mark")
     use.give("\xe9" * 40000)
-    yield "a table that is too long", (use.text("fault"), use.text("number")) == ("cnum: table: too long\n", "–"), use.text("fault")
+    yield "a table that is too long", (use.text("fault"), use.text("number")) == (TOO_LONG, "–"), use.text("fault")
 
 
 def flawed(table):
@@ -325,6 +327,8 @@ def meanings(use):
         use.give(TYPES[name] if name in TYPES else (TOP / f"catalogue/{name}.toml").read_text())
         said = use.text("meaning")
         yield f"the number of {name}", use.text("number") == number, use.text("number")
+        recoverable = called(["classify", "--recoverable", "-"], use.table())[0].decode().partition(", recoverable ")[2].strip()
+        yield f"the recoverable number of {name}", use.text("recoverable").startswith(f"Recoverable number: {recoverable}. "), use.text("recoverable")
         yield f"what it says of {name}", all(it in said for it in told) and ("No protocol" in said) == (number != "infinite"), said
 
 
@@ -686,12 +690,28 @@ def certificates(use):
         dataTransfer.items.add(new File([text], name));
         document.getElementById('claim').dispatchEvent(new DragEvent('drop', { dataTransfer, bubbles: true, cancelable: true }));
     })(%s)"""
-    for text, told in ((whole, "ok\n"), (whole.replace('"number":2', '"number":3'), "cnum: check: "), ("{", "cnum: certificate: ")):
+    for text, told in (
+        (whole, "claim.json is right: it is a certificate of this table."),
+        (whole.replace('"number":2', '"number":3'), "claim.json is refused. Its witness does not fit its number"),
+        (whole.replace("test_and_set", "idle"), "claim.json is refused. It is a certificate of another type"),
+        ("{", "claim.json is refused. It is no JSON, and so no certificate. (cnum: certificate: 1 NotJson)"),
+    ):
         use.value(drop % f"'claim.json', {json.dumps(text)}")
-        well = use.until(f"document.getElementById('claim-said').textContent.startsWith({json.dumps('claim.json: ' + told)})", 10)
-        yield f"a certificate that is dropped: {told.strip()}", well, use.text("claim-said")
-    use.value(drop % f"'slot.toml', {json.dumps(SLOT)}")
-    yield "a table that is dropped", use.until(f"Cnum.page.text === {json.dumps(SLOT)}", 10) and use.has_number("1"), use.table()
+        well = use.until(f"document.getElementById('claim-said').textContent.startsWith({json.dumps(told)})", 10)
+        yield f"a certificate that is dropped: {told}", well, use.text("claim-said")
+        box = use.value("(it => [it.top, it.bottom, innerHeight])(document.getElementById('notice').getBoundingClientRect())")
+        seen = use.text("notice-text").startswith(told) and 0 <= box[0] and box[1] <= box[2]
+        yield "it is answered where one looks", seen, (box, use.text("notice-text"))
+    use.value("document.getElementById('notice-close').click()")
+    yield "the answer can be closed", use.is_hidden("notice"), ""
+    for name in ("slot.toml", "SLOT.TOML", "slot.toml.txt"):
+        use.choose("types/idle")
+        use.value(drop % f"{json.dumps(name)}, {json.dumps(SLOT)}")
+        well = use.until(f"Cnum.page.text === {json.dumps(SLOT)}", 10) and use.has_number("1") and use.text("notice-text") == f"{name} is the table now."
+        yield f"the table {name} that is dropped", well, (use.table(), use.text("notice-text"))
+    use.choose("types/idle")
+    use.value(drop % f"'wide.toml', new Uint8Array({list(SLOT.encode('utf-16'))})")
+    yield "a table in UTF-16", use.until(f"Cnum.page.text === {json.dumps(SLOT)}", 10), use.table()
 
 
 def explanations(use):
@@ -705,7 +725,15 @@ def explanations(use):
             words = wanted.partition("\n\nWhy")[2].replace("(--all tells them)", "").split()
             missing = [it for it in words if it.isalnum() and it not in shown]
             yield f"all of it is shown for {name}", missing == [], missing
+    use.limit(8)
+    said = "A certificate for 8 processes would be too long. Why and the protocol are for 7 at most."
+    use.choose("catalogue/cas_3")
+    yield "a limit that is too large gives the greatest that is not", use.text("limit-said") == said and use.count(".process") == 7, use.text("limit-said")
+    use.choose("types/three_shot")
     use.limit(5)
+    label = use.value("document.querySelector('#why > button').textContent")
+    whole = use.value("JSON.parse(Cnum.page.certificate).collisions.length")
+    yield "how many more there are, of how many", label == f"Show {min(100, whole - 12)} more of {whole}", label
     while not use.value("document.querySelector('#why > button').hidden"):
         before = use.count(".collisions > li")
         use.value("document.querySelector('#why > button').click()")
@@ -742,7 +770,7 @@ def without(use):
 
 
 def for_all(use):
-    """Keyboard, screen readers, contrast, a phone, paper."""
+    """Keyboard, screen readers, contrast, a phone."""
     shown = "#example=types/three_shot&run=0,1,x1"
     use.open(shown)
     wants_name = {"button", "combobox", "textbox", "link", "region", "img", "spinbutton"}
@@ -774,8 +802,56 @@ def for_all(use):
         width = use.value("document.documentElement.scrollWidth")
         yield f"{path} on a phone", width <= PHONE["width"], width
     use.call("Emulation.clearDeviceMetricsOverride")
+
+
+def paper(use):
+    """The page in print: one sheet for a small type, nothing cut, and no controls."""
+    for link, most in (("#example=types/test_and_set&run=1,1,0,0,0,0,1,1", 1), ("#example=types/binary_register", 1), ("#example=types/wide", 2)):
+        use.open(link)
+        printed = base64.b64decode(use.call("Page.printToPDF", paperWidth=8.27, paperHeight=11.69, preferCSSPageSize=True)["data"])
+        sheets = len(re.findall(rb"/Type\s*/Page\b", printed))
+        yield f"{link} on {most} sheets", 1 <= sheets <= most, sheets
+    use.call("Emulation.setEmulatedMedia", media="print")
+    use.call("Emulation.setDeviceMetricsOverride", width=711, height=1000, deviceScaleFactor=1, mobile=False)
+    for path in ("types/wide", "catalogue/ll_sc_2", "types/three_shot"):
+        use.open(f"#example={path}&run=" if "wide" in path else f"#example={path}&run=0,1,1")
+        widths = use.value("[document, ...document.querySelectorAll('#grid, #marks, .wide')].map(it => it.documentElement || it).map(it => it.scrollWidth - it.clientWidth)")
+        yield f"{path}: nothing is cut", max(widths) <= 1, widths
+        text = use.value("(it => [it.checkVisibility(), it.textContent.trimEnd(), it.scrollHeight - it.clientHeight])(document.getElementById('marks'))")
+        yield f"{path}: the whole text", text[0] and text[1] == use.table().rstrip() and text[2] <= 1, text
+        cells = use.value("[...document.querySelectorAll('#grid td')].map(it => it.innerText.replace(/\\s/g, ''))")
+        wanted = use.value("[...document.querySelectorAll('#grid td')].map(it => [...it.querySelectorAll('select')].map(one => one.value).join('→'))")
+        yield f"{path}: the whole grid", cells == wanted and cells, cells
+        controls = use.value("[...document.querySelectorAll('input, select, textarea, button')].filter(it => it.checkVisibility()).map(it => it.outerHTML)")
+        yield f"{path}: no controls", controls == [], controls
+    use.call("Emulation.setEmulatedMedia", media="")
+    use.call("Emulation.clearDeviceMetricsOverride")
+
+
+def slides(use):
+    """One part alone, large."""
+    use.call("Emulation.setDeviceMetricsOverride", width=1920, height=1080, deviceScaleFactor=1, mobile=False)
+    size = "parseFloat(getComputedStyle(document.querySelector(%r)).fontSize)"
+    for view, place, least in (("number", "#number", 150), ("number", "#meaning", 24), ("why", "#why p", 20), ("states", "#type-name", 24), ("run", ".decision", 20)):
+        use.open(f"#example=types/three_shot&run=0,1&view={view}")
+        seen = use.value(size % place)
+        yield f"{place} in the view {view}", seen >= least, seen
+    use.open("#example=types/three_shot&view=states")
+    width, height = use.value("(it => [it.width, it.height])(document.querySelector('#picture svg').getBoundingClientRect())")
+    yield "the picture fills the view", height > 700, (width, height)
+    use.call("Emulation.clearDeviceMetricsOverride")
+
+
+def foot(use):
+    """What is said at the end of the page, and the link at its beginning."""
     use.open()
-    yield "on paper", len(use.call("Page.printToPDF")["data"]) > 10000, ""
+    told = use.value("document.querySelector('footer').textContent")
+    program, _, proof = called(["--version"])[0].decode().strip().partition(", proved ")
+    yield "the page says what program is in it", f"come from the program {program}. It is proved ({proof})" in told, told
+    yield "and what it does not do", "each command of the program but serve" in told, told
+    use.value("document.getElementById('skip').focus()")
+    meets = "(([a, b]) => a.right > b.left && a.bottom > b.top && b.bottom > a.top)(['#skip', 'h1'].map(it => document.querySelector(it).getBoundingClientRect()))"
+    yield "the skip link does not cover the heading", not use.value(meets), ""
 
 
 def quiet(use):
@@ -792,10 +868,10 @@ def quiet(use):
 
 ALL = (
     first_answer, flaws, examples, meanings, pictures, grid, changes, example_search, schedules, pictured_runs, adversaries, keys, links, certificates, explanations, searches, one_file,
-    without, for_all, quiet, on_a_server, missing_parts,
+    without, for_all, paper, slides, foot, quiet, on_a_server, missing_parts,
 )
 # The parts that also run in a browser that is not driven by DevTools.
 WITHOUT_DEVTOOLS = (
-    first_answer, meanings, pictures, grid, changes, example_search, schedules, pictured_runs, adversaries, links, certificates, explanations, searches, one_file, on_a_server,
+    first_answer, meanings, pictures, grid, changes, example_search, schedules, pictured_runs, adversaries, links, certificates, explanations, searches, one_file, foot, on_a_server,
     missing_parts,
 )

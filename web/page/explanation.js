@@ -5,7 +5,7 @@ var Cnum = globalThis.Cnum || {};
 (() => {
     'use strict';
 
-    const { button, element, tableOf, wide } = Cnum;
+    const { button, element, say, tableOf, wide } = Cnum;
     const PAIRS = 'what each process gets and reads';
     const AT_ONCE = 100; // how many more collisions each demand shows
     const COLLISION = /^ +(\d+)\. (start .*?) +(p\d+) cannot tell:$/;
@@ -90,11 +90,12 @@ var Cnum = globalThis.Cnum || {};
         const list = element('ol', { class: 'collisions' });
         const shown = its => list.append(...its.map(collision));
         const more = button('', demand);
+        const whole = told.collisions.length + told.more;
         let left = [];
 
         function label(count) {
             more.hidden = !count;
-            more.textContent = `Show ${Math.min(AT_ONCE, count)} more of ${count}`;
+            more.textContent = say('more', { count: Math.min(AT_ONCE, count), whole });
         }
 
         async function demand() {

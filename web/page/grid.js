@@ -6,9 +6,13 @@ var Cnum = globalThis.Cnum || {};
     'use strict';
 
     const { button, edits, element, say } = Cnum;
+    const MOST_ON_PAPER = 6; // states of a grid for which half of a sheet is enough
     const MOST = { states: 16, responses: 16, operation: 8 };
     const NO_GRID = 'The grid comes back once each operation has a response and a next state for each state.';
     const STEPS = { ArrowUp: [-1, 0], ArrowDown: [1, 0], ArrowLeft: [0, -1], ArrowRight: [0, 1] };
+
+    // A field, and its value for paper, where there are no fields.
+    const onPaper = (field, value) => [field, element('span', { class: 'on-paper' }, value)];
 
     // A choice among names, as a cell has two. It also shows a name that is none of them.
     function choice(label, names, chosen, choose) {
@@ -18,7 +22,7 @@ var Cnum = globalThis.Cnum || {};
         select.value = chosen;
         if (!isKnown) select.setAttribute('aria-invalid', 'true');
         select.addEventListener('change', () => choose(select.value));
-        return select;
+        return onPaper(select, chosen);
     }
 
     // A name that can be changed. Its field is as wide as the name.
@@ -26,7 +30,7 @@ var Cnum = globalThis.Cnum || {};
         const size = Math.max(2, name.length);
         const field = element('input', { 'aria-label': label, title: label, value: name, size, spellcheck: 'false', autocomplete: 'off' });
         field.addEventListener('change', () => change(field.value));
-        return field;
+        return onPaper(field, name);
     }
 
     // A button that takes away what has a name. The last one of its kind stays.
@@ -67,8 +71,8 @@ var Cnum = globalThis.Cnum || {};
             const heads = this.listed('state', 'states', edits.removeState).map(its => element('th', { scope: 'col' }, ...its));
             return element(
                 'table',
-                {},
-                element('caption', {}, 'Name of the type: ', type),
+                { class: table.items('states').length > MOST_ON_PAPER ? 'broad' : '' },
+                element('caption', {}, 'Name of the type: ', ...type),
                 element('thead', {}, element('tr', {}, corner, ...heads)),
                 element('tbody', {}, ...table.operations.map((operation, index) => this.row(operation, index))),
             );
@@ -98,9 +102,9 @@ var Cnum = globalThis.Cnum || {};
             return element(
                 'td',
                 {},
-                choice(`response of ${about}`, this.names('responses'), operation.response[state].text, put('response')),
+                ...choice(`response of ${about}`, this.names('responses'), operation.response[state].text, put('response')),
                 element('span', { 'aria-hidden': 'true' }, '→'),
-                choice(`state after ${about}`, this.names('states'), operation.next[state].text, put('next')),
+                ...choice(`state after ${about}`, this.names('states'), operation.next[state].text, put('next')),
             );
         }
 
@@ -117,7 +121,7 @@ var Cnum = globalThis.Cnum || {};
         named(kind, name, canRemove, rename, remove) {
             const about = `${kind} ${name}`;
             const field = nameField(`name of ${about}`, name, text => this.change(rename(text)));
-            return [field, removal(`remove ${about}`, canRemove, () => this.change(remove()))];
+            return [...field, removal(`remove ${about}`, canRemove, () => this.change(remove()))];
         }
 
         responses() {

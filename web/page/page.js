@@ -13,6 +13,9 @@ var Cnum = globalThis.Cnum || {};
     const FIRST_EXAMPLE = 'types/test_and_set';
     const FIRST_LIMIT = '4';
     const CLASS = /: (infinite|(\d+)(?: to (\d+))?)\n$/;
+    const RECOVERABLE = /, recoverable (.+)\n$/;
+    const PROVED = /^(.*?), proved (by .*)\n$/;
+    const TOO_MANY = /^cnum: find: \d+ TooManyChoices/;
     const CERTIFICATE = 'certificate';
     const NO_NUMBER = '–';
     // The parts of the page that can be shown alone, by their names in a link.
@@ -96,6 +99,7 @@ var Cnum = globalThis.Cnum || {};
             at('save-page').hidden = !pageWith;
             at('skip').addEventListener('click', event => this.skip(event));
             at('claim-file').addEventListener('change', () => this.check(at('claim-file').files[0]));
+            at('notice-close').addEventListener('click', () => this.notice(''));
             this.listenToDrops();
             window.addEventListener('hashchange', () => this.follow());
         }
@@ -131,19 +135,33 @@ var Cnum = globalThis.Cnum || {};
         }
 
         async take(file) {
-            if (!file || !file.name.endsWith('.toml')) {
+            if (!file) return;
+            if (Cnum.isTableName(file.name)) {
+                const table = Cnum.textOf(new Uint8Array(await file.arrayBuffer()));
+                const editing = this.edit(table);
+                this.notice(say('table_taken', { name: file.name }));
+                await editing;
+            } else {
                 await this.check(file);
-                return;
             }
-            await this.edit(await file.text());
+        }
+
+        // Tells something where the reader looks, wherever that is on the page.
+        notice(text) {
+            at('notice-text').textContent = text;
+            at('notice').hidden = !text;
         }
 
         // Offers a file under the name of the type, if the text tells it.
         offer(ending, content, kind) {
-            const name = new Cnum.TableText(this.text).entry('name');
-            const isPlain = name && /^\w+$/.test(name.value.text);
             const separator = ending.includes('.') ? '_' : '.';
-            Cnum.offer(`${isPlain ? name.value.text : 'type'}${separator}${ending}`, content, kind);
+            Cnum.offer(`${this.nameOfType() || 'type'}${separator}${ending}`, content, kind);
+        }
+
+        // The name in the text, if it tells one.
+        nameOfType() {
+            const name = new Cnum.TableText(this.text).entry('name');
+            return name && /^\w+$/.test(name.value.text) ? name.value.text : '';
         }
 
         // Offers a picture. Its file has the name of the type, its number, and the part that it shows.
@@ -165,6 +183,7 @@ var Cnum = globalThis.Cnum || {};
 
         // Another table; it can be undone.
         edit(text) {
+            this.notice('');
             this.text = text;
             return this.refresh();
         }
@@ -277,6 +296,7 @@ var Cnum = globalThis.Cnum || {};
             this.adversary.breakOff();
             const example = this.example();
             this.past.put(this.text);
+            at('type-name').textContent = this.nameOfType();
             at('undo').disabled = !this.past.canMove(-1);
             at('redo').disabled = !this.past.canMove(1);
             this.examples.show(example && example.path);
@@ -287,7 +307,7 @@ var Cnum = globalThis.Cnum || {};
             const lines = lint.stdout.trimEnd().split('\n');
             const isTable = lint.status === 0;
             this.editor.show(isTable || !lint.stdout ? [] : lines);
-            at('fault').textContent = lint.stderr;
+            at('fault').textContent = lint.stderr && Cnum.inWords(lint.stderr);
             at('notes').textContent = isTable ? lines.filter(it => /^(state|operation) \w+: /.test(it)).join('\n') : '';
             this.forget(isTable ? '' : 'A number comes once the table has no flaw.');
             if (isTable) await this.find(linked);
@@ -304,6 +324,9 @@ var Cnum = globalThis.Cnum || {};
             at('picture').replaceChildren();
             at('claim-said').textContent = '';
             at('claim-file').value = '';
+            at('recoverable').textContent = '';
+            at('limit-said').textContent = '';
+            at('legend').hidden = true;
             at('download').disabled = at('picture-svg').disabled = at('picture-png').disabled = true;
             this.protocol.clear(why);
         }
@@ -328,11 +351,18 @@ var Cnum = globalThis.Cnum || {};
             }
             this.tellNumber(CLASS.exec(classify.stdout));
             await this.showEvidence(linked);
+            await this.showRecoverable();
+        }
+
+        async showRecoverable() {
+            const answer = await this.timed(this.ask(this.search, ['classify', '--recoverable', '-']));
+            const found = answer && RECOVERABLE.exec(answer.stdout);
+            if (found) at('recoverable').textContent = say('recoverable', { number: found[1] });
         }
 
         // Finds the certificate for the number up to the limit, and shows its explanation and the protocol.
         async showEvidence(linked) {
-            const find = await this.timed(this.ask(this.search, ['find', '--limit', at('limit').value]));
+            const find = await this.timed(this.findUpTo(at('limit').value));
             if (!find) return;
             if (find.status !== 0) {
                 this.refuse(find.stderr);
@@ -346,11 +376,24 @@ var Cnum = globalThis.Cnum || {};
             await this.showProtocol(linked);
         }
 
+        // The certificate up to this limit. If it would be too long, that of the greatest limit that the
+        // program permits for a table of this size.
+        async findUpTo(limit) {
+            const find = await this.ask(this.search, ['find', '--limit', limit]);
+            if (!find || !TOO_MANY.test(find.stderr)) return find;
+            const lower = await this.ask(this.search, ['find']);
+            if (lower && lower.status === 0) {
+                at('limit-said').textContent = say('limit_lower', { limit, least: JSON.parse(lower.stdout).limit });
+            }
+            return lower;
+        }
+
         // Says why there is no evidence, and so no protocol.
         refuse(why) {
+            const words = Cnum.inWords(why);
             this.draw(null);
-            at('why').replaceChildren(element('p', {}, why));
-            this.protocol.clear(why);
+            at('why').replaceChildren(element('p', {}, words));
+            this.protocol.clear(words);
         }
 
         files() {
@@ -438,14 +481,19 @@ var Cnum = globalThis.Cnum || {};
             if (!file) return;
             const claim = new Uint8Array(await file.arrayBuffer());
             const answer = await this.ask(this.quick, ['check', CERTIFICATE], { [CERTIFICATE]: claim });
-            if (answer) at('claim-said').textContent = `${file.name}: ${answer.stdout}${answer.stderr}`;
+            if (!answer) return;
+            const { name } = file;
+            const told = answer.status === 0 ? say('certificate_ok', { name }) : say('certificate_wrong', { name, why: Cnum.inWords(answer.stderr) });
+            at('claim-said').textContent = told;
+            this.notice(told);
         }
 
         async begin() {
             at('whole-link').textContent = say('whole');
             await this.follow();
             const version = await this.quick.run(['--version']);
-            at('version').textContent = version.stdout.trim();
+            const [, program, proof] = PROVED.exec(version.stdout) || ['', version.stdout.trim(), ''];
+            at('made-by').textContent = say('made_by', { program, proof });
         }
     }
 

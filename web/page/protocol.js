@@ -121,7 +121,7 @@ var Cnum = globalThis.Cnum || {};
             const told = await this.told(this.acts);
             if (turn !== this.turn) return;
             if (told.fault) {
-                this.view.fail(told.fault);
+                this.view.fail(Cnum.inWords(told.fault));
                 return;
             }
             this.events = told.events;

@@ -106,14 +106,17 @@ var Cnum = globalThis.Cnum || {};
             const value = this.protocol.inputs[process];
             const wrong = element('p', { class: 'trouble', id: `${id}-wrong`, role: 'alert' });
             const input = element('input', { id, inputmode: 'numeric', value, size: 6, maxlength: 20, autocomplete: 'off', 'aria-describedby': wrong.id });
+            const onPaper = element('span', { class: 'on-paper' }, value);
             input.addEventListener('change', () => {
                 const text = input.value.trim();
                 const isRight = Cnum.isInput(text);
                 input.setAttribute('aria-invalid', String(!isRight));
                 wrong.textContent = isRight ? '' : say('no_input', { text });
-                if (isRight) this.protocol.propose(process, text);
+                if (!isRight) return;
+                onPaper.textContent = text;
+                this.protocol.propose(process, text);
             });
-            return [element('label', { for: id }, say('proposes')), input, wrong];
+            return [element('label', { for: id }, say('proposes')), input, onPaper, wrong];
         }
 
         // A number lets that process take a step, with Shift it stops, and u takes back what came last.

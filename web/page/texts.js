@@ -19,6 +19,35 @@ Cnum.texts = {
     link_of_folder: 'The link works on this machine only, since the page is a file here. To hand the table on, open cnum.html, which can be saved with it.',
     whole: 'The whole page',
 
+    // Files, and faults of the program.
+    certificate_ok: '{name} is right: it is a certificate of this table.',
+    certificate_wrong: '{name} is refused. {why}',
+    table_taken: '{name} is the table now.',
+    in_words: '{sentence} ({line})',
+    fault_certificate_NotJson: 'It is no JSON, and so no certificate.',
+    fault_certificate_WrongShape: 'It is JSON, but has not the parts of a certificate.',
+    fault_certificate_Version: 'It is a certificate of a version that this program does not know.',
+    fault_certificate_Range: 'A number or a list in it is greater than any table permits.',
+    fault_certificate_TooLong: 'It is longer than any certificate.',
+    fault_check_OtherType: 'It is a certificate of another type: it has another name than this table.',
+    fault_check_BadNumber: 'Its number or its limit is out of range.',
+    fault_check_WitnessShape: 'Its witness does not fit its number: one of the two is missing, or the witness is for another number of processes.',
+    fault_check_WitnessMeets: 'Its witness is none: process {place} can get the same response and read the same state after either team was first.',
+    fault_check_Unexpected: 'It has collisions, though its number is its limit.',
+    fault_check_NotNext: 'Its collision {place} is not for the choice whose turn it is.',
+    fault_check_NotACollision: 'Its collision {place} is none.',
+    fault_check_TooFew: 'It lacks collisions: some choice of operations is not refuted.',
+    fault_table_TooLong: 'The table is longer than 65536 bytes.',
+    fault_find_TooManyChoices: 'A certificate for so many processes would be too long.',
+    limit_lower: 'A certificate for {limit} processes would be too long. Why and the protocol are for {least} at most.',
+
+    // Why.
+    more: 'Show {count} more of {whole}',
+
+    // The number.
+    recoverable: 'Recoverable number: {number}. So many processes can agree if each may crash, lose its own memory and begin again.',
+    made_by: 'All numbers and reasons here come from the program {program}. It is proved ({proof}). Its translation to WebAssembly and this page are not proved, but tested.',
+
     // The table.
     no_example: 'No example has these words.',
     example_number: '({number})',
