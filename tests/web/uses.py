@@ -91,6 +91,8 @@ FROM_BUTTON_TO_LOG = """[...document.querySelectorAll('.process button')].map(it
     const last = document.querySelector('.log li:last-child').getBoundingClientRect();
     return last.top >= 0 && last.bottom <= innerHeight;
 })"""
+# The height of a letter of the picture, in points of the window.
+LETTER = "(it => it ? 13 * it.clientWidth / it.getAttribute('width') : 0)(document.querySelector('#picture svg'))"
 OBJECTS = ["starts in bot", "a1 → a2, y answered a"]
 ACTS_SHOWN = ["writes 20", "x/a", "writes 30", "y/a", "writes 10", "stops", "reads a2"]
 FOCUSABLE = "a[href], button:not(:disabled), input, select, textarea, [tabindex='0'], summary"
@@ -185,6 +187,10 @@ class Use:
 
     def choose(self, path):
         self.do(f"await Cnum.page.choose({json.dumps(path)});")
+
+    def tool(self, name):
+        """Presses a button of the picture."""
+        self.value(f"document.querySelector('#picture-tools [aria-label={name}]').click()")
 
     def press_key(self, place, key, **how):
         """Presses a key at an element, as an event of the page alone."""
@@ -343,6 +349,45 @@ def pictures(use):
         use.give(table)
         about = f"a picture of {table.count('[[')} operations, {time.monotonic() - began:.1f} s"
         yield about, use.value(OVERLAPS) == [] and use.count("#picture svg") == 1, use.value(OVERLAPS)
+
+
+def picture_tools(use):
+    """Letters that can be read, larger and smaller, and the choice of operations."""
+    use.open()
+    use.limit(2)
+    use.give(random_table(random.Random(7), 16, 8))
+    for about, size in (("a window", None), ("a phone", PHONE)):
+        if size:
+            use.call("Emulation.setDeviceMetricsOverride", **size)
+        use.until(f"{LETTER} > 0")
+        letter = use.value(LETTER)
+        yield f"letters of 16 states and 8 operations in {about}", letter >= 11, letter
+        before = use.value("document.querySelector('#picture svg').clientWidth")
+        use.tool("larger")
+        yield "larger", use.value("document.querySelector('#picture svg').clientWidth") > before, before
+        use.tool("smaller")
+        use.value("[...document.querySelectorAll('#picture-tools button')].find(it => it.textContent === 'Fit').click()")
+        yield "and back", use.value("document.querySelector('#picture svg').clientWidth") == before, before
+    use.call("Emulation.clearDeviceMetricsOverride")
+    use.choose("types/three_shot")
+    labels = use.texts("#picture .label text:not(.badge)")
+    use.value("document.querySelector('#operations input').click()")
+    left = use.texts("#picture .label text:not(.badge)")
+    yield "an operation is left out", left == [it for it in labels if not it.startswith("x/")] and use.value(OVERLAPS) == [], left
+    use.value("document.querySelector('#operations input').click()")
+    yield "and comes back", use.texts("#picture .label text:not(.badge)") == labels, ""
+
+
+def words(use):
+    """The words of the subject, explained where they stand."""
+    use.open("#example=types/test_and_set")
+    for place, word in (("#legend", "witness"), ("#why", "team"), ("#protocol", "nodes"), ("#protocol", "registers")):
+        at = f"[...document.querySelectorAll('{place} .word')].find(it => it.textContent.toLowerCase().startsWith({word!r}))"
+        note = f"document.getElementById({at}.getAttribute('aria-controls'))"
+        before = use.value(f"{note}.hidden")
+        use.value(f"{at}.click()")
+        told = use.value(f"[{note}.checkVisibility(), {at}.getAttribute('aria-expanded'), {note}.textContent.length > 20]")
+        yield f"{word} at {place}", before and told == [True, "true", True], (before, told)
 
 
 def random_table(source, states, operations):
@@ -822,7 +867,7 @@ def paper(use):
         cells = use.value("[...document.querySelectorAll('#grid td')].map(it => it.innerText.replace(/\\s/g, ''))")
         wanted = use.value("[...document.querySelectorAll('#grid td')].map(it => [...it.querySelectorAll('select')].map(one => one.value).join('→'))")
         yield f"{path}: the whole grid", cells == wanted and cells, cells
-        controls = use.value("[...document.querySelectorAll('input, select, textarea, button')].filter(it => it.checkVisibility()).map(it => it.outerHTML)")
+        controls = use.value("[...document.querySelectorAll('input, select, textarea, button:not(.word)')].filter(it => it.checkVisibility()).map(it => it.outerHTML)")
         yield f"{path}: no controls", controls == [], controls
     use.call("Emulation.setEmulatedMedia", media="")
     use.call("Emulation.clearDeviceMetricsOverride")
@@ -867,11 +912,12 @@ def quiet(use):
 
 
 ALL = (
-    first_answer, flaws, examples, meanings, pictures, grid, changes, example_search, schedules, pictured_runs, adversaries, keys, links, certificates, explanations, searches, one_file,
-    without, for_all, paper, slides, foot, quiet, on_a_server, missing_parts,
+    first_answer, flaws, examples, meanings, pictures, picture_tools, words, grid, changes, example_search, schedules,
+    pictured_runs, adversaries, keys, links, certificates, explanations, searches, one_file, without, for_all, paper, slides,
+    foot, quiet, on_a_server, missing_parts,
 )
 # The parts that also run in a browser that is not driven by DevTools.
 WITHOUT_DEVTOOLS = (
-    first_answer, meanings, pictures, grid, changes, example_search, schedules, pictured_runs, adversaries, links, certificates, explanations, searches, one_file, foot, on_a_server,
-    missing_parts,
+    first_answer, meanings, pictures, words, grid, changes, example_search, schedules, pictured_runs, adversaries, links,
+    certificates, explanations, searches, one_file, foot, on_a_server, missing_parts,
 )

@@ -40,6 +40,10 @@ var Cnum = globalThis.Cnum || {};
             this.certificate = '';
             this.editor = new Cnum.Editor(at('table'), at('marks'), at('flaws'));
             this.grid = new Cnum.Grid(at('grid'), text => this.edit(text));
+            this.picture = new Cnum.PictureView(
+                { place: at('picture'), tools: at('picture-tools'), choice: at('operations'), part: at('picture-part') },
+                () => this.protocol.relight(),
+            );
             this.examples = new Cnum.ExampleSearch(
                 { field: at('example'), list: at('examples'), number: at('example-number') },
                 { choose: path => this.choose(path), classify: paths => this.classify(paths) },
@@ -55,7 +59,7 @@ var Cnum = globalThis.Cnum || {};
                 tryOut: words => this.agree(this.adversary, words),
                 breakOff: () => this.adversary.breakOff(),
                 next: () => Cnum.run.movesOf(this.text),
-                picture: () => this.mainPicture().cloneNode(true),
+                picture: () => Cnum.pictureOf(this.dot, this.picture.plan),
                 mainPicture: () => this.mainPicture(),
                 changed: () => this.keepLinkSoon(),
                 say: text => (at('step-said').textContent = text),
@@ -64,7 +68,7 @@ var Cnum = globalThis.Cnum || {};
         }
 
         mainPicture() {
-            return at('picture').firstElementChild;
+            return this.picture.picture();
         }
 
         get text() {
@@ -321,7 +325,7 @@ var Cnum = globalThis.Cnum || {};
             at('number').textContent = NO_NUMBER;
             at('meaning').textContent = why;
             at('why').replaceChildren();
-            at('picture').replaceChildren();
+            this.picture.clear();
             at('claim-said').textContent = '';
             at('claim-file').value = '';
             at('recoverable').textContent = '';
@@ -373,6 +377,7 @@ var Cnum = globalThis.Cnum || {};
             const explain = await this.ask(this.search, ['explain', CERTIFICATE], this.files());
             if (!explain) return;
             Cnum.showExplanation(at('why'), explain.stdout, () => this.explainAll());
+            Cnum.explainWords(at('why'));
             await this.showProtocol(linked);
         }
 
@@ -433,7 +438,7 @@ var Cnum = globalThis.Cnum || {};
         // The picture, with the start and the teams of this plan, if there is one.
         draw(plan) {
             clearTimeout(this.early);
-            at('picture').replaceChildren(Cnum.pictureOf(this.dot, plan));
+            this.picture.show(this.dot, plan);
             at('legend').hidden = !plan;
             at('picture-svg').disabled = at('picture-png').disabled = false;
         }
@@ -490,6 +495,7 @@ var Cnum = globalThis.Cnum || {};
 
         async begin() {
             at('whole-link').textContent = say('whole');
+            Cnum.explainWords(at('legend'));
             await this.follow();
             const version = await this.quick.run(['--version']);
             const [, program, proof] = PROVED.exec(version.stdout) || ['', version.stdout.trim(), ''];

@@ -22,6 +22,7 @@ var Cnum = globalThis.Cnum || {};
 
         clear(why) {
             this.plan = null;
+            this.view = null;
             this.known = new Map();
             this.acts = [];
             this.events = [];
@@ -134,6 +135,11 @@ var Cnum = globalThis.Cnum || {};
         render() {
             const events = this.events.slice(0, this.shown);
             this.view.show(events, this.events.length, run.after(events, this.plan));
+        }
+
+        // Lights up the states again, in a picture that is drawn anew.
+        relight() {
+            if (this.plan && this.view) this.render();
         }
 
         // Tries schedules, and shows how many there were and the one that is hardest.

@@ -26,6 +26,7 @@ var Cnum = globalThis.Cnum || {};
                 this.trouble,
                 ...this.figures(),
             );
+            Cnum.explainWords(place);
             this.listen();
         }
 

@@ -41,6 +41,21 @@ Cnum.texts = {
     fault_find_TooManyChoices: 'A certificate for so many processes would be too long.',
     limit_lower: 'A certificate for {limit} processes would be too long. Why and the protocol are for {least} at most.',
 
+    // The picture of the states.
+    smaller: 'smaller',
+    larger: 'larger',
+    fit: 'Fit',
+    full_screen: 'Full screen',
+    operations_shown: 'Operations to show',
+
+    // Words of the subject.
+    word_witness: 'A start state, an operation for each process, and a split of the processes into two teams, such that each process can tell which team was first.',
+    word_team: 'The processes of a node are in two teams, A and B. Those of one team bring the same value there, and all go on with the value of the team that was first.',
+    word_node: 'A place where two teams meet. It has an object of the type and a register for each team.',
+    word_register: 'A cell that is only written and read.',
+    word_discerning: 'A type is n-discerning if it has a witness for n processes. A type that can be read lets n processes agree if and only if it is n-discerning.',
+    word_collision: 'Two orders, one begun by each team, after which a process got the same response and reads the same state. So it cannot tell which team was first.',
+
     // Why.
     more: 'Show {count} more of {whole}',
 
@@ -127,6 +142,16 @@ Cnum.texts = {
     t_node: 'node {node}',
     t_about: 'The tournament of {processes} processes. The table of the nodes says the same in words.',
 };
+
+// The words that are explained, each with the key of its explanation.
+Cnum.words = [
+    [/\bwitness\b/i, 'word_witness'],
+    [/\bteams?\b/i, 'word_team'],
+    [/\bnodes?\b/i, 'word_node'],
+    [/\bregisters?\b/i, 'word_register'],
+    [/\b(?:\d+|n)-discerning\b/i, 'word_discerning'],
+    [/\bcollisions?\b/i, 'word_collision'],
+];
 
 // A text of the page, with these words in it.
 Cnum.say = (key, words = {}) => Cnum.texts[key].replace(/\{(\w+)\}/g, (_, name) => words[name]);
