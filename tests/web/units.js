@@ -6,7 +6,7 @@ const { describe, it } = require('node:test');
 const vm = require('node:vm');
 
 const WEB = path.join(__dirname, '../../web');
-const PARTS = ['examples.js', 'page/texts.js', 'page/link.js', 'page/table_text.js', 'page/run.js', 'page/schedules.js'];
+const PARTS = ['examples.js', 'page/texts_en.js', 'page/texts_de.js', 'page/texts.js', 'page/link.js', 'page/table_text.js', 'page/run.js', 'page/schedules.js'];
 // Parts that make elements; here only their places are asked for.
 PARTS.push('page/space_time.js', 'page/table_edits.js', 'page/flaw_places.js', 'page/past.js', 'page/example_search.js', 'page/points.js', 'page/layout.js');
 
@@ -249,5 +249,25 @@ describe('the layout', () => {
             const boxes = [...laid.nodes.map(it => box(it.x, it.y, it.width, it.height)), ...laid.arrows.map(it => it.label)];
             for (let i = 0; i < boxes.length; i++) for (let j = 0; j < i; j++) assert.ok(!meets(boxes[i], boxes[j]), `${count} nodes: ${j} and ${i}`);
         }
+    });
+});
+
+describe('the texts', () => {
+    const { en, de } = Cnum.languages;
+    const pieces = text => (text.match(/\{\w+\}|<[^>]*>/g) || []).sort();
+
+    it('are the same ones in each language, with the same words in them', () => {
+        assert.deepEqual(Object.keys(de.texts).sort(), Object.keys(en.texts).sort());
+        for (const key of Object.keys(en.texts)) assert.deepEqual(pieces(de.texts[key]), pieces(en.texts[key]), key);
+    });
+
+    it('are all used, and no other', () => {
+        const files = fs.readdirSync(path.join(WEB, 'page')).filter(it => !it.startsWith('texts_'));
+        const sources = [...files.map(it => `page/${it}`), 'index.html'].map(it => fs.readFileSync(path.join(WEB, it), 'utf8')).join('\n');
+        const families = ['fault_', 'log_', 'kind_', 'save_', 'word_'];
+        const isUsed = key => sources.includes(`'${key}'`) || sources.includes(`"${key}"`) || families.some(it => key.startsWith(it));
+        assert.deepEqual(Object.keys(en.texts).filter(key => !isUsed(key)), []);
+        const asked = [...sources.matchAll(/\bsay\('(\w+)'|data-(?:text|label|placeholder)="(\w+)"/g)].map(it => it[1] || it[2]);
+        assert.deepEqual(asked.filter(key => !(key in en.texts)), []);
     });
 });

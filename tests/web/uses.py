@@ -800,6 +800,9 @@ def searches(use):
     use.until("!document.getElementById('running').hidden", 20)
     use.choose("types/idle")
     yield "another table breaks it off too", use.text("number") == "1" and use.is_hidden("running"), use.text("number")
+    use.value(f"(() => {{ Cnum.page.text = {json.dumps(TYPES['three_shot'])}; Cnum.page.refresh(); Cnum.page.text += 'x'; }})()")
+    well = use.until("document.querySelectorAll('.process').length === 3", 20) and use.has_number("3")
+    yield "letters that are typed meanwhile do not disturb it", well, use.text("number")
 
 
 def without(use):
@@ -887,6 +890,23 @@ def slides(use):
     use.call("Emulation.clearDeviceMetricsOverride")
 
 
+def languages(use):
+    """The page in German, and back in English."""
+    use.open("#example=types/three_shot&run=0,1,x1&lang=de")
+    head = use.value("[document.documentElement.lang, document.querySelector('h1').textContent, document.title]")
+    yield "the page is German", head[0] == "de" and head[1].startswith("Wie viele Prozesse") and "einigen" in head[2], head
+    yield "with what was said before in English", use.text("meaning").startswith("3 Prozesse können sich einigen, durch"), use.text("meaning")
+    yield "the log too", use.texts(".log li")[2] == "Prozess 1: hält für immer an", use.texts(".log li")
+    yield "the link says so", use.until("location.hash.endsWith('&lang=de')", 5), use.value("location.hash")
+    empty = use.value("[...document.querySelectorAll('[data-text]')].filter(it => !it.textContent.trim()).map(it => it.dataset.text)")
+    yield "no text is empty", empty == [], empty
+    use.value("(it => { it.value = 'en'; it.dispatchEvent(new Event('change')); })(document.getElementById('language'))")
+    well = use.until(f"{READY} && document.documentElement.lang === 'en' && document.querySelectorAll('.log li').length === 3")
+    yield "and English again, with the same run", well and use.has_number("3"), use.value("location.hash")
+    use.open("#lang=xx")
+    yield "a language without texts", "language “xx”" in use.text("trouble") and use.is_hidden("content"), use.text("trouble")
+
+
 def foot(use):
     """What is said at the end of the page, and the link at its beginning."""
     use.open()
@@ -913,11 +933,11 @@ def quiet(use):
 
 ALL = (
     first_answer, flaws, examples, meanings, pictures, picture_tools, words, grid, changes, example_search, schedules,
-    pictured_runs, adversaries, keys, links, certificates, explanations, searches, one_file, without, for_all, paper, slides,
+    pictured_runs, adversaries, keys, links, certificates, explanations, searches, one_file, without, for_all, paper, slides, languages,
     foot, quiet, on_a_server, missing_parts,
 )
 # The parts that also run in a browser that is not driven by DevTools.
 WITHOUT_DEVTOOLS = (
     first_answer, meanings, pictures, words, grid, changes, example_search, schedules, pictured_runs, adversaries, links,
-    certificates, explanations, searches, one_file, foot, on_a_server, missing_parts,
+    certificates, explanations, searches, one_file, languages, foot, on_a_server, missing_parts,
 )

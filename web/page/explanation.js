@@ -6,7 +6,6 @@ var Cnum = globalThis.Cnum || {};
     'use strict';
 
     const { button, element, say, tableOf, wide } = Cnum;
-    const PAIRS = 'what each process gets and reads';
     const AT_ONCE = 100; // how many more collisions each demand shows
     const COLLISION = /^ +(\d+)\. (start .*?) +(p\d+) cannot tell:$/;
     const RUN = /^ +([AB]) first: +(.*?) +(p\d+ got .*)$/;
@@ -62,8 +61,8 @@ var Cnum = globalThis.Cnum || {};
         const told = rest.slice(0, -1);
         const list = its => element('ul', {}, ...its.map(it => element('li', {}, it)));
         const rows = pairs(told).map(it => [it.process, list(it.A), list(it.B)]);
-        const table = tableOf(['Process', 'Team A first', 'Team B first'], rows, { class: 'pairs' });
-        return [element('h3', {}, title), wide(PAIRS, table), element('p', {}, rest[rest.length - 1].trim())];
+        const table = tableOf(['why_process', 'why_A', 'why_B'].map(it => say(it)), rows, { class: 'pairs' });
+        return [element('h3', {}, title), wide(say('why_pairs'), table), element('p', {}, rest[rest.length - 1].trim())];
     }
 
     // A run of a collision: the states in a row, with an arrow between two of them for the operation.
@@ -72,15 +71,16 @@ var Cnum = globalThis.Cnum || {};
         const part = (kind, ...content) => element('span', { class: kind }, ...content);
         const parts = [...steps.matchAll(STEP)].flatMap(([, process, operation, response, next]) => {
             const kind = process === doubting ? 'step doubting' : 'step';
-            return [part(kind, `${process} ${operation}`, part('hidden', ' answers '), part('response', response)), part('state', next)];
+            const answer = [part('hidden', say('answers')), part('response', response)];
+            return [part(kind, `${process} ${operation}`, ...answer), part('state', next)];
         });
-        const first = part(`first team-${team}`, `${team} first`);
+        const first = part(`first team-${team}`, say('team_first', { team }));
         return element('div', { class: 'run' }, first, part('state', steps.split(' ')[0]), ...parts, part('end', end));
     }
 
     function collision([head, ...runs]) {
         const [, number, choice, doubting] = COLLISION.exec(head);
-        const title = element('p', {}, choice, element('strong', {}, `${doubting} cannot tell`));
+        const title = element('p', {}, choice, element('strong', {}, say('cannot_tell', { process: doubting })));
         return element('li', { value: number }, title, ...runs.map(it => run(it, doubting)));
     }
 
@@ -116,7 +116,7 @@ var Cnum = globalThis.Cnum || {};
         label(told.more);
         const title = told.title ? [element(told.collisions.length ? 'h3' : 'p', {}, told.title)] : [];
         const sentences = told.sentences.map(it => element('p', { class: 'quiet' }, it));
-        const raw = element('details', {}, element('summary', {}, 'As the program prints it'), element('pre', { tabindex: 0 }, text));
+        const raw = element('details', {}, element('summary', {}, say('as_printed')), element('pre', { tabindex: 0 }, text));
         place.replaceChildren(...witness(told.why), ...title, list, more, ...sentences, raw);
     };
 })();

@@ -8,7 +8,6 @@ var Cnum = globalThis.Cnum || {};
     const { button, edits, element, say } = Cnum;
     const MOST_ON_PAPER = 6; // states of a grid for which half of a sheet is enough
     const MOST = { states: 16, responses: 16, operation: 8 };
-    const NO_GRID = 'The grid comes back once each operation has a response and a next state for each state.';
     const STEPS = { ArrowUp: [-1, 0], ArrowDown: [1, 0], ArrowLeft: [0, -1], ArrowRight: [0, 1] };
 
     // A field, and its value for paper, where there are no fields.
@@ -55,7 +54,7 @@ var Cnum = globalThis.Cnum || {};
                 this.place.replaceChildren(this.cells(), ...this.left(), this.responses(), this.additions());
                 if (focused) this.focus(focused);
             } else {
-                this.place.replaceChildren(element('p', { class: 'quiet' }, NO_GRID));
+                this.place.replaceChildren(element('p', { class: 'quiet' }, say('no_grid')));
             }
         }
 
@@ -66,13 +65,13 @@ var Cnum = globalThis.Cnum || {};
 
         cells() {
             const table = this.table;
-            const type = nameField('name of the type', table.entry('name').value.text, name => this.change(edits.renameType(table, name)));
-            const corner = element('th', { scope: 'col' }, element('span', { class: 'hidden' }, 'Operation'));
+            const type = nameField(say('type_label'), table.entry('name').value.text, name => this.change(edits.renameType(table, name)));
+            const corner = element('th', { scope: 'col' }, element('span', { class: 'hidden' }, say('operation_head')));
             const heads = this.listed('state', 'states', edits.removeState).map(its => element('th', { scope: 'col' }, ...its));
             return element(
                 'table',
                 { class: table.items('states').length > MOST_ON_PAPER ? 'broad' : '' },
-                element('caption', {}, 'Name of the type: ', ...type),
+                element('caption', {}, say('name_of_type'), ...type),
                 element('thead', {}, element('tr', {}, corner, ...heads)),
                 element('tbody', {}, ...table.operations.map((operation, index) => this.row(operation, index))),
             );
@@ -97,14 +96,14 @@ var Cnum = globalThis.Cnum || {};
         cell(index, state) {
             const table = this.table;
             const operation = table.operations[index];
-            const about = `${operation.name.text} in ${this.names('states')[state]}`;
+            const about = { operation: operation.name.text, state: this.names('states')[state] };
             const put = row => name => this.change(edits.entry(table, index, row, state, name));
             return element(
                 'td',
                 {},
-                ...choice(`response of ${about}`, this.names('responses'), operation.response[state].text, put('response')),
+                ...choice(say('response_of', about), this.names('responses'), operation.response[state].text, put('response')),
                 element('span', { 'aria-hidden': 'true' }, '→'),
-                ...choice(`state after ${about}`, this.names('states'), operation.next[state].text, put('next')),
+                ...choice(say('state_after', about), this.names('states'), operation.next[state].text, put('next')),
             );
         }
 
@@ -119,14 +118,14 @@ var Cnum = globalThis.Cnum || {};
         }
 
         named(kind, name, canRemove, rename, remove) {
-            const about = `${kind} ${name}`;
-            const field = nameField(`name of ${about}`, name, text => this.change(rename(text)));
-            return [...field, removal(`remove ${about}`, canRemove, () => this.change(remove()))];
+            const about = { kind: say(`kind_${kind}`), name };
+            const field = nameField(say('name_of', about), name, text => this.change(rename(text)));
+            return [...field, removal(say('remove', about), canRemove, () => this.change(remove()))];
         }
 
         responses() {
             const items = this.listed('response', 'responses', edits.removeResponse).map(its => element('li', {}, ...its));
-            const label = element('span', { id: 'responses-label' }, 'Responses: ');
+            const label = element('span', { id: 'responses-label' }, say('responses_label'));
             return element('div', { class: 'responses' }, label, element('ul', { 'aria-labelledby': 'responses-label' }, ...items));
         }
 

@@ -61,6 +61,7 @@ var Cnum = globalThis.Cnum || {};
             const wrong = words.find(it => !/^x?[0-7]$/.test(it));
             return wrong === undefined ? { acts: words.map(actOf) } : refuse('link_run', { step: wrong });
         },
+        lang: lang => (lang in Cnum.languages ? { lang } : refuse('link_language', { lang })),
         view: view => (VIEWS.includes(view) ? { view } : refuse('link_view', { view })),
     };
 
@@ -68,12 +69,19 @@ var Cnum = globalThis.Cnum || {};
     Cnum.isInput = text => /^\d{1,20}$/.test(text) && BigInt(text) <= MOST_INPUT;
 
     // The part of the address for what the page shows: the path of an example or a text, the limit, the
-    // inputs and the acts, and the part that is shown alone.
-    Cnum.linkOf = async function ({ example, text, limit, inputs, acts, view }) {
+    // inputs and the acts, the part that is shown alone, and the language.
+    Cnum.linkOf = async function ({ example, text, limit, inputs, acts, view, lang }) {
         const parts = [example ? `example=${example}` : `table=${await packed(text)}`, `limit=${limit}`];
         if (acts.length) parts.push(`inputs=${inputs.join(',')}`, `run=${acts.map(wordOf).join(',')}`);
         if (view) parts.push(`view=${view}`);
+        if (lang && lang !== Cnum.FIRST_LANGUAGE) parts.push(`lang=${lang}`);
         return `#${parts.join('&')}`;
+    };
+
+    // The language that such a part asks for, if there are texts in it; else the first one.
+    Cnum.languageOf = function (hash) {
+        const lang = new URLSearchParams(hash.slice(1)).get('lang');
+        return lang in Cnum.languages ? lang : Cnum.FIRST_LANGUAGE;
     };
 
     async function read(hash) {

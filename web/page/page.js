@@ -20,11 +20,6 @@ var Cnum = globalThis.Cnum || {};
     const NO_NUMBER = '–';
     // The parts of the page that can be shown alone, by their names in a link.
     const VIEWS = { number: 'number-part', why: 'why-part', states: 'picture-part', run: 'protocol-part' };
-    // The meaning of a number.
-    const ALONE = 'One process alone decides.';
-    const TOGETHER =
-        'processes can agree through objects of this type and registers, however fast each of them is and wherever the others stop.';
-    const TOO_LONG = 'To tell which of these the number is would take too long.';
 
     const at = id => document.getElementById(id);
     const examples = new Map(Cnum.examples.flatMap(group => group.types).map(it => [it.path, it]));
@@ -58,7 +53,7 @@ var Cnum = globalThis.Cnum || {};
                 agree: words => this.agree(this.quick, words),
                 tryOut: words => this.agree(this.adversary, words),
                 breakOff: () => this.adversary.breakOff(),
-                next: () => Cnum.run.movesOf(this.text),
+                next: () => Cnum.run.movesOf(this.table),
                 picture: () => Cnum.pictureOf(this.dot, this.picture.plan),
                 mainPicture: () => this.mainPicture(),
                 changed: () => this.keepLinkSoon(),
@@ -101,6 +96,7 @@ var Cnum = globalThis.Cnum || {};
             at('copy-link').addEventListener('click', () => this.copyLink());
             at('save-page').addEventListener('click', () => this.savePage());
             at('save-page').hidden = !pageWith;
+            at('language').addEventListener('change', () => this.speak(at('language').value));
             at('skip').addEventListener('click', event => this.skip(event));
             at('claim-file').addEventListener('change', () => this.check(at('claim-file').files[0]));
             at('notice-close').addEventListener('click', () => this.notice(''));
@@ -219,6 +215,10 @@ var Cnum = globalThis.Cnum || {};
                 this.refuseLink(linked.fault);
                 return;
             }
+            if ((linked.lang || Cnum.FIRST_LANGUAGE) !== Cnum.language) {
+                location.reload();
+                return;
+            }
             this.showView(linked.view);
             at('limit').value = linked.limit || FIRST_LIMIT;
             this.text = linked.text === undefined ? examples.get(linked.example || FIRST_EXAMPLE).text : linked.text;
@@ -256,7 +256,7 @@ var Cnum = globalThis.Cnum || {};
             const inputs = this.protocol.inputs;
             const acts = this.protocol.shownActs();
             const example = this.example();
-            const shown = { example: example && example.path, text: this.text, limit: at('limit').value, inputs, acts };
+            const shown = { example: example && example.path, text: this.text, limit: at('limit').value, inputs, acts, lang: Cnum.language };
             const link = await Cnum.linkOf({ ...shown, view: this.view });
             at('whole-link').href = await Cnum.linkOf(shown);
             this.link = link;
@@ -275,6 +275,13 @@ var Cnum = globalThis.Cnum || {};
             at('link-said').textContent = location.protocol === 'file:' ? `${told} ${ofFile}` : told;
         }
 
+        // Shows the same in another language.
+        async speak(lang) {
+            Cnum.useLanguage(lang);
+            await this.keepLink();
+            location.reload();
+        }
+
         async savePage() {
             await this.keepLink();
             this.offer('html', pageWith(this.link), 'text/html');
@@ -286,16 +293,17 @@ var Cnum = globalThis.Cnum || {};
             at('number-part').focus();
         }
 
-        // Runs a command on the table. The answer is null if another table has come since.
+        // Runs a command on the table that is shown. The answer is null if another table has come since.
         async ask(runner, words, files) {
             const round = this.round;
-            const answer = await runner.run(words, this.text, files);
+            const answer = await runner.run(words, this.table, files);
             return round === this.round && !answer.isBrokenOff ? answer : null;
         }
 
         // Shows all anew: the flaws, the picture, the number, why, and the protocol, after this run of it.
         async refresh(linked = { inputs: [], acts: [] }) {
             this.round++;
+            this.table = this.text;
             this.search.breakOff();
             this.adversary.breakOff();
             const example = this.example();
@@ -313,7 +321,7 @@ var Cnum = globalThis.Cnum || {};
             this.editor.show(isTable || !lint.stdout ? [] : lines);
             at('fault').textContent = lint.stderr && Cnum.inWords(lint.stderr);
             at('notes').textContent = isTable ? lines.filter(it => /^(state|operation) \w+: /.test(it)).join('\n') : '';
-            this.forget(isTable ? '' : 'A number comes once the table has no flaw.');
+            this.forget(isTable ? '' : say('no_number'));
             if (isTable) await this.find(linked);
             if (!at('content').hidden) await this.keepLink();
         }
@@ -346,7 +354,7 @@ var Cnum = globalThis.Cnum || {};
 
         // Finds the number, and shows it, and then the evidence up to the limit.
         async showNumber(linked) {
-            at('meaning').textContent = 'Searching.';
+            at('meaning').textContent = say('searching');
             const classify = await this.timed(this.ask(this.search, ['classify', '-']));
             if (!classify) return;
             if (classify.status !== 0) {
@@ -376,6 +384,10 @@ var Cnum = globalThis.Cnum || {};
             at('download').disabled = false;
             const explain = await this.ask(this.search, ['explain', CERTIFICATE], this.files());
             if (!explain) return;
+            if (explain.status !== 0) {
+                this.refuse(explain.stderr);
+                return;
+            }
             Cnum.showExplanation(at('why'), explain.stdout, () => this.explainAll());
             Cnum.explainWords(at('why'));
             await this.showProtocol(linked);
@@ -413,7 +425,7 @@ var Cnum = globalThis.Cnum || {};
             if (number === null) {
                 if (!this.hasFittingRun(linked, 1)) return;
                 this.draw(null);
-                this.protocol.clear('One process alone has nobody to agree with.');
+                this.protocol.clear(say('nobody'));
                 return;
             }
             const find = await this.ask(this.search, ['find', '--limit', String(number)]);
@@ -449,7 +461,7 @@ var Cnum = globalThis.Cnum || {};
             const seconds = () => ((performance.now() - began) / 1000).toFixed(1);
             const tick = setInterval(() => {
                 at('running').hidden = false;
-                at('elapsed').textContent = `${seconds()} s`;
+                at('elapsed').textContent = say('running', { seconds: seconds() });
             }, 100);
             const round = this.round;
             try {
@@ -462,14 +474,14 @@ var Cnum = globalThis.Cnum || {};
 
         breakOff() {
             this.search.breakOff();
-            if (at('number').textContent === NO_NUMBER) at('meaning').textContent = 'The search was broken off.';
-            else this.refuse('The search for a certificate was broken off.');
+            if (at('number').textContent === NO_NUMBER) at('meaning').textContent = say('search_broken_off');
+            else this.refuse(say('certificate_broken_off'));
         }
 
         // A number, that there is no greatest, or a range in which the number is.
         tellNumber([, words, least, most]) {
             at('number').textContent = words;
-            at('meaning').textContent = least ? meaningOf(Number(least), most && Number(most)) : `Any number of ${TOGETHER}`;
+            at('meaning').textContent = least ? meaningOf(Number(least), most && Number(most)) : say('any_together', { how: say('how') });
         }
 
         async explainAll() {
@@ -478,7 +490,7 @@ var Cnum = globalThis.Cnum || {};
         }
 
         agree(runner, words) {
-            return runner.run(['agree', '--steps', CERTIFICATE, ...words], this.text, this.witness);
+            return runner.run(['agree', '--steps', CERTIFICATE, ...words], this.table, this.witness);
         }
 
         // Checks a certificate of somebody else by this table.
@@ -494,7 +506,6 @@ var Cnum = globalThis.Cnum || {};
         }
 
         async begin() {
-            at('whole-link').textContent = say('whole');
             Cnum.explainWords(at('legend'));
             await this.follow();
             const version = await this.quick.run(['--version']);
@@ -505,8 +516,9 @@ var Cnum = globalThis.Cnum || {};
 
     // What a number says, or a range, of which the second number is the greatest.
     function meaningOf(least, most) {
-        const can = least === 1 ? ALONE : `${least} ${TOGETHER}`;
-        return `${can} No protocol lets ${(most || least) + 1} agree.${most ? ` ${TOO_LONG}` : ''}`;
+        const can = least === 1 ? say('alone') : say('together', { count: least, how: say('how') });
+        const sentences = [can, say('no_more', { count: (most || least) + 1 }), ...(most ? [say('too_long')] : [])];
+        return sentences.join(' ');
     }
 
     // What a key undoes: -1 for undo, 1 for redo, 0 for none.
@@ -517,8 +529,16 @@ var Cnum = globalThis.Cnum || {};
         return letter === 'y' ? 1 : 0;
     }
 
+    function offerLanguages() {
+        const codes = Object.keys(Cnum.languages);
+        at('language').append(...codes.map(it => element('option', { value: it, lang: it }, Cnum.languages[it].name)));
+        at('language').value = Cnum.language;
+    }
+
     async function begin() {
         if (document.documentElement.dataset.lacks) return;
+        Cnum.useLanguage(Cnum.languageOf(location.hash || Cnum.savedLink()));
+        Cnum.fillTexts();
         let module;
         try {
             module = await Cnum.load();
@@ -527,6 +547,7 @@ var Cnum = globalThis.Cnum || {};
             at('content').hidden = true;
             return;
         }
+        offerLanguages();
         Cnum.page = new Page(module);
         await Cnum.page.begin();
         document.documentElement.dataset.ready = 'yes';

@@ -4,7 +4,7 @@ var Cnum = globalThis.Cnum || {};
 (() => {
     'use strict';
 
-    const { svgElement } = Cnum;
+    const { say, svgElement } = Cnum;
     const NODE = /^ {2}"(\w+)";$/;
     const ARROW = /^ {2}"(\w+)" -> "(\w+)" \[label="(.*)"\];$/;
     const SIZE = 13;
@@ -95,7 +95,7 @@ var Cnum = globalThis.Cnum || {};
         const laid = Cnum.layOut({ nodes, arrows: sized, start: Math.max(start, 0) });
         const { left, top, right, bottom } = laid.bounds;
         const [width, height] = [right - left, bottom - top].map(Math.ceil);
-        const about = `The states, and where the operations lead${plan ? `; the witness starts in ${plan.start}` : ''}.`;
+        const about = plan ? say('picture_about_start', plan) : say('picture_about');
         const viewBox = `${left.toFixed(1)} ${top.toFixed(1)} ${width} ${height}`;
         return svgElement(
             'svg',

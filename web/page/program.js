@@ -20,18 +20,18 @@ var Cnum = globalThis.Cnum || {};
     function lack() {
         if (typeof WebAssembly !== 'object') return 'WebAssembly';
         if (typeof DecompressionStream !== 'function') return 'DecompressionStream';
-        if (typeof Worker !== 'function') return 'workers';
+        if (typeof Worker !== 'function') return Cnum.say('workers');
         return '';
     }
 
     // The compiled module; if that cannot be, an error that says why in a sentence.
     async function load() {
         const lacks = lack();
-        if (lacks) throw new Error(`This browser cannot run the program: it has no ${lacks}.`);
+        if (lacks) throw new Error(Cnum.say('lacks', { what: lacks }));
         try {
             return await WebAssembly.compile(await unpacked(Cnum.packedModule));
         } catch (error) {
-            throw new Error(`This browser cannot run the program: ${error.message}`);
+            throw new Error(Cnum.say('cannot_run', { why: error.message }));
         }
     }
 

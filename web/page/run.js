@@ -19,7 +19,7 @@ var Cnum = globalThis.Cnum || {};
     function readLine(line) {
         const [pattern, kind, names] = LINES.find(([it]) => it.test(line));
         const values = pattern.exec(line).slice(1);
-        const step = { kind, line };
+        const step = { kind };
         names.forEach((name, index) => (step[name] = name === 'node' ? Number(values[index]) : values[index]));
         return step;
     }

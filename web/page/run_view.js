@@ -174,7 +174,7 @@ var Cnum = globalThis.Cnum || {};
         }
 
         showLog(events) {
-            const lineOf = it => (it.stops ? say('stops_for_good', { process: it.process }) : say('process_line', { line: it.line }));
+            const lineOf = it => say(`log_${it.kind}`, it);
             const items = events.map(it => element('li', {}, lineOf(it), ...(it.before ? [element('span', { class: 'change' }, changeOf(it))] : [])));
             this.log.replaceChildren(...items);
             this.log.scrollTop = this.log.scrollHeight;

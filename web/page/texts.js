@@ -1,157 +1,32 @@
-// The texts of the page, in English. The words in braces are put in. What the program prints is not among them.
+// The texts of the page in the language of the reader.
 var Cnum = globalThis.Cnum || {};
 
-Cnum.texts = {
-    link_refused: 'This link cannot be shown: {why}',
-    link_first: 'Begin with an example',
-    link_part: 'it says “{part}”, which the page does not know.',
-    link_twice: 'it names both an example and a table.',
-    link_example: 'there is no example “{name}”.',
-    link_table: 'its table is damaged. A part of the link may be missing.',
-    link_limit: 'its limit is “{limit}”, and must be from 2 to 8.',
-    link_inputs: 'a process proposes “{input}” in it, and that is no number.',
-    link_run: 'its run has the step “{step}”, which no process takes.',
-    link_view: 'it shows the part “{view}” alone, and the page has number, why, states and run.',
-    link_processes: 'the number of processes in its run is {linked}, and here it is {processes}.',
-    link_copied: 'Copied.',
-    link_address: 'The address of this page is the link.',
-    link_of_file: 'The link works on this machine only, since the page is a file here. To hand the table on, save this page with it.',
-    link_of_folder: 'The link works on this machine only, since the page is a file here. To hand the table on, open cnum.html, which can be saved with it.',
-    whole: 'The whole page',
+(() => {
+    'use strict';
 
-    // Files, and faults of the program.
-    certificate_ok: '{name} is right: it is a certificate of this table.',
-    certificate_wrong: '{name} is refused. {why}',
-    table_taken: '{name} is the table now.',
-    in_words: '{sentence} ({line})',
-    fault_certificate_NotJson: 'It is no JSON, and so no certificate.',
-    fault_certificate_WrongShape: 'It is JSON, but has not the parts of a certificate.',
-    fault_certificate_Version: 'It is a certificate of a version that this program does not know.',
-    fault_certificate_Range: 'A number or a list in it is greater than any table permits.',
-    fault_certificate_TooLong: 'It is longer than any certificate.',
-    fault_check_OtherType: 'It is a certificate of another type: it has another name than this table.',
-    fault_check_BadNumber: 'Its number or its limit is out of range.',
-    fault_check_WitnessShape: 'Its witness does not fit its number: one of the two is missing, or the witness is for another number of processes.',
-    fault_check_WitnessMeets: 'Its witness is none: process {place} can get the same response and read the same state after either team was first.',
-    fault_check_Unexpected: 'It has collisions, though its number is its limit.',
-    fault_check_NotNext: 'Its collision {place} is not for the choice whose turn it is.',
-    fault_check_NotACollision: 'Its collision {place} is none.',
-    fault_check_TooFew: 'It lacks collisions: some choice of operations is not refuted.',
-    fault_table_TooLong: 'The table is longer than 65536 bytes.',
-    fault_find_TooManyChoices: 'A certificate for so many processes would be too long.',
-    limit_lower: 'A certificate for {limit} processes would be too long. Why and the protocol are for {least} at most.',
+    const FIRST = 'en';
+    Cnum.FIRST_LANGUAGE = FIRST;
 
-    // The picture of the states.
-    smaller: 'smaller',
-    larger: 'larger',
-    fit: 'Fit',
-    full_screen: 'Full screen',
-    operations_shown: 'Operations to show',
+    // The page has this language from now on. The words that are explained are those of the program too, which
+    // speaks English.
+    Cnum.useLanguage = function (code = FIRST) {
+        const { en, [code]: chosen } = Cnum.languages;
+        Cnum.language = code;
+        Cnum.texts = chosen.texts;
+        Cnum.words = code === FIRST ? en.words : [...chosen.words, ...en.words];
+    };
 
-    // Words of the subject.
-    word_witness: 'A start state, an operation for each process, and a split of the processes into two teams, such that each process can tell which team was first.',
-    word_team: 'The processes of a node are in two teams, A and B. Those of one team bring the same value there, and all go on with the value of the team that was first.',
-    word_node: 'A place where two teams meet. It has an object of the type and a register for each team.',
-    word_register: 'A cell that is only written and read.',
-    word_discerning: 'A type is n-discerning if it has a witness for n processes. A type that can be read lets n processes agree if and only if it is n-discerning.',
-    word_collision: 'Two orders, one begun by each team, after which a process got the same response and reads the same state. So it cannot tell which team was first.',
+    // A text of the page, with these words in it.
+    Cnum.say = (key, words = {}) => Cnum.texts[key].replace(/\{(\w+)\}/g, (_, name) => words[name]);
 
-    // Why.
-    more: 'Show {count} more of {whole}',
+    // Puts the texts into the elements that name them: what they hold, their names for screen readers, and what
+    // an empty field shows.
+    Cnum.fillTexts = function () {
+        document.documentElement.lang = Cnum.language;
+        for (const it of document.querySelectorAll('[data-text]')) it.innerHTML = Cnum.say(it.dataset.text);
+        for (const it of document.querySelectorAll('[data-label]')) it.setAttribute('aria-label', Cnum.say(it.dataset.label));
+        for (const it of document.querySelectorAll('[data-placeholder]')) it.placeholder = Cnum.say(it.dataset.placeholder);
+    };
 
-    // The number.
-    recoverable: 'Recoverable number: {number}. So many processes can agree if each may crash, lose its own memory and begin again.',
-    made_by: 'All numbers and reasons here come from the program {program}. It is proved ({proof}). Its translation to WebAssembly and this page are not proved, but tested.',
-
-    // The table.
-    no_example: 'No example has these words.',
-    example_number: '({number})',
-    entries_left: 'Choose anew what is marked: {count} entries name what is not there any more.',
-    entry_left: 'Choose anew what is marked: 1 entry names what is not there any more.',
-    add_state: 'Add a state',
-    add_operation: 'Add an operation',
-    add_response: 'Add a response',
-    most: 'A table has at most {most}.',
-
-    // The run.
-    run_undo: 'Undo',
-    run_anew: 'Start over',
-    run_all: 'Let all run',
-    run_random: 'Random run',
-    try: 'Try to break it',
-    break_off: 'Break it off',
-    run_place: 'Step',
-    run_count: '{count} of {whole}',
-    run_keys: 'Keys: a number from 0 to {last} lets that process take a step. With Shift, it stops. The letter u undoes.',
-    step: 'Take a step',
-    step_of: 'process {process} takes a step',
-    stop: 'Stop for good',
-    stop_of: 'process {process} stops for good',
-    process: 'Process {process}',
-    proposes: 'proposes ',
-    no_input: '“{text}” is no number from 0 to 18446744073709551615. The process keeps its proposal.',
-    team: 'team {team}',
-    node_of_path: 'node {node}: ',
-    one_step: '1 step',
-    steps: '{steps} steps',
-    decides: 'decides {value}',
-    undecided: 'undecided',
-    stopped: 'stopped',
-    log: 'What happened',
-    stops_for_good: 'process {process}: stops for good',
-    process_line: 'process {line}',
-    object_change: ' ({before} → {after})',
-    object_start: 'starts in {state}',
-    object_after: '{before} → {after}, {operation} answered {response}',
-    object_of_node: 'The object of node {node}: {text}',
-    diagram: 'The run, from left to right',
-    nodes: 'The nodes, each with an object and two registers',
-    node: 'node {node}',
-    node_head: 'Node',
-    object_head: 'Object',
-    register_A: 'Register A',
-    register_B: 'Register B',
-    comers: 'Who comes here',
-    comer: 'process {process} ({team})',
-    states_of_run: 'the states, with the one in which the object is',
-    tournament: 'Who meets whom',
-    save_svg: 'Save as SVG',
-    save_png: 'Save as PNG',
-
-    // The adversary.
-    trial_runs: '{count} schedules so far.',
-    trial_all: 'All {count} schedules agree, wherever a process stops.',
-    trial_bound: 'All {count} schedules agree that let the processes take their first {bound} steps in any order, and then go on one after another.',
-    trial_random: '{count} schedules, chosen at random, agree.',
-    trial_shown: 'The one with the most turns is shown.',
-    trial_broken: 'Schedule {count} breaks it. It is shown.',
-    trial_broken_off: 'The trial was broken off.',
-
-    // The space-time diagram and the tournament.
-    st_head: '{process}: {input}',
-    st_writes: 'writes {value}',
-    st_applies: '{operation}/{response}',
-    st_reads: 'reads {state}',
-    st_takes: 'takes {value}',
-    st_decides: 'decides {value}',
-    st_stops: 'stops',
-    st_register: '{team} of node {node}',
-    st_node: 'node {node}',
-    st_about: 'A run of {processes} processes with {steps} acts. The list of what happened says the same in words.',
-    t_process: 'process {process}',
-    t_node: 'node {node}',
-    t_about: 'The tournament of {processes} processes. The table of the nodes says the same in words.',
-};
-
-// The words that are explained, each with the key of its explanation.
-Cnum.words = [
-    [/\bwitness\b/i, 'word_witness'],
-    [/\bteams?\b/i, 'word_team'],
-    [/\bnodes?\b/i, 'word_node'],
-    [/\bregisters?\b/i, 'word_register'],
-    [/\b(?:\d+|n)-discerning\b/i, 'word_discerning'],
-    [/\bcollisions?\b/i, 'word_collision'],
-];
-
-// A text of the page, with these words in it.
-Cnum.say = (key, words = {}) => Cnum.texts[key].replace(/\{(\w+)\}/g, (_, name) => words[name]);
+    Cnum.useLanguage();
+})();
