@@ -97,7 +97,7 @@ describe('a run', () => {
             const widths = [marks[at - 1], marks[at]].map(it => 4 * Math.max(...it.texts.map(text => text.length)));
             assert.ok(marks[at].x - marks[at - 1].x >= widths[0] + widths[1], `place ${at}`);
         }
-        assert.deepEqual(lines.map(it => [it.to, it.isOpen]), [[marks[6].x, false], [marks[4].x, false]]);
+        assert.deepEqual(lines.map(it => it.to), [marks[6].x, marks[4].x]);
     });
 });
 

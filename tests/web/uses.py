@@ -569,6 +569,9 @@ def pictured_runs(use):
     yield "the link has the run up to that place", kept, use.value("location.hash")
     use.do("await Cnum.page.protocol.runAll();")
     pressable = use.value("[...document.querySelectorAll('.process button')].filter(it => !it.disabled).length")
+    edge = "(it => it.querySelector('.heads text').getBoundingClientRect().left - it.getBoundingClientRect().left)"
+    edge = use.value(f"{edge}(document.querySelector('.space-time').parentElement)")
+    yield "the names of the processes stay in view", 0 <= edge < 30, edge
     yield "who has decided or stopped takes no step and cannot stop", pressable == 0, pressable
     with tempfile.TemporaryDirectory() as room:
         for part, index, beginning in (("run", 0, b"<svg"), ("run", 1, b"\x89PNG"), ("tournament", 2, b"<svg"), ("tournament", 3, b"\x89PNG")):

@@ -19,6 +19,7 @@ var Cnum = globalThis.Cnum || {};
             this.log = element('ol', { class: 'log', tabindex: 0, 'aria-label': say('log') });
             this.nodes = wide(say('nodes'), '');
             this.diagram = wide(say('diagram'), '');
+            this.diagram.addEventListener('scroll', () => Cnum.holdHeads(this.diagram));
             this.object = element('p', { class: 'object' });
             place.replaceChildren(
                 this.controls(),
@@ -185,6 +186,7 @@ var Cnum = globalThis.Cnum || {};
         showDiagram(events) {
             this.diagram.replaceChildren(Cnum.spaceTime(events, this.protocol.inputs, this.plan));
             this.diagram.scrollLeft = this.diagram.scrollWidth;
+            Cnum.holdHeads(this.diagram);
         }
 
         showNodes(nodes) {
