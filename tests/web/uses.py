@@ -93,6 +93,10 @@ FROM_BUTTON_TO_LOG = """[...document.querySelectorAll('.process button')].map(it
 })"""
 # The height of a letter of the picture, in points of the window.
 LETTER = "(it => it ? 13 * it.clientWidth / it.getAttribute('width') : 0)(document.querySelector('#picture svg'))"
+# Whether the start state, or else the first one, is in the part of the picture that is seen.
+START_IN_VIEW = """(([place, node]) => place.left <= node.left && node.right <= place.right && place.top <= node.top && node.bottom <= place.bottom)(
+    [document.getElementById('picture'), document.querySelector('#picture .start') || document.querySelector('#picture .node')]
+        .map(it => it.getBoundingClientRect()))"""
 OBJECTS = ["starts in bot", "a1 → a2, y answered a"]
 ACTS_SHOWN = ["writes 20", "x/a", "writes 30", "y/a", "writes 10", "stops", "reads a2"]
 FOCUSABLE = "a[href], button:not(:disabled), input, select, textarea, [tabindex='0'], summary"
@@ -850,6 +854,7 @@ def for_all(use):
     use.call("Emulation.setDeviceMetricsOverride", **PHONE)
     for path in ("types/test_and_set", "types/three_shot", "types/wide", "catalogue/ll_sc_2"):
         use.open(f"#example={path}")
+        yield f"the first state of {path} is in view on a phone", use.value(START_IN_VIEW), ""
         width = use.value("document.documentElement.scrollWidth")
         yield f"{path} on a phone", width <= PHONE["width"], width
     use.call("Emulation.clearDeviceMetricsOverride")
@@ -919,6 +924,8 @@ def foot(use):
     yield "and what it does not do", "each command of the program but serve" in told, told
     use.value("document.getElementById('skip').focus()")
     meets = "(([a, b]) => a.right > b.left && a.bottom > b.top && b.bottom > a.top)(['#skip', 'h1'].map(it => document.querySelector(it).getBoundingClientRect()))"
+    tips = use.count("#picture .tip"), use.count("#picture .arrow"), use.count("#picture marker")
+    yield "each arrow has its head as a shape", tips[0] == tips[1] > 0 and tips[2] == 0, tips
     yield "the skip link does not cover the heading", not use.value(meets), ""
 
 

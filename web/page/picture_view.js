@@ -25,6 +25,16 @@ var Cnum = globalThis.Cnum || {};
     // The operations that the text of `draw` names, each once.
     Cnum.operationsOf = dot => [...new Set([...dot.matchAll(/(\w+)\/\w+\\l/g)].map(it => it[1]))].sort();
 
+    // Scrolls a place so that a part of its picture is in the middle.
+    Cnum.reveal = function (place, selector) {
+        const part = place.querySelector(selector);
+        if (!part) return;
+        const [box, whole] = [part.getBoundingClientRect(), place.getBoundingClientRect()];
+        const across = box.left + box.width / 2 - whole.left - place.clientWidth / 2;
+        const down = box.top + box.height / 2 - whole.top - place.clientHeight / 2;
+        place.scrollTo(place.scrollLeft + across, place.scrollTop + down);
+    };
+
     class PictureView {
         // Shows pictures in this place, with its controls in `tools` and the choice of operations in
         // `choice`. `part` is what fills the screen. `drawn` is called with each picture.
@@ -51,6 +61,7 @@ var Cnum = globalThis.Cnum || {};
             Object.assign(this, { dot, plan, zoom: null });
             this.offerOperations();
             this.draw();
+            Cnum.reveal(this.place, plan ? '.start' : '.node');
         }
 
         draw() {
@@ -101,6 +112,7 @@ var Cnum = globalThis.Cnum || {};
         scaleTo(zoom) {
             this.zoom = zoom && Math.min(MOST, Math.max(LEAST / 2, zoom));
             this.fit();
+            Cnum.reveal(this.place, '.lit, .start, .node');
         }
 
         async fillScreen() {

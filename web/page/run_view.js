@@ -210,6 +210,7 @@ var Cnum = globalThis.Cnum || {};
             const text = last ? say('object_after', last) : say('object_start', { state });
             this.object.textContent = say('object_of_node', { node, text });
             for (const picture of [this.states, this.protocol.page.mainPicture()]) Cnum.lightUp(picture, state, last);
+            Cnum.reveal(this.states.parentElement, '.node.lit');
         }
     }
 
