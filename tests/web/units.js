@@ -8,7 +8,7 @@ const vm = require('node:vm');
 const WEB = path.join(__dirname, '../../web');
 const PARTS = ['examples.js', 'page/texts_en.js', 'page/texts_de.js', 'page/texts.js', 'page/link.js', 'page/table_text.js', 'page/run.js', 'page/schedules.js'];
 // Parts that make elements; here only their places are asked for.
-PARTS.push('page/space_time.js', 'page/table_edits.js', 'page/flaw_places.js', 'page/past.js', 'page/example_search.js', 'page/points.js', 'page/layout.js');
+PARTS.push('page/space_time.js', 'page/table_edits.js', 'page/flaw_places.js', 'page/past.js', 'page/example_search.js', 'page/points.js', 'page/layout.js', 'page/comparison.js');
 
 globalThis.Cnum = {};
 for (const part of PARTS) vm.runInThisContext(fs.readFileSync(path.join(WEB, part), 'utf8'), part);
@@ -221,6 +221,27 @@ describe('edits of a table', () => {
     it('keep remarks and order', () => {
         const text = `# about\n${TABLE}# end\n`;
         assert.equal(edits.removeState(new Cnum.TableText(edits.addState(new Cnum.TableText(text))), 6), text);
+    });
+});
+
+describe('comparisons', () => {
+    const SLOT = Cnum.FIRST_TABLE.replace('["s0", "s1"]', '["a", "b"]').replace('["s1", "s1"]', '["b", "b"]');
+
+    it('tell the cells that differ', () => {
+        const other = SLOT.replace('["b", "b"]', '["b", "a"]');
+        assert.deepEqual(Cnum.differences(SLOT, SLOT), []);
+        assert.deepEqual(Cnum.differences(SLOT, other), [{ operation: 'op0', state: 'b', first: 'ok → b', second: 'ok → a' }]);
+    });
+
+    it('tell the cells that one table lacks', () => {
+        const more = Cnum.edits.addOperation(new Cnum.TableText(SLOT));
+        assert.deepEqual(Cnum.differences(more, SLOT).map(it => [it.operation, it.state, it.first, it.second]), [
+            ['op1', 'a', 'ok → a', null],
+            ['op1', 'b', 'ok → b', null],
+        ]);
+        assert.deepEqual(Cnum.withoutEach(more).map(it => it.operation), ['op0', 'op1']);
+        assert.equal(Cnum.withoutEach(more)[1].text, SLOT);
+        assert.deepEqual(Cnum.withoutEach(SLOT), []);
     });
 });
 

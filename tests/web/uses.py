@@ -471,6 +471,31 @@ def changes(use):
         yield f"{label}: at most {most}, and the focus stays", made == most and focused and use.text("flaws") == "", (made, focused)
 
 
+def comparisons(use):
+    """A table without each of its operations, and beside one that was kept."""
+    use.open("#example=catalogue/queue_2")
+    press = "[...document.querySelectorAll('#comparison button')].find(it => it.textContent === %r).click()"
+    use.value(press % "Without each operation")
+    use.until("document.querySelectorAll('#comparison tbody tr').length > 0")
+    seen = use.value("[...document.querySelectorAll('#comparison tbody tr')].map(it => [it.cells[0].textContent, it.cells[1].textContent])")
+    wanted = [["none", "infinite"]]
+    for index, name in enumerate(use.value("new Cnum.TableText(Cnum.page.text).operations.map(it => it.name.text)")):
+        wanted.append([name, native_number(use.value(f"Cnum.edits.removeOperation(new Cnum.TableText(Cnum.page.text), {index})"))])
+    yield "the number without each operation", seen == wanted and len(seen) > 3, (seen, wanted)
+    use.value("document.querySelector('#comparison tbody button').click()")
+    yield "such a table can be shown", use.has_number(wanted[1][1]) and wanted[1][0] not in use.texts("#grid tbody th .on-paper"), use.table()
+    use.give(SLOT)
+    use.value(press % "Keep this table to compare")
+    use.give(SLOT.replace('"b", "b", "b"', '"b", "a", "b"'))
+    well = use.until("document.querySelectorAll('#comparison tbody tr').length === 1", 10)
+    told = use.texts("#comparison tbody td, #comparison p")
+    yield "a table beside the one that was kept", well and told[1:] == ["a", "done → b", "done → a"] and "was 1, and is 1 now" in told[0], told
+    use.value(press % "Show the table that was kept")
+    yield "it comes back", use.table() == SLOT, use.table()
+    use.give("x")
+    yield "a table with a flaw is not compared", use.count("#comparison table") == 0, ""
+
+
 def example_search(use):
     use.open()
     yield "compare and swap is found", "cas_3" in use.search("compare and swap"), use.search("compare and swap")
@@ -942,12 +967,12 @@ def quiet(use):
 
 
 ALL = (
-    first_answer, flaws, examples, meanings, pictures, picture_tools, words, grid, changes, example_search, schedules,
+    first_answer, flaws, examples, meanings, pictures, picture_tools, words, grid, changes, comparisons, example_search, schedules,
     pictured_runs, adversaries, keys, links, certificates, explanations, searches, one_file, without, for_all, paper, slides, languages,
     foot, quiet, on_a_server, missing_parts,
 )
 # The parts that also run in a browser that is not driven by DevTools.
 WITHOUT_DEVTOOLS = (
-    first_answer, meanings, pictures, words, grid, changes, example_search, schedules, pictured_runs, adversaries, links,
+    first_answer, meanings, pictures, words, grid, changes, comparisons, example_search, schedules, pictured_runs, adversaries, links,
     certificates, explanations, searches, one_file, languages, foot, on_a_server, missing_parts,
 )

@@ -41,8 +41,12 @@ var Cnum = globalThis.Cnum || {};
             );
             this.examples = new Cnum.ExampleSearch(
                 { field: at('example'), list: at('examples'), number: at('example-number') },
-                { choose: path => this.choose(path), classify: paths => this.classify(paths) },
+                { choose: path => this.choose(path), classify: paths => this.classifyAll(paths.map(path => examples.get(path).text)) },
             );
+            this.comparison = new Cnum.Comparison(at('comparison'), {
+                numbers: async texts => Cnum.numbersOf(await this.classifyAll(texts)).numbers,
+                take: text => this.edit(text),
+            });
             this.protocol = new Cnum.Protocol(at('protocol'), this.forProtocol());
             this.listen();
         }
@@ -198,11 +202,11 @@ var Cnum = globalThis.Cnum || {};
             await this.refresh();
         }
 
-        // The numbers of these examples, a line each.
-        async classify(paths) {
-            const files = Object.fromEntries(paths.map(path => [path, examples.get(path).text]));
+        // The numbers of these tables, a line each.
+        async classifyAll(texts) {
+            const files = Object.fromEntries(texts.map((text, index) => [String(index), text]));
             const runner = new Cnum.Runner(this.module);
-            const answer = await runner.run(['classify', ...paths], '', files);
+            const answer = await runner.run(['classify', ...Object.keys(files)], '', files);
             runner.end();
             return answer.stdout;
         }
@@ -322,6 +326,7 @@ var Cnum = globalThis.Cnum || {};
             at('fault').textContent = lint.stderr && Cnum.inWords(lint.stderr);
             at('notes').textContent = isTable ? lines.filter(it => /^(state|operation) \w+: /.test(it)).join('\n') : '';
             this.forget(isTable ? '' : say('no_number'));
+            this.comparison.show(isTable ? this.table : '');
             if (isTable) await this.find(linked);
             if (!at('content').hidden) await this.keepLink();
         }

@@ -35,6 +35,8 @@ Cnum.languages.de.texts = {
     save_svg: 'Als SVG sichern',
     save_png: 'Als PNG sichern',
     why_head: 'Warum',
+    compare_head: 'Vergleichen',
+    compare_hint: 'Welche Operationen machen den Typ stark? Man lässt jede einmal weg, oder behält die Tabelle und ändert sie.',
     protocol_head: 'Das Protokoll, Schritt für Schritt',
     protocol_hint: 'Ein Prozess macht einen Schritt, oder er hält für immer an. Die anderen entscheiden einen Wert, den einer von ihnen vorschlug, wo auch immer einer anhält.',
     copy_link: 'Einen Link auf diese Tabelle und diesen Lauf kopieren',
@@ -153,6 +155,23 @@ Cnum.languages.de.texts = {
     add_operation: 'Eine Operation mehr',
     add_response: 'Eine Antwort mehr',
     most: 'Eine Tabelle hat höchstens {most}.',
+
+    // Vergleiche.
+    without_each: 'Ohne je eine Operation',
+    without_head: 'Die Zahl ohne eine Operation',
+    operation_left: 'Weggelassen',
+    no_operation: 'keine',
+    show_head: 'Tabelle',
+    show_table: 'Diese Tabelle zeigen',
+    keep_table: 'Diese Tabelle zum Vergleich behalten',
+    table_kept: 'Die Tabelle ist behalten. Wird sie geändert, stehen beide hier nebeneinander.',
+    beside_head: 'Die behaltene Tabelle und die jetzige',
+    two_numbers: 'Die Zahl war {first}, und ist jetzt {second}. Sie unterscheiden sich in {count} Zellen.',
+    state_head: 'Zustand',
+    table_kept_head: 'Behalten',
+    table_now_head: 'Jetzt',
+    no_cell: '–',
+    show_kept: 'Die behaltene Tabelle zeigen',
 
     // Der Lauf.
     run_undo: 'Zurück',

@@ -35,6 +35,8 @@ Cnum.languages.en.texts = {
     save_svg: 'Save as SVG',
     save_png: 'Save as PNG',
     why_head: 'Why',
+    compare_head: 'Compare',
+    compare_hint: 'Which operations make the type strong? Leave each out in turn, or keep the table and change it.',
     protocol_head: 'The protocol, step by step',
     protocol_hint: 'Let a process take a step, or stop for good. Those that go on decide one value that one of them proposed, wherever the others stop.',
     copy_link: 'Copy a link to this table and this run',
@@ -153,6 +155,23 @@ Cnum.languages.en.texts = {
     add_operation: 'Add an operation',
     add_response: 'Add a response',
     most: 'A table has at most {most}.',
+
+    // Comparisons.
+    without_each: 'Without each operation',
+    without_head: 'The number without an operation',
+    operation_left: 'Left out',
+    no_operation: 'none',
+    show_head: 'Table',
+    show_table: 'Show this table',
+    keep_table: 'Keep this table to compare',
+    table_kept: 'The table is kept. Change it, and the two stand here side by side.',
+    beside_head: 'The table that was kept, and the present one',
+    two_numbers: 'The number was {first}, and is {second} now. They differ in {count} cells.',
+    state_head: 'State',
+    table_kept_head: 'Kept',
+    table_now_head: 'Now',
+    no_cell: '–',
+    show_kept: 'Show the table that was kept',
 
     // The run.
     run_undo: 'Undo',
