@@ -242,6 +242,9 @@ describe('comparisons', () => {
         assert.deepEqual(Cnum.withoutEach(more).map(it => it.operation), ['op0', 'op1']);
         assert.equal(Cnum.withoutEach(more)[1].text, SLOT);
         assert.deepEqual(Cnum.withoutEach(SLOT), []);
+        const pairs = Cnum.pairsOf(more);
+        assert.deepEqual(pairs.map(it => [it.row, it.column]), [[0, 0], [1, 0], [1, 1]]);
+        assert.deepEqual([pairs[0].text, pairs[1].text], [SLOT, more]);
     });
 });
 

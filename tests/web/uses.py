@@ -482,6 +482,13 @@ def comparisons(use):
     for index, name in enumerate(use.value("new Cnum.TableText(Cnum.page.text).operations.map(it => it.name.text)")):
         wanted.append([name, native_number(use.value(f"Cnum.edits.removeOperation(new Cnum.TableText(Cnum.page.text), {index})"))])
     yield "the number without each operation", seen == wanted and len(seen) > 3, (seen, wanted)
+    use.value(press % "Each pair of operations")
+    use.until("document.querySelectorAll('#comparison tbody button').length === 6")
+    cells = use.texts("#comparison tbody button")
+    wanted_cells = [native_number(use.value(f"Cnum.pairsOf(Cnum.page.text)[{index}].text")) for index in range(6)]
+    yield "the number of each pair", cells == wanted_cells and len(set(cells)) > 1, (cells, wanted_cells)
+    use.value(press % "Without each operation")
+    use.until("document.querySelectorAll('#comparison tbody button').length === 3")
     use.value("document.querySelector('#comparison tbody button').click()")
     yield "such a table can be shown", use.has_number(wanted[1][1]) and wanted[1][0] not in use.texts("#grid tbody th .on-paper"), use.table()
     use.give(SLOT)

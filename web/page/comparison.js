@@ -1,4 +1,5 @@
-// Compares tables: the present one with one that was kept, and with those in which one operation is left out.
+// Compares tables: the present one with one that was kept, with those in which one operation is left out, and
+// with those of each pair of operations.
 var Cnum = globalThis.Cnum || {};
 
 (() => {
@@ -32,23 +33,37 @@ var Cnum = globalThis.Cnum || {};
         return table.operations.map((it, index) => ({ operation: it.name.text, text: Cnum.edits.removeOperation(table, index) }));
     };
 
+    // The table with these operations alone, by their places.
+    function only(text, kept) {
+        const count = new Cnum.TableText(text).operations.length;
+        const others = Array.from({ length: count }, (_, index) => count - 1 - index).filter(it => !kept.includes(it));
+        return others.reduce((left, index) => Cnum.edits.removeOperation(new Cnum.TableText(left), index), text);
+    }
+
+    // The table with each operation alone and with each pair of them, as { row, column, text }.
+    Cnum.pairsOf = function (text) {
+        const places = new Cnum.TableText(text).operations.map((_, index) => index);
+        return places.flatMap(row => places.slice(0, row + 1).map(column => ({ row, column, text: only(text, [row, column]) })));
+    };
+
     class Comparison {
         // Shows comparisons in this place. `numbers` gives the numbers of tables, and `take` makes a table the
         // present one.
         constructor(place, { numbers, take }) {
             Object.assign(this, { numbers, take, text: '', kept: null, round: 0 });
             this.leaving = button(say('without_each'), () => this.leaveOut());
+            this.pairing = button(say('each_pair'), () => this.pair());
             this.keeping = button(say('keep_table'), () => this.keep());
             this.left = element('div', { 'aria-live': 'polite' });
             this.beside = element('div', { 'aria-live': 'polite' });
-            place.replaceChildren(element('div', { class: 'buttons' }, this.leaving, this.keeping), this.left, this.beside);
+            place.replaceChildren(element('div', { class: 'buttons' }, this.pairing, this.leaving, this.keeping), this.left, this.beside);
         }
 
         // The present table, or an empty text if it has flaws.
         show(text) {
             this.text = text;
             this.round++;
-            this.leaving.disabled = Cnum.withoutEach(text).length === 0;
+            this.leaving.disabled = this.pairing.disabled = Cnum.withoutEach(text).length === 0;
             this.keeping.disabled = !text;
             this.left.replaceChildren();
             return this.compare();
@@ -65,6 +80,25 @@ var Cnum = globalThis.Cnum || {};
             const heads = ['operation_left', 'number_head', 'show_head'].map(it => say(it));
             const table = tableOf(heads, [[say('no_operation'), whole, ''], ...rows], { class: 'pairs' });
             this.left.replaceChildren(element('h3', {}, say('without_head')), wide(say('without_head'), table));
+        }
+
+        // The number of each operation alone and of each pair, in a triangle. A cell leads to the table.
+        async pair() {
+            const round = this.round;
+            const names = new Cnum.TableText(this.text).operations.map(it => it.name.text);
+            const pairs = Cnum.pairsOf(this.text);
+            const numbers = await this.numbers(pairs.map(it => it.text));
+            if (round !== this.round) return;
+            const cells = pairs.map(({ row, column, text }, index) => {
+                const about = say('pair_label', { first: names[row], second: names[column], number: numbers[index] });
+                return { row, shown: button(numbers[index], () => this.take(text), { 'aria-label': about, title: about }) };
+            });
+            const rows = names.map((name, row) => {
+                const own = cells.filter(it => it.row === row).map(it => it.shown);
+                return [name, ...own, ...Array(names.length - own.length).fill('')];
+            });
+            const table = tableOf([say('operation_head'), ...names], rows, { class: 'pairs' });
+            this.left.replaceChildren(element('h3', {}, say('pairs_head')), wide(say('pairs_head'), table));
         }
 
         keep() {

@@ -157,6 +157,9 @@ Cnum.languages.de.texts = {
     most: 'Eine Tabelle hat höchstens {most}.',
 
     // Vergleiche.
+    each_pair: 'Je zwei Operationen',
+    pairs_head: 'Die Zahl von je zwei Operationen, und von jeder allein',
+    pair_label: 'die Tabelle mit {first} und {second} allein, mit der Zahl {number}',
     without_each: 'Ohne je eine Operation',
     without_head: 'Die Zahl ohne eine Operation',
     operation_left: 'Weggelassen',

@@ -157,6 +157,9 @@ Cnum.languages.en.texts = {
     most: 'A table has at most {most}.',
 
     // Comparisons.
+    each_pair: 'Each pair of operations',
+    pairs_head: 'The number of each pair of operations, and of each alone',
+    pair_label: 'the table with {first} and {second} alone, of number {number}',
     without_each: 'Without each operation',
     without_head: 'The number without an operation',
     operation_left: 'Left out',
