@@ -54,7 +54,7 @@ describe('links', () => {
         ['#inputs=1,abc', 'a process proposes “abc” in it, and that is no number.'],
         ['#inputs=1,', 'a process proposes “” in it, and that is no number.'],
         ['#inputs=18446744073709551616', 'a process proposes “18446744073709551616” in it, and that is no number.'],
-        ['#view=all', 'it shows the part “all” alone, and the page has number, why, states and run.'],
+        ['#view=all', 'it shows the part “all” alone, and the page has number, why, states, run and pairs.'],
         ['#exmaple=types/idle', 'it says “exmaple”, which the page does not know.'],
         ['#example=types/idle&table=AAAA', 'it names both an example and a table.'],
     ];

@@ -487,6 +487,9 @@ def comparisons(use):
     cells = use.texts("#comparison tbody button")
     wanted_cells = [native_number(use.value(f"Cnum.pairsOf(Cnum.page.text)[{index}].text")) for index in range(6)]
     yield "the number of each pair", cells == wanted_cells and len(set(cells)) > 1, (cells, wanted_cells)
+    use.open("#example=catalogue/queue_2&view=pairs")
+    yield "they are a view of their own", use.until("document.querySelectorAll('#comparison tbody button').length === 6"), ""
+    use.open("#example=catalogue/queue_2")
     use.value(press % "Without each operation")
     use.until("document.querySelectorAll('#comparison tbody button').length === 3")
     use.value("document.querySelector('#comparison tbody button').click()")
@@ -691,7 +694,7 @@ def links(use):
     use.value("document.querySelector('#trouble a').click()")
     well = use.has_number("2") and not use.is_hidden("content") and use.text("trouble") == ""
     yield "from there one begins with an example", well, use.text("trouble")
-    for part, view in (("number-part", "number"), ("why-part", "why"), ("picture-part", "states"), ("protocol-part", "run")):
+    for part, view in (("number-part", "number"), ("why-part", "why"), ("picture-part", "states"), ("protocol-part", "run"), ("compare-part", "pairs")):
         use.open(f"#example=types/three_shot&run=0,1&view={view}")
         shown = use.value("[...document.querySelectorAll('main > section')].filter(it => it.checkVisibility()).map(it => it.id)")
         yield f"the view {view}", shown == [part] and use.value("location.hash").endswith(f"view={view}"), shown

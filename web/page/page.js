@@ -19,7 +19,7 @@ var Cnum = globalThis.Cnum || {};
     const CERTIFICATE = 'certificate';
     const NO_NUMBER = '–';
     // The parts of the page that can be shown alone, by their names in a link.
-    const VIEWS = { number: 'number-part', why: 'why-part', states: 'picture-part', run: 'protocol-part' };
+    const VIEWS = { number: 'number-part', why: 'why-part', states: 'picture-part', run: 'protocol-part', pairs: 'compare-part' };
 
     const at = id => document.getElementById(id);
     const examples = new Map(Cnum.examples.flatMap(group => group.types).map(it => [it.path, it]));
@@ -327,6 +327,7 @@ var Cnum = globalThis.Cnum || {};
             at('notes').textContent = isTable ? lines.filter(it => /^(state|operation) \w+: /.test(it)).join('\n') : '';
             this.forget(isTable ? '' : say('no_number'));
             this.comparison.show(isTable ? this.table : '');
+            if (isTable && this.view === 'pairs') this.comparison.pair();
             if (isTable) await this.find(linked);
             if (!at('content').hidden) await this.keepLink();
         }

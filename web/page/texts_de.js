@@ -94,7 +94,7 @@ Cnum.languages.de.texts = {
     link_limit: 'seine Grenze ist „{limit}“, und muss von 2 bis 8 sein.',
     link_inputs: 'ein Prozess schlägt darin „{input}“ vor, und das ist keine Zahl.',
     link_run: 'sein Lauf hat den Schritt „{step}“, den kein Prozess macht.',
-    link_view: 'er zeigt den Teil „{view}“ allein, und die Seite hat number, why, states und run.',
+    link_view: 'er zeigt den Teil „{view}“ allein, und die Seite hat number, why, states, run und pairs.',
     link_processes: 'die Zahl der Prozesse in seinem Lauf ist {linked}, und hier ist sie {processes}.',
     link_language: 'er verlangt die Sprache „{lang}“, in der es keine Texte gibt.',
     link_copied: 'Kopiert.',

@@ -94,7 +94,7 @@ Cnum.languages.en.texts = {
     link_limit: 'its limit is “{limit}”, and must be from 2 to 8.',
     link_inputs: 'a process proposes “{input}” in it, and that is no number.',
     link_run: 'its run has the step “{step}”, which no process takes.',
-    link_view: 'it shows the part “{view}” alone, and the page has number, why, states and run.',
+    link_view: 'it shows the part “{view}” alone, and the page has number, why, states, run and pairs.',
     link_processes: 'the number of processes in its run is {linked}, and here it is {processes}.',
     link_copied: 'Copied.',
     link_language: 'it asks for the language “{lang}”, in which there are no texts.',
