@@ -274,7 +274,8 @@ def flaws(use):
     use.call("Input.insertText", text='"onee"')
     yield "a flaw while one types", use.until("document.querySelectorAll('#flaws li').length === 1"), use.text("flaws")
     lint = called(["lint"], table[:place] + '"onee"' + table[place + 5 :])
-    yield "it reads as lint has it", (use.text("flaws") + "\n", use.text("fault")) == (lint[0].decode(), lint[1].decode().strip()), use.text("flaws")
+    fault = f"An entry names what the table does not have. ({lint[1].decode().strip()})"
+    yield "it reads as lint has it, with the fault in words", (use.text("flaws") + "\n", use.text("fault")) == (lint[0].decode(), fault), use.text("fault")
     yield "there is no legend without a picture", use.is_hidden("legend"), ""
     yield "it is marked in the text", use.texts("#marks mark") == ['"onee"'], use.texts("#marks mark")
     yield "there is no number", use.text("number") == "–", use.text("number")
@@ -489,6 +490,9 @@ def comparisons(use):
     yield "the number of each pair", cells == wanted_cells and len(set(cells)) > 1, (cells, wanted_cells)
     use.open("#example=catalogue/queue_2&view=pairs")
     yield "they are a view of their own", use.until("document.querySelectorAll('#comparison tbody button').length === 6"), ""
+    use.value("document.querySelectorAll('#comparison tbody button')[1].click()")
+    whole = use.until("!document.body.classList.contains('one-part') && document.querySelectorAll('#why .pairs').length > 0", 20)
+    yield "a cell opens why of that pair", whole and use.has_number(cells[1]) and use.count("#grid tbody tr") == 2, use.text("number")
     use.open("#example=catalogue/queue_2")
     use.value(press % "Without each operation")
     use.until("document.querySelectorAll('#comparison tbody button').length === 3")

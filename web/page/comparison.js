@@ -47,10 +47,10 @@ var Cnum = globalThis.Cnum || {};
     };
 
     class Comparison {
-        // Shows comparisons in this place. `numbers` gives the numbers of tables, and `take` makes a table the
-        // present one.
-        constructor(place, { numbers, take }) {
-            Object.assign(this, { numbers, take, text: '', kept: null, round: 0 });
+        // Shows comparisons in this place. `numbers` gives the numbers of tables, `take` makes a table the
+        // present one, and `openWhy` also shows why it has its number.
+        constructor(place, { numbers, take, openWhy }) {
+            Object.assign(this, { numbers, take, openWhy, text: '', kept: null, round: 0 });
             this.leaving = button(say('without_each'), () => this.leaveOut());
             this.pairing = button(say('each_pair'), () => this.pair());
             this.keeping = button(say('keep_table'), () => this.keep());
@@ -91,7 +91,7 @@ var Cnum = globalThis.Cnum || {};
             if (round !== this.round) return;
             const cells = pairs.map(({ row, column, text }, index) => {
                 const about = say('pair_label', { first: names[row], second: names[column], number: numbers[index] });
-                return { row, shown: button(numbers[index], () => this.take(text), { 'aria-label': about, title: about }) };
+                return { row, shown: button(numbers[index], () => this.openWhy(text), { 'aria-label': about, title: about }) };
             });
             const rows = names.map((name, row) => {
                 const own = cells.filter(it => it.row === row).map(it => it.shown);

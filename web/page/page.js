@@ -46,6 +46,7 @@ var Cnum = globalThis.Cnum || {};
             this.comparison = new Cnum.Comparison(at('comparison'), {
                 numbers: async texts => Cnum.numbersOf(await this.classifyAll(texts)).numbers,
                 take: text => this.edit(text),
+                openWhy: text => this.openWhy(text),
             });
             this.protocol = new Cnum.Protocol(at('protocol'), this.forProtocol());
             this.listen();
@@ -192,6 +193,13 @@ var Cnum = globalThis.Cnum || {};
             return this.refresh();
         }
 
+        // Another table, with the reason of its number in view.
+        async openWhy(text) {
+            this.showView('');
+            await this.edit(text);
+            at('why-part').scrollIntoView();
+        }
+
         // The table before the last change, or after it. The cursor goes to the place of the change.
         async goBack(by) {
             if (!this.past.canMove(by)) return;
@@ -282,7 +290,8 @@ var Cnum = globalThis.Cnum || {};
         // Shows the same in another language.
         async speak(lang) {
             Cnum.useLanguage(lang);
-            await this.keepLink();
+            if (at('content').hidden) history.replaceState(null, '', `#lang=${lang}`);
+            else await this.keepLink();
             location.reload();
         }
 
