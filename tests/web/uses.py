@@ -689,7 +689,7 @@ def links(use):
     use.value("document.getElementById('skip').click()")
     yield "the skip link keeps the table", use.value("location.hash") == link and use.table() == text, use.value("location.hash")
     use.open()
-    use.value("Cnum.page.copyLink()")
+    use.value("Cnum.page.address.copy()")
     yield "a link of a file says so", "on this machine only" in use.text("link-said"), use.text("link-said")
     for number, damaged in enumerate((link[:-6], link.replace("limit=", "limi="), "#table=%%%", "#table=AAAA", *WRONG_LINKS)):
         use.open(damaged)
@@ -716,14 +716,14 @@ def one_file(use):
         yield f"in less than {FIRST} s", seconds < FIRST, seconds
         use.open("#example=types/three_shot&run=0,1,x1", page=alone)
         use.value("Cnum.page.protocol.update()")
-        names = [use.saved(room, "Cnum.page.savePage()")]
+        names = [use.saved(room, "Cnum.page.address.savePage()")]
         before = use.seen()
         use.open(page=names[0])
         yield "a saved page shows its table and its run", use.seen() == before and names[0].name == "three_shot.html", use.seen()
-        names.append(use.saved(room, "Cnum.page.savePage()", "again_"))
+        names.append(use.saved(room, "Cnum.page.address.savePage()", "again_"))
         yield "it can be saved again, the same", names[0].read_bytes() == names[1].read_bytes(), ""
         use.give(SLOT)
-        use.open(page=use.saved(room, "Cnum.page.savePage()"))
+        use.open(page=use.saved(room, "Cnum.page.address.savePage()"))
         yield "a saved page with a table of one's own", use.table() == SLOT and use.has_number("1"), use.table()
 
 
@@ -737,7 +737,7 @@ def on_a_server(use):
         address = f"http://127.0.0.1:{server.server_port}"
         use.browser.open(f"{address}/cnum.html")
         yield "it answers from a server", use.until(READY) and use.has_number("2"), ""
-        use.value("Cnum.page.copyLink()")
+        use.value("Cnum.page.address.copy()")
         yield "its link is for everyone", "this machine" not in use.text("link-said"), use.text("link-said")
         use.browser.open(f"{address}/course.html")
         sections = "[...frames[0].document.querySelectorAll('main > section')].filter(it => it.checkVisibility()).map(it => it.id).join()"

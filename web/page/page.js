@@ -6,10 +6,8 @@ var Cnum = globalThis.Cnum || {};
     'use strict';
 
     const { element, say } = Cnum;
-    const pageWith = Cnum.pageToSave();
     const AFTER_TYPING = 150;
     const BEFORE_TEAMS = 400;
-    const BEFORE_LINK = 150;
     const FIRST_EXAMPLE = 'types/test_and_set';
     const FIRST_LIMIT = '4';
     const CLASS = /: (infinite|(\d+)(?: to (\d+))?)\n$/;
@@ -18,14 +16,13 @@ var Cnum = globalThis.Cnum || {};
     const TOO_MANY = /^cnum: find: \d+ TooManyChoices/;
     const CERTIFICATE = 'certificate';
     const NO_NUMBER = '–';
-    // The parts of the page that can be shown alone, by their names in a link.
-    const VIEWS = { number: 'number-part', why: 'why-part', states: 'picture-part', run: 'protocol-part', pairs: 'compare-part' };
 
     const at = id => document.getElementById(id);
     const examples = new Map(Cnum.examples.flatMap(group => group.types).map(it => [it.path, it]));
 
     class Page {
-        constructor(module) {
+        // `pageWith` gives the page as a file with a link in it, if it can be saved so.
+        constructor(module, pageWith) {
             this.module = module;
             this.quick = new Cnum.Runner(module);
             this.search = new Cnum.Runner(module);
@@ -49,6 +46,7 @@ var Cnum = globalThis.Cnum || {};
                 openWhy: text => this.openWhy(text),
             });
             this.protocol = new Cnum.Protocol(at('protocol'), this.forProtocol());
+            this.address = new Cnum.Address(this, pageWith);
             this.listen();
         }
 
@@ -61,7 +59,7 @@ var Cnum = globalThis.Cnum || {};
                 next: () => Cnum.run.movesOf(this.table),
                 picture: () => Cnum.pictureOf(this.dot, this.picture.plan),
                 mainPicture: () => this.mainPicture(),
-                changed: () => this.keepLinkSoon(),
+                changed: () => this.address.keepSoon(),
                 say: text => (at('step-said').textContent = text),
                 save: (part, picture, form) => this.savePicture(part, picture, form),
             };
@@ -98,15 +96,9 @@ var Cnum = globalThis.Cnum || {};
             for (const form of ['svg', 'png']) {
                 at(`picture-${form}`).addEventListener('click', () => this.savePicture('states', this.mainPicture(), form));
             }
-            at('copy-link').addEventListener('click', () => this.copyLink());
-            at('save-page').addEventListener('click', () => this.savePage());
-            at('save-page').hidden = !pageWith;
-            at('language').addEventListener('change', () => this.speak(at('language').value));
-            at('skip').addEventListener('click', event => this.skip(event));
             at('claim-file').addEventListener('change', () => this.check(at('claim-file').files[0]));
             at('notice-close').addEventListener('click', () => this.notice(''));
             this.listenToDrops();
-            window.addEventListener('hashchange', () => this.follow());
         }
 
         // Undo and redo by their buttons, by keys, and as the browser's own commands in the text.
@@ -195,7 +187,7 @@ var Cnum = globalThis.Cnum || {};
 
         // Another table, with the reason of its number in view.
         async openWhy(text) {
-            this.showView('');
+            this.address.showView('');
             await this.edit(text);
             at('why-part').scrollIntoView();
         }
@@ -219,91 +211,25 @@ var Cnum = globalThis.Cnum || {};
             return answer.stdout;
         }
 
-        // Shows what the address says, or else what the file of the page holds.
-        async follow() {
-            if (location.hash === this.link) return;
-            const linked = await Cnum.linkedBy(location.hash || Cnum.savedLink());
-            if (linked.fault) {
-                this.refuseLink(linked.fault);
-                return;
-            }
-            if ((linked.lang || Cnum.FIRST_LANGUAGE) !== Cnum.language) {
-                location.reload();
-                return;
-            }
-            this.showView(linked.view);
+        // Shows what a link says.
+        async showLinked(linked) {
             at('limit').value = linked.limit || FIRST_LIMIT;
             this.text = linked.text === undefined ? examples.get(linked.example || FIRST_EXAMPLE).text : linked.text;
             await this.refresh(linked);
         }
 
-        // Says why a link cannot be shown, and shows nothing else.
-        refuseLink(why) {
+        // What a link says of what is shown.
+        shown() {
+            const example = this.example();
+            const { inputs } = this.protocol;
+            return { example: example && example.path, text: this.text, limit: at('limit').value, inputs, acts: this.protocol.shownActs() };
+        }
+
+        // Ends what runs, so that nothing is shown any more.
+        end() {
             this.round++;
             this.search.breakOff();
-            this.link = location.hash;
-            const first = element('a', { href: `#example=${FIRST_EXAMPLE}` }, say('link_first'));
-            at('trouble').replaceChildren(say('link_refused', { why }), ' ', first);
-            at('content').hidden = true;
-        }
-
-        // Shows this part alone, or the whole page if there is none.
-        showView(view) {
-            this.view = view;
-            at('trouble').replaceChildren();
-            at('content').hidden = false;
-            document.body.classList.toggle('one-part', Boolean(view));
-            for (const name of Object.keys(VIEWS)) at(VIEWS[name]).classList.toggle('shown', name === view);
-            at('whole').hidden = !view;
-        }
-
-        // A browser takes so many addresses at a time, and one can step faster.
-        keepLinkSoon() {
-            clearTimeout(this.keeping);
-            this.keeping = setTimeout(() => this.keepLink(), BEFORE_LINK);
-        }
-
-        async keepLink() {
-            clearTimeout(this.keeping);
-            const inputs = this.protocol.inputs;
-            const acts = this.protocol.shownActs();
-            const example = this.example();
-            const shown = { example: example && example.path, text: this.text, limit: at('limit').value, inputs, acts, lang: Cnum.language };
-            const link = await Cnum.linkOf({ ...shown, view: this.view });
-            at('whole-link').href = await Cnum.linkOf(shown);
-            this.link = link;
-            history.replaceState(null, '', link);
-        }
-
-        async copyLink() {
-            await this.keepLink();
-            let told = say('link_copied');
-            try {
-                await navigator.clipboard.writeText(location.href);
-            } catch {
-                told = say('link_address');
-            }
-            const ofFile = say(pageWith ? 'link_of_file' : 'link_of_folder');
-            at('link-said').textContent = location.protocol === 'file:' ? `${told} ${ofFile}` : told;
-        }
-
-        // Shows the same in another language.
-        async speak(lang) {
-            Cnum.useLanguage(lang);
-            if (at('content').hidden) history.replaceState(null, '', `#lang=${lang}`);
-            else await this.keepLink();
-            location.reload();
-        }
-
-        async savePage() {
-            await this.keepLink();
-            this.offer('html', pageWith(this.link), 'text/html');
-        }
-
-        // Leads to the number. The address holds the link, and so has no place for the name of a part.
-        skip(event) {
-            event.preventDefault();
-            at('number-part').focus();
+            this.adversary.breakOff();
         }
 
         // Runs a command on the table that is shown. The answer is null if another table has come since.
@@ -315,10 +241,8 @@ var Cnum = globalThis.Cnum || {};
 
         // Shows all anew: the flaws, the picture, the number, why, and the protocol, after this run of it.
         async refresh(linked = { inputs: [], acts: [] }) {
-            this.round++;
+            this.end();
             this.table = this.text;
-            this.search.breakOff();
-            this.adversary.breakOff();
             const example = this.example();
             this.past.put(this.text);
             at('type-name').textContent = this.nameOfType();
@@ -336,9 +260,9 @@ var Cnum = globalThis.Cnum || {};
             at('notes').textContent = isTable ? lines.filter(it => /^(state|operation) \w+: /.test(it)).join('\n') : '';
             this.forget(isTable ? '' : say('no_number'));
             this.comparison.show(isTable ? this.table : '');
-            if (isTable && this.view === 'pairs') this.comparison.pair();
+            if (isTable && this.address.view === 'pairs') this.comparison.pair();
             if (isTable) await this.find(linked);
-            if (!at('content').hidden) await this.keepLink();
+            if (!at('content').hidden) await this.address.keep();
         }
 
         // Takes away what was said of another table.
@@ -438,7 +362,7 @@ var Cnum = globalThis.Cnum || {};
         async showProtocol(linked) {
             const { number } = JSON.parse(this.certificate);
             if (number === null) {
-                if (!this.hasFittingRun(linked, 1)) return;
+                if (!this.address.fits(linked, 1)) return;
                 this.draw(null);
                 this.protocol.clear(say('nobody'));
                 return;
@@ -449,17 +373,9 @@ var Cnum = globalThis.Cnum || {};
             const show = await this.ask(this.search, ['show', '--as', 'json', CERTIFICATE], this.witness);
             if (!show) return;
             const plan = JSON.parse(show.stdout);
-            if (!this.hasFittingRun(linked, plan.processes)) return;
+            if (!this.address.fits(linked, plan.processes)) return;
             this.draw(plan);
             await this.protocol.show(plan, linked.inputs, linked.acts);
-        }
-
-        // Whether the run of a link is one of so many processes. If it is not, the page refuses the link.
-        hasFittingRun({ inputs, acts }, processes) {
-            const count = Math.max(inputs.length, ...acts.map(it => it.process + 1));
-            const fits = inputs.length ? count === processes : count <= processes;
-            if (!fits) this.refuseLink(say('link_processes', { linked: count, processes }));
-            return fits;
         }
 
         // The picture, with the start and the teams of this plan, if there is one.
@@ -522,7 +438,7 @@ var Cnum = globalThis.Cnum || {};
 
         async begin() {
             Cnum.explainWords(at('legend'));
-            await this.follow();
+            await this.address.follow();
             const version = await this.quick.run(['--version']);
             const [, program, proof] = PROVED.exec(version.stdout) || ['', version.stdout.trim(), ''];
             at('made-by').textContent = say('made_by', { program, proof });
@@ -552,6 +468,7 @@ var Cnum = globalThis.Cnum || {};
 
     async function begin() {
         if (document.documentElement.dataset.lacks) return;
+        const pageWith = Cnum.pageToSave();
         Cnum.useLanguage(Cnum.languageOf(location.hash || Cnum.savedLink()));
         Cnum.fillTexts();
         let module;
@@ -563,7 +480,7 @@ var Cnum = globalThis.Cnum || {};
             return;
         }
         offerLanguages();
-        Cnum.page = new Page(module);
+        Cnum.page = new Page(module, pageWith);
         await Cnum.page.begin();
         document.documentElement.dataset.ready = 'yes';
     }
