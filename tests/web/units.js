@@ -86,8 +86,8 @@ describe('a run', () => {
         const { nodes, processes } = run.after(events, PLAN);
         assert.deepEqual([nodes[0].state, nodes[0].A, nodes[0].B], ['one', '10', '20']);
         assert.deepEqual(processes, [{ steps: 2, decision: null, hasStopped: true }, { steps: 4, decision: '20', hasStopped: false }]);
-        assert.deepEqual(run.going(processes), []);
-        assert.deepEqual(run.going(run.after(events.slice(0, 5), PLAN).processes), [0]);
+        assert.deepEqual(run.active(processes), []);
+        assert.deepEqual(run.active(run.after(events.slice(0, 5), PLAN).processes), [0]);
     });
 
     it('has a place for each act, none on another', () => {

@@ -201,6 +201,11 @@ class Use:
         made = json.dumps({"key": key, "bubbles": True, "cancelable": True, **how})
         self.value(f"(() => {{ document.querySelector({json.dumps(place)}).dispatchEvent(new KeyboardEvent('keydown', {made})); }})()")
 
+    def press_code(self, code, shift=False):
+        """Presses the key of this code where the focus is, as an event of the page alone."""
+        made = json.dumps({"code": code, "shiftKey": shift, "bubbles": True, "cancelable": True})
+        self.value(f"(() => {{ document.activeElement.dispatchEvent(new KeyboardEvent('keydown', {made})); }})()")
+
     def search(self, query):
         """Types this into the field of the examples. The names that are found."""
         field = "document.getElementById('example')"
@@ -650,26 +655,34 @@ def adversaries(use):
 
 
 def keys(use):
-    """The protocol stepped by keys, and on a phone."""
+    """The protocol stepped by keys."""
     use.open("#example=types/three_shot")
     use.value("document.querySelector('.process button').focus()")
-    for key, code, shift, wanted in (("1", 49, False, 1), ("2", 50, True, 2), ("2", 50, False, 2), ("7", 55, False, 2), ("0", 48, False, 3), ("u", 85, False, 2)):
-        use.key(key, code, shift=shift, name="KeyU" if key == "u" else f"Digit{key}")
+    for code, shift, wanted in (("Digit1", False, 1), ("Digit2", True, 2), ("Digit2", False, 2), ("Digit7", False, 2), ("Numpad0", False, 3), ("KeyU", False, 2)):
+        use.press_code(code, shift)
         well = use.until(f"document.querySelectorAll('.log li').length === {wanted}", 5)
-        yield f"key {key}{' with Shift' if shift else ''}", well, use.texts(".log li")
+        yield f"key {code}{' with Shift' if shift else ''}", well, use.texts(".log li")
     use.value("document.getElementById('input-0').focus()")
-    use.key("1", 49, name="Digit1")
+    use.press_code("Digit1")
+    use.do("await Cnum.page.protocol.update();")
     yield "a key in a field is text", use.count(".log li") == 2, use.texts(".log li")
     use.value("document.querySelectorAll('.process button')[0].focus()")
     for _ in range(4):
-        use.key("0", 48, name="Digit0")
+        use.press_code("Digit0")
         use.do("await Cnum.page.protocol.update();")
-    use.key("1", 49, name="Digit1")
+    use.press_code("Digit1")
     yield "the keys go on after a decision", use.until("document.querySelectorAll('.log li').length === 7", 5), use.texts(".log li")
+
+
+def phone(use):
+    """The protocol on a phone, and a key of the browser's own."""
     use.call("Emulation.setDeviceMetricsOverride", **PHONE)
     use.open("#example=types/three_shot&run=0,1,2,0,1,2,1,1")
-    distances = use.value(FROM_BUTTON_TO_LOG)
-    yield "on a phone the log is seen at each button", distances and all(distances), distances
+    seen = use.value(FROM_BUTTON_TO_LOG)
+    yield "the log is seen at each button", seen and all(seen), seen
+    use.value("document.querySelector('.process button').focus()")
+    use.key("1", 49, name="Digit1")
+    yield "a key", use.until("document.querySelectorAll('.log li').length === 9", 5), use.texts(".log li")
     use.call("Emulation.clearDeviceMetricsOverride")
 
 
@@ -981,12 +994,12 @@ def quiet(use):
 
 
 ALL = (
-    first_answer, flaws, examples, meanings, pictures, picture_tools, words, grid, changes, comparisons, example_search, schedules,
-    pictured_runs, adversaries, keys, links, certificates, explanations, searches, one_file, without, for_all, paper, slides, languages,
-    foot, quiet, on_a_server, missing_parts,
+    first_answer, flaws, examples, meanings, pictures, picture_tools, words, grid, changes, comparisons, example_search,
+    schedules, pictured_runs, adversaries, keys, phone, links, certificates, explanations, searches, one_file, without, for_all,
+    paper, slides, languages, foot, quiet, on_a_server, missing_parts,
 )
 # The parts that also run in a browser that is not driven by DevTools.
 WITHOUT_DEVTOOLS = (
-    first_answer, meanings, pictures, words, grid, changes, comparisons, example_search, schedules, pictured_runs, adversaries, links,
-    certificates, explanations, searches, one_file, languages, foot, on_a_server, missing_parts,
+    first_answer, meanings, pictures, words, grid, changes, comparisons, example_search, schedules, pictured_runs, adversaries,
+    keys, links, certificates, explanations, searches, one_file, languages, foot, on_a_server, missing_parts,
 )

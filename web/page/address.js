@@ -75,7 +75,7 @@ var Cnum = globalThis.Cnum || {};
 
         async keep() {
             clearTimeout(this.keeping);
-            const shown = { ...this.page.shown(), lang: Cnum.language };
+            const shown = { ...this.page.linkContent(), lang: Cnum.language };
             const link = await Cnum.linkOf({ ...shown, view: this.view });
             at('whole-link').href = await Cnum.linkOf(shown);
             this.link = link;

@@ -34,9 +34,9 @@ var Cnum = globalThis.Cnum || {};
     };
 
     // The table with these operations alone, by their places.
-    function only(text, kept) {
+    function only(text, places) {
         const count = new Cnum.TableText(text).operations.length;
-        const others = Array.from({ length: count }, (_, index) => count - 1 - index).filter(it => !kept.includes(it));
+        const others = Array.from({ length: count }, (_, index) => count - 1 - index).filter(it => !places.includes(it));
         return others.reduce((left, index) => Cnum.edits.removeOperation(new Cnum.TableText(left), index), text);
     }
 
@@ -50,22 +50,22 @@ var Cnum = globalThis.Cnum || {};
         // Shows comparisons in this place. `numbers` gives the numbers of tables, `take` makes a table the
         // present one, and `openWhy` also shows why it has its number.
         constructor(place, { numbers, take, openWhy }) {
-            Object.assign(this, { numbers, take, openWhy, text: '', kept: null, round: 0 });
-            this.leaving = button(say('without_each'), () => this.leaveOut());
-            this.pairing = button(say('each_pair'), () => this.pair());
-            this.keeping = button(say('keep_table'), () => this.keep());
-            this.left = element('div', { 'aria-live': 'polite' });
+            Object.assign(this, { numbers, take, openWhy, text: '', first: null, round: 0 });
+            this.withoutButton = button(say('without_each'), () => this.leaveOut());
+            this.pairsButton = button(say('each_pair'), () => this.pair());
+            this.keepButton = button(say('keep_table'), () => this.keep());
+            this.answer = element('div', { 'aria-live': 'polite' });
             this.beside = element('div', { 'aria-live': 'polite' });
-            place.replaceChildren(element('div', { class: 'buttons' }, this.pairing, this.leaving, this.keeping), this.left, this.beside);
+            place.replaceChildren(element('div', { class: 'buttons' }, this.pairsButton, this.withoutButton, this.keepButton), this.answer, this.beside);
         }
 
         // The present table, or an empty text if it has flaws.
         show(text) {
             this.text = text;
             this.round++;
-            this.leaving.disabled = this.pairing.disabled = Cnum.withoutEach(text).length === 0;
-            this.keeping.disabled = !text;
-            this.left.replaceChildren();
+            this.withoutButton.disabled = this.pairsButton.disabled = Cnum.withoutEach(text).length === 0;
+            this.keepButton.disabled = !text;
+            this.answer.replaceChildren();
             return this.compare();
         }
 
@@ -79,7 +79,7 @@ var Cnum = globalThis.Cnum || {};
             const rows = tables.map((it, index) => [it.operation, numbers[index], showing(it.text)]);
             const heads = ['operation_left', 'number_head', 'show_head'].map(it => say(it));
             const table = tableOf(heads, [[say('no_operation'), whole, ''], ...rows], { class: 'pairs' });
-            this.left.replaceChildren(element('h3', {}, say('without_head')), wide(say('without_head'), table));
+            this.answer.replaceChildren(element('h3', {}, say('without_head')), wide(say('without_head'), table));
         }
 
         // The number of each operation alone and of each pair, in a triangle. A cell leads to the table.
@@ -98,28 +98,28 @@ var Cnum = globalThis.Cnum || {};
                 return [name, ...own, ...Array(names.length - own.length).fill('')];
             });
             const table = tableOf([say('operation_head'), ...names], rows, { class: 'pairs' });
-            this.left.replaceChildren(element('h3', {}, say('pairs_head')), wide(say('pairs_head'), table));
+            this.answer.replaceChildren(element('h3', {}, say('pairs_head')), wide(say('pairs_head'), table));
         }
 
         keep() {
-            this.kept = this.text;
+            this.first = this.text;
             return this.compare();
         }
 
         // The table that was kept beside the present one, if they are two.
         async compare() {
-            const { text, kept, round } = this;
-            if (!kept || !text || kept === text) {
-                this.beside.replaceChildren(...(kept && text ? [element('p', { class: 'quiet' }, say('table_kept'))] : []));
+            const { text, first, round } = this;
+            if (!first || !text || first === text) {
+                this.beside.replaceChildren(...(first && text ? [element('p', { class: 'quiet' }, say('table_kept'))] : []));
                 return;
             }
-            const numbers = await this.numbers([kept, text]);
+            const numbers = await this.numbers([first, text]);
             if (round !== this.round) return;
-            const found = Cnum.differences(kept, text);
+            const found = Cnum.differences(first, text);
             const heads = ['operation_head', 'state_head', 'table_kept_head', 'table_now_head'].map(it => say(it));
             const rows = found.map(it => [it.operation, it.state, it.first || say('no_cell'), it.second || say('no_cell')]);
             const told = element('p', {}, say('two_numbers', { first: numbers[0], second: numbers[1], count: found.length }));
-            const back = button(say('show_kept'), () => this.take(kept));
+            const back = button(say('show_kept'), () => this.take(first));
             const table = wide(say('beside_head'), tableOf(heads, rows, { class: 'pairs' }));
             this.beside.replaceChildren(element('h3', {}, say('beside_head')), told, ...(found.length ? [table] : []), back);
         }

@@ -219,10 +219,10 @@ var Cnum = globalThis.Cnum || {};
         }
 
         // What a link says of what is shown.
-        shown() {
+        linkContent() {
             const example = this.example();
             const { inputs } = this.protocol;
-            return { example: example && example.path, text: this.text, limit: at('limit').value, inputs, acts: this.protocol.shownActs() };
+            return { example: example && example.path, text: this.text, limit: at('limit').value, inputs, acts: this.protocol.actsSoFar() };
         }
 
         // Ends what runs, so that nothing is shown any more.

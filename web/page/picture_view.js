@@ -37,9 +37,9 @@ var Cnum = globalThis.Cnum || {};
 
     class PictureView {
         // Shows pictures in this place, with its controls in `tools` and the choice of operations in
-        // `choice`. `part` is what fills the screen. `drawn` is called with each picture.
-        constructor({ place, tools, choice, part }, drawn) {
-            Object.assign(this, { place, choice, part, drawn, left: new Set(), zoom: null, dot: '' });
+        // `choice`. `part` is what fills the screen. `afterDrawing` is called with each picture.
+        constructor({ place, tools, choice, part }, afterDrawing) {
+            Object.assign(this, { place, choice, part, afterDrawing, hidden: new Set(), zoom: null, dot: '' });
             const whole = button(say('full_screen'), () => this.fillScreen());
             whole.hidden = !document.fullscreenEnabled;
             const tool = (text, key, act) => button(text, act, { 'aria-label': say(key), title: say(key) });
@@ -65,9 +65,9 @@ var Cnum = globalThis.Cnum || {};
         }
 
         draw() {
-            this.place.replaceChildren(Cnum.pictureOf(Cnum.dotOf(this.dot, it => !this.left.has(it)), this.plan));
+            this.place.replaceChildren(Cnum.pictureOf(Cnum.dotOf(this.dot, it => !this.hidden.has(it)), this.plan));
             this.fit();
-            this.drawn();
+            this.afterDrawing();
         }
 
         clear() {
@@ -78,13 +78,13 @@ var Cnum = globalThis.Cnum || {};
         // The operations to choose from, if there are several.
         offerOperations() {
             const names = Cnum.operationsOf(this.dot);
-            this.left = new Set(names.filter(it => this.left.has(it)));
+            this.hidden = new Set(names.filter(it => this.hidden.has(it)));
             const boxes = names.map(name => {
                 const box = element('input', { type: 'checkbox' });
-                box.checked = !this.left.has(name);
+                box.checked = !this.hidden.has(name);
                 box.addEventListener('change', () => {
-                    if (box.checked) this.left.delete(name);
-                    else this.left.add(name);
+                    if (box.checked) this.hidden.delete(name);
+                    else this.hidden.add(name);
                     this.draw();
                 });
                 return element('label', {}, box, ` ${name}`);
