@@ -17,7 +17,7 @@ MOST_CERTIFICATE = 2_000_000
 PATHS = [path for folder in ("types", "tests/types", "catalogue") for path in sorted((TOP / folder).glob("*.toml"))]
 TABLES = {str(path.relative_to(TOP).with_suffix("")): path.read_bytes() for path in PATHS}
 BIT, COUNTER = TABLES["types/test_and_set"], TABLES["types/counter_3"]
-COMMANDS = ("find", "classify", "lint", "check", "explain", "why", "show", "draw", "agree", "replay", "serve")
+COMMANDS = ("find", "classify", "lint", "check", "explain", "why", "pairs", "show", "draw", "agree", "replay", "serve")
 
 
 def hostile_tables():
