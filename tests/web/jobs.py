@@ -17,7 +17,7 @@ MOST_CERTIFICATE = 2_000_000
 PATHS = [path for folder in ("types", "tests/types", "catalogue") for path in sorted((TOP / folder).glob("*.toml"))]
 TABLES = {str(path.relative_to(TOP).with_suffix("")): path.read_bytes() for path in PATHS}
 BIT, COUNTER = TABLES["types/test_and_set"], TABLES["types/counter_3"]
-COMMANDS = ("find", "classify", "lint", "check", "explain", "why", "show", "draw", "agree", "replay", "serve")
+COMMANDS = ("find", "classify", "lint", "check", "explain", "why", "pairs", "show", "draw", "agree", "replay", "serve")
 
 
 def hostile_tables():
@@ -48,7 +48,7 @@ class Jobs:
         for name, table in TABLES.items():
             self.of_table(name, table)
         for table in hostile_tables():
-            for words in (["lint"], ["find", "--limit", "3"], ["draw"], ["classify", "--limit", "3", "-"]):
+            for words in (["lint"], ["lint", "--as", "json"], ["find", "--limit", "3"], ["draw"], ["classify", "--limit", "3", "-"]):
                 self.run(words, table)
         for certificate in hostile_certificates():
             for words in (["check", "C"], ["explain", "C"], ["show", "C"], ["show", "--as", "promela", "C"], ["agree", "C", "1,2", "0,1,0,1"]):
@@ -71,6 +71,8 @@ class Jobs:
         self.run(["lint"], table)
         self.run(["draw"], table)
         self.run(["classify", "--limit", "5", "-"], table)
+        for form in ("text", "json", "markdown"):
+            self.run(["pairs", "--as", form, "-"], table)
         self.run(["classify", "--recoverable", "-"], table)
         self.run(["classify", "--limit", "3", "T", "-", "T"], table, T=table)
         certificate = self.run(["find", "--limit", "4"], table)
@@ -80,9 +82,10 @@ class Jobs:
         listed = lambda numbers: ",".join(map(str, numbers))
         schedule = [(k * 5 + k // 3) % n for k in range(60 * n)]
         events = ",".join([f"i{p}:0" for p in range(n)] + [f"s{p}" for p in schedule])
-        for words in (["check"], ["explain"], ["explain", "--all"], ["show"], *(["show", "--as", form] for form in ("json", "dot", "promela"))):
+        for words in (["check"], ["explain"], ["explain", "--all"], ["show"], *(["show", "--as", form] for form in ("json", "dot", "promela", "rust", "c"))):
             self.run([*words, "C"], table, C=certificate)
         self.run(["agree", "C", listed(range(1, 1 + n)), listed(schedule[:60])], table, C=certificate)
+        self.run(["agree", "--steps", "--as", "json", "C", listed(range(1, 1 + n)), listed(schedule[:60])], table, C=certificate)
         self.run(["replay", "C", "O", "0", "4", events], table, C=certificate, O=COUNTER)
         self.run(["replay", "C", "O", "0", "4", "@E"], table, C=certificate, O=COUNTER, E=events.encode() + b"\n")
         self.run(["serve", "C", "O", "0", "4", "/".join(["0,0"] + ["none"] * (n - 1))], table, C=certificate, O=COUNTER)

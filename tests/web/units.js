@@ -8,7 +8,7 @@ const vm = require('node:vm');
 const WEB = path.join(__dirname, '../../web');
 const PARTS = ['examples.js', 'page/texts_en.js', 'page/texts_de.js', 'page/texts.js', 'page/link.js', 'page/table_text.js', 'page/run.js', 'page/schedules.js'];
 // Parts that make elements; here only their places are asked for.
-PARTS.push('page/space_time.js', 'page/table_edits.js', 'page/flaw_places.js', 'page/past.js', 'page/example_search.js', 'page/points.js', 'page/layout.js');
+PARTS.push('page/space_time.js', 'page/table_edits.js', 'page/flaw_places.js', 'page/past.js', 'page/example_search.js', 'page/points.js', 'page/layout.js', 'page/comparison.js');
 
 globalThis.Cnum = {};
 for (const part of PARTS) vm.runInThisContext(fs.readFileSync(path.join(WEB, part), 'utf8'), part);
@@ -54,7 +54,7 @@ describe('links', () => {
         ['#inputs=1,abc', 'a process proposes “abc” in it, and that is no number.'],
         ['#inputs=1,', 'a process proposes “” in it, and that is no number.'],
         ['#inputs=18446744073709551616', 'a process proposes “18446744073709551616” in it, and that is no number.'],
-        ['#view=all', 'it shows the part “all” alone, and the page has number, why, states and run.'],
+        ['#view=all', 'it shows the part “all” alone, and the page has number, why, states, run and pairs.'],
         ['#exmaple=types/idle', 'it says “exmaple”, which the page does not know.'],
         ['#example=types/idle&table=AAAA', 'it names both an example and a table.'],
     ];
@@ -86,8 +86,8 @@ describe('a run', () => {
         const { nodes, processes } = run.after(events, PLAN);
         assert.deepEqual([nodes[0].state, nodes[0].A, nodes[0].B], ['one', '10', '20']);
         assert.deepEqual(processes, [{ steps: 2, decision: null, hasStopped: true }, { steps: 4, decision: '20', hasStopped: false }]);
-        assert.deepEqual(run.going(processes), []);
-        assert.deepEqual(run.going(run.after(events.slice(0, 5), PLAN).processes), [0]);
+        assert.deepEqual(run.active(processes), []);
+        assert.deepEqual(run.active(run.after(events.slice(0, 5), PLAN).processes), [0]);
     });
 
     it('has a place for each act, none on another', () => {
@@ -97,7 +97,7 @@ describe('a run', () => {
             const widths = [marks[at - 1], marks[at]].map(it => 4 * Math.max(...it.texts.map(text => text.length)));
             assert.ok(marks[at].x - marks[at - 1].x >= widths[0] + widths[1], `place ${at}`);
         }
-        assert.deepEqual(lines.map(it => [it.to, it.isOpen]), [[marks[6].x, false], [marks[4].x, false]]);
+        assert.deepEqual(lines.map(it => it.to), [marks[6].x, marks[4].x]);
     });
 });
 
@@ -221,6 +221,30 @@ describe('edits of a table', () => {
     it('keep remarks and order', () => {
         const text = `# about\n${TABLE}# end\n`;
         assert.equal(edits.removeState(new Cnum.TableText(edits.addState(new Cnum.TableText(text))), 6), text);
+    });
+});
+
+describe('comparisons', () => {
+    const SLOT = Cnum.FIRST_TABLE.replace('["s0", "s1"]', '["a", "b"]').replace('["s1", "s1"]', '["b", "b"]');
+
+    it('tell the cells that differ', () => {
+        const other = SLOT.replace('["b", "b"]', '["b", "a"]');
+        assert.deepEqual(Cnum.differences(SLOT, SLOT), []);
+        assert.deepEqual(Cnum.differences(SLOT, other), [{ operation: 'op0', state: 'b', first: 'ok → b', second: 'ok → a' }]);
+    });
+
+    it('tell the cells that one table lacks', () => {
+        const more = Cnum.edits.addOperation(new Cnum.TableText(SLOT));
+        assert.deepEqual(Cnum.differences(more, SLOT).map(it => [it.operation, it.state, it.first, it.second]), [
+            ['op1', 'a', 'ok → a', null],
+            ['op1', 'b', 'ok → b', null],
+        ]);
+        assert.deepEqual(Cnum.withoutEach(more).map(it => it.operation), ['op0', 'op1']);
+        assert.equal(Cnum.withoutEach(more)[1].text, SLOT);
+        assert.deepEqual(Cnum.withoutEach(SLOT), []);
+        const pairs = Cnum.pairsOf(more);
+        assert.deepEqual(pairs.map(it => [it.row, it.column]), [[0, 0], [1, 0], [1, 1]]);
+        assert.deepEqual([pairs[0].text, pairs[1].text], [SLOT, more]);
     });
 });
 

@@ -93,6 +93,10 @@ FROM_BUTTON_TO_LOG = """[...document.querySelectorAll('.process button')].map(it
 })"""
 # The height of a letter of the picture, in points of the window.
 LETTER = "(it => it ? 13 * it.clientWidth / it.getAttribute('width') : 0)(document.querySelector('#picture svg'))"
+# Whether the start state, or else the first one, is in the part of the picture that is seen.
+START_IN_VIEW = """(([place, node]) => place.left <= node.left && node.right <= place.right && place.top <= node.top && node.bottom <= place.bottom)(
+    [document.getElementById('picture'), document.querySelector('#picture .start') || document.querySelector('#picture .node')]
+        .map(it => it.getBoundingClientRect()))"""
 OBJECTS = ["starts in bot", "a1 → a2, y answered a"]
 ACTS_SHOWN = ["writes 20", "x/a", "writes 30", "y/a", "writes 10", "stops", "reads a2"]
 FOCUSABLE = "a[href], button:not(:disabled), input, select, textarea, [tabindex='0'], summary"
@@ -197,6 +201,11 @@ class Use:
         made = json.dumps({"key": key, "bubbles": True, "cancelable": True, **how})
         self.value(f"(() => {{ document.querySelector({json.dumps(place)}).dispatchEvent(new KeyboardEvent('keydown', {made})); }})()")
 
+    def press_code(self, code, shift=False):
+        """Presses the key of this code where the focus is, as an event of the page alone."""
+        made = json.dumps({"code": code, "shiftKey": shift, "bubbles": True, "cancelable": True})
+        self.value(f"(() => {{ document.activeElement.dispatchEvent(new KeyboardEvent('keydown', {made})); }})()")
+
     def search(self, query):
         """Types this into the field of the examples. The names that are found."""
         field = "document.getElementById('example')"
@@ -270,7 +279,8 @@ def flaws(use):
     use.call("Input.insertText", text='"onee"')
     yield "a flaw while one types", use.until("document.querySelectorAll('#flaws li').length === 1"), use.text("flaws")
     lint = called(["lint"], table[:place] + '"onee"' + table[place + 5 :])
-    yield "it reads as lint has it", (use.text("flaws") + "\n", use.text("fault")) == (lint[0].decode(), lint[1].decode().strip()), use.text("flaws")
+    fault = f"An entry names what the table does not have. ({lint[1].decode().strip()})"
+    yield "it reads as lint has it, with the fault in words", (use.text("flaws") + "\n", use.text("fault")) == (lint[0].decode(), fault), use.text("fault")
     yield "there is no legend without a picture", use.is_hidden("legend"), ""
     yield "it is marked in the text", use.texts("#marks mark") == ['"onee"'], use.texts("#marks mark")
     yield "there is no number", use.text("number") == "–", use.text("number")
@@ -467,6 +477,44 @@ def changes(use):
         yield f"{label}: at most {most}, and the focus stays", made == most and focused and use.text("flaws") == "", (made, focused)
 
 
+def comparisons(use):
+    """A table without each of its operations, and beside one that was kept."""
+    use.open("#example=catalogue/queue_2")
+    press = "[...document.querySelectorAll('#comparison button')].find(it => it.textContent === %r).click()"
+    use.value(press % "Without each operation")
+    use.until("document.querySelectorAll('#comparison tbody tr').length > 0")
+    seen = use.value("[...document.querySelectorAll('#comparison tbody tr')].map(it => [it.cells[0].textContent, it.cells[1].textContent])")
+    wanted = [["none", "infinite"]]
+    for index, name in enumerate(use.value("new Cnum.TableText(Cnum.page.text).operations.map(it => it.name.text)")):
+        wanted.append([name, native_number(use.value(f"Cnum.edits.removeOperation(new Cnum.TableText(Cnum.page.text), {index})"))])
+    yield "the number without each operation", seen == wanted and len(seen) > 3, (seen, wanted)
+    use.value(press % "Each pair of operations")
+    use.until("document.querySelectorAll('#comparison tbody button').length === 6")
+    cells = use.texts("#comparison tbody button")
+    wanted_cells = [native_number(use.value(f"Cnum.pairsOf(Cnum.page.text)[{index}].text")) for index in range(6)]
+    yield "the number of each pair", cells == wanted_cells and len(set(cells)) > 1, (cells, wanted_cells)
+    use.open("#example=catalogue/queue_2&view=pairs")
+    yield "they are a view of their own", use.until("document.querySelectorAll('#comparison tbody button').length === 6"), ""
+    use.value("document.querySelectorAll('#comparison tbody button')[1].click()")
+    whole = use.until("!document.body.classList.contains('one-part') && document.querySelectorAll('#why .pairs').length > 0", 20)
+    yield "a cell opens why of that pair", whole and use.has_number(cells[1]) and use.count("#grid tbody tr") == 2, use.text("number")
+    use.open("#example=catalogue/queue_2")
+    use.value(press % "Without each operation")
+    use.until("document.querySelectorAll('#comparison tbody button').length === 3")
+    use.value("document.querySelector('#comparison tbody button').click()")
+    yield "such a table can be shown", use.has_number(wanted[1][1]) and wanted[1][0] not in use.texts("#grid tbody th .on-paper"), use.table()
+    use.give(SLOT)
+    use.value(press % "Keep this table to compare")
+    use.give(SLOT.replace('"b", "b", "b"', '"b", "a", "b"'))
+    well = use.until("document.querySelectorAll('#comparison tbody tr').length === 1", 10)
+    told = use.texts("#comparison tbody td, #comparison p")
+    yield "a table beside the one that was kept", well and told[1:] == ["a", "done → b", "done → a"] and "was 1, and is 1 now" in told[0], told
+    use.value(press % "Show the table that was kept")
+    yield "it comes back", use.table() == SLOT, use.table()
+    use.give("x")
+    yield "a table with a flaw is not compared", use.count("#comparison table") == 0, ""
+
+
 def example_search(use):
     use.open()
     yield "compare and swap is found", "cas_3" in use.search("compare and swap"), use.search("compare and swap")
@@ -569,6 +617,9 @@ def pictured_runs(use):
     yield "the link has the run up to that place", kept, use.value("location.hash")
     use.do("await Cnum.page.protocol.runAll();")
     pressable = use.value("[...document.querySelectorAll('.process button')].filter(it => !it.disabled).length")
+    edge = "(it => it.querySelector('.heads text').getBoundingClientRect().left - it.getBoundingClientRect().left)"
+    edge = use.value(f"{edge}(document.querySelector('.space-time').parentElement)")
+    yield "the names of the processes stay in view", 0 <= edge < 30, edge
     yield "who has decided or stopped takes no step and cannot stop", pressable == 0, pressable
     with tempfile.TemporaryDirectory() as room:
         for part, index, beginning in (("run", 0, b"<svg"), ("run", 1, b"\x89PNG"), ("tournament", 2, b"<svg"), ("tournament", 3, b"\x89PNG")):
@@ -604,26 +655,34 @@ def adversaries(use):
 
 
 def keys(use):
-    """The protocol stepped by keys, and on a phone."""
+    """The protocol stepped by keys."""
     use.open("#example=types/three_shot")
     use.value("document.querySelector('.process button').focus()")
-    for key, code, shift, wanted in (("1", 49, False, 1), ("2", 50, True, 2), ("2", 50, False, 2), ("7", 55, False, 2), ("0", 48, False, 3), ("u", 85, False, 2)):
-        use.key(key, code, shift=shift, name="KeyU" if key == "u" else f"Digit{key}")
+    for code, shift, wanted in (("Digit1", False, 1), ("Digit2", True, 2), ("Digit2", False, 2), ("Digit7", False, 2), ("Numpad0", False, 3), ("KeyU", False, 2)):
+        use.press_code(code, shift)
         well = use.until(f"document.querySelectorAll('.log li').length === {wanted}", 5)
-        yield f"key {key}{' with Shift' if shift else ''}", well, use.texts(".log li")
+        yield f"key {code}{' with Shift' if shift else ''}", well, use.texts(".log li")
     use.value("document.getElementById('input-0').focus()")
-    use.key("1", 49, name="Digit1")
+    use.press_code("Digit1")
+    use.do("await Cnum.page.protocol.update();")
     yield "a key in a field is text", use.count(".log li") == 2, use.texts(".log li")
     use.value("document.querySelectorAll('.process button')[0].focus()")
     for _ in range(4):
-        use.key("0", 48, name="Digit0")
+        use.press_code("Digit0")
         use.do("await Cnum.page.protocol.update();")
-    use.key("1", 49, name="Digit1")
+    use.press_code("Digit1")
     yield "the keys go on after a decision", use.until("document.querySelectorAll('.log li').length === 7", 5), use.texts(".log li")
+
+
+def phone(use):
+    """The protocol on a phone, and a key of the browser's own."""
     use.call("Emulation.setDeviceMetricsOverride", **PHONE)
     use.open("#example=types/three_shot&run=0,1,2,0,1,2,1,1")
-    distances = use.value(FROM_BUTTON_TO_LOG)
-    yield "on a phone the log is seen at each button", distances and all(distances), distances
+    seen = use.value(FROM_BUTTON_TO_LOG)
+    yield "the log is seen at each button", seen and all(seen), seen
+    use.value("document.querySelector('.process button').focus()")
+    use.key("1", 49, name="Digit1")
+    yield "a key", use.until("document.querySelectorAll('.log li').length === 9", 5), use.texts(".log li")
     use.call("Emulation.clearDeviceMetricsOverride")
 
 
@@ -643,7 +702,7 @@ def links(use):
     use.value("document.getElementById('skip').click()")
     yield "the skip link keeps the table", use.value("location.hash") == link and use.table() == text, use.value("location.hash")
     use.open()
-    use.value("Cnum.page.copyLink()")
+    use.value("Cnum.page.address.copy()")
     yield "a link of a file says so", "on this machine only" in use.text("link-said"), use.text("link-said")
     for number, damaged in enumerate((link[:-6], link.replace("limit=", "limi="), "#table=%%%", "#table=AAAA", *WRONG_LINKS)):
         use.open(damaged)
@@ -652,7 +711,7 @@ def links(use):
     use.value("document.querySelector('#trouble a').click()")
     well = use.has_number("2") and not use.is_hidden("content") and use.text("trouble") == ""
     yield "from there one begins with an example", well, use.text("trouble")
-    for part, view in (("number-part", "number"), ("why-part", "why"), ("picture-part", "states"), ("protocol-part", "run")):
+    for part, view in (("number-part", "number"), ("why-part", "why"), ("picture-part", "states"), ("protocol-part", "run"), ("compare-part", "pairs")):
         use.open(f"#example=types/three_shot&run=0,1&view={view}")
         shown = use.value("[...document.querySelectorAll('main > section')].filter(it => it.checkVisibility()).map(it => it.id)")
         yield f"the view {view}", shown == [part] and use.value("location.hash").endswith(f"view={view}"), shown
@@ -670,14 +729,14 @@ def one_file(use):
         yield f"in less than {FIRST} s", seconds < FIRST, seconds
         use.open("#example=types/three_shot&run=0,1,x1", page=alone)
         use.value("Cnum.page.protocol.update()")
-        names = [use.saved(room, "Cnum.page.savePage()")]
+        names = [use.saved(room, "Cnum.page.address.savePage()")]
         before = use.seen()
         use.open(page=names[0])
         yield "a saved page shows its table and its run", use.seen() == before and names[0].name == "three_shot.html", use.seen()
-        names.append(use.saved(room, "Cnum.page.savePage()", "again_"))
+        names.append(use.saved(room, "Cnum.page.address.savePage()", "again_"))
         yield "it can be saved again, the same", names[0].read_bytes() == names[1].read_bytes(), ""
         use.give(SLOT)
-        use.open(page=use.saved(room, "Cnum.page.savePage()"))
+        use.open(page=use.saved(room, "Cnum.page.address.savePage()"))
         yield "a saved page with a table of one's own", use.table() == SLOT and use.has_number("1"), use.table()
 
 
@@ -691,7 +750,7 @@ def on_a_server(use):
         address = f"http://127.0.0.1:{server.server_port}"
         use.browser.open(f"{address}/cnum.html")
         yield "it answers from a server", use.until(READY) and use.has_number("2"), ""
-        use.value("Cnum.page.copyLink()")
+        use.value("Cnum.page.address.copy()")
         yield "its link is for everyone", "this machine" not in use.text("link-said"), use.text("link-said")
         use.browser.open(f"{address}/course.html")
         sections = "[...frames[0].document.querySelectorAll('main > section')].filter(it => it.checkVisibility()).map(it => it.id).join()"
@@ -847,6 +906,7 @@ def for_all(use):
     use.call("Emulation.setDeviceMetricsOverride", **PHONE)
     for path in ("types/test_and_set", "types/three_shot", "types/wide", "catalogue/ll_sc_2"):
         use.open(f"#example={path}")
+        yield f"the first state of {path} is in view on a phone", use.value(START_IN_VIEW), ""
         width = use.value("document.documentElement.scrollWidth")
         yield f"{path} on a phone", width <= PHONE["width"], width
     use.call("Emulation.clearDeviceMetricsOverride")
@@ -916,6 +976,8 @@ def foot(use):
     yield "and what it does not do", "each command of the program but serve" in told, told
     use.value("document.getElementById('skip').focus()")
     meets = "(([a, b]) => a.right > b.left && a.bottom > b.top && b.bottom > a.top)(['#skip', 'h1'].map(it => document.querySelector(it).getBoundingClientRect()))"
+    tips = use.count("#picture .tip"), use.count("#picture .arrow"), use.count("#picture marker")
+    yield "each arrow has its head as a shape", tips[0] == tips[1] > 0 and tips[2] == 0, tips
     yield "the skip link does not cover the heading", not use.value(meets), ""
 
 
@@ -932,12 +994,12 @@ def quiet(use):
 
 
 ALL = (
-    first_answer, flaws, examples, meanings, pictures, picture_tools, words, grid, changes, example_search, schedules,
-    pictured_runs, adversaries, keys, links, certificates, explanations, searches, one_file, without, for_all, paper, slides, languages,
-    foot, quiet, on_a_server, missing_parts,
+    first_answer, flaws, examples, meanings, pictures, picture_tools, words, grid, changes, comparisons, example_search,
+    schedules, pictured_runs, adversaries, keys, phone, links, certificates, explanations, searches, one_file, without, for_all,
+    paper, slides, languages, foot, quiet, on_a_server, missing_parts,
 )
 # The parts that also run in a browser that is not driven by DevTools.
 WITHOUT_DEVTOOLS = (
-    first_answer, meanings, pictures, words, grid, changes, example_search, schedules, pictured_runs, adversaries, links,
-    certificates, explanations, searches, one_file, languages, foot, on_a_server, missing_parts,
+    first_answer, meanings, pictures, words, grid, changes, comparisons, example_search, schedules, pictured_runs, adversaries,
+    keys, links, certificates, explanations, searches, one_file, languages, foot, on_a_server, missing_parts,
 )

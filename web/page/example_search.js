@@ -49,7 +49,7 @@ var Cnum = globalThis.Cnum || {};
         // The field, the list and the choice of a number. `choose` is called with the path of an example, and
         // `classify` gives the text of the numbers of all examples.
         constructor({ field, list, number }, { choose, classify }) {
-            Object.assign(this, { field, list, number, choose, classify, at: -1, known: null });
+            Object.assign(this, { field, list, number, choose, classify, at: -1, numbers: null });
             this.index = Cnum.exampleIndex();
             field.addEventListener('focus', () => field.select());
             field.addEventListener('click', () => this.open());
@@ -74,10 +74,10 @@ var Cnum = globalThis.Cnum || {};
 
         // Asks for the numbers of all examples, once, and shows them when they are there.
         async begin() {
-            if (this.known) return;
-            this.known = new Map();
+            if (this.numbers) return;
+            this.numbers = new Map();
             const { numbers, kinds } = Cnum.numbersOf(await this.classify(this.index.map(it => it.path)));
-            this.index.forEach(({ path }, place) => this.known.set(path, numbers[place]));
+            this.index.forEach(({ path }, place) => this.numbers.set(path, numbers[place]));
             this.number.append(...kinds.map(it => element('option', { value: it }, it)));
             if (!this.list.hidden) this.open();
         }
@@ -86,7 +86,7 @@ var Cnum = globalThis.Cnum || {};
             this.begin();
             const wanted = this.number.value;
             const query = this.field.value === this.name ? '' : this.field.value;
-            const found = Cnum.foundExamples(this.index, query, path => !wanted || this.known.get(path) === wanted);
+            const found = Cnum.foundExamples(this.index, query, path => !wanted || this.numbers.get(path) === wanted);
             this.list.replaceChildren(...found.map((it, place) => this.option(it, place)));
             if (!found.length) this.list.append(element('li', { class: 'quiet' }, say('no_example')));
             this.list.hidden = false;
@@ -95,7 +95,7 @@ var Cnum = globalThis.Cnum || {};
         }
 
         option({ path, name, group, about }, place) {
-            const number = this.known && this.known.get(path);
+            const number = this.numbers && this.numbers.get(path);
             const head = [element('strong', {}, name), ...(number ? [` ${say('example_number', { number })}`] : []), element('span', { class: 'group' }, group)];
             return element('li', { role: 'option', id: `example-${place}`, 'data-path': path }, ...head, element('span', { class: 'about' }, about));
         }

@@ -10,7 +10,7 @@ var Cnum = globalThis.Cnum || {};
     const OLD_FORM = 'deflate-raw'; // of links that older pages made
     const FIRST_BYTE = 0x78; // of a text in the form with a checksum
     const MOST_INPUT = 2n ** 64n - 1n;
-    const VIEWS = ['number', 'why', 'states', 'run'];
+    const VIEWS = ['number', 'why', 'states', 'run', 'pairs'];
 
     // Why a link cannot be shown.
     class Refused extends Error {}

@@ -6,10 +6,8 @@ var Cnum = globalThis.Cnum || {};
     'use strict';
 
     const { element, say } = Cnum;
-    const pageWith = Cnum.pageToSave();
     const AFTER_TYPING = 150;
     const BEFORE_TEAMS = 400;
-    const BEFORE_LINK = 150;
     const FIRST_EXAMPLE = 'types/test_and_set';
     const FIRST_LIMIT = '4';
     const CLASS = /: (infinite|(\d+)(?: to (\d+))?)\n$/;
@@ -18,14 +16,13 @@ var Cnum = globalThis.Cnum || {};
     const TOO_MANY = /^cnum: find: \d+ TooManyChoices/;
     const CERTIFICATE = 'certificate';
     const NO_NUMBER = '–';
-    // The parts of the page that can be shown alone, by their names in a link.
-    const VIEWS = { number: 'number-part', why: 'why-part', states: 'picture-part', run: 'protocol-part' };
 
     const at = id => document.getElementById(id);
     const examples = new Map(Cnum.examples.flatMap(group => group.types).map(it => [it.path, it]));
 
     class Page {
-        constructor(module) {
+        // `pageWith` gives the page as a file with a link in it, if it can be saved so.
+        constructor(module, pageWith) {
             this.module = module;
             this.quick = new Cnum.Runner(module);
             this.search = new Cnum.Runner(module);
@@ -41,9 +38,15 @@ var Cnum = globalThis.Cnum || {};
             );
             this.examples = new Cnum.ExampleSearch(
                 { field: at('example'), list: at('examples'), number: at('example-number') },
-                { choose: path => this.choose(path), classify: paths => this.classify(paths) },
+                { choose: path => this.choose(path), classify: paths => this.classifyAll(paths.map(path => examples.get(path).text)) },
             );
+            this.comparison = new Cnum.Comparison(at('comparison'), {
+                numbers: async texts => Cnum.numbersOf(await this.classifyAll(texts)).numbers,
+                take: text => this.edit(text),
+                openWhy: text => this.openWhy(text),
+            });
             this.protocol = new Cnum.Protocol(at('protocol'), this.forProtocol());
+            this.address = new Cnum.Address(this, pageWith);
             this.listen();
         }
 
@@ -56,7 +59,7 @@ var Cnum = globalThis.Cnum || {};
                 next: () => Cnum.run.movesOf(this.table),
                 picture: () => Cnum.pictureOf(this.dot, this.picture.plan),
                 mainPicture: () => this.mainPicture(),
-                changed: () => this.keepLinkSoon(),
+                changed: () => this.address.keepSoon(),
                 say: text => (at('step-said').textContent = text),
                 save: (part, picture, form) => this.savePicture(part, picture, form),
             };
@@ -93,15 +96,9 @@ var Cnum = globalThis.Cnum || {};
             for (const form of ['svg', 'png']) {
                 at(`picture-${form}`).addEventListener('click', () => this.savePicture('states', this.mainPicture(), form));
             }
-            at('copy-link').addEventListener('click', () => this.copyLink());
-            at('save-page').addEventListener('click', () => this.savePage());
-            at('save-page').hidden = !pageWith;
-            at('language').addEventListener('change', () => this.speak(at('language').value));
-            at('skip').addEventListener('click', event => this.skip(event));
             at('claim-file').addEventListener('change', () => this.check(at('claim-file').files[0]));
             at('notice-close').addEventListener('click', () => this.notice(''));
             this.listenToDrops();
-            window.addEventListener('hashchange', () => this.follow());
         }
 
         // Undo and redo by their buttons, by keys, and as the browser's own commands in the text.
@@ -188,6 +185,13 @@ var Cnum = globalThis.Cnum || {};
             return this.refresh();
         }
 
+        // Another table, with the reason of its number in view.
+        async openWhy(text) {
+            this.address.showView('');
+            await this.edit(text);
+            at('why-part').scrollIntoView();
+        }
+
         // The table before the last change, or after it. The cursor goes to the place of the change.
         async goBack(by) {
             if (!this.past.canMove(by)) return;
@@ -198,99 +202,34 @@ var Cnum = globalThis.Cnum || {};
             await this.refresh();
         }
 
-        // The numbers of these examples, a line each.
-        async classify(paths) {
-            const files = Object.fromEntries(paths.map(path => [path, examples.get(path).text]));
+        // The numbers of these tables, a line each.
+        async classifyAll(texts) {
+            const files = Object.fromEntries(texts.map((text, index) => [String(index), text]));
             const runner = new Cnum.Runner(this.module);
-            const answer = await runner.run(['classify', ...paths], '', files);
+            const answer = await runner.run(['classify', ...Object.keys(files)], '', files);
             runner.end();
             return answer.stdout;
         }
 
-        // Shows what the address says, or else what the file of the page holds.
-        async follow() {
-            if (location.hash === this.link) return;
-            const linked = await Cnum.linkedBy(location.hash || Cnum.savedLink());
-            if (linked.fault) {
-                this.refuseLink(linked.fault);
-                return;
-            }
-            if ((linked.lang || Cnum.FIRST_LANGUAGE) !== Cnum.language) {
-                location.reload();
-                return;
-            }
-            this.showView(linked.view);
+        // Shows what a link says.
+        async showLinked(linked) {
             at('limit').value = linked.limit || FIRST_LIMIT;
             this.text = linked.text === undefined ? examples.get(linked.example || FIRST_EXAMPLE).text : linked.text;
             await this.refresh(linked);
         }
 
-        // Says why a link cannot be shown, and shows nothing else.
-        refuseLink(why) {
+        // What a link says of what is shown.
+        linkContent() {
+            const example = this.example();
+            const { inputs } = this.protocol;
+            return { example: example && example.path, text: this.text, limit: at('limit').value, inputs, acts: this.protocol.actsSoFar() };
+        }
+
+        // Ends what runs, so that nothing is shown any more.
+        end() {
             this.round++;
             this.search.breakOff();
-            this.link = location.hash;
-            const first = element('a', { href: `#example=${FIRST_EXAMPLE}` }, say('link_first'));
-            at('trouble').replaceChildren(say('link_refused', { why }), ' ', first);
-            at('content').hidden = true;
-        }
-
-        // Shows this part alone, or the whole page if there is none.
-        showView(view) {
-            this.view = view;
-            at('trouble').replaceChildren();
-            at('content').hidden = false;
-            document.body.classList.toggle('one-part', Boolean(view));
-            for (const name of Object.keys(VIEWS)) at(VIEWS[name]).classList.toggle('shown', name === view);
-            at('whole').hidden = !view;
-        }
-
-        // A browser takes so many addresses at a time, and one can step faster.
-        keepLinkSoon() {
-            clearTimeout(this.keeping);
-            this.keeping = setTimeout(() => this.keepLink(), BEFORE_LINK);
-        }
-
-        async keepLink() {
-            clearTimeout(this.keeping);
-            const inputs = this.protocol.inputs;
-            const acts = this.protocol.shownActs();
-            const example = this.example();
-            const shown = { example: example && example.path, text: this.text, limit: at('limit').value, inputs, acts, lang: Cnum.language };
-            const link = await Cnum.linkOf({ ...shown, view: this.view });
-            at('whole-link').href = await Cnum.linkOf(shown);
-            this.link = link;
-            history.replaceState(null, '', link);
-        }
-
-        async copyLink() {
-            await this.keepLink();
-            let told = say('link_copied');
-            try {
-                await navigator.clipboard.writeText(location.href);
-            } catch {
-                told = say('link_address');
-            }
-            const ofFile = say(pageWith ? 'link_of_file' : 'link_of_folder');
-            at('link-said').textContent = location.protocol === 'file:' ? `${told} ${ofFile}` : told;
-        }
-
-        // Shows the same in another language.
-        async speak(lang) {
-            Cnum.useLanguage(lang);
-            await this.keepLink();
-            location.reload();
-        }
-
-        async savePage() {
-            await this.keepLink();
-            this.offer('html', pageWith(this.link), 'text/html');
-        }
-
-        // Leads to the number. The address holds the link, and so has no place for the name of a part.
-        skip(event) {
-            event.preventDefault();
-            at('number-part').focus();
+            this.adversary.breakOff();
         }
 
         // Runs a command on the table that is shown. The answer is null if another table has come since.
@@ -302,10 +241,8 @@ var Cnum = globalThis.Cnum || {};
 
         // Shows all anew: the flaws, the picture, the number, why, and the protocol, after this run of it.
         async refresh(linked = { inputs: [], acts: [] }) {
-            this.round++;
+            this.end();
             this.table = this.text;
-            this.search.breakOff();
-            this.adversary.breakOff();
             const example = this.example();
             this.past.put(this.text);
             at('type-name').textContent = this.nameOfType();
@@ -322,8 +259,10 @@ var Cnum = globalThis.Cnum || {};
             at('fault').textContent = lint.stderr && Cnum.inWords(lint.stderr);
             at('notes').textContent = isTable ? lines.filter(it => /^(state|operation) \w+: /.test(it)).join('\n') : '';
             this.forget(isTable ? '' : say('no_number'));
+            this.comparison.show(isTable ? this.table : '');
+            if (isTable && this.address.view === 'pairs') this.comparison.pair();
             if (isTable) await this.find(linked);
-            if (!at('content').hidden) await this.keepLink();
+            if (!at('content').hidden) await this.address.keep();
         }
 
         // Takes away what was said of another table.
@@ -423,7 +362,7 @@ var Cnum = globalThis.Cnum || {};
         async showProtocol(linked) {
             const { number } = JSON.parse(this.certificate);
             if (number === null) {
-                if (!this.hasFittingRun(linked, 1)) return;
+                if (!this.address.fits(linked, 1)) return;
                 this.draw(null);
                 this.protocol.clear(say('nobody'));
                 return;
@@ -434,17 +373,9 @@ var Cnum = globalThis.Cnum || {};
             const show = await this.ask(this.search, ['show', '--as', 'json', CERTIFICATE], this.witness);
             if (!show) return;
             const plan = JSON.parse(show.stdout);
-            if (!this.hasFittingRun(linked, plan.processes)) return;
+            if (!this.address.fits(linked, plan.processes)) return;
             this.draw(plan);
             await this.protocol.show(plan, linked.inputs, linked.acts);
-        }
-
-        // Whether the run of a link is one of so many processes. If it is not, the page refuses the link.
-        hasFittingRun({ inputs, acts }, processes) {
-            const count = Math.max(inputs.length, ...acts.map(it => it.process + 1));
-            const fits = inputs.length ? count === processes : count <= processes;
-            if (!fits) this.refuseLink(say('link_processes', { linked: count, processes }));
-            return fits;
         }
 
         // The picture, with the start and the teams of this plan, if there is one.
@@ -507,7 +438,7 @@ var Cnum = globalThis.Cnum || {};
 
         async begin() {
             Cnum.explainWords(at('legend'));
-            await this.follow();
+            await this.address.follow();
             const version = await this.quick.run(['--version']);
             const [, program, proof] = PROVED.exec(version.stdout) || ['', version.stdout.trim(), ''];
             at('made-by').textContent = say('made_by', { program, proof });
@@ -537,6 +468,7 @@ var Cnum = globalThis.Cnum || {};
 
     async function begin() {
         if (document.documentElement.dataset.lacks) return;
+        const pageWith = Cnum.pageToSave();
         Cnum.useLanguage(Cnum.languageOf(location.hash || Cnum.savedLink()));
         Cnum.fillTexts();
         let module;
@@ -548,7 +480,7 @@ var Cnum = globalThis.Cnum || {};
             return;
         }
         offerLanguages();
-        Cnum.page = new Page(module);
+        Cnum.page = new Page(module, pageWith);
         await Cnum.page.begin();
         document.documentElement.dataset.ready = 'yes';
     }

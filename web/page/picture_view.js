@@ -25,11 +25,21 @@ var Cnum = globalThis.Cnum || {};
     // The operations that the text of `draw` names, each once.
     Cnum.operationsOf = dot => [...new Set([...dot.matchAll(/(\w+)\/\w+\\l/g)].map(it => it[1]))].sort();
 
+    // Scrolls a place so that a part of its picture is in the middle.
+    Cnum.reveal = function (place, selector) {
+        const part = place.querySelector(selector);
+        if (!part) return;
+        const [box, whole] = [part.getBoundingClientRect(), place.getBoundingClientRect()];
+        const across = box.left + box.width / 2 - whole.left - place.clientWidth / 2;
+        const down = box.top + box.height / 2 - whole.top - place.clientHeight / 2;
+        place.scrollTo(place.scrollLeft + across, place.scrollTop + down);
+    };
+
     class PictureView {
         // Shows pictures in this place, with its controls in `tools` and the choice of operations in
-        // `choice`. `part` is what fills the screen. `drawn` is called with each picture.
-        constructor({ place, tools, choice, part }, drawn) {
-            Object.assign(this, { place, choice, part, drawn, left: new Set(), zoom: null, dot: '' });
+        // `choice`. `part` is what fills the screen. `afterDrawing` is called with each picture.
+        constructor({ place, tools, choice, part }, afterDrawing) {
+            Object.assign(this, { place, choice, part, afterDrawing, hidden: new Set(), zoom: null, dot: '' });
             const whole = button(say('full_screen'), () => this.fillScreen());
             whole.hidden = !document.fullscreenEnabled;
             const tool = (text, key, act) => button(text, act, { 'aria-label': say(key), title: say(key) });
@@ -51,12 +61,13 @@ var Cnum = globalThis.Cnum || {};
             Object.assign(this, { dot, plan, zoom: null });
             this.offerOperations();
             this.draw();
+            Cnum.reveal(this.place, plan ? '.start' : '.node');
         }
 
         draw() {
-            this.place.replaceChildren(Cnum.pictureOf(Cnum.dotOf(this.dot, it => !this.left.has(it)), this.plan));
+            this.place.replaceChildren(Cnum.pictureOf(Cnum.dotOf(this.dot, it => !this.hidden.has(it)), this.plan));
             this.fit();
-            this.drawn();
+            this.afterDrawing();
         }
 
         clear() {
@@ -67,13 +78,13 @@ var Cnum = globalThis.Cnum || {};
         // The operations to choose from, if there are several.
         offerOperations() {
             const names = Cnum.operationsOf(this.dot);
-            this.left = new Set(names.filter(it => this.left.has(it)));
+            this.hidden = new Set(names.filter(it => this.hidden.has(it)));
             const boxes = names.map(name => {
                 const box = element('input', { type: 'checkbox' });
-                box.checked = !this.left.has(name);
+                box.checked = !this.hidden.has(name);
                 box.addEventListener('change', () => {
-                    if (box.checked) this.left.delete(name);
-                    else this.left.add(name);
+                    if (box.checked) this.hidden.delete(name);
+                    else this.hidden.add(name);
                     this.draw();
                 });
                 return element('label', {}, box, ` ${name}`);
@@ -101,6 +112,7 @@ var Cnum = globalThis.Cnum || {};
         scaleTo(zoom) {
             this.zoom = zoom && Math.min(MOST, Math.max(LEAST / 2, zoom));
             this.fit();
+            Cnum.reveal(this.place, '.lit, .start, .node');
         }
 
         async fillScreen() {

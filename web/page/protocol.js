@@ -23,10 +23,10 @@ var Cnum = globalThis.Cnum || {};
         clear(why) {
             this.plan = null;
             this.view = null;
-            this.known = new Map();
+            this.answers = new Map();
             this.acts = [];
             this.events = [];
-            this.shown = 0;
+            this.position = 0;
             this.inputs = [];
             this.turn++;
             this.place.replaceChildren(element('p', { class: 'quiet' }, why));
@@ -35,7 +35,7 @@ var Cnum = globalThis.Cnum || {};
         // Shows the plan of `show --as json`, after these acts with these inputs.
         show(plan, inputs, acts) {
             this.plan = plan;
-            this.known = new Map();
+            this.answers = new Map();
             this.next = this.page.next();
             this.inputs = inputs.length === plan.processes ? inputs : plan.paths.map((_, process) => String(10 * (process + 1)));
             this.view = new Cnum.RunView(this.place, this);
@@ -45,27 +45,27 @@ var Cnum = globalThis.Cnum || {};
         // Another run, shown up to its end.
         set(acts) {
             this.acts = acts;
-            this.shown = acts.length;
+            this.position = acts.length;
             return this.update();
         }
 
         // An act after what is shown. What came behind that is forgotten.
         act(process, stops) {
-            return this.set([...this.shownActs(), { process, stops }]);
+            return this.set([...this.actsSoFar(), { process, stops }]);
         }
 
-        shownActs() {
-            return this.acts.slice(0, this.shown);
+        actsSoFar() {
+            return this.acts.slice(0, this.position);
         }
 
         // Shows the run up to this number of acts.
         moveTo(count) {
-            this.shown = Math.max(0, Math.min(count, this.events.length));
+            this.position = Math.max(0, Math.min(count, this.events.length));
             this.render();
         }
 
         undo() {
-            this.moveTo(this.shown - 1);
+            this.moveTo(this.position - 1);
             this.page.changed();
         }
 
@@ -75,18 +75,18 @@ var Cnum = globalThis.Cnum || {};
             return this.update();
         }
 
-        goingOn() {
-            return run.going(run.after(this.events.slice(0, this.shown), this.plan).processes);
+        activeProcesses() {
+            return run.active(run.after(this.events.slice(0, this.position), this.plan).processes);
         }
 
         // Lets each process that goes on take a step in turn, until all have decided.
         runAll() {
-            const round = this.goingOn().map(process => ({ process, stops: false }));
-            return this.set([...this.shownActs(), ...Array(4 * this.plan.processes).fill(round).flat()]);
+            const round = this.activeProcesses().map(process => ({ process, stops: false }));
+            return this.set([...this.actsSoFar(), ...Array(4 * this.plan.processes).fill(round).flat()]);
         }
 
         runRandomly() {
-            let going = this.goingOn();
+            let going = this.activeProcesses();
             const acts = [];
             for (let count = 8 * this.plan.processes ** 2; count > 0 && going.length; count--) {
                 const process = going[Math.floor(Math.random() * going.length)];
@@ -95,15 +95,15 @@ var Cnum = globalThis.Cnum || {};
                 if (stops) going = going.filter(it => it !== process);
             }
             const rest = going.flatMap(process => Array(4 * this.plan.processes).fill({ process, stops: false }));
-            return this.set([...this.shownActs(), ...acts, ...rest]);
+            return this.set([...this.actsSoFar(), ...acts, ...rest]);
         }
 
         // What the program says of a run: its events. It is asked only once for each.
-        async told(acts) {
+        async runOf(acts) {
             const possible = run.withoutStopped(acts);
             const key = JSON.stringify([this.inputs, possible]);
-            if (!this.known.has(key)) this.known.set(key, await this.ask(this.page.agree, possible));
-            return this.known.get(key);
+            if (!this.answers.has(key)) this.answers.set(key, await this.ask(this.page.agree, possible));
+            return this.answers.get(key);
         }
 
         async ask(agree, acts) {
@@ -119,7 +119,7 @@ var Cnum = globalThis.Cnum || {};
         // Runs the acts, and shows what the program says of them.
         async update() {
             const turn = ++this.turn;
-            const told = await this.told(this.acts);
+            const told = await this.runOf(this.acts);
             if (turn !== this.turn) return;
             if (told.fault) {
                 this.view.fail(Cnum.inWords(told.fault));
@@ -127,13 +127,13 @@ var Cnum = globalThis.Cnum || {};
             }
             this.events = told.events;
             this.acts = told.events.map(({ process, stops }) => ({ process, stops }));
-            this.shown = Math.min(this.shown, this.acts.length);
+            this.position = Math.min(this.position, this.acts.length);
             this.render();
             this.page.changed();
         }
 
         render() {
-            const events = this.events.slice(0, this.shown);
+            const events = this.events.slice(0, this.position);
             this.view.show(events, this.events.length, run.after(events, this.plan));
         }
 

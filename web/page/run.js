@@ -76,7 +76,7 @@ var Cnum = globalThis.Cnum || {};
     }
 
     // The processes that have neither decided nor stopped.
-    const going = processes => processes.map((_, process) => process).filter(it => processes[it].decision === UNDECIDED && !processes[it].hasStopped);
+    const active = processes => processes.map((_, process) => process).filter(it => processes[it].decision === UNDECIDED && !processes[it].hasStopped);
 
     // The function that gives the state after an operation in a state, by the text of a table.
     function movesOf(text) {
@@ -86,5 +86,5 @@ var Cnum = globalThis.Cnum || {};
         return (operation, state) => rows.get(operation)[states.indexOf(state)];
     }
 
-    Cnum.run = { UNDECIDED, withoutStopped, eventsOf, withStates, after, going, movesOf };
+    Cnum.run = { UNDECIDED, withoutStopped, eventsOf, withStates, after, active, movesOf };
 })();

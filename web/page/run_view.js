@@ -19,6 +19,7 @@ var Cnum = globalThis.Cnum || {};
             this.log = element('ol', { class: 'log', tabindex: 0, 'aria-label': say('log') });
             this.nodes = wide(say('nodes'), '');
             this.diagram = wide(say('diagram'), '');
+            this.diagram.addEventListener('scroll', () => Cnum.holdHeads(this.diagram));
             this.object = element('p', { class: 'object' });
             place.replaceChildren(
                 this.controls(),
@@ -32,21 +33,21 @@ var Cnum = globalThis.Cnum || {};
 
         controls() {
             const { protocol } = this;
-            this.undoing = button(say('run_undo'), () => protocol.undo());
+            this.undoButton = button(say('run_undo'), () => protocol.undo());
             this.slider = element('input', { type: 'range', min: 0, max: 0, value: 0, id: 'run-place' });
             this.slider.addEventListener('input', () => protocol.moveTo(Number(this.slider.value)));
             this.slider.addEventListener('change', () => protocol.page.changed());
             this.count = element('output', { for: 'run-place' });
-            this.trying = button(say('try'), () => protocol.tryToBreak());
-            this.ending = button(say('break_off'), () => protocol.endTrial(), { hidden: '' });
+            this.tryButton = button(say('try'), () => protocol.tryToBreak());
+            this.endButton = button(say('break_off'), () => protocol.endTrial(), { hidden: '' });
             this.trial = element('p', { class: 'trial', 'aria-live': 'polite' });
             const buttons = [
-                this.undoing,
+                this.undoButton,
                 button(say('run_anew'), () => protocol.set([])),
                 button(say('run_all'), () => protocol.runAll()),
                 button(say('run_random'), () => protocol.runRandomly()),
-                this.trying,
-                this.ending,
+                this.tryButton,
+                this.endButton,
             ];
             const place = element('p', { class: 'run-place' }, element('label', { for: 'run-place' }, say('run_place')), this.slider, this.count);
             const keys = element('p', { class: 'quiet hint keys' }, say('run_keys', { last: this.plan.processes - 1 }));
@@ -140,15 +141,15 @@ var Cnum = globalThis.Cnum || {};
 
         showTrial(text, isRunning) {
             this.trial.textContent = text;
-            this.trying.hidden = isRunning;
-            this.ending.hidden = !isRunning;
+            this.tryButton.hidden = isRunning;
+            this.endButton.hidden = !isRunning;
         }
 
         // Shows a run of `whole` acts after these first events, and what holds there.
         show(events, whole, now) {
             this.trouble.textContent = '';
             this.showTrial('', false);
-            this.undoing.disabled = !events.length;
+            this.undoButton.disabled = !events.length;
             this.slider.max = whole;
             this.slider.value = events.length;
             this.count.textContent = say('run_count', { count: events.length, whole });
@@ -185,6 +186,7 @@ var Cnum = globalThis.Cnum || {};
         showDiagram(events) {
             this.diagram.replaceChildren(Cnum.spaceTime(events, this.protocol.inputs, this.plan));
             this.diagram.scrollLeft = this.diagram.scrollWidth;
+            Cnum.holdHeads(this.diagram);
         }
 
         showNodes(nodes) {
@@ -208,6 +210,7 @@ var Cnum = globalThis.Cnum || {};
             const text = last ? say('object_after', last) : say('object_start', { state });
             this.object.textContent = say('object_of_node', { node, text });
             for (const picture of [this.states, this.protocol.page.mainPicture()]) Cnum.lightUp(picture, state, last);
+            Cnum.reveal(this.states.parentElement, '.node.lit');
         }
     }
 

@@ -21,6 +21,7 @@ var Cnum = globalThis.Cnum || {};
         .label .badge { fill: #fff; font-weight: bold; font-size: 11px }
         .world-line, .cross { stroke: #444; fill: none; stroke-width: 1.5 }
         .cross { stroke: #a3131a; stroke-width: 2.5 }
+        .heads rect { fill: #fff }
         .space-time .team-A { fill: #0060a8 }
         .space-time .team-B { fill: #b34700 }
         .space-time .open { fill: #fff; stroke: #444; stroke-width: 1.5 }
@@ -37,6 +38,7 @@ var Cnum = globalThis.Cnum || {};
     Cnum.svgText = function (picture) {
         const copy = picture.cloneNode(true);
         for (const it of copy.querySelectorAll('.lit')) it.classList.remove('lit');
+        for (const it of copy.querySelectorAll('.heads')) it.removeAttribute('transform');
         copy.removeAttribute('style');
         copy.setAttribute('xmlns', 'http://www.w3.org/2000/svg');
         copy.prepend(svgElement('style', {}, STYLE));

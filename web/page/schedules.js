@@ -36,7 +36,7 @@ var Cnum = globalThis.Cnum || {};
     }
 
     // A beginning with the processes after it, of which the first to go on is the one that begins.
-    function completed(beginning, processes, bound) {
+    function completion(beginning, processes, bound) {
         const last = beginning.length > bound ? [beginning[beginning.length - 1]] : [];
         return [...beginning, ...last.flatMap(it => Array(mostSteps(processes)).fill(it)), ...alone(processes)];
     }
@@ -46,9 +46,9 @@ var Cnum = globalThis.Cnum || {};
     async function all(processes, run, judge) {
         const bound = BOUNDS[processes];
         for (let beginning = []; beginning; ) {
-            const tried = await run(completed(beginning, processes, bound));
-            if (!tried || !judge(tried)) return;
-            const steps = tried.events.map(it => it.process);
+            const attempt = await run(completion(beginning, processes, bound));
+            if (!attempt || !judge(attempt)) return;
+            const steps = attempt.events.map(it => it.process);
             const decidedAt = Array.from({ length: processes }, (_, process) => steps.lastIndexOf(process));
             beginning = nextBeginning(steps, decidedAt, bound);
         }
@@ -66,8 +66,8 @@ var Cnum = globalThis.Cnum || {};
         const source = numbers(processes);
         for (let count = 0; count < AT_RANDOM; count++) {
             const word = Array.from({ length: 2 * processes * mostSteps(processes) }, () => Math.floor(source.next().value * processes));
-            const tried = await run([...word, ...alone(processes)]);
-            if (!tried || !judge(tried)) return;
+            const attempt = await run([...word, ...alone(processes)]);
+            if (!attempt || !judge(attempt)) return;
         }
     }
 
@@ -86,10 +86,10 @@ var Cnum = globalThis.Cnum || {};
     // there were, the one with the most turns, and the one that is not right, if there is any.
     Cnum.tryToBreak = async function (processes, run, tell) {
         const found = { count: 0, areAll: processes in BOUNDS, bound: BOUNDS[processes], isWhole: processes === 2, worst: null, broken: null };
-        const judge = tried => {
+        const judge = attempt => {
             tell(++found.count);
-            if (!isRight(tried)) found.broken = tried;
-            if (!found.worst || turns(tried.events) > turns(found.worst.events)) found.worst = tried;
+            if (!isRight(attempt)) found.broken = attempt;
+            if (!found.worst || turns(attempt.events) > turns(found.worst.events)) found.worst = attempt;
             return !found.broken;
         };
         await (found.areAll ? all : atRandom)(processes, run, judge);

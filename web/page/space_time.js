@@ -39,7 +39,7 @@ var Cnum = globalThis.Cnum || {};
         const lines = heads.map((head, process) => {
             const last = marks.filter(it => it.event.process === process).pop();
             const hasEnded = last && ['decides', 'stops'].includes(last.event.kind);
-            return { head, from: begin, to: hasEnded ? last.x : Math.max(right, begin + EMPTY) + GAP, y: TOP + APART * process, isOpen: !hasEnded };
+            return { head, from: begin, to: hasEnded ? last.x : Math.max(right, begin + EMPTY) + GAP, y: TOP + APART * process };
         });
         return { marks, lines, width: Math.max(right, begin + EMPTY) + 2 * GAP, height: TOP + APART * (inputs.length - 1) + 44 };
     };
@@ -64,10 +64,19 @@ var Cnum = globalThis.Cnum || {};
         return svgElement('g', { class: 'mark-of-step' }, shape, above, ...(texts[1] ? [below] : []));
     }
 
-    function line({ head, from, to, y, isOpen }) {
-        const name = svgElement('text', { x: LEFT, y: y + 4 }, head);
-        return svgElement('g', {}, name, svgElement('path', { class: isOpen ? 'world-line' : 'world-line ended', d: `M${from},${y}H${to}` }));
+    const line = ({ from, to, y }) => svgElement('path', { class: 'world-line', d: `M${from},${y}H${to}` });
+
+    // The names of the processes, over what is behind them: they stay in view if the diagram scrolls.
+    function heads(lines, height) {
+        const ground = svgElement('rect', { x: 0, y: 0, width: lines[0].from - GAP / 2, height });
+        return svgElement('g', { class: 'heads' }, ground, ...lines.map(({ head, y }) => svgElement('text', { x: LEFT, y: y + 4 }, head)));
     }
+
+    // Holds the names at the left edge of what scrolls.
+    Cnum.holdHeads = function (place) {
+        const names = place.querySelector('.heads');
+        if (names) names.setAttribute('transform', `translate(${place.scrollLeft},0)`);
+    };
 
     // The diagram as an element. A process has the team of its place at the node of the event.
     Cnum.spaceTime = function (events, inputs, plan) {
@@ -75,6 +84,7 @@ var Cnum = globalThis.Cnum || {};
         const teamOf = ({ process, node }) => (plan.paths[process].find(it => it.node === node) || {}).team;
         const size = { viewBox: `0 0 ${Math.ceil(width)} ${height}`, width: Math.ceil(width), height };
         const about = say('st_about', { processes: inputs.length, steps: events.length });
-        return svgElement('svg', { class: 'space-time', role: 'img', 'aria-label': about, ...size }, ...lines.map(line), ...marks.map(it => mark(it, teamOf)));
+        const parts = [...lines.map(line), ...marks.map(it => mark(it, teamOf)), heads(lines, height)];
+        return svgElement('svg', { class: 'space-time', role: 'img', 'aria-label': about, ...size }, ...parts);
     };
 })();

@@ -26,7 +26,7 @@ var Cnum = globalThis.Cnum || {};
     }
 
     // A word as a button, with its explanation, which is closed at first.
-    function explained(word, key) {
+    function noteFor(word, key) {
         const note = element('span', { class: 'note', id: `note-${++count}`, hidden: '' }, say(key));
         const made = Cnum.button(word, () => {
             note.hidden = !note.hidden;
@@ -42,7 +42,7 @@ var Cnum = globalThis.Cnum || {};
             if (!found) continue;
             const rest = found.text.splitText(found.from);
             rest.data = rest.data.slice(found.word.length);
-            rest.before(...explained(found.word, key));
+            rest.before(...noteFor(found.word, key));
         }
     };
 })();
