@@ -202,14 +202,16 @@ var Cnum = globalThis.Cnum || {};
             return places.filter(it => it.node === node).map(({ process, team }) => say('comer', { process, team })).join(', ');
         }
 
-        // Lights up the state of the object on which the last operation was, and the arrow of that operation.
+        // Lights up the state of the object on which the last operation was, and the arrow of that operation. The
+        // picture of the states shows no run before its first operation.
         showObject(events, nodes) {
             const last = events.filter(it => it.kind === 'applies').pop();
             const node = last ? last.node : 0;
             const { state } = nodes[node];
             const text = last ? say('object_after', last) : say('object_start', { state });
             this.object.textContent = say('object_of_node', { node, text });
-            for (const picture of [this.states, this.protocol.page.mainPicture()]) Cnum.lightUp(picture, state, last);
+            Cnum.lightUp(this.states, state, last);
+            Cnum.lightUp(this.protocol.page.mainPicture(), last ? state : null, last);
             Cnum.reveal(this.states.parentElement, '.node.lit');
         }
     }

@@ -68,7 +68,7 @@ var Cnum = globalThis.Cnum || {};
 
     // The names of the processes, over what is behind them: they stay in view if the diagram scrolls.
     function heads(lines, height) {
-        const ground = svgElement('rect', { x: 0, y: 0, width: lines[0].from - GAP / 2, height });
+        const ground = svgElement('rect', { x: -LEFT, y: 0, width: LEFT + lines[0].from - GAP / 2, height });
         return svgElement('g', { class: 'heads' }, ground, ...lines.map(({ head, y }) => svgElement('text', { x: LEFT, y: y + 4 }, head)));
     }
 
