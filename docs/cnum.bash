@@ -5,7 +5,7 @@ _cnum() {
     COMPREPLY=()
     case ${COMP_WORDS[1]} in
     find)
-        options='--limit --table -h --help' arguments=''
+        options='--limit --table -h --help' arguments='FILE'
         [[ $previous == --limit ]] && values='2 3 4 5 6 7 8'
         ;;
     classify)
@@ -13,33 +13,39 @@ _cnum() {
         [[ $previous == --limit ]] && values='2 3 4 5 6 7 8'
         ;;
     lint)
-        options='--table -h --help' arguments=''
+        options='--as --table -h --help' arguments='FILE'
+        [[ $previous == --as ]] && values='text json'
         ;;
     check)
-        options='--table -h --help' arguments='CERT'
+        options='--table -h --help' arguments='CERT FILE'
         ;;
     explain)
-        options='--all --table -h --help' arguments='CERT'
+        options='--all --table -h --help' arguments='CERT FILE'
         ;;
     why)
         options='--limit --all -h --help' arguments='FILE'
         [[ $previous == --limit ]] && values='2 3 4 5 6 7 8'
         ;;
+    pairs)
+        options='--as -h --help' arguments='FILE'
+        [[ $previous == --as ]] && values='text json markdown'
+        ;;
     show)
-        options='--as --table -h --help' arguments='CERT'
-        [[ $previous == --as ]] && values='text json dot promela'
+        options='--as --table -h --help' arguments='CERT FILE'
+        [[ $previous == --as ]] && values='text json dot promela rust c'
         ;;
     draw)
-        options='--table -h --help' arguments=''
+        options='--table -h --help' arguments='FILE'
         ;;
     agree)
-        options='--steps --table -h --help' arguments='CERT INPUTS SCHEDULE'
+        options='--steps --as --table -h --help' arguments='CERT INPUTS SCHEDULE FILE'
+        [[ $previous == --as ]] && values='text json'
         ;;
     replay)
-        options='--table -h --help' arguments='CERT OBJECT START CAPACITY EVENTS'
+        options='--table -h --help' arguments='CERT OBJECT START CAPACITY EVENTS FILE'
         ;;
     serve)
-        options='--table -h --help' arguments='CERT OBJECT START CAPACITY CALLS'
+        options='--table -h --help' arguments='CERT OBJECT START CAPACITY CALLS FILE'
         ;;
     help)
         options='' arguments='COMMAND...'
@@ -75,7 +81,7 @@ _cnum() {
     fi
     case ${arguments[at]} in
     COMMAND*)
-        mapfile -t COMPREPLY < <(compgen -W 'find classify lint check explain why show draw agree replay serve help' -- "$current")
+        mapfile -t COMPREPLY < <(compgen -W 'find classify lint check explain why pairs show draw agree replay serve help' -- "$current")
         ;;
     CERT* | OBJECT* | FILE*)
         mapfile -t COMPREPLY < <(compgen -f -- "$current")

@@ -47,6 +47,7 @@ complete -c cnum -n '__cnum_is' -a lint -d 'Writes the table as a grid, or all t
 complete -c cnum -n '__cnum_is' -a check -d 'Checks a certificate against the type'
 complete -c cnum -n '__cnum_is' -a explain -d 'Tells why the number of a certificate is what it is'
 complete -c cnum -n '__cnum_is' -a why -d 'Finds the consensus number of the type, and tells why it is what it is'
+complete -c cnum -n '__cnum_is' -a pairs -d 'Writes the numbers of the operations of the type and of their pairs'
 complete -c cnum -n '__cnum_is' -a show -d 'Writes the plan of a certificate\'s witness'
 complete -c cnum -n '__cnum_is' -a draw -d 'Draws the states of the type'
 complete -c cnum -n '__cnum_is' -a agree -d 'Runs the plan of a certificate\'s witness by a schedule'
@@ -56,43 +57,57 @@ complete -c cnum -n '__cnum_is' -a help -d 'Print this message or the help of th
 complete -c cnum -n '__cnum_is find' -l limit -x -a '2 3 4 5 6 7 8' -d 'The greatest number looked for, from 2 to 8'
 complete -c cnum -n '__cnum_is find' -l table -r -F -d 'The file that holds the type table, in place of standard input'
 complete -c cnum -n '__cnum_is find' -s h -l help -d 'Print help'
+complete -c cnum -n '__cnum_at find 1' -F
 complete -c cnum -n '__cnum_is classify' -l limit -x -a '2 3 4 5 6 7 8' -d 'The greatest number looked for, from 2 to 8'
 complete -c cnum -n '__cnum_is classify' -l recoverable -d 'Writes the recoverable number of each type too'
 complete -c cnum -n '__cnum_is classify' -s h -l help -d 'Print help'
 complete -c cnum -n '__cnum_from classify 1' -F
+complete -c cnum -n '__cnum_is lint' -l as -x -a 'text json' -d 'The form in which the table or its flaws are written'
 complete -c cnum -n '__cnum_is lint' -l table -r -F -d 'The file that holds the type table, in place of standard input'
 complete -c cnum -n '__cnum_is lint' -s h -l help -d 'Print help'
+complete -c cnum -n '__cnum_at lint 1' -F
 complete -c cnum -n '__cnum_is check' -l table -r -F -d 'The file that holds the type table, in place of standard input'
 complete -c cnum -n '__cnum_is check' -s h -l help -d 'Print help'
 complete -c cnum -n '__cnum_at check 1' -F
+complete -c cnum -n '__cnum_at check 2' -F
 complete -c cnum -n '__cnum_is explain' -l all -d 'Tells all choices that are refuted, not the first 12 alone'
 complete -c cnum -n '__cnum_is explain' -l table -r -F -d 'The file that holds the type table, in place of standard input'
 complete -c cnum -n '__cnum_is explain' -s h -l help -d 'Print help'
 complete -c cnum -n '__cnum_at explain 1' -F
+complete -c cnum -n '__cnum_at explain 2' -F
 complete -c cnum -n '__cnum_is why' -l limit -x -a '2 3 4 5 6 7 8' -d 'The greatest number looked for, from 2 to 8'
 complete -c cnum -n '__cnum_is why' -l all -d 'Tells all choices that are refuted, not the first 12 alone'
 complete -c cnum -n '__cnum_is why' -s h -l help -d 'Print help'
 complete -c cnum -n '__cnum_at why 1' -F
-complete -c cnum -n '__cnum_is show' -l as -x -a 'text json dot promela' -d 'The form in which the plan is written'
+complete -c cnum -n '__cnum_is pairs' -l as -x -a 'text json markdown' -d 'The form in which the numbers are written'
+complete -c cnum -n '__cnum_is pairs' -s h -l help -d 'Print help'
+complete -c cnum -n '__cnum_at pairs 1' -F
+complete -c cnum -n '__cnum_is show' -l as -x -a 'text json dot promela rust c' -d 'The form in which the plan is written'
 complete -c cnum -n '__cnum_is show' -l table -r -F -d 'The file that holds the type table, in place of standard input'
 complete -c cnum -n '__cnum_is show' -s h -l help -d 'Print help'
 complete -c cnum -n '__cnum_at show 1' -F
+complete -c cnum -n '__cnum_at show 2' -F
 complete -c cnum -n '__cnum_is draw' -l table -r -F -d 'The file that holds the type table, in place of standard input'
 complete -c cnum -n '__cnum_is draw' -s h -l help -d 'Print help'
+complete -c cnum -n '__cnum_at draw 1' -F
 complete -c cnum -n '__cnum_is agree' -l steps -d 'Tells what each step does, before the decisions'
+complete -c cnum -n '__cnum_is agree' -l as -x -a 'text json' -d 'The form in which the run is written'
 complete -c cnum -n '__cnum_is agree' -l table -r -F -d 'The file that holds the type table, in place of standard input'
 complete -c cnum -n '__cnum_is agree' -s h -l help -d 'Print help'
 complete -c cnum -n '__cnum_at agree 1' -F
 complete -c cnum -n '__cnum_at agree 2' -a '(__cnum_list)'
 complete -c cnum -n '__cnum_at agree 3' -a '(__cnum_list)'
+complete -c cnum -n '__cnum_at agree 4' -F
 complete -c cnum -n '__cnum_is replay' -l table -r -F -d 'The file that holds the type table, in place of standard input'
 complete -c cnum -n '__cnum_is replay' -s h -l help -d 'Print help'
 complete -c cnum -n '__cnum_at replay 1' -F
 complete -c cnum -n '__cnum_at replay 2' -F
 complete -c cnum -n '__cnum_at replay 5' -a '(__cnum_list)'
+complete -c cnum -n '__cnum_at replay 6' -F
 complete -c cnum -n '__cnum_is serve' -l table -r -F -d 'The file that holds the type table, in place of standard input'
 complete -c cnum -n '__cnum_is serve' -s h -l help -d 'Print help'
 complete -c cnum -n '__cnum_at serve 1' -F
 complete -c cnum -n '__cnum_at serve 2' -F
 complete -c cnum -n '__cnum_at serve 5' -a '(__cnum_list)'
-complete -c cnum -n '__cnum_from help 1' -a 'find classify lint check explain why show draw agree replay serve help'
+complete -c cnum -n '__cnum_at serve 6' -F
+complete -c cnum -n '__cnum_from help 1' -a 'find classify lint check explain why pairs show draw agree replay serve help'
