@@ -6,12 +6,13 @@ const { describe, it } = require('node:test');
 const vm = require('node:vm');
 
 const WEB = path.join(__dirname, '../../web');
-const PARTS = ['examples.js', 'page/texts_en.js', 'page/texts_de.js', 'page/texts.js', 'page/link.js', 'page/table_text.js', 'page/run.js', 'page/schedules.js'];
-// Parts that make elements; here only their places are asked for.
-PARTS.push('page/space_time.js', 'page/table_edits.js', 'page/flaw_places.js', 'page/past.js', 'page/example_search.js', 'page/points.js', 'page/layout.js', 'page/comparison.js');
+const PARTS = ['texts_en', 'texts_de', 'texts', 'link', 'table_text', 'table_edits', 'flaw_places', 'past', 'example_search', 'comparison'];
+PARTS.push('run', 'schedules', 'space_time', 'points', 'layout');
 
 globalThis.Cnum = {};
-for (const part of PARTS) vm.runInThisContext(fs.readFileSync(path.join(WEB, part), 'utf8'), part);
+for (const part of ['examples', ...PARTS.map(it => `page/${it}`)]) {
+    vm.runInThisContext(fs.readFileSync(path.join(WEB, `${part}.js`), 'utf8'), part);
+}
 const { Cnum } = globalThis;
 
 describe('links', () => {
@@ -67,8 +68,8 @@ const stop = process => ({ process, stops: true });
 describe('a run', () => {
     const PLAN = { nodes: 1, processes: 2, start: 'zero' };
     const ACTS = [step(0), step(1), step(1), step(1), step(1), step(1), stop(1), step(0), stop(0), step(0)];
-    const LINES = ['0: writes 10 to A of node 0', '1: writes 20 to B of node 0', '1: applies tas at node 0: zero', '1: reads one at node 0: team B'];
-    LINES.push('1: decides 20', '1: has decided', '0: applies tas at node 0: one');
+    const LINES = ['0: writes 10 to A of node 0', '1: writes 20 to B of node 0', '1: applies tas at node 0: zero'];
+    LINES.push('1: reads one at node 0: team B', '1: decides 20', '1: has decided', '0: applies tas at node 0: one');
     const TABLE = Cnum.examples[0].types[0].text;
     const { run } = Cnum;
     const events = run.withStates(run.eventsOf(run.withoutStopped(ACTS), LINES), PLAN, run.movesOf(TABLE));
@@ -271,7 +272,8 @@ describe('the layout', () => {
             const arrows = [...new Map(ends.map(it => [it.join(), it])).values()].map(([from, to]) => ({ from, to, width: 60, height: 34 }));
             const laid = Cnum.layOut({ nodes, arrows, start: 0 });
             const boxes = [...laid.nodes.map(it => box(it.x, it.y, it.width, it.height)), ...laid.arrows.map(it => it.label)];
-            for (let i = 0; i < boxes.length; i++) for (let j = 0; j < i; j++) assert.ok(!meets(boxes[i], boxes[j]), `${count} nodes: ${j} and ${i}`);
+            const pairs = boxes.flatMap((a, i) => boxes.slice(0, i).map(b => [a, b]));
+            assert.deepEqual(pairs.filter(([a, b]) => meets(a, b)), [], `${count} nodes`);
         }
     });
 });

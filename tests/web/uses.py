@@ -94,9 +94,10 @@ FROM_BUTTON_TO_LOG = """[...document.querySelectorAll('.process button')].map(it
 # The height of a letter of the picture, in points of the window.
 LETTER = "(it => it ? 13 * it.clientWidth / it.getAttribute('width') : 0)(document.querySelector('#picture svg'))"
 # Whether the start state, or else the first one, is in the part of the picture that is seen.
-START_IN_VIEW = """(([place, node]) => place.left <= node.left && node.right <= place.right && place.top <= node.top && node.bottom <= place.bottom)(
+START_IN_VIEW = """(([a, b]) => a.left <= b.left && b.right <= a.right && a.top <= b.top && b.bottom <= a.bottom)(
     [document.getElementById('picture'), document.querySelector('#picture .start') || document.querySelector('#picture .node')]
         .map(it => it.getBoundingClientRect()))"""
+SAVE_BUTTONS = "[...document.querySelectorAll('#protocol .buttons button')].filter(it => /^Save/.test(it.textContent))"
 OBJECTS = ["starts in bot", "a1 → a2, y answered a"]
 ACTS_SHOWN = ["writes 20", "x/a", "writes 30", "y/a", "writes 10", "stops", "reads a2"]
 FOCUSABLE = "a[href], button:not(:disabled), input, select, textarea, [tabindex='0'], summary"
@@ -280,7 +281,8 @@ def flaws(use):
     yield "a flaw while one types", use.until("document.querySelectorAll('#flaws li').length === 1"), use.text("flaws")
     lint = called(["lint"], table[:place] + '"onee"' + table[place + 5 :])
     fault = f"An entry names what the table does not have. ({lint[1].decode().strip()})"
-    yield "it reads as lint has it, with the fault in words", (use.text("flaws") + "\n", use.text("fault")) == (lint[0].decode(), fault), use.text("fault")
+    told = use.text("flaws") + "\n", use.text("fault")
+    yield "it reads as lint has it, with the fault in words", told == (lint[0].decode(), fault), told
     yield "there is no legend without a picture", use.is_hidden("legend"), ""
     yield "it is marked in the text", use.texts("#marks mark") == ['"onee"'], use.texts("#marks mark")
     yield "there is no number", use.text("number") == "–", use.text("number")
@@ -344,7 +346,8 @@ def meanings(use):
         said = use.text("meaning")
         yield f"the number of {name}", use.text("number") == number, use.text("number")
         recoverable = called(["classify", "--recoverable", "-"], use.table())[0].decode().partition(", recoverable ")[2].strip()
-        yield f"the recoverable number of {name}", use.text("recoverable").startswith(f"Recoverable number: {recoverable}. "), use.text("recoverable")
+        told = use.text("recoverable")
+        yield f"the recoverable number of {name}", told.startswith(f"Recoverable number: {recoverable}. "), told
         yield f"what it says of {name}", all(it in said for it in told) and ("No protocol" in said) == (number != "infinite"), said
 
 
@@ -508,7 +511,8 @@ def comparisons(use):
     use.give(SLOT.replace('"b", "b", "b"', '"b", "a", "b"'))
     well = use.until("document.querySelectorAll('#comparison tbody tr').length === 1", 10)
     told = use.texts("#comparison tbody td, #comparison p")
-    yield "a table beside the one that was kept", well and told[1:] == ["a", "done → b", "done → a"] and "was 1, and is 1 now" in told[0], told
+    well = well and told[1:] == ["a", "done → b", "done → a"] and "was 1, and is 1 now" in told[0]
+    yield "a table beside the one that was kept", well, told
     use.value(press % "Show the table that was kept")
     yield "it comes back", use.table() == SLOT, use.table()
     use.give("x")
@@ -626,7 +630,7 @@ def pictured_runs(use):
     yield "who has decided or stopped takes no step and cannot stop", pressable == 0, pressable
     with tempfile.TemporaryDirectory() as room:
         for part, index, beginning in (("run", 0, b"<svg"), ("run", 1, b"\x89PNG"), ("tournament", 2, b"<svg"), ("tournament", 3, b"\x89PNG")):
-            name, content = use.offered(f"[...document.querySelectorAll('#protocol .buttons button')].filter(it => /^Save/.test(it.textContent))[{index}].click()")
+            name, content = use.offered(f"{SAVE_BUTTONS}[{index}].click()")
             well = content.startswith(beginning) and name == f"three_shot_3_{part}.{'png' if index % 2 else 'svg'}"
             yield f"the picture {name} is saved", well, (name, content[:9])
         for form, beginning in (("svg", b"<svg"), ("png", b"\x89PNG")):
@@ -661,10 +665,11 @@ def keys(use):
     """The protocol stepped by keys."""
     use.open("#example=types/three_shot")
     use.value("document.querySelector('.process button').focus()")
-    for code, shift, wanted in (("Digit1", False, 1), ("Digit2", True, 2), ("Digit2", False, 2), ("Digit7", False, 2), ("Numpad0", False, 3), ("KeyU", False, 2)):
-        use.press_code(code, shift)
+    counts = (("Digit1", 1), ("Shift Digit2", 2), ("Digit2", 2), ("Digit7", 2), ("Numpad0", 3), ("KeyU", 2))
+    for code, wanted in counts:
+        use.press_code(code.split()[-1], code.startswith("Shift"))
         well = use.until(f"document.querySelectorAll('.log li').length === {wanted}", 5)
-        yield f"key {code}{' with Shift' if shift else ''}", well, use.texts(".log li")
+        yield f"key {code}", well, use.texts(".log li")
     use.value("document.getElementById('input-0').focus()")
     use.press_code("Digit1")
     use.do("await Cnum.page.protocol.update();")
@@ -714,7 +719,8 @@ def links(use):
     use.value("document.querySelector('#trouble a').click()")
     well = use.has_number("2") and not use.is_hidden("content") and use.text("trouble") == ""
     yield "from there one begins with an example", well, use.text("trouble")
-    for part, view in (("number-part", "number"), ("why-part", "why"), ("picture-part", "states"), ("protocol-part", "run"), ("compare-part", "pairs")):
+    parts = {"number": "number-part", "why": "why-part", "states": "picture-part", "run": "protocol-part", "pairs": "compare-part"}
+    for view, part in parts.items():
         use.open(f"#example=types/three_shot&run=0,1&view={view}")
         shown = use.value("[...document.querySelectorAll('main > section')].filter(it => it.checkVisibility()).map(it => it.id)")
         yield f"the view {view}", shown == [part] and use.value("location.hash").endswith(f"view={view}"), shown
@@ -816,8 +822,9 @@ def certificates(use):
     for name in ("slot.toml", "SLOT.TOML", "slot.toml.txt"):
         use.choose("types/idle")
         use.value(drop % f"{json.dumps(name)}, {json.dumps(SLOT)}")
-        well = use.until(f"Cnum.page.text === {json.dumps(SLOT)}", 10) and use.has_number("1") and use.text("notice-text") == f"{name} is the table now."
-        yield f"the table {name} that is dropped", well, (use.table(), use.text("notice-text"))
+        well = use.until(f"Cnum.page.text === {json.dumps(SLOT)}", 10) and use.has_number("1")
+        told = use.text("notice-text")
+        yield f"the table {name} that is dropped", well and told == f"{name} is the table now.", (use.table(), told)
     use.choose("types/idle")
     use.value(drop % f"'wide.toml', new Uint8Array({list(SLOT.encode('utf-16'))})")
     yield "a table in UTF-16", use.until(f"Cnum.page.text === {json.dumps(SLOT)}", 10), use.table()
@@ -837,7 +844,8 @@ def explanations(use):
     use.limit(8)
     said = "A certificate for 8 processes would be too long. Why and the protocol are for 7 at most."
     use.choose("catalogue/cas_3")
-    yield "a limit that is too large gives the greatest that is not", use.text("limit-said") == said and use.count(".process") == 7, use.text("limit-said")
+    told = use.text("limit-said"), use.count(".process")
+    yield "a limit that is too large gives the greatest that is not", told == (said, 7), told
     use.choose("types/three_shot")
     use.limit(5)
     label = use.value("document.querySelector('#why > button').textContent")
@@ -919,8 +927,9 @@ def for_all(use):
 
 def paper(use):
     """The page in print: one sheet for a small type, nothing cut, and no controls."""
-    for link, most in (("#example=types/test_and_set&run=1,1,0,0,0,0,1,1", 1), ("#example=types/binary_register", 1), ("#example=types/wide", 2)):
-        use.open(link)
+    sheets_of = {"types/test_and_set&run=1,1,0,0,0,0,1,1": 1, "types/binary_register": 1, "types/wide": 2}
+    for link, most in sheets_of.items():
+        use.open(f"#example={link}")
         printed = base64.b64decode(use.call("Page.printToPDF", paperWidth=8.27, paperHeight=11.69, preferCSSPageSize=True)["data"])
         sheets = len(re.findall(rb"/Type\s*/Page\b", printed))
         yield f"{link} on {most} sheets", 1 <= sheets <= most, sheets
@@ -928,14 +937,15 @@ def paper(use):
     use.call("Emulation.setDeviceMetricsOverride", width=711, height=1000, deviceScaleFactor=1, mobile=False)
     for path in ("types/wide", "catalogue/ll_sc_2", "types/three_shot"):
         use.open(f"#example={path}&run=" if "wide" in path else f"#example={path}&run=0,1,1")
-        widths = use.value("[document, ...document.querySelectorAll('#grid, #marks, .wide')].map(it => it.documentElement || it).map(it => it.scrollWidth - it.clientWidth)")
+        widths = use.value("[...document.querySelectorAll('html, #grid, #marks, .wide')].map(it => it.scrollWidth - it.clientWidth)")
         yield f"{path}: nothing is cut", max(widths) <= 1, widths
-        text = use.value("(it => [it.checkVisibility(), it.textContent.trimEnd(), it.scrollHeight - it.clientHeight])(document.getElementById('marks'))")
-        yield f"{path}: the whole text", text[0] and text[1] == use.table().rstrip() and text[2] <= 1, text
+        text = use.value("(it => [it.checkVisibility(), it.scrollHeight - it.clientHeight])(document.getElementById('marks'))")
+        yield f"{path}: the whole text", text[0] and text[1] <= 1 and use.text("marks").rstrip() == use.table().rstrip(), text
         cells = use.value("[...document.querySelectorAll('#grid td')].map(it => it.innerText.replace(/\\s/g, ''))")
-        wanted = use.value("[...document.querySelectorAll('#grid td')].map(it => [...it.querySelectorAll('select')].map(one => one.value).join('→'))")
+        wanted = [it.replace(">", "→") for row in use.value(CELLS) for it in row]
         yield f"{path}: the whole grid", cells == wanted and cells, cells
-        controls = use.value("[...document.querySelectorAll('input, select, textarea, button:not(.word)')].filter(it => it.checkVisibility()).map(it => it.outerHTML)")
+        controls = "[...document.querySelectorAll('input, select, textarea, button:not(.word)')]"
+        controls = use.value(f"{controls}.filter(it => it.checkVisibility()).map(it => it.outerHTML)")
         yield f"{path}: no controls", controls == [], controls
     use.call("Emulation.setEmulatedMedia", media="")
     use.call("Emulation.clearDeviceMetricsOverride")
@@ -945,7 +955,8 @@ def slides(use):
     """One part alone, large."""
     use.call("Emulation.setDeviceMetricsOverride", width=1920, height=1080, deviceScaleFactor=1, mobile=False)
     size = "parseFloat(getComputedStyle(document.querySelector(%r)).fontSize)"
-    for view, place, least in (("number", "#number", 150), ("number", "#meaning", 24), ("why", "#why p", 20), ("states", "#type-name", 24), ("run", ".decision", 20)):
+    sizes = (("number", "#number", 150), ("number", "#meaning", 24), ("why", "#why p", 20), ("states", "#type-name", 24), ("run", ".decision", 20))
+    for view, place, least in sizes:
         use.open(f"#example=types/three_shot&run=0,1&view={view}")
         seen = use.value(size % place)
         yield f"{place} in the view {view}", seen >= least, seen
@@ -980,7 +991,8 @@ def foot(use):
     yield "the page says what program is in it", f"come from the program {program}. It is proved ({proof})" in told, told
     yield "and what it does not do", "each command of the program but serve" in told, told
     use.value("document.getElementById('skip').focus()")
-    meets = "(([a, b]) => a.right > b.left && a.bottom > b.top && b.bottom > a.top)(['#skip', 'h1'].map(it => document.querySelector(it).getBoundingClientRect()))"
+    boxes = "['#skip', 'h1'].map(it => document.querySelector(it).getBoundingClientRect())"
+    meets = f"(([a, b]) => a.right > b.left && a.bottom > b.top && b.bottom > a.top)({boxes})"
     tips = use.count("#picture .tip"), use.count("#picture .arrow"), use.count("#picture marker")
     yield "each arrow has its head as a shape", tips[0] == tips[1] > 0 and tips[2] == 0, tips
     yield "the skip link does not cover the heading", not use.value(meets), ""

@@ -56,7 +56,8 @@ var Cnum = globalThis.Cnum || {};
             this.keepButton = button(say('keep_table'), () => this.keep());
             this.answer = element('div', { 'aria-live': 'polite' });
             this.beside = element('div', { 'aria-live': 'polite' });
-            place.replaceChildren(element('div', { class: 'buttons' }, this.pairsButton, this.withoutButton, this.keepButton), this.answer, this.beside);
+            const buttons = element('div', { class: 'buttons' }, this.pairsButton, this.withoutButton, this.keepButton);
+            place.replaceChildren(buttons, this.answer, this.beside);
         }
 
         // The present table, or an empty text if it has flaws.

@@ -96,8 +96,13 @@ var Cnum = globalThis.Cnum || {};
 
         option({ path, name, group, about }, place) {
             const number = this.numbers && this.numbers.get(path);
-            const head = [element('strong', {}, name), ...(number ? [` ${say('example_number', { number })}`] : []), element('span', { class: 'group' }, group)];
-            return element('li', { role: 'option', id: `example-${place}`, 'data-path': path }, ...head, element('span', { class: 'about' }, about));
+            const parts = [
+                element('strong', {}, name),
+                ...(number ? [` ${say('example_number', { number })}`] : []),
+                element('span', { class: 'group' }, group),
+                element('span', { class: 'about' }, about),
+            ];
+            return element('li', { role: 'option', id: `example-${place}`, 'data-path': path }, ...parts);
         }
 
         options() {

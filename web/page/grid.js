@@ -81,7 +81,8 @@ var Cnum = globalThis.Cnum || {};
         left() {
             const unknown = (items, list) => items.filter(it => !this.names(list).includes(it.text)).length;
             const count = this.table.operations.reduce((sum, it) => sum + unknown(it.next, 'states') + unknown(it.response, 'responses'), 0);
-            return count ? [element('p', { class: 'trouble', role: 'status' }, say(count === 1 ? 'entry_left' : 'entries_left', { count }))] : [];
+            const text = say(count === 1 ? 'entry_left' : 'entries_left', { count });
+            return count ? [element('p', { class: 'trouble', role: 'status' }, text)] : [];
         }
 
         row(operation, index) {
@@ -90,7 +91,8 @@ var Cnum = globalThis.Cnum || {};
             const rename = text => edits.renameOperation(table, index, text);
             const remove = () => edits.removeOperation(table, index);
             const head = this.named('operation', name, table.operations.length > 1, rename, remove);
-            return element('tr', {}, element('th', { scope: 'row' }, ...head), ...this.names('states').map((_, state) => this.cell(index, state)));
+            const cells = this.names('states').map((_, state) => this.cell(index, state));
+            return element('tr', {}, element('th', { scope: 'row' }, ...head), ...cells);
         }
 
         cell(index, state) {
@@ -130,7 +132,11 @@ var Cnum = globalThis.Cnum || {};
         }
 
         additions() {
-            const kinds = [['add_state', 'states', edits.addState], ['add_operation', 'operation', edits.addOperation], ['add_response', 'responses', edits.addResponse]];
+            const kinds = [
+                ['add_state', 'states', edits.addState],
+                ['add_operation', 'operation', edits.addOperation],
+                ['add_response', 'responses', edits.addResponse],
+            ];
             const buttons = kinds.map(([label, list, add]) => {
                 const isFull = this.table.items(list).length >= MOST[list];
                 const made = button(say(label), () => isFull || this.change(add(this.table)), { 'aria-label': say(label) });

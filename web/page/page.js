@@ -431,7 +431,8 @@ var Cnum = globalThis.Cnum || {};
             const answer = await this.ask(this.quick, ['check', CERTIFICATE], { [CERTIFICATE]: claim });
             if (!answer) return;
             const { name } = file;
-            const told = answer.status === 0 ? say('certificate_ok', { name }) : say('certificate_wrong', { name, why: Cnum.inWords(answer.stderr) });
+            const key = answer.status === 0 ? 'certificate_ok' : 'certificate_wrong';
+            const told = say(key, { name, why: Cnum.inWords(answer.stderr) });
             at('claim-said').textContent = told;
             this.notice(told);
         }

@@ -76,7 +76,10 @@ var Cnum = globalThis.Cnum || {};
     }
 
     // The processes that have neither decided nor stopped.
-    const active = processes => processes.map((_, process) => process).filter(it => processes[it].decision === UNDECIDED && !processes[it].hasStopped);
+    function active(processes) {
+        const goesOn = ({ decision, hasStopped }) => decision === UNDECIDED && !hasStopped;
+        return processes.map((_, process) => process).filter(it => goesOn(processes[it]));
+    }
 
     // The function that gives the state after an operation in a state, by the text of a table.
     function movesOf(text) {

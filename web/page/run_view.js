@@ -49,7 +49,8 @@ var Cnum = globalThis.Cnum || {};
                 this.tryButton,
                 this.endButton,
             ];
-            const place = element('p', { class: 'run-place' }, element('label', { for: 'run-place' }, say('run_place')), this.slider, this.count);
+            const label = element('label', { for: 'run-place' }, say('run_place'));
+            const place = element('p', { class: 'run-place' }, label, this.slider, this.count);
             const keys = element('p', { class: 'quiet hint keys' }, say('run_keys', { last: this.plan.processes - 1 }));
             return element('div', { class: 'controls' }, element('div', { class: 'buttons' }, ...buttons), place, keys, this.trial);
         }
@@ -60,7 +61,8 @@ var Cnum = globalThis.Cnum || {};
 
         figures() {
             this.states = this.protocol.page.picture();
-            const objects = element('div', {}, element('h3', {}, say('nodes')), this.nodes, this.object, wide(say('states_of_run'), this.states));
+            const states = wide(say('states_of_run'), this.states);
+            const objects = element('div', {}, element('h3', {}, say('nodes')), this.nodes, this.object, states);
             return [
                 element('h3', {}, say('diagram')),
                 this.diagram,
@@ -107,7 +109,8 @@ var Cnum = globalThis.Cnum || {};
             const id = `input-${process}`;
             const value = this.protocol.inputs[process];
             const wrong = element('p', { class: 'trouble', id: `${id}-wrong`, role: 'alert' });
-            const input = element('input', { id, inputmode: 'numeric', value, size: 6, maxlength: 20, autocomplete: 'off', 'aria-describedby': wrong.id });
+            const kind = { inputmode: 'numeric', size: 6, maxlength: 20, autocomplete: 'off', 'aria-describedby': wrong.id };
+            const input = element('input', { id, value, ...kind });
             const onPaper = element('span', { class: 'on-paper' }, value);
             input.addEventListener('change', () => {
                 const text = input.value.trim();
@@ -176,8 +179,8 @@ var Cnum = globalThis.Cnum || {};
 
         showLog(events) {
             const lineOf = it => say(`log_${it.kind}`, it);
-            const items = events.map(it => element('li', {}, lineOf(it), ...(it.before ? [element('span', { class: 'change' }, changeOf(it))] : [])));
-            this.log.replaceChildren(...items);
+            const changes = it => (it.before ? [element('span', { class: 'change' }, changeOf(it))] : []);
+            this.log.replaceChildren(...events.map(it => element('li', {}, lineOf(it), ...changes(it))));
             this.log.scrollTop = this.log.scrollHeight;
             const last = events[events.length - 1];
             this.protocol.page.say(last ? lineOf(last) : '');
