@@ -346,8 +346,8 @@ def meanings(use):
         said = use.text("meaning")
         yield f"the number of {name}", use.text("number") == number, use.text("number")
         recoverable = called(["classify", "--recoverable", "-"], use.table())[0].decode().partition(", recoverable ")[2].strip()
-        told = use.text("recoverable")
-        yield f"the recoverable number of {name}", told.startswith(f"Recoverable number: {recoverable}. "), told
+        line = use.text("recoverable")
+        yield f"the recoverable number of {name}", line.startswith(f"Recoverable number: {recoverable}. "), line
         yield f"what it says of {name}", all(it in said for it in told) and ("No protocol" in said) == (number != "infinite"), said
 
 
