@@ -1,4 +1,4 @@
-"""Scripts that run others: shows each command as it runs, and adds up the counts of the last lines."""
+"""Scripts that run others: shows each command as it runs, adds up the counts of the last lines, and says at the end what was left out."""
 import re
 import subprocess
 import sys
@@ -6,13 +6,16 @@ import sys
 from built import TOP, built
 
 COUNT = re.compile(rb"(\d+) (?:[a-z]+ )?passed, (\d+) failed\n")
+# What a script says of a thing that it leaves out here (left_out in tally.py).
+LEFT_OUT = re.compile(rb"tests/[a-z_]+: left out: .*\n")
 
 
 class Parts:
-    """Commands that ran one after the other, and how many of their cases passed and failed."""
+    """Commands that ran one after the other, how many of their cases passed and failed, and what they left out."""
 
     def __init__(self):
         self.passed = self.failed = 0
+        self.left_out = []
 
     def add(self, *words):
         """Runs a command of the repository, and adds the counts of its last line, 'N .. passed, M failed'. A command without
@@ -22,6 +25,8 @@ class Parts:
             for last in process.stdout:
                 sys.stdout.buffer.write(last)
                 sys.stdout.flush()
+                if LEFT_OUT.fullmatch(last) and last not in self.left_out:
+                    self.left_out.append(last)
         counted = COUNT.fullmatch(last)
         passed, failed = map(int, counted.groups()) if counted else (0, 1)
         self.passed += passed
@@ -36,6 +41,8 @@ class Parts:
             self.end()
 
     def end(self):
-        """Prints the sums as the last line, and ends with its status."""
+        """Prints what was left out and, as the last line, the sums, and ends with its status."""
+        sys.stdout.buffer.writelines(self.left_out)
+        sys.stdout.flush()
         print(f"{self.passed} passed, {self.failed} failed")
         sys.exit(self.failed != 0)

@@ -8,6 +8,11 @@ POOL = concurrent.futures.ThreadPoolExecutor(2)
 PARTS = ("what is printed", "what is told", "the status")
 
 
+def left_out(script, what):
+    """Says that a script leaves something out here. The scripts that run others say so once more at their end (parts.py)."""
+    print(f"tests/{script}: left out: {what}", flush=True)
+
+
 class Tally:
     """Counts what passes and what fails. With words it counts only the cases whose names have all of them, in capitals or not."""
 
