@@ -1,3 +1,4 @@
 pub mod ThirdProcess
 pub mod PairLists
 pub mod TwoProcesses
+pub mod RuleLemmas

@@ -1,2 +1,3 @@
 pub mod Interference
 pub mod Pairs
+pub mod Rules

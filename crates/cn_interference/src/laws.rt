@@ -1,10 +1,12 @@
 //! What interference says of the number of a type.
 //!
 //! A law is a function that does nothing: its contract is the law.
-ghost use Rattle.std.specs.Prelude.{◌≡◌, ◌≤◌, ℕ, None, Option, Some, length};
+ghost use Rattle.std.specs.Prelude.{◌≡◌, ◌≤◌, ◌<◌, ℕ, MatchOption, None, Option, Some, length};
 ghost use Rattle.cn_table.specs.TypeTable.{IsTypeTable, TypeTable};
 ghost use Rattle.cn_choice.specs.Discerning.{IsDiscerning, IsNumberUpTo};
 ghost use Rattle.cn_interference.specs.Interference.{AllHide, AllInterfere, NoneAnswers};
+ghost use Rattle.cn_interference.specs.Rules.{most_by, Applies, IsRuleOf};
+ghost use Rattle.cn_interference.specs.declared.rules.Rule.{Rule};
 
 /// If any two operations interfere in every state, the type is n-discerning for no n of at least 3:
 /// its number is at most 2.
@@ -43,4 +45,15 @@ pub fn hidden_operations()
     ensures refuted { (t : TypeTable) → AllHide t → (n : ℕ) → 2 ≤ n → ¬ IsDiscerning t n }
     ensures none { (t : TypeTable) (limit : ℕ) → AllHide t → IsNumberUpTo t limit None }
     ensures hides { (t : TypeTable) → ¬ IsDiscerning t 2 → AllHide t }
+{}
+
+/// A type to which a rule applies is n-discerning for no n above the number of the rule:
+///
+/// - `refuted`: so its number is at most that one;
+/// - `one`: if the type is not 2-discerning, the first rule that applies to it exists, and says 1.
+pub fn rules_bound()
+    ensures refuted { (t : TypeTable) (rule : Rule) → IsTypeTable t → Applies t rule
+        → (n : ℕ) → most_by rule < n → ¬ IsDiscerning t n }
+    ensures one { (t : TypeTable) (rule : Option Rule) → IsRuleOf t rule → ¬ IsDiscerning t 2
+        → MatchOption rule ⊥ (λ r. most_by r ≡ 1) }
 {}

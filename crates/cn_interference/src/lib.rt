@@ -8,7 +8,8 @@
 //! answers anything ([`none_answers`]), by [`laws::interference_without_answers`]. On two states any
 //! two operations interfere, by [`laws::two_states`]. The number is 1 exactly if, of any two
 //! operations, in every state, one tells nothing of the other ([`hiding`]), by
-//! [`laws::hidden_operations`].
+//! [`laws::hidden_operations`]. Each of these facts is a [`Rule`]; [`rule_of`] answers the first one
+//! that applies to a type, and by [`laws::rules_bound`] it bounds the number.
 //!
 //! ```text
 //! if interfering(&table) {
@@ -25,9 +26,11 @@ mod answers;
 mod interference;
 pub mod laws;
 mod pairs;
+mod rules;
 mod telling;
 
 pub use answers::{answers_nothing, none_answers};
 pub use interference::{interferes, interfering};
 pub use pairs::{OperationPair, pairs_apart};
+pub use rules::{Rule, rule_of};
 pub use telling::{hiding, tells_nothing};
