@@ -105,27 +105,28 @@ class Row:
         """A text with the texts of its file in the place of their names."""
         return re.sub(rb"^\$(\w+)\n", lambda it: self.texts[it[1].decode()].encode(), text, flags=re.M)
 
-    def found(self):
-        """What the program prints, tells and answers; for a judged row the number that it finds, and the answer of `check`."""
+    def found(self, program=None):
+        """What the program, or another, prints, tells and answers; for a judged row the number that it finds, and the answer of
+        `check`."""
         stdin, files = self.given()
-        ended = ran(self.words(), stdin, files, self.table.get("output"), self.table.get("memory"))
+        ended = ran(self.words(), stdin, files, self.table.get("output"), self.table.get("memory"), program)
         if not self.table.get("judged"):
             return ended
         try:
             number = json.loads(ended[0])["number"] or "none"
         except ValueError:
             return ended
-        return number, ran(["check", "certificate"], stdin, {"certificate": ended[0]})
+        return number, ran(["check", "certificate"], stdin, {"certificate": ended[0]}, program=program)
 
 
-def ran(words, stdin, files, output=None, memory=None):
-    """What the program prints, tells and answers in a folder with these files, and whether it changed them."""
+def ran(words, stdin, files, output=None, memory=None, program=None):
+    """What the program, or another, prints, tells and answers in a folder with these files, and whether it changed them."""
     with tempfile.TemporaryDirectory() as name:
         room = pathlib.Path(name)
         for file, text in files.items():
             (room / file).write_bytes(text)
         target = os.open(output, os.O_WRONLY) if output else None
-        ended = called(words, stdin, target, room=room, memory=memory)
+        ended = called(words, stdin, target, program=program, room=room, memory=memory)
         if output:
             os.close(target)
         left = {path.name: path.read_bytes() for path in room.iterdir()}

@@ -17,6 +17,8 @@ MOST_CERTIFICATE = 2_000_000
 PATHS = [path for folder in ("types", "tests/types", "catalogue") for path in sorted((TOP / folder).glob("*.toml"))]
 TABLES = {str(path.relative_to(TOP).with_suffix("")): path.read_bytes() for path in PATHS}
 BIT, COUNTER = TABLES["types/test_and_set"], TABLES["types/counter_3"]
+# What `serve` prints, tells and answers if no thread can be started.
+NO_THREAD = b"", b"cnum: cannot start a thread\n", 4
 COMMANDS = ("find", "classify", "lint", "check", "explain", "why", "pairs", "show", "draw", "agree", "replay", "serve")
 
 

@@ -780,7 +780,7 @@ class Quiet(http.server.SimpleHTTPRequestHandler):
 
 def missing_parts(use):
     """A folder that lacks a part of the page, or all of them."""
-    parts = [it.relative_to(TOP / "web") for it in sorted((TOP / "web").rglob("*")) if it.suffix in (".js", ".css")]
+    parts = [pathlib.Path(it) for it in re.findall(r'(?:src|href)="([\w/]+\.(?:js|css))"', (TOP / "web/index.html").read_text())]
     for absent in ([it] for it in (*parts, None)):
         absent = absent if absent[0] else parts
         with tempfile.TemporaryDirectory() as room:

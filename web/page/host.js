@@ -1,18 +1,53 @@
-// Runs the program: this is its side of the words, files and streams that web/host/streams.c asks the page
-// for. Each run is a fresh instance of the module, with all that it reads and writes in memory. The text of
-// this function also makes the worker of web/page/program.js, so it names nothing outside itself.
+// Runs the program: this is its side of the words, files and streams that web/host/streams.c asks for. Each run is
+// a fresh instance of the module. The texts of these functions also make the worker of web/page/program.js, so they
+// name nothing outside themselves but each other.
 var Cnum = globalThis.Cnum || {};
 
-// Gives, for a compiled module, the function that runs it. The function takes the words of the command line,
-// standard input, and files by their names, as texts or bytes. It answers the exit status, and the bytes of
-// standard output and standard error.
-Cnum.makeHost = function (module) {
+// Runs a compiled module with these words, each as bytes, over streams. It answers the exit status. Standard input is
+// the stream 0, standard output 1, and standard error 2. Of the streams, `open` takes a name as bytes and gives the
+// number of a stream, `read` fills a part of the memory, and `write` takes the bytes of one; both give the count of
+// bytes. Each gives -1 if it fails.
+Cnum.runModule = function (module, words, streams) {
     'use strict';
     class Exit {
         constructor(status) {
             this.status = status;
         }
     }
+    const line = [new TextEncoder().encode('cnum'), ...words];
+    let instance;
+    // A number that comes as an address or a length has 32 bits and no sign.
+    const part = (from, count) => new Uint8Array(instance.exports.memory.buffer, from >>> 0, count >>> 0);
+    const page = {
+        word(index, to, most) {
+            const word = line[index >>> 0];
+            if (!word) return -1;
+            if (word.length > most >>> 0) return -2;
+            part(to, most).set(word);
+            return word.length;
+        },
+        open: (name, length) => streams.open(part(name, length)),
+        read: (number, to, most) => streams.read(number, part(to, most)),
+        write: (number, from, count) => streams.write(number, part(from, count)),
+        close: number => streams.close(number),
+        exit(status) {
+            throw new Exit(status);
+        },
+    };
+    instance = new WebAssembly.Instance(module, { page });
+    try {
+        return instance.exports.run();
+    } catch (end) {
+        if (!(end instanceof Exit)) throw end;
+        return end.status;
+    }
+};
+
+// Gives, for a compiled module, the function that runs it with all that it reads and writes in memory. The function
+// takes the words of the command line, standard input, and files by their names, as texts or bytes. It answers the
+// exit status, and the bytes of standard output and standard error.
+Cnum.makeHost = function (module) {
+    'use strict';
     const encoder = new TextEncoder();
     const bytesOf = given => (typeof given === 'string' ? encoder.encode(given) : given);
 
@@ -27,59 +62,35 @@ Cnum.makeHost = function (module) {
     }
 
     return function run(words, stdin = '', files = {}) {
-        const line = ['cnum', ...words].map(bytesOf);
         const opened = new Map([[0, { bytes: bytesOf(stdin), at: 0 }]]);
         const written = { 1: [], 2: [] };
-        let instance;
-        const memory = () => new Uint8Array(instance.exports.memory.buffer);
-        // A number that comes as an address or a length has 32 bits and no sign.
-        const part = (from, count) => memory().subarray(from >>> 0, (from >>> 0) + (count >>> 0));
-
-        const page = {
-            word(index, to, most) {
-                const word = line[index >>> 0];
-                if (!word) return -1;
-                if (word.length > most >>> 0) return -2;
-                part(to, most).set(word);
-                return word.length;
-            },
-            open(name, length) {
-                const file = new TextDecoder().decode(part(name, length));
+        const streams = {
+            open(name) {
+                const file = new TextDecoder().decode(name);
                 if (!Object.keys(files).includes(file)) return -1;
                 const number = Math.max(2, ...opened.keys()) + 1;
                 opened.set(number, { bytes: bytesOf(files[file]), at: 0 });
                 return number;
             },
-            read(number, to, most) {
+            read(number, to) {
                 const file = opened.get(number);
                 if (!file) return -1;
-                const next = file.bytes.subarray(file.at, file.at + (most >>> 0));
-                part(to, most).set(next);
+                const next = file.bytes.subarray(file.at, file.at + to.length);
+                to.set(next);
                 file.at += next.length;
                 return next.length;
             },
-            write(number, from, count) {
+            write(number, from) {
                 if (!written[number]) return -1;
-                written[number].push(part(from, count).slice());
-                return count;
+                written[number].push(from.slice());
+                return from.length;
             },
             close(number) {
                 opened.delete(number);
                 return 0;
             },
-            exit(status) {
-                throw new Exit(status);
-            },
         };
-
-        instance = new WebAssembly.Instance(module, { page });
-        let status;
-        try {
-            status = instance.exports.run();
-        } catch (end) {
-            if (!(end instanceof Exit)) throw end;
-            status = end.status;
-        }
+        const status = Cnum.runModule(module, words.map(bytesOf), streams);
         return { status, stdout: joined(written[1]), stderr: joined(written[2]) };
     };
 };

@@ -54,7 +54,7 @@ var Cnum = globalThis.Cnum || {};
     }
 
     // The worker is made of the page's own text, since a page in a file may not load one.
-    const TEXT = `var Cnum = {}; Cnum.makeHost = ${Cnum.makeHost}; (${work})();`;
+    const TEXT = `var Cnum = {}; Cnum.runModule = ${Cnum.runModule}; Cnum.makeHost = ${Cnum.makeHost}; (${work})();`;
     const PLACE = URL.createObjectURL(new Blob([TEXT], { type: 'text/javascript' }));
 
     // Runs commands one after the other in a worker of its own.

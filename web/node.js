@@ -1,0 +1,80 @@
+#!/usr/bin/env node
+// The program cnum on any machine with Node: web/node.js WORDS..
+// It runs the module of the page over the words, files and streams of the system. So it answers as the native program
+// does, but for `serve`, since a module starts no thread.
+'use strict';
+
+const fs = require('fs');
+const path = require('path');
+const vm = require('vm');
+const zlib = require('zlib');
+
+const PAUSE = 5; // milliseconds until a stream that is not ready is asked again
+const STATUS = { missing: 4, failed: 134 };
+
+// What a call to the system gives; -1 if it fails. A stream that is not ready is asked until it is.
+function answered(call) {
+    for (;;) {
+        try {
+            return call();
+        } catch (error) {
+            if (error.code === 'EOF') return 0; // so a closed pipe ends on Windows
+            if (error.code !== 'EAGAIN') return -1;
+            Atomics.wait(new Int32Array(new SharedArrayBuffer(4)), 0, 0, PAUSE);
+        }
+    }
+}
+
+// The streams of the program are those of the system, by the same numbers.
+const streams = {
+    open: name => answered(() => fs.openSync(Buffer.from(name), 'r')),
+    read: (number, to) => answered(() => fs.readSync(number, to, 0, to.length, null)),
+    write: (number, from) => answered(() => fs.writeSync(number, from, 0, from.length)),
+    close: number => answered(() => fs.closeSync(number) || 0),
+};
+
+// The words of the command line as bytes. Node puts a mark for what is not UTF-8; Linux keeps the bytes.
+function words() {
+    const given = process.argv.slice(2);
+    const asTexts = given.map(it => Buffer.from(it));
+    if (!given.some(it => it.includes('\ufffd'))) return asTexts;
+    try {
+        const line = fs.readFileSync('/proc/self/cmdline', 'latin1').split('\0').slice(0, -1);
+        return line.slice(-given.length).map(it => Buffer.from(it, 'latin1'));
+    } catch {
+        return asTexts;
+    }
+}
+
+// The compiled module, and what runs it.
+function loaded() {
+    globalThis.Cnum = {};
+    for (const part of ['cnum_wasm.js', 'page/host.js']) {
+        const file = path.join(__dirname, part);
+        vm.runInThisContext(fs.readFileSync(file, 'utf8'), file);
+    }
+    const { packedModule, runModule } = globalThis.Cnum;
+    return { runModule, module: new WebAssembly.Module(zlib.gunzipSync(Buffer.from(packedModule, 'base64'))) };
+}
+
+// Ends with this status after a line on standard error.
+function fail(status, why) {
+    streams.write(2, Buffer.from(`cnum: ${why}\n`));
+    return status;
+}
+
+function main() {
+    let program;
+    try {
+        program = loaded();
+    } catch (error) {
+        return fail(STATUS.missing, `the module beside web/node.js cannot be loaded: ${error.message}`);
+    }
+    try {
+        return program.runModule(program.module, words(), streams);
+    } catch (error) {
+        return fail(STATUS.failed, `the module failed: ${error.message}`);
+    }
+}
+
+process.exitCode = main();
