@@ -64,11 +64,15 @@ command_more_for {X} Takes program made new app words has is plain adds = IfOk-w
     let old = of_made (λ o. (x : X) × Takes x × (app_of o ≡ app x)) program more.0 has more.2 in
     (old.0, old.1, subcommand_more more.0 more.1 c (app old.0) words old.2 (of_made (IsCommand words) made more.1 is more.3) plain more.4)) adds
 
+-- values that a program takes, and one more that takes these words
+abbrev pub Taking : {X : Type 0} → (X → Type 0) → List Text → X × ValueParser → Type 0
+Taking Takes names y = Takes y.0 × TakesWords names y.1
+
 -- the same with a command that takes words for a form
 pub form_more : {E X : Type 0} (Takes : X → Type 0) (names : List Text) (program made new : Result Command E) (app : X → App)
     (words : ValueParser → Shape) → IfOk program (λ old. (x : X) × Takes x × (app_of old ≡ app x))
     → IfOk made (IsCommandFor names words) → ((p : ValueParser) → (words p).is_plain ≡ true) → IfOk new (AddsCommand program made)
-    → IfOk new (λ c. (y : (X × ValueParser)) × (Takes y.0 × TakesWords names y.1) × (app_of c ≡ with_subcommand (app y.0) (words y.1)))
+    → IfOk new (λ c. (y : X × ValueParser) × Taking Takes names y × (app_of c ≡ with_subcommand (app y.0) (words y.1)))
 form_more {X} Takes names program made new app words has is plain adds = IfOk-weaker new _ _ (λ c more.
     let old = of_made (λ o. (x : X) × Takes x × (app_of o ≡ app x)) program more.0 has more.2 in
     let form = of_made (IsCommandFor names words) made more.1 is more.3 in

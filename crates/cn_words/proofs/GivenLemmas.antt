@@ -93,14 +93,14 @@ Wants name rows =
     MatchBool (bytes_eq name (codes "find")) ((n : Option ℕ) × HasLimit rows n)
     (MatchBool (bytes_eq name (codes "lint")) ((form : AnswerForm) × HasAnswerForm rows form)
     (MatchBool (bytes_eq name (codes "draw")) (Unit {0})
-    (MatchBool (bytes_eq name (codes "check")) ((w : TextSource) × HasCertificate rows w)
-    (MatchBool (bytes_eq name (codes "explain")) ((w : TextSource) × HasCertificate rows w)
-    (MatchBool (bytes_eq name (codes "why")) ((n : Option ℕ) × HasLimit rows n)
+    (MatchBool (bytes_eq name (codes "check")) (((w : TextSource) × HasCertificate rows w) × ((form : AnswerForm) × HasAnswerForm rows form))
+    (MatchBool (bytes_eq name (codes "explain")) (((w : TextSource) × HasCertificate rows w) × ((form : AnswerForm) × HasAnswerForm rows form))
+    (MatchBool (bytes_eq name (codes "why")) (((n : Option ℕ) × HasLimit rows n) × ((form : DocumentForm) × HasDocumentForm rows form))
     (MatchBool (bytes_eq name (codes "pairs")) ((form : DocumentForm) × HasDocumentForm rows form)
     (MatchBool (bytes_eq name (codes "show")) (((w : TextSource) × HasCertificate rows w) × ((plan : Form) × HasForm rows plan))
     (MatchBool (bytes_eq name (codes "agree")) (((w : TextSource) × HasCertificate rows w) × ((l : ListSource) × HasList (codes "INPUTS") rows l) × ((l : ListSource) × HasList (codes "SCHEDULE") rows l) × ((form : AnswerForm) × HasAnswerForm rows form))
-    (MatchBool (bytes_eq name (codes "replay")) (((o : OpeningWords) × HasOpening rows o) × ((l : ListSource) × HasList (codes "EVENTS") rows l))
-    (MatchBool (bytes_eq name (codes "serve")) (((o : OpeningWords) × HasOpening rows o) × ((l : ListSource) × HasList (codes "CALLS") rows l))
+    (MatchBool (bytes_eq name (codes "replay")) (((o : OpeningWords) × HasOpening rows o) × ((l : ListSource) × HasList (codes "EVENTS") rows l) × ((form : AnswerForm) × HasAnswerForm rows form))
+    (MatchBool (bytes_eq name (codes "serve")) (((o : OpeningWords) × HasOpening rows o) × ((l : ListSource) × HasList (codes "CALLS") rows l) × ((form : AnswerForm) × HasAnswerForm rows form))
     ⊥))))))))))
 
 -- every command of this name has what it requires
@@ -108,18 +108,18 @@ pub wants : (name : Text) (rows : List Row) (c : Command) → IsNamed name rows 
 wants name rows (Find limit) h = subst (λ n. Wants n rows) (sym h.0) (limit, h.1)
 wants name rows (Lint form) h = subst (λ n. Wants n rows) (sym h.0) (form, h.1)
 wants name rows Draw h = subst (λ n. Wants n rows) (sym h.0) tt
-wants name rows (Check certificate) h = subst (λ n. Wants n rows) (sym h.0) (certificate, h.1)
-wants name rows (Explain certificate all) h = subst (λ n. Wants n rows) (sym h.0) (certificate, h.1.0)
-wants name rows (Why limit all) h = subst (λ n. Wants n rows) (sym h.0) (limit, h.1.0)
+wants name rows (Check certificate form) h = subst (λ n. Wants n rows) (sym h.0) ((certificate, h.1.0), (form, h.1.1))
+wants name rows (Explain certificate all form) h = subst (λ n. Wants n rows) (sym h.0) ((certificate, h.1.0), (form, h.1.2))
+wants name rows (Why limit all form) h = subst (λ n. Wants n rows) (sym h.0) ((limit, h.1.0), (form, h.1.2))
 wants name rows (Pairs form) h = subst (λ n. Wants n rows) (sym h.0) (form, h.1)
 wants name rows (Show certificate plan) h = subst (λ n. Wants n rows) (sym h.0) ((certificate, h.1.0), (plan, h.1.1))
 wants name rows (Agree certificate inputs schedule steps form) h =
     subst (λ n. Wants n rows) (sym h.0) ((certificate, h.1.0), (inputs, h.1.1), (schedule, h.1.2), (form, h.1.4))
-wants name rows (Replay opening events) h = subst (λ n. Wants n rows) (sym h.0) ((opening, h.1.0), (events, h.1.1))
-wants name rows (Serve opening calls) h = subst (λ n. Wants n rows) (sym h.0) ((opening, h.1.0), (calls, h.1.1))
+wants name rows (Replay opening events form) h = subst (λ n. Wants n rows) (sym h.0) ((opening, h.1.0), (events, h.1.1), (form, h.1.2))
+wants name rows (Serve opening calls form) h = subst (λ n. Wants n rows) (sym h.0) ((opening, h.1.0), (calls, h.1.1), (form, h.1.2))
 
 -- what `classify` requires of its words
 pub classify_wants : (rows : List Row) (i : Invocation) → IsInvocation (codes "classify") rows i
-    → ((n : Option ℕ) × HasLimit rows n) × ((ts : Vec TextSource Global) × HasTables rows ts.items)
-classify_wants rows (Classify limit recoverable tables) h = ((limit, h.1), (tables, h.3))
+    → ((n : Option ℕ) × HasLimit rows n) × ((form : DocumentForm) × HasDocumentForm rows form) × ((ts : Vec TextSource Global) × HasTables rows ts.items)
+classify_wants rows (Classify limit recoverable form tables) h = ((limit, h.1), (form, h.3), (tables, h.4))
 classify_wants rows (OfTable table command) h = absurd (wants (codes "classify") rows command h.arguments)

@@ -71,19 +71,31 @@ abbrev pub TakesWords : List Text → ValueParser → Type 0
 TakesWords words (Names names) = texts names.now ≡ words
 TakesWords words parser = ⊥
 
--- the value parsers of the options for a form: those of `lint`, `pairs`, `show` and `agree`
+-- the value parsers of the options for a form, by the commands that have one
 pub record Forms : Type 0 where
+  pub classify : ValueParser
   pub lint : ValueParser
+  pub check : ValueParser
+  pub explain : ValueParser
+  pub why : ValueParser
   pub pairs : ValueParser
   pub show : ValueParser
   pub agree : ValueParser
+  pub replay : ValueParser
+  pub serve : ValueParser
 
 -- each takes the words for its forms
 pub record TakesForms (forms : Forms) : Type 0 where
+  pub classify : TakesWords document_forms forms.classify
   pub lint : TakesWords answer_forms forms.lint
+  pub check : TakesWords answer_forms forms.check
+  pub explain : TakesWords answer_forms forms.explain
+  pub why : TakesWords document_forms forms.why
   pub pairs : TakesWords document_forms forms.pairs
   pub show : TakesWords plan_forms forms.show
   pub agree : TakesWords answer_forms forms.agree
+  pub replay : TakesWords answer_forms forms.replay
+  pub serve : TakesWords answer_forms forms.serve
 
 -- ---- the commands
 
@@ -101,22 +113,25 @@ opening_words = certificate_word ∷ required_word (codes "OBJECT") ∷ required
 abbrev pub find_words : Shape
 find_words = command_with (codes "find") (limit_option ∷ table_option ∷ file_word ∷ [])
 
-abbrev pub classify_words : Shape
-classify_words = command_with (codes "classify")
-    (limit_option ∷ flag (codes "recoverable") ∷ required_words (codes "FILE") ∷ [])
+abbrev pub classify_words : ValueParser → Shape
+classify_words forms = command_with (codes "classify")
+    (limit_option ∷ flag (codes "recoverable") ∷ form_option forms ∷ required_words (codes "FILE")
+    ∷ [])
 
 abbrev pub lint_words : ValueParser → Shape
 lint_words forms = command_with (codes "lint") (form_option forms ∷ table_option ∷ file_word ∷ [])
 
-abbrev pub check_words : Shape
-check_words = command_with (codes "check") (certificate_word ∷ table_option ∷ file_word ∷ [])
+abbrev pub check_words : ValueParser → Shape
+check_words forms = command_with (codes "check")
+    (certificate_word ∷ form_option forms ∷ table_option ∷ file_word ∷ [])
 
-abbrev pub explain_words : Shape
-explain_words = command_with (codes "explain")
-    (certificate_word ∷ flag (codes "all") ∷ table_option ∷ file_word ∷ [])
+abbrev pub explain_words : ValueParser → Shape
+explain_words forms = command_with (codes "explain")
+    (certificate_word ∷ flag (codes "all") ∷ form_option forms ∷ table_option ∷ file_word ∷ [])
 
-abbrev pub why_words : Shape
-why_words = command_with (codes "why") (table_word ∷ limit_option ∷ flag (codes "all") ∷ [])
+abbrev pub why_words : ValueParser → Shape
+why_words forms = command_with (codes "why")
+    (table_word ∷ limit_option ∷ flag (codes "all") ∷ form_option forms ∷ [])
 
 abbrev pub pairs_words : ValueParser → Shape
 pairs_words forms = command_with (codes "pairs") (table_word ∷ form_option forms ∷ [])
@@ -133,19 +148,22 @@ agree_words forms = command_with (codes "agree")
     (certificate_word ∷ required_word (codes "INPUTS") ∷ required_word (codes "SCHEDULE")
     ∷ flag (codes "steps") ∷ form_option forms ∷ table_option ∷ file_word ∷ [])
 
-abbrev pub replay_words : Shape
-replay_words = command_with (codes "replay")
-    (opening_words ++ required_word (codes "EVENTS") ∷ table_option ∷ file_word ∷ [])
+abbrev pub replay_words : ValueParser → Shape
+replay_words forms = command_with (codes "replay")
+    (opening_words ++ required_word (codes "EVENTS") ∷ form_option forms ∷ table_option ∷ file_word
+    ∷ [])
 
-abbrev pub serve_words : Shape
-serve_words = command_with (codes "serve")
-    (opening_words ++ required_word (codes "CALLS") ∷ table_option ∷ file_word ∷ [])
+abbrev pub serve_words : ValueParser → Shape
+serve_words forms = command_with (codes "serve")
+    (opening_words ++ required_word (codes "CALLS") ∷ form_option forms ∷ table_option ∷ file_word
+    ∷ [])
 
 -- the commands, in the order in which the help names them
 abbrev pub commands : Forms → List Shape
-commands forms = find_words ∷ classify_words ∷ lint_words forms.lint ∷ check_words ∷ explain_words
-    ∷ why_words ∷ pairs_words forms.pairs ∷ show_words forms.show ∷ draw_words
-    ∷ agree_words forms.agree ∷ replay_words ∷ serve_words ∷ []
+commands forms = find_words ∷ classify_words forms.classify ∷ lint_words forms.lint
+    ∷ check_words forms.check ∷ explain_words forms.explain ∷ why_words forms.why
+    ∷ pairs_words forms.pairs ∷ show_words forms.show ∷ draw_words ∷ agree_words forms.agree
+    ∷ replay_words forms.replay ∷ serve_words forms.serve ∷ []
 
 -- the program with these commands in this order; a command is required
 abbrev pub program_with : List Shape → App

@@ -151,34 +151,36 @@ abbrev pub name_of : Command → Text
 name_of (Find limit) = codes "find"
 name_of (Lint form) = codes "lint"
 name_of Draw = codes "draw"
-name_of (Check certificate) = codes "check"
-name_of (Explain certificate all) = codes "explain"
-name_of (Why limit all) = codes "why"
+name_of (Check certificate form) = codes "check"
+name_of (Explain certificate all form) = codes "explain"
+name_of (Why limit all form) = codes "why"
 name_of (Pairs form) = codes "pairs"
 name_of (Show certificate plan) = codes "show"
 name_of (Agree certificate inputs schedule steps form) = codes "agree"
-name_of (Replay opening events) = codes "replay"
-name_of (Serve opening calls) = codes "serve"
+name_of (Replay opening events form) = codes "replay"
+name_of (Serve opening calls form) = codes "serve"
 
 -- each argument is what its word says
 abbrev pub HasArguments : List Row → Command → Type 0
 HasArguments rows (Find limit) = HasLimit rows limit
 HasArguments rows (Lint form) = HasAnswerForm rows form
 HasArguments rows Draw = Unit {0}
-HasArguments rows (Check certificate) = HasCertificate rows certificate
-HasArguments rows (Explain certificate all) =
-    HasCertificate rows certificate × HasFlag (codes "all") rows all
-HasArguments rows (Why limit all) = HasLimit rows limit × HasFlag (codes "all") rows all
+HasArguments rows (Check certificate form) =
+    HasCertificate rows certificate × HasAnswerForm rows form
+HasArguments rows (Explain certificate all form) =
+    HasCertificate rows certificate × HasFlag (codes "all") rows all × HasAnswerForm rows form
+HasArguments rows (Why limit all form) =
+    HasLimit rows limit × HasFlag (codes "all") rows all × HasDocumentForm rows form
 HasArguments rows (Pairs form) = HasDocumentForm rows form
 HasArguments rows (Show certificate plan) = HasCertificate rows certificate × HasForm rows plan
 HasArguments rows (Agree certificate inputs schedule steps form) =
     HasCertificate rows certificate × HasList (codes "INPUTS") rows inputs
     × HasList (codes "SCHEDULE") rows schedule × HasFlag (codes "steps") rows steps
     × HasAnswerForm rows form
-HasArguments rows (Replay opening events) =
-    HasOpening rows opening × HasList (codes "EVENTS") rows events
-HasArguments rows (Serve opening calls) =
-    HasOpening rows opening × HasList (codes "CALLS") rows calls
+HasArguments rows (Replay opening events form) =
+    HasOpening rows opening × HasList (codes "EVENTS") rows events × HasAnswerForm rows form
+HasArguments rows (Serve opening calls form) =
+    HasOpening rows opening × HasList (codes "CALLS") rows calls × HasAnswerForm rows form
 
 -- the command has this name, and its arguments are what the words behind the name say
 abbrev pub IsNamed : Text → List Row → Command → Type 0
@@ -195,9 +197,9 @@ pub record IsOfTable (name : Text) (rows : List Row) (table : TextSource) (comma
 
 -- what the words behind the name of a command ask for
 abbrev pub IsInvocation : Text → List Row → Invocation → Type 0
-IsInvocation name rows (Classify limit recoverable tables) = (name ≡ codes "classify")
+IsInvocation name rows (Classify limit recoverable form tables) = (name ≡ codes "classify")
     × HasLimit rows limit × HasFlag (codes "recoverable") rows recoverable
-    × HasTables rows tables.items
+    × HasDocumentForm rows form × HasTables rows tables.items
 IsInvocation name rows (OfTable table command) = IsOfTable name rows table command
 
 -- the invocation of the parsed command, by the words behind its name

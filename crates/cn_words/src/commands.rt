@@ -61,6 +61,8 @@ pub enum Command<'a> {
     Check {
         /// The certificate.
         certificate: TextSource<'a>,
+        /// The form of the answer.
+        form: AnswerForm,
     },
     /// Explains the number.
     Explain {
@@ -68,6 +70,8 @@ pub enum Command<'a> {
         certificate: TextSource<'a>,
         /// Whether all collisions are told.
         all: bool,
+        /// The form of the answer.
+        form: AnswerForm,
     },
     /// Tells why the type has its number, up to the limit if one was given.
     Why {
@@ -75,6 +79,8 @@ pub enum Command<'a> {
         limit: Option<u8>,
         /// Whether all collisions are told.
         all: bool,
+        /// The form of the answer.
+        form: DocumentForm,
     },
     /// Writes the numbers of the operations of the type and of their pairs.
     Pairs {
@@ -107,6 +113,8 @@ pub enum Command<'a> {
         opening: OpeningWords<'a>,
         /// The events.
         events: ListSource<'a>,
+        /// The form of the answer.
+        form: AnswerForm,
     },
     /// Serves an object by threads.
     Serve {
@@ -114,6 +122,8 @@ pub enum Command<'a> {
         opening: OpeningWords<'a>,
         /// The calls of each process.
         calls: ListSource<'a>,
+        /// The form of the answer.
+        form: AnswerForm,
     },
 }
 
@@ -126,6 +136,8 @@ pub enum Invocation<'a> {
         limit: Option<u8>,
         /// Whether the recoverable number is written too.
         recoverable: bool,
+        /// The form of the answers.
+        form: DocumentForm,
         /// The tables of the types, at least one.
         tables: Vec<TextSource<'a>>,
     },
@@ -298,12 +310,16 @@ fn classify<'a>(alloc: Global, words: &ArgMatches<'a>) -> Result<Option<Invocati
     let Some(limit) = optional_limit(words) else {
         return Ok(None);
     };
+    let Some(form) = document_form(words) else {
+        return Ok(None);
+    };
     let Some(tables) = tables(alloc, words)? else {
         return Ok(None);
     };
     Ok(Some(Invocation::Classify {
         limit,
         recoverable: words.get_flag("recoverable"),
+        form,
         tables,
     }))
 }
@@ -321,6 +337,7 @@ fn check<'a>(words: &ArgMatches<'a>) -> Option<Command<'a>>
 {
     Some(Command::Check {
         certificate: certificate(words)?,
+        form: answer_form(words)?,
     })
 }
 
@@ -330,6 +347,7 @@ fn explain<'a>(words: &ArgMatches<'a>) -> Option<Command<'a>>
     Some(Command::Explain {
         certificate: certificate(words)?,
         all: words.get_flag("all"),
+        form: answer_form(words)?,
     })
 }
 
@@ -338,7 +356,8 @@ fn why<'a>(words: &ArgMatches<'a>) -> Option<Command<'a>>
 {
     let limit = optional_limit(words)?;
     let all = words.get_flag("all");
-    Some(Command::Why { limit, all })
+    let form = document_form(words)?;
+    Some(Command::Why { limit, all, form })
 }
 
 fn pairs<'a>(words: &ArgMatches<'a>) -> Option<Command<'a>>
@@ -376,6 +395,7 @@ fn replay<'a>(words: &ArgMatches<'a>) -> Option<Command<'a>>
     Some(Command::Replay {
         opening: opening(words)?,
         events: list(words, "EVENTS")?,
+        form: answer_form(words)?,
     })
 }
 
@@ -385,6 +405,7 @@ fn serve<'a>(words: &ArgMatches<'a>) -> Option<Command<'a>>
     Some(Command::Serve {
         opening: opening(words)?,
         calls: list(words, "CALLS")?,
+        form: answer_form(words)?,
     })
 }
 

@@ -48,9 +48,10 @@ is a file that holds a certificate, at most 16777216 bytes, or - for standard in
 is in a file. OBJECT is a file that holds the table of an object, at most 65536 bytes. INPUTS,
 SCHEDULE, EVENTS and CALLS are lists, or @ and the name of a file that holds the list, at most
 1048576 bytes.
-Output: on standard output, written at once. After a fault there is none, but for two: lint writes
-the flaws of a refused table, and after a failed write it is open how much went out. A fault is one
-line on standard error. In classify each table has a line of output or of a fault.
+Output: on standard output, written at once. After a fault there is none, but for three: lint writes
+the flaws of a refused table, check --as json the fault of a certificate, and after a failed write
+it is open how much went out. A fault is one line on standard error. In classify each table has a
+line of output or of a fault.
 ",
     "  cnum find --limit 3 < types/test_and_set.toml"
 );
@@ -98,6 +99,9 @@ With --recoverable a comma, the word recoverable and a second number follow: the
 which the type is n-recording, that is, the number of processes that can agree where each may crash
 and come back with its own memory lost.
 
+With --as markdown the lines are the rows of one table for a document, with its head before the
+first; with --as json each line is one JSON object.
+
 A table that cannot be read or is refused has a line on standard error that begins with the name of
 its file, and the others go on. The exit status is that of the first fault.
 
@@ -135,6 +139,9 @@ one process more, it has a counterexample (collision) to every choice, in order;
 operation leaves the start state unchanged cannot work, and version 2 skips them. What find writes
 is accepted, and so is a certificate with another witness or other collisions.
 
+With --as json writes one JSON object, which says whether the certificate is accepted, and else the
+fault, which stands on standard error too.
+
 ",
     "  cnum check types/test_and_set_at_3.json < types/test_and_set.toml
 writes ok."
@@ -149,6 +156,8 @@ checks the certificate. Writes the number; the table as a grid; who does what in
 what each process got and reads where team A was first and where team B was; and for each choice
 for one process more two runs by which one of its processes cannot tell which team was first. Of
 these choices the first 12 are told, with --all all of them.
+
+With --as json this is one JSON object.
 
 ",
     "  cnum explain types/test_and_set_at_3.json < types/test_and_set.toml
@@ -167,6 +176,9 @@ are for fewer processes than the number, it says so.
 
 With --limit N, from 2 to 8, finds the certificate of the type up to N as find does, and writes of it
 what explain writes. A search of more than 100000 choices for N processes is refused.
+
+With --as markdown writes the number, its reason, the table and the witness for a document; with
+--as json all of it is one JSON object.
 
 ",
     "  cnum why --limit 3 types/test_and_set.toml
@@ -283,6 +295,8 @@ for each call in the log: its slot K, which others may share, process P, operati
 and the state S of the object afterwards. Whatever the events, the answers are those of one
 sequential run, in the order of these lines.
 
+With --as json this is one JSON object.
+
 ",
     "  cnum replay types/test_and_set_at_3.json types/counter_3.toml 0 4 i0:inc,s0,s0,s0,s0 < types/test_and_set.toml
 writes entry 0 0 inc 0 1."
@@ -307,6 +321,8 @@ no other. Then writes entry K P O R S for each call in the log: its slot K, whic
 process P, operation O, response R and the state S of the object afterwards. Last writes events L,
 where L are the events as the threads came to make them, which replay reads. However they ran, the
 answers are those of one sequential run, in the order of the entry lines.
+
+With --as json this is one JSON object, with the list L.
 
 ",
     "  cnum serve types/test_and_set_at_3.json types/counter_3.toml 0 4 inc/none < types/test_and_set.toml
@@ -441,12 +457,14 @@ fn find<'a>(alloc: Global) -> Result<Command<'a>, AllocError>
 }
 
 fn classify<'a>(alloc: Global) -> Result<Command<'a>, AllocError>
-    ensures { IfOk result (IsCommand classify_words) }
+    ensures { IfOk result (IsCommandFor document_forms classify_words) }
 {
-    let command = bare_command(alloc, "classify", CLASSIFY_ABOUT, CLASSIFY_AFTER);
     let recoverable = "Writes the recoverable number of each type too";
+    let help = "The form in which the numbers are written";
+    let command = bare_command(alloc, "classify", CLASSIFY_ABOUT, CLASSIFY_AFTER);
     let command = with_argument(Ok(command), limit(alloc));
     let command = with_argument(command, flag(alloc, "recoverable", recoverable));
+    let command = with_argument(command, form(alloc, &DOCUMENT_FORMS, help));
     with_argument(command, files(alloc))
 }
 
@@ -475,9 +493,11 @@ fn with_certificate<'a>(
 }
 
 fn check<'a>(alloc: Global) -> Result<Command<'a>, AllocError>
-    ensures { IfOk result (IsCommand check_words) }
+    ensures { IfOk result (IsCommandFor answer_forms check_words) }
 {
+    let help = "The form in which the answer is written";
     let command = with_certificate(alloc, "check", CHECK_ABOUT, CHECK_AFTER);
+    let command = with_argument(command, form(alloc, &ANSWER_FORMS, help));
     with_table(alloc, command)
 }
 
@@ -490,20 +510,24 @@ fn all<'a>(alloc: Global) -> Arg<'a>
 }
 
 fn explain<'a>(alloc: Global) -> Result<Command<'a>, AllocError>
-    ensures { IfOk result (IsCommand explain_words) }
+    ensures { IfOk result (IsCommandFor answer_forms explain_words) }
 {
+    let help = "The form in which the reasons are written";
     let command = with_certificate(alloc, "explain", EXPLAIN_ABOUT, EXPLAIN_AFTER);
     let command = with_argument(command, all(alloc));
+    let command = with_argument(command, form(alloc, &ANSWER_FORMS, help));
     with_table(alloc, command)
 }
 
 fn why<'a>(alloc: Global) -> Result<Command<'a>, AllocError>
-    ensures { IfOk result (IsCommand why_words) }
+    ensures { IfOk result (IsCommandFor document_forms why_words) }
 {
+    let help = "The form in which the reasons are written";
     let command = bare_command(alloc, "why", WHY_ABOUT, WHY_AFTER);
     let command = with_argument(Ok(command), table_word(alloc));
     let command = with_argument(command, limit(alloc));
-    with_argument(command, all(alloc))
+    let command = with_argument(command, all(alloc));
+    with_argument(command, form(alloc, &DOCUMENT_FORMS, help))
 }
 
 fn pairs<'a>(alloc: Global) -> Result<Command<'a>, AllocError>
@@ -565,20 +589,24 @@ fn with_object<'a>(
 }
 
 fn replay<'a>(alloc: Global) -> Result<Command<'a>, AllocError>
-    ensures { IfOk result (IsCommand replay_words) }
+    ensures { IfOk result (IsCommandFor answer_forms replay_words) }
 {
     let events = "The events, in order, or @FILE";
+    let help = "The form in which the log is written";
     let command = with_object(alloc, "replay", REPLAY_ABOUT, REPLAY_AFTER);
     let command = with_argument(command, required_word(alloc, "EVENTS", events));
+    let command = with_argument(command, form(alloc, &ANSWER_FORMS, help));
     with_table(alloc, command)
 }
 
 fn serve<'a>(alloc: Global) -> Result<Command<'a>, AllocError>
-    ensures { IfOk result (IsCommand serve_words) }
+    ensures { IfOk result (IsCommandFor answer_forms serve_words) }
 {
     let calls = "The calls of each process, in order, or @FILE";
+    let help = "The form in which the log is written";
     let command = with_object(alloc, "serve", SERVE_ABOUT, SERVE_AFTER);
     let command = with_argument(command, required_word(alloc, "CALLS", calls));
+    let command = with_argument(command, form(alloc, &ANSWER_FORMS, help));
     with_table(alloc, command)
 }
 

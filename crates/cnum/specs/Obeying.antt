@@ -41,7 +41,7 @@ module _ {S F D W : Type 0} (remaining : S → Option (List ℕ)) (left : LazyFi
   -- what the words ask for is done: the tables that `classify` names are classified, or a command
   -- of one table is run
   abbrev pub Does : S → Invocation → Output W → Output W → ℕ → Type 0
-  Does stdin (Classify limit recoverable tables) u v status = ClassifiesAll stdin
+  Does stdin (Classify limit recoverable form tables) u v status = ClassifiesAll stdin
       (record { limit = limit; recoverable = recoverable }) tables.items u v status
   Does stdin (OfTable table command) u v status = RunsOne stdin table command u v status
 

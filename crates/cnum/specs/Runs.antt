@@ -145,16 +145,16 @@ module _ {S D F W : Type 0} (remaining : S → Option (List ℕ)) (left : LazyFi
       (left_of remaining left) left contents files table (λ t. HasLintReport t form) u v r
   RunsOn stdin table Draw u v r = ReadsTable (left_of remaining left) (left_of remaining left) left
       contents files table (λ t. HasDrawReport t) u v r
-  RunsOn stdin table (Why limit all) u v r =
+  RunsOn stdin table (Why limit all form) u v r =
       ReadsTable (left_of remaining left) (left_of remaining left) left contents files table
       (λ t. HasWhyReport t limit all) u v r
   RunsOn stdin table (Pairs form) u v r =
       ReadsTable (left_of remaining left) (left_of remaining left) left contents files table
       (λ t. HasPairsReport t form) u v r
-  RunsOn stdin table (Check certificate) u v r = With stdin certificate
+  RunsOn stdin table (Check certificate form) u v r = With stdin certificate
       (λ c. ReadsBoth (left_of remaining left) (left_of remaining left) left contents files table c
       (Unit {0}) (λ t d. HasCheckReport t d) u v r)
-  RunsOn stdin table (Explain certificate all) u v r = With stdin certificate
+  RunsOn stdin table (Explain certificate all form) u v r = With stdin certificate
       (λ c. ReadsBoth (left_of remaining left) (left_of remaining left) left contents files table c
       (Unit {0}) (λ t d. HasExplainReport t d all) u v r)
   RunsOn stdin table (Show certificate form) u v r = With stdin certificate
@@ -163,10 +163,10 @@ module _ {S D F W : Type 0} (remaining : S → Option (List ℕ)) (left : LazyFi
   RunsOn stdin table (Agree certificate inputs schedule steps form) u v r = With stdin certificate
       (λ c. RunsAgree (left_of remaining left) (left_of remaining left) left contents files table c
       inputs schedule (record { steps = steps; form = form }) u v r)
-  RunsOn stdin table (Replay opening events) u v r = With stdin opening.certificate
+  RunsOn stdin table (Replay opening events form) u v r = With stdin opening.certificate
       (λ c. RunsReplay (left_of remaining left) (left_of remaining left) left contents files
       table c opening events u v r)
-  RunsOn stdin table (Serve opening calls) u v r = With stdin opening.certificate
+  RunsOn stdin table (Serve opening calls form) u v r = With stdin opening.certificate
       (λ c. RunsServe (left_of remaining left) (left_of remaining left) left contents files
       table c opening calls u v r)
 

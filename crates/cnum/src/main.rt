@@ -89,6 +89,7 @@ fn do_command<T: Threads + Wait + Sync + Disk + Eprint, I: Read + Copy + Drop, O
             limit,
             recoverable,
             tables,
+            ..
         } => {
             let asked = AskedNumbers {
                 limit: *limit,

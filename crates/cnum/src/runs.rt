@@ -202,13 +202,17 @@ pub fn run<T: Threads + Wait + Sync + Disk, S: Read + Copy + Drop, O: Write>(
         Command::Find { limit } => commands::find(rt, alloc, text, output, limit),
         Command::Lint { form } => commands::lint(alloc, text, output, form),
         Command::Draw => commands::draw(alloc, text, output),
-        Command::Why { limit, all } => commands::why(rt, alloc, text, output, limit, all),
+        Command::Why { limit, all, .. } => commands::why(rt, alloc, text, output, limit, all),
         Command::Pairs { form } => commands::pairs(rt, alloc, text, output, form),
-        Command::Check { certificate } => {
+        Command::Check { certificate, .. } => {
             let certificate = &mut text_of(rt, alloc, stdin, certificate);
             commands::check(alloc, text, certificate, output)
         }
-        Command::Explain { certificate, all } => {
+        Command::Explain {
+            certificate,
+            all,
+            ..
+        } => {
             let certificate = &mut text_of(rt, alloc, stdin, certificate);
             commands::explain(alloc, text, certificate, output, all)
         }
@@ -228,11 +232,15 @@ pub fn run<T: Threads + Wait + Sync + Disk, S: Read + Copy + Drop, O: Write>(
             let asked = AskedRun { steps, form };
             agree(rt, alloc, text, certificate, output, lists, asked)
         }
-        Command::Replay { opening, events } => {
+        Command::Replay {
+            opening,
+            events,
+            ..
+        } => {
             let certificate = text_of(rt, alloc, stdin, opening.certificate);
             replay(rt, alloc, table, certificate, output, opening, events)
         }
-        Command::Serve { opening, calls } => {
+        Command::Serve { opening, calls, .. } => {
             let certificate = text_of(rt, alloc, stdin, opening.certificate);
             serve(rt, alloc, table, certificate, output, opening, calls)
         }

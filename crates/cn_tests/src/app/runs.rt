@@ -172,8 +172,6 @@ fn opening() -> OpeningWords<'static> {
 /// The examples. `run_command` gives them their texts, whatever files they name.
 pub(crate) fn all_examples() -> [Example; 18] {
     let (certificate, form) = (TextSource::File("CERT"), Form::Text);
-    let (events, calls) = (ListSource::Word(HELPED), ListSource::Word("0,0/none"));
-    let opening = opening();
     [
         Example::new(Command::Find { limit: Some(3) }, found_test_and_set_at_3()),
         Example::of_numbers(false, "test_and_set: 2"),
@@ -181,11 +179,12 @@ pub(crate) fn all_examples() -> [Example; 18] {
         Example::of_lint(AnswerForm::Text, test_and_set_grid()),
         Example::of_lint(AnswerForm::Json, r#"{"flaws":[]}"#),
         Example::new(Command::Draw, test_and_set_picture()),
-        Example::new(Command::Check { certificate }, "ok"),
+        Example::of_check(AnswerForm::Text, "ok"),
         Example::new(
             Command::Explain {
                 certificate,
                 all: false,
+                form: AnswerForm::Text,
             },
             test_and_set_explained(),
         ),
@@ -193,6 +192,7 @@ pub(crate) fn all_examples() -> [Example; 18] {
             Command::Why {
                 limit: Some(3),
                 all: false,
+                form: DocumentForm::Text,
             },
             test_and_set_reasons(),
         ),
@@ -203,8 +203,8 @@ pub(crate) fn all_examples() -> [Example; 18] {
         Example::of_run(true, AnswerForm::Text, test_and_set_steps()),
         Example::of_run(false, AnswerForm::Json, r#"{"decisions":[20,null]}"#),
         Example::of_run(true, AnswerForm::Json, test_and_set_course()),
-        Example::new(Command::Replay { opening, events }, helped_lines()),
-        Example::new(Command::Serve { opening, calls }, test_and_set_served()),
+        Example::of_replay(AnswerForm::Text, helped_lines()),
+        Example::of_serve(AnswerForm::Text, test_and_set_served()),
     ]
 }
 
@@ -262,7 +262,7 @@ fn run_command<T: Threads + Wait + Sync>(
         Command::Find { limit } => commands::find(rt, alloc, table, output, limit),
         Command::Lint { form } => commands::lint(alloc, table, output, form),
         Command::Draw => commands::draw(alloc, table, output),
-        Command::Why { limit, all } => commands::why(rt, alloc, table, output, limit, all),
+        Command::Why { limit, all, .. } => commands::why(rt, alloc, table, output, limit, all),
         Command::Pairs { form } => commands::pairs(rt, alloc, table, output, form),
         Command::Check { .. } => commands::check(alloc, table, certificate, output),
         Command::Explain { all, .. } => commands::explain(alloc, table, certificate, output, all),
@@ -316,6 +316,32 @@ impl Example {
     /// `pairs` in this form.
     fn of_pairs(form: DocumentForm, lines: &'static str) -> Example {
         Example::new(Command::Pairs { form }, lines)
+    }
+
+    /// `check` in this form.
+    fn of_check(form: AnswerForm, lines: &'static str) -> Example {
+        let certificate = TextSource::File("CERT");
+        Example::new(Command::Check { certificate, form }, lines)
+    }
+
+    /// `replay` in this form.
+    fn of_replay(form: AnswerForm, lines: &'static str) -> Example {
+        let command = Command::Replay {
+            opening: opening(),
+            events: ListSource::Word(HELPED),
+            form,
+        };
+        Example::new(command, lines)
+    }
+
+    /// `serve` of two calls of process 0 in this form.
+    fn of_serve(form: AnswerForm, lines: &'static str) -> Example {
+        let command = Command::Serve {
+            opening: opening(),
+            calls: ListSource::Word("0,0/none"),
+            form,
+        };
+        Example::new(command, lines)
     }
 
     /// `lint` in this form.

@@ -5,4 +5,8 @@ use Rattle.cn_words.proofs.commands.check.Goals as goal
 
 pub returns-in_err-certificate : goal.returns-in_err-certificate
 returns-in_err-certificate c = rw c.from_residual.ensures (λ command is.
-    let w = wants (codes "check") (rows_in c.args.words.now) command is in c.in_err-certificate.ensures w.0 w.1)
+    let w = wants (codes "check") (rows_in c.args.words.now) command is in c.in_err-certificate.ensures w.0.0 w.0.1)
+
+pub returns-in_err-answer_form : goal.returns-in_err-answer_form
+returns-in_err-answer_form c = rw c.from_residual-in_err-answer_form.ensures (λ command is.
+    let w = wants (codes "check") (rows_in c.args.words.now) command is in c.in_err-answer_form.ensures w.1.0 w.1.1)

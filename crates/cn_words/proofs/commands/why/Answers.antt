@@ -6,7 +6,11 @@ use Rattle.cn_words.proofs.commands.why.Goals as goal
 
 pub returns-in_err-limit : goal.returns-in_err-limit
 returns-in_err-limit c = rw c.from_residual.ensures (λ command is.
-    let w = wants (codes "why") (rows_in c.args.words.now) command is in c.in_err-limit.ensures w.0 w.1)
+    let w = wants (codes "why") (rows_in c.args.words.now) command is in c.in_err-limit.ensures w.0.0 w.0.1)
+
+pub returns-in_err-form : goal.returns-in_err-form
+returns-in_err-form c = rw c.from_residual-in_err-form.ensures (λ command is.
+    let w = wants (codes "why") (rows_in c.args.words.now) command is in c.in_err-form.ensures w.1.0 w.1.1)
 
 pub returns : goal.returns
 returns c = (
@@ -14,5 +18,6 @@ returns c = (
   (
     c.in_ok-limit.ensures,
     flag_read (found_of c.args.words.now) (codes "all") c.get_flag-all.result c.get_flag-all.ensures.none c.get_flag-all.ensures.value c.get_flag-all.ensures.other,
+    c.in_ok-form.ensures,
   ),
 )

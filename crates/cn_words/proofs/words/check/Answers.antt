@@ -1,5 +1,10 @@
-use Rattle.cn_words.proofs.CommandLemmas.{table_more}
+use Rattle.std.proofs.lemmas.Result.{IfOk-weaker}
+use Rattle.cn_words.proofs.CommandLemmas.{argument_more, table_more}
 use Rattle.cn_words.proofs.words.check.Goals as goal
 
 pub returns : goal.returns
-returns c = table_more _ c.with_table.result _ c.with_certificate-command.ensures c.with_table.ensures
+returns c =
+    IfOk-weaker c.with_table.result _ _ (λ new is. (c.form.ensures.0, c.form.ensures.1, is))
+    (table_more _ c.with_table.result _
+    (argument_more _ c.with_argument-command.result _ _ _ c.with_certificate-command.ensures c.form.ensures.2 c.with_argument-command.ensures)
+    c.with_table.ensures)
