@@ -10,16 +10,18 @@ const vm = require('vm');
 const zlib = require('zlib');
 
 const PAUSE = 5; // milliseconds until a stream that is not ready is asked again
+const ERRORS = { EIO: 5, EPIPE: 32 }; // the errors that the program tells apart, by their numbers there
 const STATUS = { missing: 4, failed: 134 };
 
-// What a call to the system gives; -1 if it fails. A stream that is not ready is asked until it is.
+// What a call to the system gives; if it fails, its error as a number below 0. A stream that is not ready is asked
+// until it is.
 function answered(call) {
     for (;;) {
         try {
             return call();
         } catch (error) {
             if (error.code === 'EOF') return 0; // so a closed pipe ends on Windows
-            if (error.code !== 'EAGAIN') return -1;
+            if (error.code !== 'EAGAIN') return -(ERRORS[error.code] || ERRORS.EIO);
             Atomics.wait(new Int32Array(new SharedArrayBuffer(4)), 0, 0, PAUSE);
         }
     }

@@ -11,7 +11,7 @@ PAGE("word") extern int page_word(half index, half to, half most);
 PAGE("open") extern int page_open(half name, half length);
 // How many bytes it has put there, 0 at the end of the file, or -1.
 PAGE("read") extern int page_read(int file, half to, half most);
-// How many bytes it has taken, or -1.
+// How many bytes it has taken, or an error as a number below 0.
 PAGE("write") extern int page_write(int file, half from, half count);
 PAGE("close") extern int page_close(int file);
 // Ends the run with this status; it does not come back.
@@ -71,7 +71,8 @@ number read(int file, byte *to, word most) {
 }
 
 number write(int file, const byte *from, word count) {
-    return told(page_write(file, address_of(from), at_once(count)), INPUT_OUTPUT);
+    int taken = page_write(file, address_of(from), at_once(count));
+    return taken < 0 ? told(-1, -taken) : taken;
 }
 
 int close(int file) {

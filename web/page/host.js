@@ -6,7 +6,7 @@ var Cnum = globalThis.Cnum || {};
 // Runs a compiled module with these words, each as bytes, over streams. It answers the exit status. Standard input is
 // the stream 0, standard output 1, and standard error 2. Of the streams, `open` takes a name as bytes and gives the
 // number of a stream, `read` fills a part of the memory, and `write` takes the bytes of one; both give the count of
-// bytes. Each gives -1 if it fails.
+// bytes. Each gives a number below 0 if it fails, and `write` the error of the system as that.
 Cnum.runModule = function (module, words, streams) {
     'use strict';
     class Exit {
@@ -61,6 +61,8 @@ Cnum.makeHost = function (module) {
         return whole;
     }
 
+    const INPUT_OUTPUT = 5;
+
     return function run(words, stdin = '', files = {}) {
         const opened = new Map([[0, { bytes: bytesOf(stdin), at: 0 }]]);
         const written = { 1: [], 2: [] };
@@ -81,7 +83,7 @@ Cnum.makeHost = function (module) {
                 return next.length;
             },
             write(number, from) {
-                if (!written[number]) return -1;
+                if (!written[number]) return -INPUT_OUTPUT;
                 written[number].push(from.slice());
                 return from.length;
             },
