@@ -17,11 +17,16 @@ use Rattle.cn_table.specs.Document.{list_of, keys_in, array_at}
 use Rattle.cn_table.specs.Draft.{Draft, DraftRow, row_names, draft_of}
 use Rattle.cn_table.specs.Faults.{root_keys, operation_keys, has_other_key, lacks_a_key, some_table, some_operation, has_unknown_key, has_missing_key, is_at, is_text, is_array_of, is_operation, has_wrong_kind, has_bad_name, is_miscounted, has_bad_count, has_repeated_name, is_misfit, has_bad_length, are_among, has_unknown_name, fault_of}
 use Rattle.cn_table.specs.Names.{is_name, has_repeat, number_of}
-use Rattle.cn_flaws.specs.FlawText.{kind_text, too_many_text, too_few_text, repeated_text, operation_text, no_operation_text, place_after, not_toml_text}
-use Rattle.cn_flaws.specs.Flaws.{Flaw, flaw, each, places_of, repeat_at, stands_in, other_keys, missing_keys, wrong_kind, is_array, is_of, kind_name, table_flaws, item_flaws, operation_flaws, root_flaws, flaws_by, bad_name, name_flaws, bad_count, count_flaws, repeats, repeat_flaws, row_lengths, length_flaws, unknown_entry, row_entries, entry_flaws, draft_flaws, document_flaws, text_flaws, flaws_at, flaws_view, first_fault}
+use Rattle.cn_flaws.specs.FlawPath.{PathPart, table_path, key_path, list_path, name_path}
+use Rattle.cn_flaws.specs.FlawText.{kind_text, too_many_text, too_few_text, operation_text, no_operation_text, place_after}
+use Rattle.cn_flaws.specs.Flaws.{Flaw, flaw, not_toml, each, list_word, bad_names, repeated, repeat_at, stands_in, other_keys, missing_keys, wrong_kind, is_array, is_of, kind_name, table_flaws, item_flaws, operation_flaws, root_flaws, flaws_by, bad_name, name_flaws, bad_count, count_flaws, repeats, repeat_flaws, row_lengths, length_flaws, unknown_entry, row_entries, entry_flaws, draft_flaws, document_flaws, text_flaws, flaws_at, flaws_view, first_fault}
 use Rattle.cn_table.specs.declared.fault.TableFault.{TableFault}
 use Rattle.cn_table.specs.declared.fault.TableFault.TheVariants.{NotToml, UnknownKey, MissingKey, WrongKind, BadName, Count, Repeated, RowLength, UnknownName}
 use Rattle.cn_flaws.specs.declared.flaw.Flaw as code_flaw
+use Rattle.cn_flaws.specs.declared.path.Holder.{Holder}
+use Rattle.cn_flaws.specs.declared.path.Holder.TheVariants.{Root, Operation}
+use Rattle.cn_flaws.specs.declared.path.NameList.{NameList}
+use Rattle.cn_flaws.specs.declared.path.NameList.TheVariants.{States, Responses, Operations}
 use Rattle.cn_flaws.specs.declared.document_flaws.Kind.{Kind}
 use Rattle.cn_flaws.specs.declared.document_flaws.Kind.TheVariants.{Text, Texts, Tables}
 use Rattle.cn_flaws.specs.declared.document_flaws.FlawClass.TheVariants.{OtherKeys, MissingKeys, Kinds}
@@ -46,9 +51,9 @@ told_or k false c = refl
 pub told_append : (k : TableFault) (xs ys : List Flaw) (b c : Bool) → first_fault xs ≡ told k b → first_fault ys ≡ told k c → first_fault (xs ++ ys) ≡ told k (b || c)
 told_append k xs ys b c here later = first_append xs ys ∙ rw (here, later) (told_or k b c)
 
-told_if : (k : TableFault) (text : List ℕ) (b : Bool) → first_fault (cond b [] (flaw k text)) ≡ told k (not b)
-told_if k text true = refl
-told_if k text false = refl
+told_if : (k : TableFault) (path : List PathPart) (text : List ℕ) (b : Bool) → first_fault (cond b [] (flaw k path text)) ≡ told k (not b)
+told_if k path text true = refl
+told_if k path text false = refl
 
 -- the flaws of each thing of a list are of one fault
 told_flat : {X : Type 0} (k : TableFault) (flaw_class : X → List Flaw) (test : X → Bool) → ((x : X) → first_fault (flaw_class x) ≡ told k (test x)) → (xs : List X)
@@ -83,26 +88,26 @@ told_not k xs ys a b here later = told_append k xs ys (not a) (not b) here later
 
 -- ---- keys
 
-told_other : (before after : List ℕ) (known : List (List ℕ)) (table : Members)
-    → first_fault (other_keys before after known (keys_in table)) ≡ told UnknownKey (has_other_key known table)
-told_other before after known table =
-    told_flat UnknownKey _ (λ key. not (list_any (λ k. bytes_eq k key) known)) (λ key. told_if UnknownKey _ (list_any (λ k. bytes_eq k key) known)) (keys_in table)
+told_other : (holder : Holder) (before after : List ℕ) (known : List (List ℕ)) (table : Members)
+    → first_fault (other_keys holder before after known (keys_in table)) ≡ told UnknownKey (has_other_key known table)
+told_other holder before after known table =
+    told_flat UnknownKey _ (λ key. not (list_any (λ k. bytes_eq k key) known)) (λ key. told_if UnknownKey _ _ (list_any (λ k. bytes_eq k key) known)) (keys_in table)
 
-told_missing : (place : List ℕ) (known : List (List ℕ)) (table : Members) → first_fault (missing_keys place known table) ≡ told MissingKey (lacks_a_key known table)
-told_missing place known table =
-    told_flat MissingKey _ (λ key. not (is_some (get_member key table))) (λ key. told_if MissingKey _ (is_some (get_member key table))) known
+told_missing : (holder : Holder) (place : List ℕ) (known : List (List ℕ)) (table : Members) → first_fault (missing_keys holder place known table) ≡ told MissingKey (lacks_a_key known table)
+told_missing holder place known table =
+    told_flat MissingKey _ (λ key. not (is_some (get_member key table))) (λ key. told_if MissingKey _ _ (is_some (get_member key table))) known
 
 other_in_item : (i : ℕ) (d : Data) → first_fault (item_flaws OtherKeys i d) ≡ told UnknownKey (option_map_or (has_other_key operation_keys) (as_table d) false)
 other_in_item i d = of_table (as_table d) where
   of_table : (o : Option Members) → first_fault (option_map_or (table_flaws OtherKeys i) o []) ≡ told UnknownKey (option_map_or (has_other_key operation_keys) o false)
   of_table None = refl
-  of_table (Some table) = told_other _ _ operation_keys table
+  of_table (Some table) = told_other (Operation i) _ _ operation_keys table
 
 missing_in_item : (i : ℕ) (d : Data) → first_fault (item_flaws MissingKeys i d) ≡ told MissingKey (option_map_or (lacks_a_key operation_keys) (as_table d) false)
 missing_in_item i d = of_table (as_table d) where
   of_table : (o : Option Members) → first_fault (option_map_or (table_flaws MissingKeys i) o []) ≡ told MissingKey (option_map_or (lacks_a_key operation_keys) o false)
   of_table None = refl
-  of_table (Some table) = told_missing _ operation_keys table
+  of_table (Some table) = told_missing (Operation i) _ operation_keys table
 
 other_in_operations : (document : Members) → first_fault (operation_flaws OtherKeys document) ≡ told UnknownKey (some_operation (has_other_key operation_keys) document)
 other_in_operations document = of_items (array_at (codes "operation") document) where
@@ -121,22 +126,22 @@ missing_in_operations document = of_items (array_at (codes "operation") document
 unknown_keys_first : (document : Members) → first_fault (flaws_by OtherKeys document) ≡ told UnknownKey (has_unknown_key document)
 unknown_keys_first document =
     told_append UnknownKey (root_flaws OtherKeys document) (operation_flaws OtherKeys document) (has_other_key root_keys document) (some_operation (has_other_key operation_keys) document)
-    (told_other [] (codes ": the root has name, states, responses, operation") root_keys document) (other_in_operations document)
+    (told_other Root [] (codes ": the root has name, states, responses, operation") root_keys document) (other_in_operations document)
 
 missing_keys_first : (document : Members) → first_fault (flaws_by MissingKeys document) ≡ told MissingKey (has_missing_key document)
 missing_keys_first document =
     told_append MissingKey (root_flaws MissingKeys document) (operation_flaws MissingKeys document) (lacks_a_key root_keys document) (some_operation (lacks_a_key operation_keys) document)
-    (told_missing (codes "the root") root_keys document) (missing_in_operations document)
+    (told_missing Root (codes "the root") root_keys document) (missing_in_operations document)
 
 -- ---- kinds, where no key is missing
 
-told_kind : (kind : Kind) (before key : List ℕ) (table : Members) → not (is_some (get_member key table)) ≡ false
-    → first_fault (wrong_kind kind before key table) ≡ told WrongKind (not (is_at (is_of kind) key table))
-told_kind kind before key table there = of_value (get_member key table) there where
+told_kind : (kind : Kind) (holder : Holder) (before key : List ℕ) (table : Members) → not (is_some (get_member key table)) ≡ false
+    → first_fault (wrong_kind kind holder before key table) ≡ told WrongKind (not (is_at (is_of kind) key table))
+told_kind kind holder before key table there = of_value (get_member key table) there where
   of_value : (o : Option Data) → not (is_some o) ≡ false
-      → first_fault (cond (option_map_or (is_of kind) o true) [] (flaw WrongKind (kind_text before key (kind_name kind)))) ≡ told WrongKind (not (option_map_or (is_of kind) o false))
+      → first_fault (cond (option_map_or (is_of kind) o true) [] (flaw WrongKind (key_path holder key) (kind_text before key (kind_name kind)))) ≡ told WrongKind (not (option_map_or (is_of kind) o false))
   of_value None h = absurd cc
-  of_value (Some d) h = told_if WrongKind _ (is_of kind d)
+  of_value (Some d) h = told_if WrongKind _ _ (is_of kind d)
 
 table_kinds : (i : ℕ) (table : Members) → lacks_a_key operation_keys table ≡ false → first_fault (table_flaws Kinds i table)
     ≡ told WrongKind (not (is_at is_text (codes "name") table && (is_at (is_array_of is_text) (codes "response") table && is_at (is_array_of is_text) (codes "next") table)))
@@ -145,13 +150,13 @@ table_kinds i table none =
     let (response, last) = or_parts (not (is_some (get_member (codes "response") table))) _ others in
     let (next, _) = or_parts (not (is_some (get_member (codes "next") table))) _ last in
     told_not WrongKind _ _ (is_at is_text (codes "name") table) (is_at (is_array_of is_text) (codes "response") table && is_at (is_array_of is_text) (codes "next") table)
-    (told_kind Text _ (codes "name") table name)
+    (told_kind Text (Operation i) _ (codes "name") table name)
     (told_not WrongKind _ _ (is_at (is_array_of is_text) (codes "response") table) (is_at (is_array_of is_text) (codes "next") table)
-    (told_kind Texts _ (codes "response") table response) (told_kind Texts _ (codes "next") table next))
+    (told_kind Texts (Operation i) _ (codes "response") table response) (told_kind Texts (Operation i) _ (codes "next") table next))
 
 kinds_in_item : (i : ℕ) (d : Data) → option_map_or (lacks_a_key operation_keys) (as_table d) false ≡ false → first_fault (item_flaws Kinds i d) ≡ told WrongKind (not (is_operation d))
 kinds_in_item i d none = of_table (as_table d) none where
-  of_table : (o : Option Members) → option_map_or (lacks_a_key operation_keys) o false ≡ false → first_fault (option_map_or (table_flaws Kinds i) o (flaw WrongKind (no_operation_text i)))
+  of_table : (o : Option Members) → option_map_or (lacks_a_key operation_keys) o false ≡ false → first_fault (option_map_or (table_flaws Kinds i) o (flaw WrongKind (table_path (Operation i)) (no_operation_text i)))
       ≡ told WrongKind (not (option_map_or (λ table.
       is_at is_text (codes "name") table && (is_at (is_array_of is_text) (codes "response") table && is_at (is_array_of is_text) (codes "next") table)) o false))
   of_table None h = refl
@@ -209,31 +214,32 @@ kinds_first document none =
     let d = is_at is_array (codes "operation") document in
     let e = option_map_or (list_any (λ d. not (is_operation d))) (array_at (codes "operation") document) false in
     told_append WrongKind (root_flaws Kinds document) (operation_flaws Kinds document) (not (a && (b && (c && d)))) e
-    (told_not WrongKind _ _ a (b && (c && d)) (told_kind Text [] (codes "name") document name)
-    (told_not WrongKind _ _ b (c && d) (told_kind Texts [] (codes "states") document states)
-    (told_not WrongKind _ _ c d (told_kind Texts [] (codes "responses") document responses) (told_kind Tables [] (codes "operation") document operation))))
+    (told_not WrongKind _ _ a (b && (c && d)) (told_kind Text Root [] (codes "name") document name)
+    (told_not WrongKind _ _ b (c && d) (told_kind Texts Root [] (codes "states") document states)
+    (told_not WrongKind _ _ c d (told_kind Texts Root [] (codes "responses") document responses) (told_kind Tables Root [] (codes "operation") document operation))))
     (kinds_in_operations document in_operations)
     ∙ ap (told WrongKind) (four_kinds a b c d e (is_at (is_array_of is_operation) (codes "operation") document) (is_array_of_operations document))
 
 -- ---- drafts
 
-bad_names_told : (what : List ℕ) (names : List (List ℕ)) → first_fault (flat_map (bad_name what) names) ≡ told BadName (not (list_all is_name names))
-bad_names_told what names =
-    told_flat BadName (bad_name what) (λ name. not (is_name name)) (λ name. told_if BadName _ (is_name name)) names ∙ ap (told BadName) (any_not is_name names)
+bad_names_told : (list : NameList) (names : List (List ℕ)) → first_fault (bad_names list names) ≡ told BadName (not (list_all is_name names))
+bad_names_told list names =
+    told_each_all BadName (λ i. bad_name (name_path list i) (list_word list)) (λ name. not (is_name name)) (λ i name. told_if BadName _ _ (is_name name)) 0 names
+    ∙ ap (told BadName) (any_not is_name names)
 
 names_first : (draft : Draft) → first_fault (name_flaws draft) ≡ told BadName (has_bad_name draft)
 unfolding name_flaws
 names_first draft =
     told_not BadName _ _ (is_name draft.name) (list_all is_name draft.states && (list_all is_name draft.responses && list_all is_name (row_names draft.operations)))
-    (told_if BadName _ (is_name draft.name))
+    (told_if BadName _ _ (is_name draft.name))
     (told_not BadName _ _ (list_all is_name draft.states) (list_all is_name draft.responses && list_all is_name (row_names draft.operations))
-    (bad_names_told (codes "state") draft.states)
+    (bad_names_told States draft.states)
     (told_not BadName _ _ (list_all is_name draft.responses) (list_all is_name (row_names draft.operations))
-    (bad_names_told (codes "response") draft.responses) (bad_names_told (codes "operation") (row_names draft.operations))))
+    (bad_names_told Responses draft.responses) (bad_names_told Operations (row_names draft.operations))))
 
-count_told : {X : Type 0} (what : List ℕ) (most : ℕ) (xs : List X) → first_fault (bad_count what most (length xs)) ≡ told Count (is_miscounted most xs)
-count_told what most xs = of_tests (nat_le 1 (length xs)) (nat_le (length xs) most) where
-  of_tests : (a b : Bool) → first_fault (cond a (cond b [] (flaw Count (too_many_text what most (length xs)))) (flaw Count (too_few_text what))) ≡ told Count (not (a && b))
+count_told : {X : Type 0} (list : NameList) (most : ℕ) (xs : List X) → first_fault (bad_count list most (length xs)) ≡ told Count (is_miscounted most xs)
+count_told list most xs = of_tests (nat_le 1 (length xs)) (nat_le (length xs) most) where
+  of_tests : (a b : Bool) → first_fault (cond a (cond b [] (flaw Count (list_path list) (too_many_text (list_word list) most (length xs)))) (flaw Count (list_path list) (too_few_text (list_word list)))) ≡ told Count (not (a && b))
   of_tests true true = refl
   of_tests true false = refl
   of_tests false b = refl
@@ -242,9 +248,9 @@ counts_first : (draft : Draft) → first_fault (count_flaws draft) ≡ told Coun
 unfolding count_flaws
 counts_first draft =
     told_append Count _ _ (is_miscounted MOST_STATES draft.states) (is_miscounted MOST_RESPONSES draft.responses || is_miscounted MOST_OPERATIONS draft.operations)
-    (count_told (codes "states") MOST_STATES draft.states)
+    (count_told States MOST_STATES draft.states)
     (told_append Count _ _ (is_miscounted MOST_RESPONSES draft.responses) (is_miscounted MOST_OPERATIONS draft.operations)
-    (count_told (codes "responses") MOST_RESPONSES draft.responses) (count_told (codes "operations") MOST_OPERATIONS draft.operations))
+    (count_told Responses MOST_RESPONSES draft.responses) (count_told Operations MOST_OPERATIONS draft.operations))
 
 stands_itself : (t : List ℕ) (ts : List (List ℕ)) → stands_in (t ∷ ts) t ≡ true
 stands_itself t ts = rw ((bytes_eq-Decides t t).1 refl) refl
@@ -266,12 +272,12 @@ new_joined before t ts new once name there = by_place (stands_in before name) re
         by_name false is h = absurd (true≢false (sym h))
 
 -- the repeated names from one place on, if no name before is one of them
-repeats_from : (what : List ℕ) (names before rest : List (List ℕ)) → before ++ rest ≡ names → IsNew before rest
-    → first_fault (each (repeat_at what names) (length before) rest) ≡ told Repeated (has_repeat rest)
-repeats_from what names before [] split new = refl
-repeats_from what names before (t ∷ ts) split new =
-    ap (λ f. first_fault (f ++ each (repeat_at what names) (length before + 1) ts)) here ∙ by_test (stands_in ts t) refl (λ once.
-    rw (← length_push before t) (repeats_from what names (before ++ t ∷ []) ts (append_assoc before (t ∷ []) ts ∙ split) (new_joined before t ts new once)))
+repeats_from : (list : NameList) (names before rest : List (List ℕ)) → before ++ rest ≡ names → IsNew before rest
+    → first_fault (each (repeat_at list names) (length before) rest) ≡ told Repeated (has_repeat rest)
+repeats_from list names before [] split new = refl
+repeats_from list names before (t ∷ ts) split new =
+    ap (λ f. first_fault (f ++ each (repeat_at list names) (length before + 1) ts)) here ∙ by_test (stands_in ts t) refl (λ once.
+    rw (← length_push before t) (repeats_from list names (before ++ t ∷ []) ts (append_assoc before (t ∷ []) ts ∙ split) (new_joined before t ts new once)))
   where
     first : stands_in before t ≡ false
     first = by_place (stands_in before t) refl
@@ -280,22 +286,22 @@ repeats_from what names before (t ∷ ts) split new =
         by_place true e = absurd (true≢false (sym (stands_itself t ts) ∙ new t e))
         by_place false e = refl
 
-    here : repeat_at what names (length before) t ≡ cond (stands_in ts t) (flaw Repeated (repeated_text what (places_of t 0 names) t)) []
+    here : repeat_at list names (length before) t ≡ cond (stands_in ts t) (repeated list names (length before) t) []
     here = rw (← split, take-append_seam before (t ∷ ts), drop-append-add before (t ∷ ts) 1, first) refl
 
-    by_test : (b : Bool) → stands_in ts t ≡ b → (b ≡ false → first_fault (each (repeat_at what names) (length before + 1) ts) ≡ told Repeated (has_repeat ts))
-        → first_fault (cond b (flaw Repeated (repeated_text what (places_of t 0 names) t)) [] ++ each (repeat_at what names) (length before + 1) ts) ≡ told Repeated (b || has_repeat ts)
+    by_test : (b : Bool) → stands_in ts t ≡ b → (b ≡ false → first_fault (each (repeat_at list names) (length before + 1) ts) ≡ told Repeated (has_repeat ts))
+        → first_fault (cond b (repeated list names (length before) t) [] ++ each (repeat_at list names) (length before + 1) ts) ≡ told Repeated (b || has_repeat ts)
     by_test true e later = refl
     by_test false e later = later refl
 
-repeats_told : (what : List ℕ) (names : List (List ℕ)) → first_fault (repeats what names) ≡ told Repeated (has_repeat names)
-repeats_told what names = repeats_from what names [] names refl (λ name h. absurd (true≢false (sym h)))
+repeats_told : (list : NameList) (names : List (List ℕ)) → first_fault (repeats list names) ≡ told Repeated (has_repeat names)
+repeats_told list names = repeats_from list names [] names refl (λ name h. absurd (true≢false (sym h)))
 
 repeats_first : (draft : Draft) → first_fault (repeat_flaws draft) ≡ told Repeated (has_repeated_name draft)
 unfolding repeat_flaws
 repeats_first draft =
-    told_append Repeated _ _ (has_repeat draft.states) (has_repeat draft.responses || has_repeat (row_names draft.operations)) (repeats_told (codes "state") draft.states)
-    (told_append Repeated _ _ (has_repeat draft.responses) (has_repeat (row_names draft.operations)) (repeats_told (codes "response") draft.responses) (repeats_told (codes "operation") (row_names draft.operations)))
+    told_append Repeated _ _ (has_repeat draft.states) (has_repeat draft.responses || has_repeat (row_names draft.operations)) (repeats_told States draft.states)
+    (told_append Repeated _ _ (has_repeat draft.responses) (has_repeat (row_names draft.operations)) (repeats_told Responses draft.responses) (repeats_told Operations (row_names draft.operations)))
 
 lengths_first : (draft : Draft) → first_fault (length_flaws draft) ≡ told RowLength (has_bad_length draft)
 unfolding length_flaws
@@ -303,11 +309,11 @@ lengths_first draft = told_each_all RowLength (row_lengths (length draft.states)
   of_row : (i : ℕ) (row : DraftRow) → first_fault (row_lengths (length draft.states) i row) ≡ told RowLength (is_misfit (length draft.states) row)
   of_row i row =
       told_append RowLength _ _ (not (length row.response == length draft.states)) (not (length row.next == length draft.states))
-      (told_if RowLength _ (length row.response == length draft.states)) (told_if RowLength _ (length row.next == length draft.states))
+      (told_if RowLength _ _ (length row.response == length draft.states)) (told_if RowLength _ _ (length row.next == length draft.states))
 
-entries_told : (operation row what : List ℕ) (names texts : List (List ℕ)) → first_fault (each (unknown_entry operation row what names) 0 texts) ≡ told UnknownName (not (are_among names texts))
-entries_told operation row what names texts =
-    told_each_all UnknownName (unknown_entry operation row what names) (λ text. not (is_some (number_of names text))) (λ k text. told_if UnknownName _ (is_some (number_of names text))) 0 texts
+entries_told : (i : ℕ) (operation row what : List ℕ) (names texts : List (List ℕ)) → first_fault (each (unknown_entry i operation row what names) 0 texts) ≡ told UnknownName (not (are_among names texts))
+entries_told i operation row what names texts =
+    told_each_all UnknownName (unknown_entry i operation row what names) (λ text. not (is_some (number_of names text))) (λ k text. told_if UnknownName _ _ (is_some (number_of names text))) 0 texts
     ∙ ap (told UnknownName) (any_not (λ text. is_some (number_of names text)) texts)
 
 entries_first : (draft : Draft) → first_fault (entry_flaws draft) ≡ told UnknownName (has_unknown_name draft)
@@ -319,7 +325,7 @@ entries_first draft =
     of_row : (i : ℕ) (row : DraftRow) → first_fault (row_entries draft.states draft.responses i row) ≡ told UnknownName (not (are_among draft.responses row.response && are_among draft.states row.next))
     of_row i row =
         told_not UnknownName _ _ (are_among draft.responses row.response) (are_among draft.states row.next)
-        (entries_told (operation_text i row.name) (codes "response") (codes "response") draft.responses row.response) (entries_told (operation_text i row.name) (codes "next") (codes "state") draft.states row.next)
+        (entries_told i (operation_text i row.name) (codes "response") (codes "response") draft.responses row.response) (entries_told i (operation_text i row.name) (codes "next") (codes "state") draft.states row.next)
 
 -- ---- all of them
 
@@ -380,7 +386,7 @@ text_first place text = of_document (parse_document text) where
   by_draft u m w None = refl
   by_draft u m w (Some draft) = refl
 
-  of_document : (o : Option Members) → first_fault (option_map_or document_flaws o (flaw NotToml (not_toml_text (place_after 1 1 (take place text))))) ≡ document_fault o
+  of_document : (o : Option Members) → first_fault (option_map_or document_flaws o (not_toml (place_after 1 1 (take place text)))) ≡ document_fault o
   of_document None = refl
   of_document (Some document) = document_first document ∙ by_draft (has_unknown_key document) (has_missing_key document) (has_wrong_kind document) (draft_of document)
 

@@ -1,19 +1,28 @@
 -- The text of a flaw: the error and its place.
-use Rattle.std.specs.Prelude.{codes, ℕ, ◌+◌, List, [], ◌∷◌, ◌++◌, length, map, if◌then◌else◌, Bool}
-use Rattle.std.specs.Prelude.{◌==◌, ◌&&◌, nat_le}
-use Rattle.std.specs.Fmt.{decimal}
+use Rattle.std.specs.Prelude.{codes, ℕ, ◌+◌, ◌/◌, ◌%◌, List, [], ◌∷◌, ◌++◌, length, flat_map, Bool}
+use Rattle.std.specs.Prelude.{if◌then◌else◌, ◌==◌, ◌&&◌, nat_le, true, chars}
+use Rattle.std.specs.Char.{encode_utf8, is_control}
+use Rattle.std.specs.Fmt.{decimal, digits}
 use Rattle.std.specs.List.{list_all}
-use Rattle.cn_table.specs.Names.{is_from, is_name}
+use Rattle.cn_table.specs.Names.{is_name}
 use Rattle.cn_table.specs.Texts.{code_of, joined_texts}
+use Rattle.cn_flaws.specs.declared.flaw.Position.{Position}
 use Rattle.cn_table.specs.declared.limits.TheConstants.{LONGEST_NAME, MOST_STATES}
 
--- a byte as it is shown: a question mark for a byte that ASCII does not print
-abbrev pub shown_byte : ℕ → ℕ
-shown_byte b = if is_from (codes " ~") b then b else code_of (codes "?")
+-- the escape of a control character, of which there are none from 256 on
+abbrev pub escape : ℕ → List ℕ
+escape c = codes "\\u00" ++ (digits 16 true (c / 16) ++ digits 16 true (c % 16))
+
+-- a character as a basic string of TOML has it: a backslash before a quotation mark and before a
+-- backslash, \u and four hexadecimal digits for a control character, and else the character
+abbrev pub shown_char : ℕ → List ℕ
+shown_char c =
+    if c == code_of (codes "\"") then codes "\\\"" else if c == code_of (codes "\\")
+    then codes "\\\\" else if is_control c then escape c else encode_utf8 c
 
 -- a text between quotation marks
 abbrev pub in_quotes : List ℕ → List ℕ
-in_quotes text = codes "\"" ++ (map shown_byte text ++ codes "\"")
+in_quotes text = codes "\"" ++ (flat_map shown_char (chars text) ++ codes "\"")
 
 -- the words for an operation: its name, if that is a name, or else its place in the array
 abbrev pub operation_text : ℕ → List ℕ → List ℕ
@@ -26,15 +35,16 @@ goes_on b = nat_le 128 b && nat_le b 191
 
 -- the line and the column, from 1, behind these bytes, if the first of them stands at this line and
 -- column; a column counts characters
-abbrev pub place_after : ℕ → ℕ → List ℕ → ℕ × ℕ
-place_after line column [] = (line, column)
+abbrev pub place_after : ℕ → ℕ → List ℕ → Position
+place_after line column [] = record { line = line; column = column }
 place_after line column (b ∷ bs) =
     if b == code_of (codes "\n") then place_after (line + 1) 1 bs else if goes_on b
     then place_after line column bs else place_after line (column + 1) bs
 
-abbrev pub not_toml_text : ℕ × ℕ → List ℕ
-not_toml_text place = codes "line "
-    ++ (decimal place.0 ++ (codes ", column " ++ (decimal place.1 ++ codes ": not TOML")))
+abbrev pub not_toml_text : Position → List ℕ
+not_toml_text position = codes "line "
+    ++ (decimal position.line
+    ++ (codes ", column " ++ (decimal position.column ++ codes ": not TOML")))
 
 -- a key that should not be there: `before` says where it is, and `after` which keys belong there
 abbrev pub other_key_text : List ℕ → List ℕ → List ℕ → List ℕ
@@ -55,12 +65,13 @@ abbrev pub bad_name_text : List ℕ → List ℕ → List ℕ
 bad_name_text what name = what ++ (codes " "
     ++ (in_quotes name ++ (codes ": 1 to " ++ (decimal LONGEST_NAME ++ codes " of a-z, 0-9, _"))))
 
+-- too many things, or none, each called `what`
 abbrev pub too_many_text : List ℕ → ℕ → ℕ → List ℕ
 too_many_text what most count =
-    decimal count ++ (codes " " ++ (what ++ (codes "; at most " ++ decimal most)))
+    decimal count ++ (codes " " ++ (what ++ (codes "s; at most " ++ decimal most)))
 
 abbrev pub too_few_text : List ℕ → List ℕ
-too_few_text what = codes "0 " ++ (what ++ codes "; at least 1")
+too_few_text what = codes "0 " ++ (what ++ codes "s; at least 1")
 
 -- what stands before so many further places
 abbrev pub before_places : ℕ → List ℕ

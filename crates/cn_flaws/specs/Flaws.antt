@@ -13,6 +13,8 @@ use Rattle.cn_table.specs.Document.{keys_in, array_at}
 use Rattle.cn_table.specs.Draft.{Draft, DraftRow, row_names, draft_of, text_at}
 use Rattle.cn_table.specs.Faults.{root_keys, operation_keys, is_text, is_array_of}
 use Rattle.cn_table.specs.Names.{is_name, number_of}
+use Rattle.cn_flaws.specs.FlawPath.{PathPart, path_view, table_path, key_path, item_path}
+use Rattle.cn_flaws.specs.FlawPath.{list_path, name_path}
 use Rattle.cn_flaws.specs.FlawText.{place_after, not_toml_text, operation_text, other_key_text}
 use Rattle.cn_flaws.specs.FlawText.{missing_key_text}
 use Rattle.cn_flaws.specs.FlawText.{kind_text, no_operation_text, bad_name_text, too_many_text}
@@ -28,21 +30,44 @@ use Rattle.cn_flaws.specs.declared.document_flaws.FlawClass.{FlawClass}
 use Rattle.cn_flaws.specs.declared.document_flaws.FlawClass.TheVariants.{OtherKeys, MissingKeys}
 use Rattle.cn_flaws.specs.declared.document_flaws.FlawClass.TheVariants.{Kinds}
 use Rattle.cn_flaws.specs.declared.flaw.Flaw as code_flaw
+use Rattle.cn_flaws.specs.declared.flaw.Position.{Position}
+use Rattle.cn_flaws.specs.declared.path.Holder.{Holder}
+use Rattle.cn_flaws.specs.declared.path.Holder.TheVariants.{Root, Operation}
+use Rattle.cn_flaws.specs.declared.path.NameList.{NameList}
+use Rattle.cn_flaws.specs.declared.path.NameList.TheVariants.{States, Responses, Operations}
 use Rattle.cn_table.specs.declared.limits.TheConstants.{MOST_OPERATIONS, MOST_RESPONSES}
 use Rattle.cn_table.specs.declared.limits.TheConstants.{MOST_STATES}
 
--- a fault, and the text of the error and its place
+-- a fault; the path to its place in the document, and its line and column where the text is no
+-- TOML; the text of the error and its place
 pub record Flaw : Type 0 where
   pub fault : TableFault
+  pub path : List PathPart
+  pub position : Option Position
   pub text : List ℕ
 
--- one flaw
-abbrev pub flaw : TableFault → List ℕ → List Flaw
-flaw fault text = record { fault = fault; text = text } ∷ []
+-- one flaw of a document
+abbrev pub flaw : TableFault → List PathPart → List ℕ → List Flaw
+flaw fault path text =
+    record { fault = fault; path = path; position = None; text = text } ∷ []
+
+-- the one flaw of a text that is no TOML
+abbrev pub not_toml : Position → List Flaw
+not_toml position = record {
+  fault = NotToml;
+  path = [];
+  position = Some position;
+  text = not_toml_text position;
+} ∷ []
 
 -- flaws in memory
 abbrev pub flaw_view : code_flaw.Flaw → Flaw
-flaw_view f = record { fault = f.fault; text = string_bytes f.text }
+flaw_view f = record {
+  fault = f.fault;
+  path = path_view f.path;
+  position = f.position;
+  text = string_bytes f.text;
+}
 
 abbrev pub flaws_view : Vec code_flaw.Flaw Global → List Flaw
 flaws_view v = map flaw_view v.items
@@ -54,16 +79,17 @@ each find i (x ∷ xs) = find i x ++ each find (i + 1) xs
 
 -- ---- of a document
 
--- the keys that are none of these
-abbrev pub other_keys : List ℕ → List ℕ → List (List ℕ) → List (List ℕ) → List Flaw
-other_keys before after known keys =
+-- the keys of a table that are none of these
+abbrev pub other_keys : Holder → List ℕ → List ℕ → List (List ℕ) → List (List ℕ) → List Flaw
+other_keys holder before after known keys =
     flat_map (λ key. if list_any (λ k. bytes_eq k key) known then []
-    else flaw UnknownKey (other_key_text before after key)) keys
+    else flaw UnknownKey (key_path holder key) (other_key_text before after key)) keys
 
--- those of these keys that are missing
-abbrev pub missing_keys : List ℕ → List (List ℕ) → Members → List Flaw
-missing_keys place known table = flat_map (λ key. if is_some (get_member key table) then []
-    else flaw MissingKey (missing_key_text place key)) known
+-- those of these keys that a table lacks; the path leads to the table
+abbrev pub missing_keys : Holder → List ℕ → List (List ℕ) → Members → List Flaw
+missing_keys holder place known table =
+    flat_map (λ key. if is_some (get_member key table) then []
+    else flaw MissingKey (table_path holder) (missing_key_text place key)) known
 
 abbrev pub is_array : Data → Bool
 is_array d = is_some (as_array d)
@@ -81,9 +107,10 @@ kind_name Texts = codes "an array of texts"
 kind_name Tables = codes "an array of tables"
 
 -- a value that is not of this kind
-abbrev pub wrong_kind : Kind → List ℕ → List ℕ → Members → List Flaw
-wrong_kind kind before key table = if option_map_or (is_of kind) (get_member key table) true then []
-    else flaw WrongKind (kind_text before key (kind_name kind))
+abbrev pub wrong_kind : Kind → Holder → List ℕ → List ℕ → Members → List Flaw
+wrong_kind kind holder before key table =
+    if option_map_or (is_of kind) (get_member key table) true then []
+    else flaw WrongKind (key_path holder key) (kind_text before key (kind_name kind))
 
 -- the words for the table of an operation
 abbrev pub table_text : ℕ → Members → List ℕ
@@ -92,19 +119,20 @@ table_text i table = operation_text i (unwrap_or (text_at (codes "name") table) 
 -- the flaws of the table of an operation: keys beside its three, those of the three that are
 -- missing, values of a wrong kind
 abbrev pub table_flaws : FlawClass → ℕ → Members → List Flaw
-table_flaws OtherKeys i table = other_keys (table_text i table ++ codes ", ")
+table_flaws OtherKeys i table = other_keys (Operation i) (table_text i table ++ codes ", ")
     (codes ": an operation has name, response, next") operation_keys (keys_in table)
-table_flaws MissingKeys i table = missing_keys (table_text i table) operation_keys table
+table_flaws MissingKeys i table =
+    missing_keys (Operation i) (table_text i table) operation_keys table
 table_flaws Kinds i table =
-    wrong_kind Text (table_text i table ++ codes ", ") (codes "name") table
-    ++ (wrong_kind Texts (table_text i table ++ codes ", ") (codes "response") table
-    ++ wrong_kind Texts (table_text i table ++ codes ", ") (codes "next") table)
+    wrong_kind Text (Operation i) (table_text i table ++ codes ", ") (codes "name") table
+    ++ (wrong_kind Texts (Operation i) (table_text i table ++ codes ", ") (codes "response") table
+    ++ wrong_kind Texts (Operation i) (table_text i table ++ codes ", ") (codes "next") table)
 
 -- the flaws of what is no table
 abbrev pub no_table_flaws : FlawClass → ℕ → List Flaw
 no_table_flaws OtherKeys i = []
 no_table_flaws MissingKeys i = []
-no_table_flaws Kinds i = flaw WrongKind (no_operation_text i)
+no_table_flaws Kinds i = flaw WrongKind (table_path (Operation i)) (no_operation_text i)
 
 -- the flaws of an item of the array `operation`
 abbrev pub item_flaws : FlawClass → ℕ → Data → List Flaw
@@ -118,14 +146,14 @@ operation_flaws flaw_class document =
 
 -- the flaws of the root
 abbrev pub root_flaws : FlawClass → Members → List Flaw
-root_flaws OtherKeys document = other_keys []
+root_flaws OtherKeys document = other_keys Root []
     (codes ": the root has name, states, responses, operation") root_keys (keys_in document)
-root_flaws MissingKeys document = missing_keys (codes "the root") root_keys document
+root_flaws MissingKeys document = missing_keys Root (codes "the root") root_keys document
 root_flaws Kinds document =
-    wrong_kind Text [] (codes "name") document
-    ++ (wrong_kind Texts [] (codes "states") document
-    ++ (wrong_kind Texts [] (codes "responses") document
-    ++ wrong_kind Tables [] (codes "operation") document))
+    wrong_kind Text Root [] (codes "name") document
+    ++ (wrong_kind Texts Root [] (codes "states") document
+    ++ (wrong_kind Texts Root [] (codes "responses") document
+    ++ wrong_kind Tables Root [] (codes "operation") document))
 
 -- the flaws of the whole document
 abbrev pub flaws_by : FlawClass → Members → List Flaw
@@ -133,27 +161,40 @@ flaws_by flaw_class document = root_flaws flaw_class document ++ operation_flaws
 
 -- ---- of a draft
 
-abbrev pub bad_name : List ℕ → List ℕ → List Flaw
-bad_name what name = if is_name name then [] else flaw BadName (bad_name_text what name)
+-- the word for a name of a list
+abbrev pub list_word : NameList → List ℕ
+list_word States = codes "state"
+list_word Responses = codes "response"
+list_word Operations = codes "operation"
+
+-- a text that is no name, at the end of this path
+abbrev pub bad_name : List PathPart → List ℕ → List ℕ → List Flaw
+bad_name path what name =
+    if is_name name then [] else flaw BadName path (bad_name_text what name)
+
+-- those of a list
+abbrev pub bad_names : NameList → List (List ℕ) → List Flaw
+bad_names list names = each (λ i. bad_name (name_path list i) (list_word list)) 0 names
 
 unfoldable pub name_flaws : Draft → List Flaw
 name_flaws draft =
-    bad_name (codes "name") draft.name
-    ++ (flat_map (bad_name (codes "state")) draft.states
-    ++ (flat_map (bad_name (codes "response")) draft.responses
-    ++ flat_map (bad_name (codes "operation")) (row_names draft.operations)))
+    bad_name (key_path Root (codes "name")) (codes "name") draft.name
+    ++ (bad_names States draft.states
+    ++ (bad_names Responses draft.responses
+    ++ bad_names Operations (row_names draft.operations)))
 
--- a count that is not from 1 to this many
-abbrev pub bad_count : List ℕ → ℕ → ℕ → List Flaw
-bad_count what most count =
+-- a count of a list that is not from 1 to this many
+abbrev pub bad_count : NameList → ℕ → ℕ → List Flaw
+bad_count list most count =
     if nat_le 1 count then (if nat_le count most then []
-    else flaw Count (too_many_text what most count)) else flaw Count (too_few_text what)
+    else flaw Count (list_path list) (too_many_text (list_word list) most count))
+    else flaw Count (list_path list) (too_few_text (list_word list))
 
 unfoldable pub count_flaws : Draft → List Flaw
 count_flaws draft =
-    bad_count (codes "states") MOST_STATES (length draft.states)
-    ++ (bad_count (codes "responses") MOST_RESPONSES (length draft.responses)
-    ++ bad_count (codes "operations") MOST_OPERATIONS (length draft.operations))
+    bad_count States MOST_STATES (length draft.states)
+    ++ (bad_count Responses MOST_RESPONSES (length draft.responses)
+    ++ bad_count Operations MOST_OPERATIONS (length draft.operations))
 
 -- the places, counted from i on, at which the name stands
 abbrev pub places_of : List ℕ → ℕ → List (List ℕ) → List ℕ
@@ -165,47 +206,58 @@ places_of name i (t ∷ ts) =
 abbrev pub stands_in : List (List ℕ) → List ℕ → Bool
 stands_in names name = list_any (λ t. bytes_eq t name) names
 
--- the name at place i, if it stands there first and again behind, with all its places
-abbrev pub repeat_at : List ℕ → List (List ℕ) → ℕ → List ℕ → List Flaw
-repeat_at what names i name =
+-- the last of these places, or i if there are none
+abbrev pub last_place : ℕ → List ℕ → ℕ
+last_place i [] = i
+last_place i (k ∷ ks) = last_place k ks
+
+-- the name at place i with all its places; the path leads to the last of them
+abbrev pub repeated : NameList → List (List ℕ) → ℕ → List ℕ → List Flaw
+repeated list names i name = let places = places_of name 0 names in
+    flaw Repeated (name_path list (last_place i places))
+    (repeated_text (list_word list) places name)
+
+-- the name at place i, if it stands there first and again behind
+abbrev pub repeat_at : NameList → List (List ℕ) → ℕ → List ℕ → List Flaw
+repeat_at list names i name =
     if stands_in (take i names) name then [] else
-    (if stands_in (drop (i + 1) names) name
-    then flaw Repeated (repeated_text what (places_of name 0 names) name) else [])
+    (if stands_in (drop (i + 1) names) name then repeated list names i name else [])
 
 -- each name that stands more than once
-abbrev pub repeats : List ℕ → List (List ℕ) → List Flaw
-repeats what names = each (repeat_at what names) 0 names
+abbrev pub repeats : NameList → List (List ℕ) → List Flaw
+repeats list names = each (repeat_at list names) 0 names
 
 unfoldable pub repeat_flaws : Draft → List Flaw
 repeat_flaws draft =
-    repeats (codes "state") draft.states ++ (repeats (codes "response") draft.responses
-    ++ repeats (codes "operation") (row_names draft.operations))
+    repeats States draft.states ++ (repeats Responses draft.responses
+    ++ repeats Operations (row_names draft.operations))
 
--- a row that lacks an entry for each state
-abbrev pub bad_length : List ℕ → List ℕ → ℕ → ℕ → List Flaw
-bad_length operation row count states =
-    if count == states then [] else flaw RowLength (length_text operation row count states)
+-- a row of operation i that lacks an entry for each state
+abbrev pub bad_length : ℕ → List ℕ → List ℕ → ℕ → ℕ → List Flaw
+bad_length i operation row count states = if count == states then []
+    else flaw RowLength (key_path (Operation i) row) (length_text operation row count states)
 
 abbrev pub row_lengths : ℕ → ℕ → DraftRow → List Flaw
 row_lengths states i row =
     let operation = operation_text i row.name in
-    bad_length operation (codes "response") (length row.response) states
-    ++ bad_length operation (codes "next") (length row.next) states
+    bad_length i operation (codes "response") (length row.response) states
+    ++ bad_length i operation (codes "next") (length row.next) states
 
 unfoldable pub length_flaws : Draft → List Flaw
 length_flaws draft = each (row_lengths (length draft.states)) 0 draft.operations
 
--- an entry that is no known name
-abbrev pub unknown_entry : List ℕ → List ℕ → List ℕ → List (List ℕ) → ℕ → List ℕ → List Flaw
-unknown_entry operation row what names k text =
+-- an entry of a row of operation i that is no known name
+abbrev pub unknown_entry : ℕ → List ℕ → List ℕ → List ℕ → List (List ℕ) → ℕ → List ℕ → List Flaw
+unknown_entry i operation row what names k text =
     if is_some (number_of names text) then []
-    else flaw UnknownName (entry_text operation row k text what (names_in_brackets names))
+    else flaw UnknownName (item_path (Operation i) row k)
+    (entry_text operation row k text what (names_in_brackets names))
 
 abbrev pub row_entries : List (List ℕ) → List (List ℕ) → ℕ → DraftRow → List Flaw
 row_entries states responses i row =
     let operation = operation_text i row.name in
-    each (unknown_entry operation (codes "response") (codes "response") responses) 0 row.response
-    ++ each (unknown_entry operation (codes "next") (codes "state") states) 0 row.next
+    each (unknown_entry i operation (codes "response") (codes "response") responses) 0 row.response
+    ++ each (unknown_entry i operation (codes "next") (codes "state") states) 0 row.next
 
 unfoldable pub entry_flaws : Draft → List Flaw
 entry_flaws draft = each (row_entries draft.states draft.responses) 0 draft.operations
@@ -225,7 +277,7 @@ document_flaws document =
 -- the flaws of bytes; bytes that are no TOML have one, at this place
 unfoldable pub text_flaws : ℕ → List ℕ → List Flaw
 text_flaws place text = option_map_or document_flaws (parse_document text)
-    (flaw NotToml (not_toml_text (place_after 1 1 (take place text))))
+    (not_toml (place_after 1 1 (take place text)))
 
 -- bytes that are not UTF-8 have no flaw to tell
 abbrev pub flaws_at : ℕ → List ℕ → List Flaw

@@ -1,2 +1,3 @@
+pub mod FlawPath
 pub mod FlawText
 pub mod Flaws

@@ -1,30 +1,26 @@
 //! From bytes to their flaws.
-ghost use Rattle.std.specs.Prelude.{◌≡◌, ◌≤◌, ◌<◌, ◌^◌, ◌++◌, ℕ, [], IfOk, IsUtf8, OnOk, length, take};
+ghost use Rattle.std.specs.Prelude.{◌≡◌, ◌≤◌, ◌<◌, ◌^◌, ◌++◌, ℕ, [], IfOk, IsUtf8, OnOk, length, string_bytes, take};
 ghost use Rattle.std.specs.Option.{option_map_or};
 ghost use Rattle.toml.specs.View.{table_view};
 ghost use Rattle.cn_table.specs.Draft.{draft_of};
 ghost use Rattle.cn_table.specs.Faults.{fault_of};
-ghost use Rattle.cn_flaws.specs.Flaws.{flaw, flaws_view, draft_flaws, document_flaws, text_flaws, flaws_at, first_fault};
+ghost use Rattle.cn_flaws.specs.Flaws.{flaws_view, not_toml, draft_flaws, document_flaws, text_flaws, flaws_at, first_fault};
 ghost use Rattle.cn_flaws.specs.FlawText.{not_toml_text, place_after};
 
 use crate::document_flaws::{FlawClass, push_flaws_by};
 use crate::draft_flaws::push_draft_flaws;
-use crate::flaw::{Flaw, push_flaw};
+use crate::flaw::{Flaw, Position};
 use crate::flaw_text::place_after;
 use cn_table::TableFault;
 use cn_table::draft::draft_from;
 use std::alloc::{AllocError, Global};
 use toml::Table;
 
-fn push_not_toml(alloc: Global, flaws: &mut Vec<Flaw>, before: &[u8]) -> Result<(), AllocError>
-    requires { length before.now < 2 ^ 63 }
-    ensures { OnOk result (flaws_view flaws.new
-        ≡ flaws_view flaws.old
-        ++ flaw TableFault.NotToml (not_toml_text (place_after 1 1 before.now))) }
+fn not_toml_text(alloc: Global, position: Position) -> Result<String, AllocError>
+    ensures { IfOk result (λ s. string_bytes s ≡ not_toml_text position) }
 {
-    let (line, column) = place_after(before);
-    let text = format!(in alloc; "line {line}, column {column}: not TOML")?;
-    push_flaw(flaws, TableFault::NotToml, text)
+    let Position { line, column } = position;
+    format!(in alloc; "line {line}, column {column}: not TOML")
 }
 
 /// The flaws of the draft, if each value is of its kind.
@@ -71,12 +67,17 @@ fn document_flaws(alloc: Global, document: &Table) -> Result<Vec<Flaw>, AllocErr
 fn refusal(alloc: Global, text: &str, place: usize) -> Result<Vec<Flaw>, AllocError>
     requires small { length text.now < 2 ^ 63 }
     requires within { place ≤ length text.now }
-    ensures { IfOk result (λ v. flaws_view v
-        ≡ flaw TableFault.NotToml (not_toml_text (place_after 1 1 (take place text.now)))) }
+    ensures { IfOk result (λ v. flaws_view v ≡ not_toml (place_after 1 1 (take place text.now))) }
 {
-    let mut flaws = Vec::new(alloc);
     let bytes = text.as_bytes();
-    push_not_toml(alloc, &mut flaws, &bytes[..place])?;
+    let position = place_after(&bytes[..place]);
+    let mut flaws = Vec::new(alloc);
+    flaws.push(Flaw {
+        fault: TableFault::NotToml,
+        path: Vec::new(alloc),
+        position: Some(position),
+        text: not_toml_text(alloc, position)?,
+    })?;
     Ok(flaws)
 }
 

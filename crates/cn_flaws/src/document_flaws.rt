@@ -4,12 +4,14 @@ ghost use Rattle.std.specs.List.{list_all};
 ghost use Rattle.toml.specs.View.{table_view, view};
 ghost use Rattle.cn_table.specs.Document.{keys_in};
 ghost use Rattle.cn_table.specs.Faults.{is_text, is_array_of};
-ghost use Rattle.cn_flaws.specs.Flaws.{flaws_view, each, other_keys, missing_keys, wrong_kind, table_text};
+ghost use Rattle.cn_flaws.specs.Flaws.{flaw, flaws_view, each, other_keys, missing_keys, wrong_kind, table_text};
 ghost use Rattle.cn_flaws.specs.Flaws.{table_flaws, no_table_flaws, item_flaws, root_flaws, flaws_by};
+ghost use Rattle.cn_flaws.specs.FlawPath.{key_path};
 ghost use Rattle.cn_flaws.specs.FlawText.{other_key_text, missing_key_text, kind_text, no_operation_text};
 
 use crate::flaw::{Flaw, push_flaw};
 use crate::flaw_text::{in_quotes, operation_text};
+use crate::path::{Holder, path_to_key, path_to_table};
 use cn_table::TableFault;
 use cn_table::keys::{OPERATION_KEYS, ROOT_KEYS, array_at, is_one_of, items_of, text_at, value_at};
 use std::alloc::{AllocError, Global};
@@ -62,10 +64,29 @@ fn other_key_text(alloc: Global, before: &str, after: &str, key: &str) -> Result
     format!(in alloc; "{before}{key}{after}")
 }
 
+fn push_other_key(
+    alloc: Global,
+    flaws: &mut Vec<Flaw>,
+    holder: Holder,
+    before: &str,
+    after: &str,
+    key: &str,
+) -> Result<(), AllocError>
+    ensures { OnOk result (flaws_view flaws.new
+        ≡ flaws_view flaws.old
+        ++ flaw TableFault.UnknownKey (key_path holder key.now)
+        (other_key_text before.now after.now key.now)) }
+{
+    let path = path_to_key(alloc, holder, key)?;
+    let text = other_key_text(alloc, before, after, key)?;
+    push_flaw(flaws, TableFault::UnknownKey, path, text)
+}
+
 /// Appends the keys of the table that are none of these.
 fn push_other_keys(
     alloc: Global,
     flaws: &mut Vec<Flaw>,
+    holder: Holder,
     before: &str,
     after: &str,
     known: &[&str],
@@ -73,13 +94,12 @@ fn push_other_keys(
 ) -> Result<(), AllocError>
     ensures { OnOk result (flaws_view flaws.new
         ≡ flaws_view flaws.old
-        ++ other_keys before.now after.now (map (λ k. k.now) known.now)
+        ++ other_keys holder before.now after.now (map (λ k. k.now) known.now)
         (keys_in (table_view table.now))) }
 {
     for key in table.keys() {
         if !is_one_of(known, key.as_str()) {
-            let text = other_key_text(alloc, before, after, key.as_str())?;
-            push_flaw(flaws, TableFault::UnknownKey, text)?;
+            push_other_key(alloc, flaws, holder, before, after, key.as_str())?;
         }
     }
     Ok(())
@@ -95,18 +115,20 @@ fn missing_key_text(alloc: Global, place: &str, key: &str) -> Result<String, All
 fn push_missing_keys(
     alloc: Global,
     flaws: &mut Vec<Flaw>,
+    holder: Holder,
     place: &str,
     known: &[&str],
     table: &Table,
 ) -> Result<(), AllocError>
     ensures { OnOk result (flaws_view flaws.new
         ≡ flaws_view flaws.old
-        ++ missing_keys place.now (map (λ k. k.now) known.now) (table_view table.now)) }
+        ++ missing_keys holder place.now (map (λ k. k.now) known.now) (table_view table.now)) }
 {
     for key in known {
         if value_at(table, *key).is_none() {
+            let path = path_to_table(alloc, holder)?;
             let text = missing_key_text(alloc, place, *key)?;
-            push_flaw(flaws, TableFault::MissingKey, text)?;
+            push_flaw(flaws, TableFault::MissingKey, path, text)?;
         }
     }
     Ok(())
@@ -144,17 +166,19 @@ fn push_wrong_kind(
     alloc: Global,
     flaws: &mut Vec<Flaw>,
     kind: Kind,
+    holder: Holder,
     before: &str,
     key: &str,
     table: &Table,
 ) -> Result<(), AllocError>
     ensures { OnOk result (flaws_view flaws.new
-        ≡ flaws_view flaws.old ++ wrong_kind kind before.now key.now (table_view table.now)) }
+        ≡ flaws_view flaws.old ++ wrong_kind kind holder before.now key.now (table_view table.now)) }
 {
     if let Some(value) = value_at(table, key) {
         if !kind.is_of(value) {
+            let path = path_to_key(alloc, holder, key)?;
             let text = kind_text(alloc, before, key, kind.name())?;
-            push_flaw(flaws, TableFault::WrongKind, text)?;
+            push_flaw(flaws, TableFault::WrongKind, path, text)?;
         }
     }
     Ok(())
@@ -169,18 +193,19 @@ fn table_text(alloc: Global, i: usize, table: &Table) -> Result<String, AllocErr
 fn push_table_kinds(
     alloc: Global,
     flaws: &mut Vec<Flaw>,
+    holder: Holder,
     before: &str,
     table: &Table,
 ) -> Result<(), AllocError>
     ensures { OnOk result (flaws_view flaws.new
         ≡ flaws_view flaws.old
-        ++ (wrong_kind Kind.Text before.now (codes "name") (table_view table.now)
-        ++ (wrong_kind Kind.Texts before.now (codes "response") (table_view table.now)
-        ++ wrong_kind Kind.Texts before.now (codes "next") (table_view table.now)))) }
+        ++ (wrong_kind Kind.Text holder before.now (codes "name") (table_view table.now)
+        ++ (wrong_kind Kind.Texts holder before.now (codes "response") (table_view table.now)
+        ++ wrong_kind Kind.Texts holder before.now (codes "next") (table_view table.now)))) }
 {
-    push_wrong_kind(alloc, flaws, Kind::Text, before, "name", table)?;
-    push_wrong_kind(alloc, flaws, Kind::Texts, before, "response", table)?;
-    push_wrong_kind(alloc, flaws, Kind::Texts, before, "next", table)
+    push_wrong_kind(alloc, flaws, Kind::Text, holder, before, "name", table)?;
+    push_wrong_kind(alloc, flaws, Kind::Texts, holder, before, "response", table)?;
+    push_wrong_kind(alloc, flaws, Kind::Texts, holder, before, "next", table)
 }
 
 fn push_table_flaws(
@@ -195,15 +220,24 @@ fn push_table_flaws(
 {
     let place = table_text(alloc, i, table)?;
     let before = format!(in alloc; "{place}, ")?;
+    let holder = Holder::Operation(i);
     match flaw_class {
         FlawClass::OtherKeys => {
             let after = ": an operation has name, response, next";
-            push_other_keys(alloc, flaws, before.as_str(), after, &OPERATION_KEYS, table)
+            push_other_keys(
+                alloc,
+                flaws,
+                holder,
+                before.as_str(),
+                after,
+                &OPERATION_KEYS,
+                table,
+            )
         }
         FlawClass::MissingKeys => {
-            push_missing_keys(alloc, flaws, place.as_str(), &OPERATION_KEYS, table)
+            push_missing_keys(alloc, flaws, holder, place.as_str(), &OPERATION_KEYS, table)
         }
-        FlawClass::Kinds => push_table_kinds(alloc, flaws, before.as_str(), table),
+        FlawClass::Kinds => push_table_kinds(alloc, flaws, holder, before.as_str(), table),
     }
 }
 
@@ -217,8 +251,9 @@ fn push_no_table(alloc: Global, flaws: &mut Vec<Flaw>, i: usize) -> Result<(), A
     ensures { OnOk result (flaws_view flaws.new
         ≡ flaws_view flaws.old ++ no_table_flaws FlawClass.Kinds i) }
 {
+    let path = path_to_table(alloc, Holder::Operation(i))?;
     let text = no_operation_text(alloc, i)?;
-    push_flaw(flaws, TableFault::WrongKind, text)
+    push_flaw(flaws, TableFault::WrongKind, path, text)
 }
 
 fn push_item_flaws(
@@ -257,10 +292,11 @@ fn push_root_kinds(alloc: Global, flaws: &mut Vec<Flaw>, document: &Table) -> Re
     ensures { OnOk result (flaws_view flaws.new
         ≡ flaws_view flaws.old ++ root_flaws FlawClass.Kinds (table_view document.now)) }
 {
-    push_wrong_kind(alloc, flaws, Kind::Text, "", "name", document)?;
-    push_wrong_kind(alloc, flaws, Kind::Texts, "", "states", document)?;
-    push_wrong_kind(alloc, flaws, Kind::Texts, "", "responses", document)?;
-    push_wrong_kind(alloc, flaws, Kind::Tables, "", "operation", document)
+    let root = Holder::Root;
+    push_wrong_kind(alloc, flaws, Kind::Text, root, "", "name", document)?;
+    push_wrong_kind(alloc, flaws, Kind::Texts, root, "", "states", document)?;
+    push_wrong_kind(alloc, flaws, Kind::Texts, root, "", "responses", document)?;
+    push_wrong_kind(alloc, flaws, Kind::Tables, root, "", "operation", document)
 }
 
 fn push_root_flaws(
@@ -272,12 +308,15 @@ fn push_root_flaws(
     ensures { OnOk result (flaws_view flaws.new
         ≡ flaws_view flaws.old ++ root_flaws flaw_class (table_view document.now)) }
 {
+    let root = Holder::Root;
     match flaw_class {
         FlawClass::OtherKeys => {
             let after = ": the root has name, states, responses, operation";
-            push_other_keys(alloc, flaws, "", after, &ROOT_KEYS, document)
+            push_other_keys(alloc, flaws, root, "", after, &ROOT_KEYS, document)
         }
-        FlawClass::MissingKeys => push_missing_keys(alloc, flaws, "the root", &ROOT_KEYS, document),
+        FlawClass::MissingKeys => {
+            push_missing_keys(alloc, flaws, root, "the root", &ROOT_KEYS, document)
+        }
         FlawClass::Kinds => push_root_kinds(alloc, flaws, document),
     }
 }

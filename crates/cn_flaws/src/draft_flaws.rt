@@ -1,15 +1,17 @@
 //! The flaws of a draft: names, counts, lengths of rows and their entries.
-ghost use Rattle.std.specs.Prelude.{◌≡◌, ◌+◌, ◌<◌, ◌++◌, OnOk, IfOk, drop, flat_map, length, map, string_bytes, take};
+ghost use Rattle.std.specs.Prelude.{codes, ◌≡◌, ◌+◌, ◌<◌, ◌++◌, OnOk, IfOk, drop, length, map, string_bytes, take};
 ghost use Rattle.cn_table.specs.Draft.{row_names};
 ghost use Rattle.cn_table.specs.DraftView.{draft_view, row_view, texts_view};
-ghost use Rattle.cn_flaws.specs.Flaws.{flaw, flaws_view, each, bad_name, name_flaws, bad_count, count_flaws, places_of, repeat_at, repeats, repeat_flaws, stands_in};
+ghost use Rattle.cn_flaws.specs.Flaws.{flaws_view, each, list_word, bad_name, bad_names, name_flaws, bad_count, count_flaws, places_of, last_place, repeated, repeat_at, repeats, repeat_flaws, stands_in};
 ghost use Rattle.cn_flaws.specs.Flaws.{bad_length, row_lengths, length_flaws, unknown_entry, row_entries, entry_flaws, draft_flaws};
+ghost use Rattle.cn_flaws.specs.FlawPath.{key_path, name_path};
 ghost use Rattle.cn_flaws.specs.FlawText.{bad_name_text, too_many_text, too_few_text, repeated_text, length_text, entry_text, names_in_brackets};
 
 use crate::flaw::{Flaw, push_flaw};
 use crate::flaw_text::{
     entries_text, in_quotes, names_in_brackets, operation_text, places_text, states_text,
 };
+use crate::path::{Holder, NameList, path_to_item, path_to_key, path_to_list, path_to_name};
 use cn_table::draft::{Draft, DraftRow};
 use cn_table::names::{has_namesake, number_of};
 use cn_table::{LONGEST_NAME, MOST_OPERATIONS, MOST_RESPONSES, MOST_STATES, TableFault, is_name};
@@ -23,18 +25,35 @@ fn bad_name_text(alloc: Global, what: &str, name: &str) -> Result<String, AllocE
     format!(in alloc; "{what} {name}: 1 to {most} of a-z, 0-9, _")
 }
 
+/// Appends the name of the type if it is no name.
+fn push_bad_type(alloc: Global, flaws: &mut Vec<Flaw>, name: &str) -> Result<(), AllocError>
+    ensures { OnOk result (flaws_view flaws.new
+        ≡ flaws_view flaws.old
+        ++ bad_name (key_path Holder.Root (codes "name")) (codes "name") name.now) }
+{
+    if !is_name(name) {
+        let path = path_to_key(alloc, Holder::Root, "name")?;
+        let text = bad_name_text(alloc, "name", name)?;
+        push_flaw(flaws, TableFault::BadName, path, text)?;
+    }
+    Ok(())
+}
+
+/// Appends the name in a list with this index if it is no name.
 fn push_bad_name(
     alloc: Global,
     flaws: &mut Vec<Flaw>,
-    what: &str,
+    list: NameList,
+    i: usize,
     name: &str,
 ) -> Result<(), AllocError>
     ensures { OnOk result (flaws_view flaws.new
-        ≡ flaws_view flaws.old ++ bad_name what.now name.now) }
+        ≡ flaws_view flaws.old ++ bad_name (name_path list i) (list_word list) name.now) }
 {
     if !is_name(name) {
-        let text = bad_name_text(alloc, what, name)?;
-        push_flaw(flaws, TableFault::BadName, text)?;
+        let path = path_to_name(alloc, list, i)?;
+        let text = bad_name_text(alloc, list.word(), name)?;
+        push_flaw(flaws, TableFault::BadName, path, text)?;
     }
     Ok(())
 }
@@ -42,15 +61,14 @@ fn push_bad_name(
 fn push_bad_names(
     alloc: Global,
     flaws: &mut Vec<Flaw>,
-    what: &str,
+    list: NameList,
     names: &[String],
 ) -> Result<(), AllocError>
     ensures { OnOk result (flaws_view flaws.new
-        ≡ flaws_view flaws.old
-        ++ flat_map (bad_name what.now) (map (λ s. string_bytes s) names.now)) }
+        ≡ flaws_view flaws.old ++ bad_names list (map (λ s. string_bytes s) names.now)) }
 {
-    for name in names {
-        push_bad_name(alloc, flaws, what, name.as_str())?;
+    for (i, name) in names.iter().enumerate() {
+        push_bad_name(alloc, flaws, list, i, name.as_str())?;
     }
     Ok(())
 }
@@ -71,41 +89,43 @@ fn push_name_flaws(alloc: Global, flaws: &mut Vec<Flaw>, draft: &Draft) -> Resul
     ensures { OnOk result (flaws_view flaws.new
         ≡ flaws_view flaws.old ++ name_flaws (draft_view draft.now)) }
 {
-    push_bad_name(alloc, flaws, "name", draft.name.as_str())?;
-    push_bad_names(alloc, flaws, "state", &draft.states)?;
-    push_bad_names(alloc, flaws, "response", &draft.responses)?;
+    push_bad_type(alloc, flaws, draft.name.as_str())?;
+    push_bad_names(alloc, flaws, NameList::States, &draft.states)?;
+    push_bad_names(alloc, flaws, NameList::Responses, &draft.responses)?;
     let operations = operation_names(alloc, &draft.operations)?;
-    push_bad_names(alloc, flaws, "operation", &operations)
+    push_bad_names(alloc, flaws, NameList::Operations, &operations)
 }
 
 fn too_many_text(alloc: Global, what: &str, most: usize, count: usize) -> Result<String, AllocError>
     ensures { IfOk result (λ s. string_bytes s ≡ too_many_text what.now most count) }
 {
-    format!(in alloc; "{count} {what}; at most {most}")
+    format!(in alloc; "{count} {what}s; at most {most}")
 }
 
 fn too_few_text(alloc: Global, what: &str) -> Result<String, AllocError>
     ensures { IfOk result (λ s. string_bytes s ≡ too_few_text what.now) }
 {
-    format!(in alloc; "0 {what}; at least 1")
+    format!(in alloc; "0 {what}s; at least 1")
 }
 
 fn push_bad_count(
     alloc: Global,
     flaws: &mut Vec<Flaw>,
-    what: &str,
+    list: NameList,
     most: usize,
     count: usize,
 ) -> Result<(), AllocError>
     ensures { OnOk result (flaws_view flaws.new
-        ≡ flaws_view flaws.old ++ bad_count what.now most count) }
+        ≡ flaws_view flaws.old ++ bad_count list most count) }
 {
     if count < 1 {
-        let text = too_few_text(alloc, what)?;
-        push_flaw(flaws, TableFault::Count, text)?;
+        let path = path_to_list(alloc, list)?;
+        let text = too_few_text(alloc, list.word())?;
+        push_flaw(flaws, TableFault::Count, path, text)?;
     } else if count > most {
-        let text = too_many_text(alloc, what, most, count)?;
-        push_flaw(flaws, TableFault::Count, text)?;
+        let path = path_to_list(alloc, list)?;
+        let text = too_many_text(alloc, list.word(), most, count)?;
+        push_flaw(flaws, TableFault::Count, path, text)?;
     }
     Ok(())
 }
@@ -119,12 +139,18 @@ fn push_count_flaws(alloc: Global, flaws: &mut Vec<Flaw>, draft: &Draft) -> Resu
     let states = draft.states.as_slice();
     let responses = draft.responses.as_slice();
     let operations = draft.operations.as_slice();
-    push_bad_count(alloc, flaws, "states", MOST_STATES, states.len())?;
-    push_bad_count(alloc, flaws, "responses", MOST_RESPONSES, responses.len())?;
+    push_bad_count(alloc, flaws, NameList::States, MOST_STATES, states.len())?;
     push_bad_count(
         alloc,
         flaws,
-        "operations",
+        NameList::Responses,
+        MOST_RESPONSES,
+        responses.len(),
+    )?;
+    push_bad_count(
+        alloc,
+        flaws,
+        NameList::Operations,
         MOST_OPERATIONS,
         operations.len(),
     )
@@ -158,21 +184,29 @@ fn repeated_text(
     format!(in alloc; "{places} are {all} called {name}")
 }
 
-/// Appends a name that stands more than once, with all its places.
+/// The last of these places, or `i` if there are none.
+fn last_place(i: usize, places: &[usize]) -> usize
+    ensures { result ≡ last_place i places.now }
+{
+    places.last().copied().unwrap_or(i)
+}
+
+/// Appends a name that stands at place `i` and again behind, with all its places.
 fn push_repeated(
     alloc: Global,
     flaws: &mut Vec<Flaw>,
-    what: &str,
+    list: NameList,
     names: &[String],
+    i: usize,
     name: &str,
 ) -> Result<(), AllocError>
     ensures { OnOk result (flaws_view flaws.new ≡ flaws_view flaws.old
-        ++ flaw TableFault.Repeated (repeated_text what.now
-        (places_of name.now 0 (map (λ s. string_bytes s) names.now)) name.now)) }
+        ++ repeated list (map (λ s. string_bytes s) names.now) i name.now) }
 {
     let places = places_of(alloc, names, name)?;
-    let text = repeated_text(alloc, what, &places, name)?;
-    push_flaw(flaws, TableFault::Repeated, text)
+    let path = path_to_name(alloc, list, last_place(i, &places))?;
+    let text = repeated_text(alloc, list.word(), &places, name)?;
+    push_flaw(flaws, TableFault::Repeated, path, text)
 }
 
 /// Whether the name stands before this place.
@@ -195,32 +229,32 @@ fn stands_behind(names: &[String], i: usize, name: &str) -> bool
 fn push_repeat_at(
     alloc: Global,
     flaws: &mut Vec<Flaw>,
-    what: &str,
+    list: NameList,
     names: &[String],
     i: usize,
     name: &str,
 ) -> Result<(), AllocError>
     requires { i < length names.now }
     ensures { OnOk result (flaws_view flaws.new ≡ flaws_view flaws.old
-        ++ repeat_at what.now (map (λ s. string_bytes s) names.now) i name.now) }
+        ++ repeat_at list (map (λ s. string_bytes s) names.now) i name.now) }
 {
     if stands_before(names, i, name) || !stands_behind(names, i, name) {
         return Ok(());
     }
-    push_repeated(alloc, flaws, what, names, name)
+    push_repeated(alloc, flaws, list, names, i, name)
 }
 
 fn push_repeats(
     alloc: Global,
     flaws: &mut Vec<Flaw>,
-    what: &str,
+    list: NameList,
     names: &[String],
 ) -> Result<(), AllocError>
     ensures { OnOk result (flaws_view flaws.new
-        ≡ flaws_view flaws.old ++ repeats what.now (map (λ s. string_bytes s) names.now)) }
+        ≡ flaws_view flaws.old ++ repeats list (map (λ s. string_bytes s) names.now)) }
 {
     for (i, name) in names.iter().enumerate() {
-        push_repeat_at(alloc, flaws, what, names, i, name.as_str())?;
+        push_repeat_at(alloc, flaws, list, names, i, name.as_str())?;
     }
     Ok(())
 }
@@ -231,10 +265,10 @@ fn push_repeat_flaws(alloc: Global, flaws: &mut Vec<Flaw>, draft: &Draft) -> Res
     ensures { OnOk result (flaws_view flaws.new
         ≡ flaws_view flaws.old ++ repeat_flaws (draft_view draft.now)) }
 {
-    push_repeats(alloc, flaws, "state", &draft.states)?;
-    push_repeats(alloc, flaws, "response", &draft.responses)?;
+    push_repeats(alloc, flaws, NameList::States, &draft.states)?;
+    push_repeats(alloc, flaws, NameList::Responses, &draft.responses)?;
     let operations = operation_names(alloc, &draft.operations)?;
-    push_repeats(alloc, flaws, "operation", &operations)
+    push_repeats(alloc, flaws, NameList::Operations, &operations)
 }
 
 fn length_text(
@@ -254,17 +288,19 @@ fn length_text(
 fn push_bad_length(
     alloc: Global,
     flaws: &mut Vec<Flaw>,
+    i: usize,
     operation: &str,
     row: &str,
     count: usize,
     states: usize,
 ) -> Result<(), AllocError>
     ensures { OnOk result (flaws_view flaws.new
-        ≡ flaws_view flaws.old ++ bad_length operation.now row.now count states) }
+        ≡ flaws_view flaws.old ++ bad_length i operation.now row.now count states) }
 {
     if count != states {
+        let path = path_to_key(alloc, Holder::Operation(i), row)?;
         let text = length_text(alloc, operation, row, count, states)?;
-        push_flaw(flaws, TableFault::RowLength, text)?;
+        push_flaw(flaws, TableFault::RowLength, path, text)?;
     }
     Ok(())
 }
@@ -281,8 +317,16 @@ fn push_row_lengths(
 {
     let operation = operation_text(alloc, i, row.name.as_str())?;
     let place = operation.as_str();
-    push_bad_length(alloc, flaws, place, "response", row.response.len(), states)?;
-    push_bad_length(alloc, flaws, place, "next", row.next.len(), states)
+    push_bad_length(
+        alloc,
+        flaws,
+        i,
+        place,
+        "response",
+        row.response.len(),
+        states,
+    )?;
+    push_bad_length(alloc, flaws, i, place, "next", row.next.len(), states)
 }
 
 fn push_all_lengths(
@@ -328,6 +372,7 @@ fn entry_text(
 fn push_unknown_entries(
     alloc: Global,
     flaws: &mut Vec<Flaw>,
+    i: usize,
     operation: &str,
     row: &str,
     what: &str,
@@ -336,12 +381,13 @@ fn push_unknown_entries(
 ) -> Result<(), AllocError>
     ensures { OnOk result (flaws_view flaws.new
         ≡ flaws_view flaws.old
-        ++ each (unknown_entry operation.now row.now what.now (map (λ s. string_bytes s) names.now))
+        ++ each (unknown_entry i operation.now row.now what.now (map (λ s. string_bytes s) names.now))
         0 (map (λ s. string_bytes s) texts.now)) }
 {
     let brackets = names_in_brackets(alloc, names)?;
     for (k, text) in texts.iter().enumerate() {
         if number_of(names, text.as_str()).is_none() {
+            let path = path_to_item(alloc, Holder::Operation(i), row, k)?;
             let flaw_text = entry_text(
                 alloc,
                 operation,
@@ -351,7 +397,7 @@ fn push_unknown_entries(
                 what,
                 brackets.as_str(),
             )?;
-            push_flaw(flaws, TableFault::UnknownName, flaw_text)?;
+            push_flaw(flaws, TableFault::UnknownName, path, flaw_text)?;
         }
     }
     Ok(())
@@ -375,13 +421,14 @@ fn push_row_entries(
     push_unknown_entries(
         alloc,
         flaws,
+        i,
         place,
         "response",
         "response",
         responses,
         &row.response,
     )?;
-    push_unknown_entries(alloc, flaws, place, "next", "state", states, &row.next)
+    push_unknown_entries(alloc, flaws, i, place, "next", "state", states, &row.next)
 }
 
 fn push_all_entries(

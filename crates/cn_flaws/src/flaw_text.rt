@@ -1,39 +1,51 @@
 //! The parts of the texts of flaws.
-ghost use Rattle.std.specs.Prelude.{codes, ◌≡◌, ◌<◌, ◌^◌, ◌++◌, IfOk, OnOk, length, map, string_bytes};
-ghost use Rattle.cn_flaws.specs.FlawText.{shown_byte, in_quotes, operation_text, goes_on, place_after, entries_text, states_text, before_places, places_text, names_in_brackets};
+ghost use Rattle.std.specs.Prelude.{codes, ◌≡◌, ◌<◌, ◌^◌, ◌++◌, IfOk, OnOk, chars, flat_map, length, map, string_bytes};
+ghost use Rattle.cn_flaws.specs.FlawText.{escape, shown_char, in_quotes, operation_text, goes_on, place_after, entries_text, states_text, before_places, places_text, names_in_brackets};
 ghost use Rattle.cn_table.specs.Texts.{joined_texts};
 
+use crate::flaw::Position;
 use cn_table::names::have_names;
 use cn_table::{MOST_STATES, is_name};
 use std::alloc::{AllocError, Global};
 
-fn shown_byte(b: u8) -> u8
-    ensures byte { result ≡ shown_byte b }
-    ensures ascii { result < 128 }
+fn push_escape(text: &mut String, c: char) -> Result<(), AllocError>
+    ensures { OnOk result (string_bytes text.new ≡ string_bytes text.old ++ escape c) }
 {
-    match b {
-        b' '..=b'~' => b,
-        _ => b'?',
+    let code = c as u32;
+    let high = code / 16;
+    let low = code % 16;
+    write!(text, "\\u00{high:X}{low:X}")?;
+    Ok(())
+}
+
+fn push_shown_char(text: &mut String, c: char) -> Result<(), AllocError>
+    ensures { OnOk result (string_bytes text.new ≡ string_bytes text.old ++ shown_char c) }
+{
+    match c {
+        '"' => text.push_str("\\\""),
+        '\\' => text.push_str("\\\\"),
+        _ if c.is_control() => push_escape(text, c),
+        _ => text.push(c),
     }
 }
 
-fn printable_text(alloc: Global, text: &str) -> Result<String, AllocError>
-    ensures { IfOk result (λ s. string_bytes s ≡ map shown_byte text.now) }
+fn shown_chars(alloc: Global, text: &str) -> Result<String, AllocError>
+    ensures { IfOk result (λ s. string_bytes s ≡ flat_map shown_char (chars text.now)) }
 {
-    let mut printable = String::new(alloc);
-    let bytes = text.as_bytes();
-    for b in bytes {
-        printable.push(char::from(shown_byte(*b)))?;
+    let mut shown = String::new(alloc);
+    for c in text.chars() {
+        push_shown_char(&mut shown, c)?;
     }
-    Ok(printable)
+    Ok(shown)
 }
 
-/// A text between quotation marks. A question mark stands for each byte that ASCII does not print.
+/// A text between quotation marks, as a basic string of TOML has it. So its control characters,
+/// quotation marks and backslashes are escaped, and all else stands as it is.
 pub(crate) fn in_quotes(alloc: Global, text: &str) -> Result<String, AllocError>
     ensures { IfOk result (λ s. string_bytes s ≡ in_quotes text.now) }
 {
-    let printable = printable_text(alloc, text)?;
-    format!(in alloc; "\"{printable}\"")
+    let shown = shown_chars(alloc, text)?;
+    format!(in alloc; "\"{shown}\"")
 }
 
 /// The words for an operation: its name, if that is a name, or else its place in the array.
@@ -52,8 +64,8 @@ fn goes_on(b: u8) -> bool
     matches!(b, 0x80..=0xBF)
 }
 
-/// The line and the column behind these bytes, both from 1. A column counts characters.
-pub(crate) fn place_after(before: &[u8]) -> (usize, usize)
+/// The line and the column behind these bytes.
+pub(crate) fn place_after(before: &[u8]) -> Position
     requires { length before.now < 2 ^ 63 }
     ensures { result ≡ place_after 1 1 before.now }
 {
@@ -67,7 +79,7 @@ pub(crate) fn place_after(before: &[u8]) -> (usize, usize)
             column += 1;
         }
     }
-    (line, column)
+    Position { line, column }
 }
 
 /// The words for so many entries.

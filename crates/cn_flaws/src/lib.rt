@@ -16,6 +16,8 @@ mod document_flaws;
 mod draft_flaws;
 mod flaw;
 mod flaw_text;
+mod path;
 
 pub use all_flaws::flaws;
-pub use flaw::Flaw;
+pub use flaw::{Flaw, Position};
+pub use path::PathPart;

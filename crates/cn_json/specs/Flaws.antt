@@ -1,16 +1,36 @@
 -- The flaws of a text as a JSON value.
-use Rattle.std.specs.Prelude.{List, codes}
-use Rattle.serde_json.specs.Data.{Data, object, member, no_members}
+use Rattle.std.specs.Prelude.{List, Option, None, Some, codes}
+use Rattle.serde_json.specs.Data.{Data, Members, object, member, no_members}
 use Rattle.cn_table.specs.FaultText.{table_fault_name, table_fault_number}
+use Rattle.cn_flaws.specs.FlawPath.{PathPart}
+use Rattle.cn_flaws.specs.FlawPath.PathPart.{Key, Index}
 use Rattle.cn_flaws.specs.Flaws.{Flaw}
+use Rattle.cn_flaws.specs.declared.flaw.Position.{Position}
 use Rattle.cn_json.specs.Values.{list_data, number_data, text_data}
 
--- a flaw: the name and the number of its fault, and its text
+-- a key as a text, and an index as a number
+abbrev pub part_data : PathPart → Data
+part_data (Key key) = text_data key
+part_data (Index i) = number_data i
+
+-- the number of the fault of a flaw, its path and its text
+abbrev pub flaw_members : Flaw → Members
+flaw_members f =
+    member (codes "number") (number_data (table_fault_number f.fault))
+    (member (codes "path") (list_data part_data f.path)
+    (member (codes "text") (text_data f.text) no_members))
+
+-- before them the name of the fault, and the line and the column, if there are some
+abbrev pub placed_data : Option Position → Flaw → Data
+placed_data None f =
+    object (member (codes "kind") (text_data (table_fault_name f.fault)) (flaw_members f))
+placed_data (Some position) f =
+    object (member (codes "column") (number_data position.column)
+    (member (codes "kind") (text_data (table_fault_name f.fault))
+    (member (codes "line") (number_data position.line) (flaw_members f))))
+
 abbrev pub flaw_data : Flaw → Data
-flaw_data f =
-    object (member (codes "kind") (text_data (table_fault_name f.fault))
-    (member (codes "number") (number_data (table_fault_number f.fault))
-    (member (codes "text") (text_data f.text) no_members)))
+flaw_data f = placed_data f.position f
 
 unfoldable pub flaws_data : List Flaw → Data
 flaws_data flaws = object (member (codes "flaws") (list_data flaw_data flaws) no_members)

@@ -1,22 +1,82 @@
 //! The flaws of a text as JSON.
-ghost use Rattle.std.specs.Prelude.{◌≡◌, IfOk, map, string_bytes};
+ghost use Rattle.std.specs.Prelude.{codes, ◌≡◌, IfOk, None, Some, map, string_bytes};
 ghost use Rattle.serde_json.specs.Written.{compact_text};
+ghost use Rattle.cn_flaws.specs.FlawPath.{part_view};
 ghost use Rattle.cn_flaws.specs.Flaws.{flaw_view};
-ghost use Rattle.cn_json.specs.Flaws.{flaw_data, flaws_data};
-ghost use Rattle.cn_json.specs.Tokens.{Appends, list_rest, value_tokens};
+ghost use Rattle.cn_json.specs.Flaws.{flaw_data, flaw_members, flaws_data, part_data, placed_data};
+ghost use Rattle.cn_json.specs.Tokens.{Appends, list_rest, member_tokens, members_rest, value_tokens};
+ghost use Rattle.cn_json.specs.Values.{list_data};
 
 use crate::json_text::JsonText;
-use cn_flaws::Flaw;
+use cn_flaws::{Flaw, PathPart, Position};
 use std::alloc::{AllocError, Global};
+
+fn write_part(out: &mut JsonText, part: &PathPart) -> Result<(), AllocError>
+    ensures { Appends result out.old out.new (value_tokens (part_data (part_view part.now))) }
+{
+    match part {
+        PathPart::Key(key) => out.text(key.as_str()),
+        PathPart::Index(i) => out.number(*i as u64),
+    }
+}
+
+/// Writes the parts of a path, and the end of their array.
+fn write_each_part(out: &mut JsonText, path: &[PathPart]) -> Result<(), AllocError>
+    ensures { Appends result out.old out.new (list_rest part_data (map part_view path.now)) }
+{
+    for part in path {
+        write_part(out, part)?;
+    }
+    out.end_array()
+}
+
+fn write_path(out: &mut JsonText, path: &[PathPart]) -> Result<(), AllocError>
+    ensures { Appends result out.old out.new
+        (member_tokens (codes "path") (list_data part_data (map part_view path.now))) }
+{
+    out.begin_array_at("path")?;
+    write_each_part(out, path)
+}
+
+/// Writes the number of the fault of a flaw, its path and its text, and the end of the object.
+fn write_flaw_members(out: &mut JsonText, flaw: &Flaw) -> Result<(), AllocError>
+    ensures { Appends result out.old out.new (members_rest (flaw_members (flaw_view flaw.now))) }
+{
+    out.number_at("number", u64::from(flaw.fault.number()))?;
+    write_path(out, &flaw.path)?;
+    out.text_at("text", flaw.text.as_str())?;
+    out.end_object()
+}
+
+/// Writes a flaw that has no line and no column.
+fn write_flaw_of_document(out: &mut JsonText, flaw: &Flaw) -> Result<(), AllocError>
+    ensures { Appends result out.old out.new
+        (value_tokens (placed_data None (flaw_view flaw.now))) }
+{
+    out.begin_object()?;
+    out.text_at("kind", flaw.fault.name())?;
+    write_flaw_members(out, flaw)
+}
+
+/// Writes a flaw that has a line and a column.
+fn write_flaw_of_text(out: &mut JsonText, flaw: &Flaw, position: Position) -> Result<(), AllocError>
+    ensures { Appends result out.old out.new
+        (value_tokens (placed_data (Some position) (flaw_view flaw.now))) }
+{
+    out.begin_object()?;
+    out.number_at("column", position.column as u64)?;
+    out.text_at("kind", flaw.fault.name())?;
+    out.number_at("line", position.line as u64)?;
+    write_flaw_members(out, flaw)
+}
 
 fn write_flaw(out: &mut JsonText, flaw: &Flaw) -> Result<(), AllocError>
     ensures { Appends result out.old out.new (value_tokens (flaw_data (flaw_view flaw.now))) }
 {
-    out.begin_object()?;
-    out.text_at("kind", flaw.fault.name())?;
-    out.number_at("number", u64::from(flaw.fault.number()))?;
-    out.text_at("text", flaw.text.as_str())?;
-    out.end_object()
+    match flaw.position {
+        Some(position) => write_flaw_of_text(out, flaw, position),
+        None => write_flaw_of_document(out, flaw),
+    }
 }
 
 /// Writes the flaws, and the end of their array.
@@ -40,8 +100,9 @@ fn write_flaws(out: &mut JsonText, flaws: &[Flaw]) -> Result<(), AllocError>
 }
 
 /// The flaws of the text of a table, as one compact JSON object: `{"flaws":[..]}`. Each flaw, in
-/// order, is an object with `kind`, the name of its fault; `number`, that of the fault; and `text`,
-/// what is wrong, and where.
+/// order, is an object with `kind`, the name of its fault; `number`, that of the fault; `path`, its
+/// place in the document, as an array of keys and of indexes from 0; and `text`, what is wrong, and
+/// where. The flaw of a text that is no TOML also has `line` and `column`, both from 1.
 ///
 /// # Errors
 ///

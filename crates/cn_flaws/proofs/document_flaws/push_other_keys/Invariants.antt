@@ -7,5 +7,5 @@ use Rattle.cn_flaws.proofs.document_flaws.push_other_keys.Given as goal
 -- the flaws so far and those of the rest are all flaws
 abbrev pub invariant-loop-key : goal.invariant-loop-key
 invariant-loop-key l =
-    flaws_view l.flaws ++ other_keys l.before l.after (map (λ k. k.now) l.known) (map (λ k. string_bytes k) l.key-iterator)
-    ≡ flaws_view l.initial.flaws ++ other_keys l.before l.after (map (λ k. k.now) l.known) (keys_in (table_view l.table))
+    flaws_view l.flaws ++ other_keys l.holder l.before l.after (map (λ k. k.now) l.known) (map (λ k. string_bytes k) l.key-iterator)
+    ≡ flaws_view l.initial.flaws ++ other_keys l.holder l.before l.after (map (λ k. k.now) l.known) (keys_in (table_view l.table))

@@ -1,7 +1,10 @@
-use Rattle.std.proofs.Common.{◌≡◌, ◌++◌, flat_map, map, string_bytes, take}
-use Rattle.cn_flaws.specs.Flaws.{flaws_view, bad_name}
+use Rattle.std.proofs.Common.{◌≡◌, ◌++◌, drop, map, string_bytes}
+use Rattle.cn_flaws.specs.FlawPath.{name_path}
+use Rattle.cn_flaws.specs.Flaws.{flaws_view, each, list_word, bad_name, bad_names}
 use Rattle.cn_flaws.proofs.draft_flaws.push_bad_names.Given as goal
 
-abbrev pub invariant-loop-name : goal.invariant-loop-name
-invariant-loop-name l =
-    flaws_view l.flaws ≡ flaws_view l.initial.flaws ++ flat_map (bad_name l.what) (map (λ s. string_bytes s) (take l.name-index l.names))
+-- the flaws so far and those of the rest are all flaws
+abbrev pub invariant-loop-i : goal.invariant-loop-i
+invariant-loop-i l =
+    flaws_view l.flaws ++ each (λ i. bad_name (name_path l.list i) (list_word l.list)) l.i (map (λ s. string_bytes s) (drop l.i l.names))
+    ≡ flaws_view l.initial.flaws ++ bad_names l.list (map (λ s. string_bytes s) l.names)
