@@ -1,4 +1,5 @@
 """`lint`: the place where a text stops to be TOML, the flaws of large tables, and tables of the greatest length."""
+import json
 import re
 
 from calls import TYPES, answer, called, fault
@@ -56,41 +57,53 @@ def columns():
 # Flaws
 
 
+def path_of(what, k):
+    """The path to the name of a list with this index."""
+    return ["operation", k, "name"] if what == "operation" else [f"{what}s", k]
+
+
 def flaws(name, states, responses, operations):
-    """The lines that `lint` has to write for a draft, (number and name of the fault, line) each. An operation is (name, responses,
-    next states)."""
+    """The lines that `lint` has to write for a draft, (number and name of the fault, path, line) each. An operation is (name,
+    responses, next states)."""
     names = [it[0] for it in operations]
     called_so = lambda i: f'operation "{names[i]}"' if NAME.match(names[i]) else f"operation[{i}]"
     for what, texts in (("name", [name]), ("state", states), ("response", responses), ("operation", names)):
-        yield from (("5 BadName", f'{what} "{it}": 1 to 32 of a-z, 0-9, _') for it in texts if not NAME.match(it))
+        for k, it in enumerate(texts):
+            if not NAME.match(it):
+                yield "5 BadName", ["name"] if what == "name" else path_of(what, k), f'{what} "{it}": 1 to 32 of a-z, 0-9, _'
     groups = (("states", states, 16), ("responses", responses, 16), ("operations", names, 8))
     for what, texts, most in groups:
         if not texts or len(texts) > most:
-            yield "6 Count", f"{len(texts)} {what}; at {f'most {most}' if texts else 'least 1'}"
+            yield "6 Count", ["operation" if what == "operations" else what], f"{len(texts)} {what}; at {f'most {most}' if texts else 'least 1'}"
     for what, texts in (("state", states), ("response", responses), ("operation", names)):
         for it in dict.fromkeys(texts):
-            *others, last = (f"{what}[{i}]" for i, text in enumerate(texts) if text == it)
+            places = [i for i, text in enumerate(texts) if text == it]
+            *others, last = (f"{what}[{i}]" for i in places)
             if others:
-                yield "7 Repeated", f'{", ".join(others)} and {last} are {"both" if len(others) == 1 else "all"} called "{it}"'
+                yield "7 Repeated", path_of(what, places[-1]), f'{", ".join(others)} and {last} are {"both" if len(others) == 1 else "all"} called "{it}"'
     there = "there is 1 state" if len(states) == 1 else f"there are {len(states)} states"
     for i, (_, *rows) in enumerate(operations):
         for row, entries in zip(("response", "next"), rows):
             if len(entries) != len(states):
-                yield "8 RowLength", f"{called_so(i)}: {row} has {'1 entry' if len(entries) == 1 else f'{len(entries)} entries'}, {there}"
+                found = "1 entry" if len(entries) == 1 else f"{len(entries)} entries"
+                yield "8 RowLength", ["operation", i, row], f"{called_so(i)}: {row} has {found}, {there}"
     for i, (_, *rows) in enumerate(operations):
         for row, entries, what, known in zip(("response", "next"), rows, ("response", "state"), (responses, states)):
             told = f" ({', '.join(known)})" if len(known) <= 16 and all(map(NAME.match, known)) else ""
             for k, it in enumerate(entries):
                 if it not in known:
-                    yield "9 UnknownName", f'{called_so(i)}, {row}[{k}]: "{it}" is no {what}{told}'
+                    yield "9 UnknownName", ["operation", i, row, k], f'{called_so(i)}, {row}[{k}]: "{it}" is no {what}{told}'
 
 
 def told(draft):
-    """A case of a refused draft: `lint` writes its flaws, and another command its fault alone."""
+    """Cases of a refused draft: `lint` writes its flaws, also as JSON, and another command its fault alone."""
     found = list(flaws(*draft))
     refused = fault(f"table: {found[0][0]}")
     text = table_text(*draft)
-    yield lambda: called(["lint"], text), ("".join(f"{line}\n" for _, line in found).encode(), *refused[1:])
+    yield lambda: called(["lint"], text), ("".join(f"{line}\n" for _, _, line in found).encode(), *refused[1:])
+    values = [{"kind": it[2:], "number": int(it[0]), "path": path, "text": line} for it, path, line in found]
+    told_as_json = json.dumps({"flaws": values}, sort_keys=True, separators=(",", ":")) + "\n"
+    yield lambda: called(["lint", "--as", "json"], text), (told_as_json.encode(), *refused[1:])
     yield lambda: called(["find", "--limit", "2"], text), refused
 
 
