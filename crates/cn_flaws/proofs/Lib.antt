@@ -1,2 +1,4 @@
 pub mod FlawLemmas
 pub mod FlawLaws
+pub mod PlainTexts
+pub mod PlainFlaws

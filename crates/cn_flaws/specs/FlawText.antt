@@ -4,10 +4,15 @@ use Rattle.std.specs.Prelude.{if◌then◌else◌, ◌==◌, ◌&&◌, nat_le, t
 use Rattle.std.specs.Char.{encode_utf8, is_control}
 use Rattle.std.specs.Fmt.{decimal, digits}
 use Rattle.std.specs.List.{list_all}
+use Rattle.std.specs.Str.{NoCharPasses}
 use Rattle.cn_table.specs.Names.{is_name}
 use Rattle.cn_table.specs.Texts.{code_of, joined_texts}
 use Rattle.cn_flaws.specs.declared.flaw.Position.{Position}
 use Rattle.cn_table.specs.declared.limits.TheConstants.{LONGEST_NAME, MOST_STATES}
+
+-- a text with no control character, so also with no line feed
+abbrev pub IsPlain : List ℕ → Type 0
+IsPlain text = NoCharPasses is_control text
 
 -- the escape of a control character, of which there are none from 256 on
 abbrev pub escape : ℕ → List ℕ

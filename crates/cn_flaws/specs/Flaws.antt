@@ -3,7 +3,7 @@ use Rattle.std.specs.Prelude.{codes, ℕ, ◌+◌, List, [], ◌∷◌, ◌++◌
 use Rattle.std.specs.Prelude.{if◌then◌else◌, Bool}
 use Rattle.std.specs.Prelude.{true, ◌==◌, Option, Some, None, is_some, nat_le, unwrap_or, Vec}
 use Rattle.std.specs.Prelude.{string_bytes}
-use Rattle.std.specs.List.{list_any}
+use Rattle.std.specs.List.{AllByRecursion, list_any}
 use Rattle.std.specs.Option.{option_map_or}
 use Rattle.std.specs.Str.{bytes_eq, is_utf8}
 use Rattle.std.specs.declared.alloc.Global.{Global}
@@ -19,7 +19,7 @@ use Rattle.cn_flaws.specs.FlawText.{place_after, not_toml_text, operation_text, 
 use Rattle.cn_flaws.specs.FlawText.{missing_key_text}
 use Rattle.cn_flaws.specs.FlawText.{kind_text, no_operation_text, bad_name_text, too_many_text}
 use Rattle.cn_flaws.specs.FlawText.{too_few_text}
-use Rattle.cn_flaws.specs.FlawText.{repeated_text, length_text, entry_text, names_in_brackets}
+use Rattle.cn_flaws.specs.FlawText.{IsPlain, repeated_text, length_text, entry_text, names_in_brackets}
 use Rattle.cn_table.specs.declared.fault.TableFault.{TableFault}
 use Rattle.cn_table.specs.declared.fault.TableFault.TheVariants.{NotToml, UnknownKey, MissingKey}
 use Rattle.cn_table.specs.declared.fault.TableFault.TheVariants.{WrongKind, BadName, Count}
@@ -282,6 +282,10 @@ text_flaws place text = option_map_or document_flaws (parse_document text)
 -- bytes that are not UTF-8 have no flaw to tell
 abbrev pub flaws_at : ℕ → List ℕ → List Flaw
 flaws_at place bytes = if is_utf8 bytes then text_flaws place bytes else []
+
+-- the texts have no control character
+abbrev pub ArePlain : List Flaw → Type 0
+ArePlain flaws = AllByRecursion (λ f. IsPlain f.text) flaws
 
 -- the fault of the first flaw
 abbrev pub first_fault : List Flaw → Option TableFault

@@ -4,7 +4,7 @@ ghost use Rattle.std.specs.Option.{option_map_or};
 ghost use Rattle.toml.specs.View.{table_view};
 ghost use Rattle.cn_table.specs.Draft.{draft_of};
 ghost use Rattle.cn_table.specs.Faults.{fault_of};
-ghost use Rattle.cn_flaws.specs.Flaws.{flaws_view, not_toml, draft_flaws, document_flaws, text_flaws, flaws_at, first_fault};
+ghost use Rattle.cn_flaws.specs.Flaws.{ArePlain, flaws_view, not_toml, draft_flaws, document_flaws, text_flaws, flaws_at, first_fault};
 ghost use Rattle.cn_flaws.specs.FlawText.{not_toml_text, place_after};
 
 use crate::document_flaws::{FlawClass, push_flaws_by};
@@ -101,6 +101,8 @@ fn text_flaws(alloc: Global, text: &str) -> Result<Vec<Flaw>, AllocError>
 /// has its flaws of keys and kinds. It has its flaws of names, counts and rows if each value is
 /// there and of its kind. Bytes that are not UTF-8 have no flaw.
 ///
+/// No text of a flaw has a control character, so each is one line.
+///
 /// UTF-8 has no flaw exactly if [`read_table`](cn_table::read_table) answers a table. Else the
 /// first flaw is of the fault that `read_table` answers.
 ///
@@ -113,6 +115,7 @@ pub fn flaws(alloc: Global, bytes: &[u8]) -> Result<Vec<Flaw>, AllocError>
         × (flaws_view v ≡ flaws_at place bytes.now)) }
     ensures first { IfOk result (λ v. IsUtf8 bytes.now
         → first_fault (flaws_view v) ≡ fault_of bytes.now) }
+    ensures plain { IfOk result (λ v. ArePlain (flaws_view v)) }
 {
     match str::from_utf8(bytes) {
         Ok(text) => text_flaws(alloc, text),

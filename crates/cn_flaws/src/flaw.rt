@@ -26,7 +26,7 @@ pub struct Flaw {
     pub path: Vec<PathPart>,
     /// Where the text stops to be TOML, if it is none.
     pub position: Option<Position>,
-    /// What is wrong, and where: a text of one line, without a line feed.
+    /// What is wrong, and where: a text of one line, without a control character.
     pub text: String,
 }
 
