@@ -6,7 +6,7 @@ import sys
 from built import TOP, built
 
 COUNT = re.compile(rb"(\d+) (?:[a-z]+ )?passed, (\d+) failed\n")
-# What a script says of a thing that it leaves out here (left_out in tally.py).
+# What a script says of a thing that it leaves out here (tell_omission in tally.py).
 LEFT_OUT = re.compile(rb"tests/[a-z_]+: left out: .*\n")
 
 
@@ -15,7 +15,7 @@ class Parts:
 
     def __init__(self):
         self.passed = self.failed = 0
-        self.left_out = []
+        self.omissions = []
 
     def add(self, *words):
         """Runs a command of the repository, and adds the counts of its last line, 'N .. passed, M failed'. A command without
@@ -25,8 +25,8 @@ class Parts:
             for last in process.stdout:
                 sys.stdout.buffer.write(last)
                 sys.stdout.flush()
-                if LEFT_OUT.fullmatch(last) and last not in self.left_out:
-                    self.left_out.append(last)
+                if LEFT_OUT.fullmatch(last) and last not in self.omissions:
+                    self.omissions.append(last)
         counted = COUNT.fullmatch(last)
         passed, failed = map(int, counted.groups()) if counted else (0, 1)
         self.passed += passed
@@ -42,7 +42,7 @@ class Parts:
 
     def end(self):
         """Prints what was left out and, as the last line, the sums, and ends with its status."""
-        sys.stdout.buffer.writelines(self.left_out)
+        sys.stdout.buffer.writelines(self.omissions)
         sys.stdout.flush()
         print(f"{self.passed} passed, {self.failed} failed")
         sys.exit(self.failed != 0)

@@ -8,7 +8,7 @@ POOL = concurrent.futures.ThreadPoolExecutor(2)
 PARTS = ("what is printed", "what is told", "the status")
 
 
-def left_out(script, what):
+def tell_omission(script, what):
     """Says that a script leaves something out here. The scripts that run others say so once more at their end (parts.py)."""
     print(f"tests/{script}: left out: {what}", flush=True)
 
