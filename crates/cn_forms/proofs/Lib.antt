@@ -5,3 +5,4 @@ pub mod Pieces
 pub mod ReasonLemmas
 pub mod WayLemmas
 pub mod Widths
+pub mod GroupLemmas

@@ -1,10 +1,9 @@
--- The text of `explain`: the number, the table, why the number is so much, and why it is no more.
-use Rattle.std.specs.Prelude.{ℕ, ◌+◌, ◌-◌, List, [], ◌∷◌, ◌++◌, length, codes, Bool, not, ◌&&◌}
+-- The parts of the text of an explanation: the number, why it is so much, and why it is no more.
+use Rattle.std.specs.Prelude.{ℕ, ◌+◌, ◌-◌, List, [], ◌∷◌, ◌++◌, length, codes, Bool}
 use Rattle.std.specs.Prelude.{◌==◌, nat_le, nat_lt, Option, Some, None}
-use Rattle.std.specs.Prelude.{if◌then◌else◌, drop, flat_map, slice_index, take, unwrap_or}
-use Rattle.std.specs.List.{position, range_with_len}
+use Rattle.std.specs.Prelude.{if◌then◌else◌, drop, flat_map, slice_index, take}
+use Rattle.std.specs.List.{range_with_len}
 use Rattle.std.specs.Fmt.{decimal}
-use Rattle.cn_forms.specs.Grid.{cells_text}
 use Rattle.cn_table.specs.TypeTable.{TypeTable, operation_names, transition}
 use Rattle.cn_choice.specs.Canonical.{Choice, FitsTable, raw_choice_of}
 use Rattle.cn_choice.specs.Collisions.{Collision, IsCollision}
@@ -13,36 +12,34 @@ use Rattle.cn_choice.specs.OutcomeSets.{pair_of}
 use Rattle.cn_choice.specs.TeamNames.{team_name}
 use Rattle.cn_choice.specs.declared.team.Team.{Team}
 use Rattle.cn_choice.specs.declared.team.Team.TheVariants.{A, B}
-use Rattle.cn_cert.specs.Certificate.{Certificate}
+use Rattle.cn_interference.specs.declared.rules.Rule.{Rule}
+use Rattle.cn_interference.specs.declared.rules.Rule.TheVariants.{InterferenceWithoutAnswers, HiddenOperations, TwoStates, Interference}
+use Rattle.cn_search.specs.NumberText.{number_text}
 use Rattle.cn_table.specs.Names.{name_at}
 use Rattle.cn_forms.specs.Folded.{folded}
-use Rattle.cn_forms.specs.Pairs.{pair_words, seen_rows}
+use Rattle.cn_forms.specs.Pairs.{pair_words}
+use Rattle.cn_forms.specs.Groups.{alike, goes_along, processes, witness_rows}
 use Rattle.cn_forms.specs.declared.limits.TheConstants.{MOST_TOLD}
+use Rattle.cn_forms.specs.declared.numbers.TypeNumber.{TypeNumber}
+use Rattle.cn_forms.specs.declared.numbers.TypeNumber.TheVariants.{Exact, UpTo}
 
 -- ---- the head line
 
--- the number in words: 1 if there is none up to the limit, "at least" the limit if it is the limit
+-- the number up to a limit in words: 1 if there is none, "at least" the limit if it is the limit
 abbrev pub number_told : ℕ → Option ℕ → List ℕ
 number_told limit None = codes "1"
 number_told limit (Some n) =
     if nat_lt n limit then decimal n else (codes "at least " ++ decimal n ++ codes " (the limit)")
 
-abbrev pub number_line : TypeTable → ℕ → Option ℕ → List ℕ
-number_line t limit number = t.name ++ codes ": consensus number " ++ number_told limit number
+abbrev pub number_words : TypeNumber → List ℕ
+number_words (Exact number) = number_text number
+number_words (UpTo limit number) = number_told limit number
+
+abbrev pub number_line : TypeTable → TypeNumber → List ℕ
+number_line t number = t.name ++ codes ": consensus number " ++ number_words number
     ++ codes " (for processes that can read the whole state)\n"
 
 -- ---- processes and runs
-
--- the number of operations, from the first on, that are this one
-abbrev pub alike : List ℕ → ℕ → ℕ
-alike operations own =
-    unwrap_or (position (λ other. not (other == own)) operations) (length operations)
-
--- this number of processes, from p on
-abbrev pub processes : ℕ → ℕ → List ℕ
-processes p count =
-    codes "p" ++ decimal p ++ (if nat_le count 1 then []
-    else ((if count == 2 then codes " and p" else codes " to p") ++ decimal (p + (count - 1))))
 
 abbrev pub does : ℕ → List ℕ
 does count = if nat_le count 1 then codes " does " else codes " do "
@@ -54,11 +51,6 @@ like_members t c team end p =
     let own = slice_index c.operations p in
     let count = alike (take (end - p) (drop p c.operations)) own in
     processes p count ++ (team ++ (does count ++ name_at (operation_names t) own))
-
--- process p is behind the first process, and has the same operation as the one right before it
-abbrev pub goes_along : RawChoice → ℕ → ℕ → Bool
-goes_along c first p =
-    nat_lt first p && (slice_index c.operations (p - 1) == slice_index c.operations p)
 
 -- process p with those that go along, and a comma before all but the first; nothing for a process
 -- that itself goes along
@@ -122,8 +114,7 @@ apart_line = codes "  No process has a pair on both sides, so each can tell whic
 -- the witness, and the pairs that each of its processes can get
 abbrev pub witness_text : TypeTable → ℕ → Choice → List ℕ
 witness_text t n w =
-    folded (witness_line t n w)
-    ++ flat_map (seen_rows t w) (range_with_len 0 (length w.a + length w.b)) ++ apart_line
+    folded (witness_line t n w) ++ witness_rows t w ++ apart_line
 
 abbrev pub why : TypeTable → Option ℕ → Option Choice → List ℕ
 why t (Some n) (Some w) = witness_text t n w
@@ -208,22 +199,51 @@ theorem_line n = codes "No protocol at all does it for " ++ decimal n
 abbrev pub notes : ℕ → ℕ → List ℕ
 notes version n = same_ways ++ left_out version ++ theorem_line n
 
--- why the number is not n: the ways, and the notes
-abbrev pub refutation : TypeTable → ℕ → List Collision → Bool → ℕ → List ℕ
-refutation t version entries all n =
-    codes "Why not " ++ decimal n ++ codes ": " ++ ways_words (length entries)
-    ++ told_ways t entries all ++ notes version n
+-- the ways, and the notes
+abbrev pub ways_and_notes : TypeTable → ℕ → List Collision → Bool → ℕ → List ℕ
+ways_and_notes t version entries all n =
+    ways_words (length entries) ++ told_ways t entries all ++ notes version n
 
-abbrev pub why_not : TypeTable → ℕ → ℕ → List Collision → Bool → Option ℕ → List ℕ
-why_not t version limit entries all None = refutation t version entries all 2
-why_not t version limit entries all (Some n) =
-    if nat_lt n limit then refutation t version entries all (n + 1)
+-- a rule in words: what it says of the operations
+abbrev pub rule_words : Rule → List ℕ
+rule_words InterferenceWithoutAnswers =
+    codes "no operation answers, and two always commute, or one wipes out the other"
+rule_words HiddenOperations =
+    codes "in every state, of any two operations, one tells nothing of the other"
+rule_words TwoStates =
+    codes "with two states any two operations commute, or one wipes out the other"
+rule_words Interference =
+    codes "in every state any two operations commute, or one wipes out the other"
+
+-- the rule by which it is proved
+unfoldable pub rule_sentence : Rule → List ℕ
+rule_sentence rule = codes "proved, since " ++ rule_words rule ++ codes ".\n"
+
+-- the rule by which the number is no more, if one applies
+abbrev pub rule_part : Option Rule → List ℕ
+rule_part None = []
+rule_part (Some rule) = rule_sentence rule
+
+-- the words before the ways, behind the words for a rule
+abbrev pub in_full : Option Rule → List ℕ
+in_full None = []
+in_full (Some rule) = codes "In full: "
+
+-- the ways and the notes, if they are told
+abbrev pub ways_part : TypeTable → ℕ → List Collision → Option Rule → Bool → Bool → ℕ → List ℕ
+ways_part t version entries rule with_ways all n =
+    if with_ways then in_full rule ++ ways_and_notes t version entries all n else []
+
+-- why the number is not n: the rule, and the ways
+abbrev pub refutation : TypeTable → ℕ → List Collision → Option Rule → Bool → Bool → ℕ → List ℕ
+refutation t version entries rule with_ways all n =
+    codes "Why not " ++ decimal n ++ codes ": " ++ rule_part rule
+    ++ ways_part t version entries rule with_ways all n
+
+abbrev pub why_not : TypeTable → ℕ → ℕ → List Collision
+    → Option Rule → Bool → Bool → Option ℕ → List ℕ
+why_not t version limit entries rule with_ways all None =
+    refutation t version entries rule with_ways all 2
+why_not t version limit entries rule with_ways all (Some n) =
+    if nat_lt n limit then refutation t version entries rule with_ways all (n + 1)
     else (codes "More than " ++ decimal n ++ codes " processes were not looked for.\n")
-
--- ---- all of it
-
-unfoldable pub explain_text : TypeTable → Certificate → Bool → List ℕ
-explain_text t c all =
-    folded (number_line t c.limit c.number) ++ codes "\n" ++ cells_text t ++ codes "\n"
-    ++ why t c.number c.witness ++ codes "\n"
-    ++ folded (why_not t c.version c.limit c.collisions all c.number)

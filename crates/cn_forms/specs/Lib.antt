@@ -1,8 +1,10 @@
 pub mod Diagram
 pub mod Dot
 pub mod Explained
+pub mod Explanation
 pub mod Folded
 pub mod Grid
+pub mod Groups
 pub mod Json
 pub mod Pairs
 pub mod Common

@@ -3,8 +3,7 @@ use Rattle.std.specs.Prelude.{ℕ, ◌+◌, ◌<◌, nat_le, List, [], ◌∷◌
 use Rattle.std.specs.Prelude.{◌&&◌, ◌==◌, max, Option, Some, None, if◌then◌else◌, flat_map}
 use Rattle.std.specs.Prelude.{slice_get}
 use Rattle.std.specs.List.{list_any, range_with_len}
-use Rattle.std.specs.Fmt.{decimal}
-use Rattle.cn_forms.specs.Grid.{pair_padding, widest}
+use Rattle.cn_forms.specs.Grid.{pair_padding, spaces, widest}
 use Rattle.cn_table.specs.TypeTable.{TypeTable}
 use Rattle.cn_choice.specs.declared.team.Team.{Team}
 use Rattle.cn_choice.specs.declared.team.Team.TheVariants.{A, B}
@@ -12,7 +11,7 @@ use Rattle.cn_choice.specs.Canonical.{Choice, raw_choice_of}
 use Rattle.cn_choice.specs.OutcomeSets.{pair_of}
 use Rattle.cn_choice.specs.TeamOrders.{orders_of}
 use Rattle.cn_table.specs.Names.{name_at}
-use Rattle.cn_forms.specs.declared.limits.TheConstants.{MOST_BESIDE}
+use Rattle.cn_forms.specs.declared.limits.TheConstants.{MOST_BESIDE, MOST_BESIDE_SEVERAL}
 
 -- ---- which pairs
 
@@ -59,10 +58,11 @@ abbrev pub left_gap : TypeTable → Option (ℕ × ℕ) → List ℕ
 left_gap t None = pair_padding t [] [] ++ codes "            "
 left_gap t (Some pair) = pair_padding t (name_at t.responses pair.0) (name_at t.states pair.1)
 
--- the text before the pairs of a row: words in the first row of a process, spaces in the others
-abbrev pub before_left : ℕ → ℕ → List ℕ
-before_left j k =
-    if k == 0 then (codes "  p" ++ decimal j ++ codes "   A first: ") else codes "                "
+-- the text before the pairs of a row: words in the first row, which begin with the processes, and
+-- spaces in the others
+abbrev pub before_left : List ℕ → ℕ → List ℕ
+before_left label k =
+    if k == 0 then (codes "  " ++ label ++ codes "   A first: ") else spaces (length label + 14)
 
 abbrev pub before_right : ℕ → List ℕ
 before_right k = if k == 0 then codes "    B first: " else codes "             "
@@ -72,41 +72,44 @@ abbrev pub right_part : TypeTable → ℕ → Option (ℕ × ℕ) → Option (�
 right_part t k a None = []
 right_part t k a (Some pair) = left_gap t a ++ before_right k ++ pair_words t pair
 
--- row k of process j: a pair of each side
-abbrev pub pair_row : TypeTable → ℕ → ℕ → Option (ℕ × ℕ) → Option (ℕ × ℕ) → List ℕ
-pair_row t j k a b = before_left j k ++ left_part t a ++ right_part t k a b ++ codes "\n"
+-- row k of these processes: a pair of each side
+abbrev pub pair_row : TypeTable → List ℕ → ℕ → Option (ℕ × ℕ) → Option (ℕ × ℕ) → List ℕ
+pair_row t label k a b =
+    before_left label k ++ left_part t a ++ right_part t k a b ++ codes "\n"
 
 -- as many rows as the longer side has pairs
 abbrev pub rows : List (ℕ × ℕ) → List (ℕ × ℕ) → ℕ
 rows a b = max (length a) (length b)
 
 -- the pairs of the two sides side by side
-abbrev pub rows_beside : TypeTable → ℕ → List (ℕ × ℕ) → List (ℕ × ℕ) → List ℕ
-rows_beside t j a b =
-    flat_map (λ k. pair_row t j k (slice_get a k) (slice_get b k)) (range_with_len 0 (rows a b))
+abbrev pub rows_beside : TypeTable → List ℕ → List (ℕ × ℕ) → List (ℕ × ℕ) → List ℕ
+rows_beside t label a b =
+    flat_map (λ k. pair_row t label k (slice_get a k) (slice_get b k)) (range_with_len 0 (rows a b))
 
 -- the text before pair k of a side that has lines of its own
-abbrev pub before_pair : ℕ → Team → ℕ → List ℕ
-before_pair j A k = before_left j k
-before_pair j B k = if k == 0 then codes "       B first: " else codes "                "
+abbrev pub before_pair : List ℕ → Team → ℕ → List ℕ
+before_pair label A k = before_left label k
+before_pair label B k = if k == 0 then (spaces (length label + 5) ++ codes "B first: ")
+    else spaces (length label + 14)
 
-abbrev pub pair_line : TypeTable → ℕ → Team → ℕ → Option (ℕ × ℕ) → List ℕ
-pair_line t j team k pair = before_pair j team k ++ left_part t pair ++ codes "\n"
+abbrev pub pair_line : TypeTable → List ℕ → Team → ℕ → Option (ℕ × ℕ) → List ℕ
+pair_line t label team k pair = before_pair label team k ++ left_part t pair ++ codes "\n"
 
 -- the pairs of a side, each in a line of its own
-abbrev pub side_lines : TypeTable → ℕ → Team → List (ℕ × ℕ) → List ℕ
-side_lines t j team pairs =
-    flat_map (λ k. pair_line t j team k (slice_get pairs k)) (range_with_len 0 (length pairs))
+abbrev pub side_lines : TypeTable → List ℕ → Team → List (ℕ × ℕ) → List ℕ
+side_lines t label team pairs =
+    flat_map (λ k. pair_line t label team k (slice_get pairs k)) (range_with_len 0 (length pairs))
+
+-- the greatest width of a response and a state together with which a line has room for two pairs
+abbrev pub most_beside : List ℕ → ℕ
+most_beside label = if nat_le (length label) 2 then MOST_BESIDE else MOST_BESIDE_SEVERAL
 
 -- a line has room for two of the widest pairs of the table
-abbrev pub has_room : TypeTable → Bool
-has_room t = nat_le (widest t.responses + widest t.states) MOST_BESIDE
+abbrev pub has_room : TypeTable → List ℕ → Bool
+has_room t label = nat_le (widest t.responses + widest t.states) (most_beside label)
 
 -- the two sides: side by side if a line has room for them, else one below the other
-abbrev pub pair_rows : TypeTable → ℕ → List (ℕ × ℕ) → List (ℕ × ℕ) → List ℕ
-pair_rows t j a b =
-    if has_room t then rows_beside t j a b else side_lines t j A a ++ side_lines t j B b
-
--- all pairs that process j can get: team A is first on the left, team B on the right
-abbrev pub seen_rows : TypeTable → Choice → ℕ → List ℕ
-seen_rows t c j = pair_rows t j (seen_pairs t c A j) (seen_pairs t c B j)
+abbrev pub pair_rows : TypeTable → List ℕ → List (ℕ × ℕ) → List (ℕ × ℕ) → List ℕ
+pair_rows t label a b =
+    if has_room t label then rows_beside t label a b
+    else side_lines t label A a ++ side_lines t label B b

@@ -1,36 +1,29 @@
--- The text of `why`: the number with no limit, the table, why the number is so much, and why it is
--- no more.
-use Rattle.std.specs.Prelude.{ℕ, ◌+◌, ◌^◌, ◌↔◌, List, [], ◌++◌, length, codes, Bool, true, false}
-use Rattle.std.specs.Prelude.{not, ◌==◌, nat_eq, nat_lt, bit_and, IsBitSet, Option, Some, None}
-use Rattle.std.specs.Prelude.{if◌then◌else◌, flat_map, IfSome, ◌≡◌}
+-- The text of an explanation: the number, the table, why the number is so much, and why it is no
+-- more.
+use Rattle.std.specs.Prelude.{ℕ, ◌+◌, ◌^◌, List, [], ◌++◌, length, codes, Bool, true, false}
+use Rattle.std.specs.Prelude.{not, ◌&&◌, ◌==◌, nat_eq, nat_le, nat_lt, bit_and, Option, Some, None}
+use Rattle.std.specs.Prelude.{if◌then◌else◌, flat_map, slice_get}
 use Rattle.std.specs.List.{range_with_len}
 use Rattle.std.specs.Fmt.{decimal}
 use Rattle.cn_table.specs.Names.{name_at}
 use Rattle.cn_table.specs.TypeTable.{TypeTable, operation_names}
-use Rattle.cn_lasting.specs.Leaving.{Leaves}
+use Rattle.cn_interference.specs.declared.pairs.OperationPair.{OperationPair}
+use Rattle.cn_interference.specs.declared.rules.Rule.{Rule}
 use Rattle.cn_lasting.specs.declared.search.First.{First}
 use Rattle.cn_lasting.specs.declared.search.First.TheVariants.{Single, Many}
 use Rattle.cn_lasting.specs.declared.search.Lasting.{Lasting}
-use Rattle.cn_search.specs.NumberText.{number_text}
 use Rattle.cn_search.specs.declared.exact.ConsensusNumber.{ConsensusNumber}
 use Rattle.cn_search.specs.declared.exact.ConsensusNumber.TheVariants.{Finite, Infinite, Between}
 use Rattle.cn_cert.specs.Certificate.{Certificate}
-use Rattle.cn_forms.specs.Explained.{theorem_line, why, why_not}
+use Rattle.cn_forms.specs.Explained.{number_line, theorem_line, why, why_not}
 use Rattle.cn_forms.specs.Folded.{folded}
 use Rattle.cn_forms.specs.Grid.{cells_text}
-
--- ---- the number
-
-abbrev pub exact_line : TypeTable → ConsensusNumber → List ℕ
-exact_line t number =
-    t.name ++ codes ": consensus number " ++ number_text number
-    ++ codes " (for processes that can read the whole state)\n"
+use Rattle.cn_forms.specs.declared.explained.value.Explanation.{Explanation}
+use Rattle.cn_forms.specs.declared.limits.TheConstants.{MOST_APART}
+use Rattle.cn_forms.specs.declared.numbers.TypeNumber.{TypeNumber}
+use Rattle.cn_forms.specs.declared.numbers.TypeNumber.TheVariants.{Exact, UpTo}
 
 -- ---- operations that last
-
--- these are the states that orders leave in which this came first
-abbrev pub AreLeft : TypeTable → Lasting → First → ℕ → Type 0
-AreLeft t l first set = (q : ℕ) → IsBitSet set q ↔ Leaves t l first q
 
 abbrev pub has_state : ℕ → ℕ → Bool
 has_state set q = not (nat_eq (bit_and set (2 ^ q)) 0)
@@ -86,10 +79,11 @@ is_exactly (Finite n) m = n == m
 is_exactly Infinite m = false
 is_exactly (Between least most) m = false
 
--- for how many processes the witness is, where the number is another
-abbrev pub example_line : ConsensusNumber → Option ℕ → List ℕ
-example_line number None = []
-example_line number (Some m) =
+-- for how many processes the witness is, where the number is another one with no limit
+abbrev pub example_line : TypeNumber → Option ℕ → List ℕ
+example_line (UpTo limit number) found = []
+example_line (Exact number) None = []
+example_line (Exact number) (Some m) =
     if is_exactly number m then [] else codes "For " ++ decimal m ++ codes " processes, say:\n"
 
 -- ---- why it is no more
@@ -105,31 +99,67 @@ no_list n =
 unfoldable pub each_number_line : List ℕ
 each_number_line = codes "It is so for each number of processes: this is proved (docs/PROVED.md).\n"
 
+-- the ways are told: with no limit, and with a rule that says the same, only if all are asked for
+abbrev pub with_ways : Option Rule → Bool → Bool
+with_ways None all = true
+with_ways (Some rule) all = all
+
 -- every number of processes has a witness; or what the certificate refutes; or that it lists
 -- nothing
-abbrev pub no_more : TypeTable → Certificate → ConsensusNumber → Bool → List ℕ
-no_more t c Infinite all = each_number_line
-no_more t c (Finite n) all =
+abbrev pub no_more : TypeTable → Certificate → TypeNumber → Option Rule → Bool → List ℕ
+no_more t c (UpTo limit number) rule all =
+    why_not t c.version c.limit c.collisions rule true all c.number
+no_more t c (Exact Infinite) rule all = each_number_line
+no_more t c (Exact (Finite n)) rule all =
     if is_below c.limit c.number
-    then why_not t c.version c.limit c.collisions all c.number else no_list (n + 1)
-no_more t c (Between least most) all = no_list (most + 1)
+    then why_not t c.version c.limit c.collisions rule (with_ways rule all) all c.number
+    else no_list (n + 1)
+no_more t c (Exact (Between least most)) rule all = no_list (most + 1)
+
+-- ---- the pairs that do not interfere
+
+-- the two operations of a pair, behind words for its place among the pairs
+abbrev pub exception : TypeTable → ℕ → Option OperationPair → List ℕ
+exception t k None = []
+exception t k (Some pair) = (if k == 0 then codes "not " else codes ", nor ")
+    ++ name_at (operation_names t) pair.first.0
+    ++ codes " and " ++ name_at (operation_names t) pair.second.0
+
+abbrev pub exceptions : TypeTable → List OperationPair → List ℕ
+exceptions t pairs =
+    flat_map (λ k. exception t k (slice_get pairs k)) (range_with_len 0 (length pairs))
+
+-- they are told of a type with a witness for three processes or more, if they are few
+abbrev pub tells_pairs : Option ℕ → List OperationPair → Bool
+tells_pairs None pairs = false
+tells_pairs (Some n) pairs =
+    nat_le 3 n && nat_le 1 (length pairs) && nat_le (length pairs) MOST_APART
+
+-- the words for all other pairs
+unfoldable pub rest_interferes : List ℕ
+rest_interferes = codes "In every state any two operations commute, or one wipes out the other, but "
+
+abbrev pub pairs_line : TypeTable → Option ℕ → List OperationPair → List ℕ
+pairs_line t number pairs =
+    if tells_pairs number pairs then (rest_interferes ++ exceptions t pairs ++ codes ".\n") else []
 
 -- ---- all of it
 
-unfoldable pub why_text : TypeTable → Certificate → ConsensusNumber
-    → Option Lasting → ℕ → ℕ → Bool → List ℕ
-why_text t c number lasting single many all =
-    folded (exact_line t number) ++ codes "\n" ++ cells_text t ++ codes "\n"
-    ++ lasting_part t lasting single many
-    ++ example_line number c.number ++ why t c.number c.witness ++ codes "\n"
-    ++ folded (no_more t c number all)
+abbrev pub text_start : Explanation → List ℕ
+text_start e =
+    folded (number_line e.table e.number) ++ codes "\n" ++ cells_text e.table ++ codes "\n"
+    ++ lasting_part e.table e.lasting e.left.single e.left.many
 
--- the text is that of the reasons, with the states that orders of these operations leave, if a type
--- has some that last
-pub record HasReasons (t : TypeTable) (c : Certificate) (number : ConsensusNumber)
-    (lasting : Option Lasting) (all : Bool) (text : List ℕ)
-    : Type 0 where
-  pub single : ℕ
-  pub many : ℕ
-  pub left : IfSome lasting (λ l. AreLeft t l Single single × AreLeft t l Many many)
-  pub written : text ≡ why_text t c number lasting single many all
+abbrev pub text_evidence : Explanation → List ℕ
+text_evidence e =
+    example_line e.number e.certificate.number
+    ++ why e.table e.certificate.number e.certificate.witness ++ codes "\n"
+
+abbrev pub text_end : Explanation → List ℕ
+text_end e =
+    folded (no_more e.table e.certificate e.number e.rule e.all
+    ++ pairs_line e.table e.certificate.number e.apart.items)
+
+-- the text of an explanation
+unfoldable pub explanation_text : Explanation → List ℕ
+explanation_text e = text_start e ++ text_evidence e ++ text_end e

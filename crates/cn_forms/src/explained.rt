@@ -1,30 +1,29 @@
-//! The explanation of a certificate: the number, the table, why the number is no less, and why it
-//! is no more.
-ghost use Rattle.std.specs.Prelude.{◌≡◌, ◌+◌, ◌-◌, ◌++◌, length, string_bytes, flat_map, All, IfOk, IfSome, OnOk};
-ghost use Rattle.std.specs.List.{range_with_len};
+//! The parts of an explanation: the number, why it is no less, and why it is no more.
+ghost use Rattle.std.specs.Prelude.{◌≡◌, ◌+◌, ◌-◌, ◌++◌, length, string_bytes, All, IfSome, OnOk};
 ghost use Rattle.cn_choice.specs.Canonical.{FitsTable};
-ghost use Rattle.cn_check.specs.Verdict.{IsAccepted};
-ghost use Rattle.cn_forms.specs.Explained.{apart_line, explain_text, number_line, left_out, more_line, movers, notes, number_told, refutation, same_ways, theorem_line, entries_told, told_ways, ways_words, why, why_not, witness_line, witness_start, witness_text, IsRefuted};
+ghost use Rattle.cn_forms.specs.Explained.{apart_line, entries_told, in_full, left_out, more_line, movers, notes, number_line, number_told, number_words, refutation, rule_part, rule_sentence, rule_words, same_ways, theorem_line, told_ways, ways_and_notes, ways_part, ways_words, why, why_not, witness_line, witness_start, witness_text, IsRefuted};
 ghost use Rattle.cn_forms.specs.Folded.{folded};
-ghost use Rattle.cn_forms.specs.Pairs.{seen_rows};
 
+mod apart;
 pub(crate) mod folded;
+mod groups;
 mod pairs;
+pub(crate) mod text;
+pub(crate) mod value;
 mod ways;
 
 use crate::explained::folded::push_folded;
-use crate::explained::pairs::push_pair_rows;
+use crate::explained::groups::push_witness_rows;
 use crate::explained::ways::{push_both_teams, push_ways};
-use crate::grid::push_cells;
 use crate::limits::MOST_TOLD;
-use cn_cert::Certificate;
-use cn_choice::laws::{canonical_list, live_list};
+use crate::numbers::TypeNumber;
 use cn_choice::{Choice, Collision};
+use cn_interference::Rule;
 use cn_table::Table;
 use std::alloc::{AllocError, Global};
 
-/// The number in words.
-fn push_number(text: &mut String, limit: u8, number: Option<u8>) -> Result<(), AllocError>
+/// The number up to a limit in words.
+fn push_number_told(text: &mut String, limit: u8, number: Option<u8>) -> Result<(), AllocError>
     ensures { OnOk result (string_bytes text.new
         ≡ string_bytes text.old ++ number_told limit number) }
 {
@@ -35,54 +34,39 @@ fn push_number(text: &mut String, limit: u8, number: Option<u8>) -> Result<(), A
     }
 }
 
-fn push_number_line(
-    text: &mut String,
-    table: &Table,
-    limit: u8,
-    number: Option<u8>,
-) -> Result<(), AllocError>
+fn push_number(text: &mut String, number: TypeNumber) -> Result<(), AllocError>
     ensures { OnOk result (string_bytes text.new
-        ≡ string_bytes text.old ++ number_line table.now limit number) }
+        ≡ string_bytes text.old ++ number_words number) }
+{
+    match number {
+        TypeNumber::Exact(number) => write!(text, "{number}"),
+        TypeNumber::UpTo(limit, number) => push_number_told(text, limit, number),
+    }
+}
+
+fn push_number_line(text: &mut String, table: &Table, number: TypeNumber) -> Result<(), AllocError>
+    ensures { OnOk result (string_bytes text.new
+        ≡ string_bytes text.old ++ number_line table.now number) }
 {
     let name = table.name();
     write!(text, "{name}: consensus number ")?;
-    push_number(text, limit, number)?;
+    push_number(text, number)?;
     text.push_str(" (for processes that can read the whole state)\n")
 }
 
 /// The number, in as many lines as it needs.
-fn push_head(
+pub(crate) fn push_head(
     alloc: Global,
     text: &mut String,
     table: &Table,
-    limit: u8,
-    number: Option<u8>,
+    number: TypeNumber,
 ) -> Result<(), AllocError>
     ensures { OnOk result (string_bytes text.new
-        ≡ string_bytes text.old ++ folded (number_line table.now limit number)) }
+        ≡ string_bytes text.old ++ folded (number_line table.now number)) }
 {
     let mut line = String::new(alloc);
-    push_number_line(&mut line, table, limit, number)?;
+    push_number_line(&mut line, table, number)?;
     push_folded(alloc, text, line.as_str())
-}
-
-/// The pairs that each process of a witness can get.
-fn push_all_pair_rows(
-    alloc: Global,
-    text: &mut String,
-    table: &Table,
-    witness: &Choice,
-) -> Result<(), AllocError>
-    requires { FitsTable table.now witness.now }
-    ensures { OnOk result (string_bytes text.new
-        ≡ string_bytes text.old
-        ++ flat_map (seen_rows table.now witness.now)
-        (range_with_len 0 (length witness.now.a + length witness.now.b))) }
-{
-    for process in 0..(witness.a.len() + witness.b.len()) as u8 {
-        push_pair_rows(alloc, text, table, witness, process)?;
-    }
-    Ok(())
 }
 
 /// The operations of the witness, by team.
@@ -148,7 +132,7 @@ fn push_witness(
     let mut line = String::new(alloc);
     push_witness_line(&mut line, table, number, witness)?;
     push_folded(alloc, text, line.as_str())?;
-    push_all_pair_rows(alloc, text, table, witness)?;
+    push_witness_rows(alloc, text, table, witness)?;
     push_apart_line(text)
 }
 
@@ -262,8 +246,8 @@ fn push_notes(text: &mut String, version: u8, n: u8) -> Result<(), AllocError>
     push_theorem(text, n as u16)
 }
 
-/// Why the number is not n: the ways, and the notes.
-fn push_refutation(
+/// The ways, and the notes.
+fn push_ways_and_notes(
     text: &mut String,
     table: &Table,
     version: u8,
@@ -273,12 +257,98 @@ fn push_refutation(
 ) -> Result<(), AllocError>
     requires { All (IsRefuted table.now) entries.now }
     ensures { OnOk result (string_bytes text.new
-        ≡ string_bytes text.old ++ refutation table.now version entries.now all n) }
+        ≡ string_bytes text.old ++ ways_and_notes table.now version entries.now all n) }
 {
-    write!(text, "Why not {n}: ")?;
     push_count(text, entries.len())?;
     push_entries(text, table, entries, all)?;
     push_notes(text, version, n)
+}
+
+/// A rule in words: what it says of the operations.
+fn rule_words(rule: Rule) -> &'static str
+    ensures { result.now ≡ rule_words rule }
+{
+    match rule {
+        Rule::InterferenceWithoutAnswers => {
+            "no operation answers, and two always commute, or one wipes out the other"
+        }
+        Rule::HiddenOperations => {
+            "in every state, of any two operations, one tells nothing of the other"
+        }
+        Rule::TwoStates => "with two states any two operations commute, or one wipes out the other",
+        Rule::Interference => {
+            "in every state any two operations commute, or one wipes out the other"
+        }
+    }
+}
+
+fn push_rule_sentence(text: &mut String, rule: Rule) -> Result<(), AllocError>
+    ensures { OnOk result (string_bytes text.new ≡ string_bytes text.old ++ rule_sentence rule) }
+{
+    let words = rule_words(rule);
+    write!(text, "proved, since {words}.\n")
+}
+
+/// The rule, if one applies.
+fn push_rule(text: &mut String, rule: Option<Rule>) -> Result<(), AllocError>
+    ensures { OnOk result (string_bytes text.new ≡ string_bytes text.old ++ rule_part rule) }
+{
+    match rule {
+        None => Ok(()),
+        Some(rule) => push_rule_sentence(text, rule),
+    }
+}
+
+/// The words before the ways, behind the words for a rule.
+fn in_full(rule: Option<Rule>) -> &'static str
+    ensures { result.now ≡ in_full rule }
+{
+    match rule {
+        None => "",
+        Some(_) => "In full: ",
+    }
+}
+
+/// The ways and the notes, if they are told.
+fn push_ways_part(
+    text: &mut String,
+    table: &Table,
+    version: u8,
+    entries: &[Collision],
+    rule: Option<Rule>,
+    with_ways: bool,
+    all: bool,
+    n: u8,
+) -> Result<(), AllocError>
+    requires { All (IsRefuted table.now) entries.now }
+    ensures { OnOk result (string_bytes text.new ≡ string_bytes text.old
+        ++ ways_part table.now version entries.now rule with_ways all n) }
+{
+    if !with_ways {
+        return Ok(());
+    }
+    text.push_str(in_full(rule))?;
+    push_ways_and_notes(text, table, version, entries, all, n)
+}
+
+/// Why the number is not n: the rule, and the ways.
+fn push_refutation(
+    text: &mut String,
+    table: &Table,
+    version: u8,
+    entries: &[Collision],
+    rule: Option<Rule>,
+    with_ways: bool,
+    all: bool,
+    n: u8,
+) -> Result<(), AllocError>
+    requires { All (IsRefuted table.now) entries.now }
+    ensures { OnOk result (string_bytes text.new ≡ string_bytes text.old
+        ++ refutation table.now version entries.now rule with_ways all n) }
+{
+    write!(text, "Why not {n}: ")?;
+    push_rule(text, rule)?;
+    push_ways_part(text, table, version, entries, rule, with_ways, all, n)
 }
 
 /// Why the number is no more.
@@ -288,72 +358,20 @@ pub(crate) fn push_why_not(
     version: u8,
     limit: u8,
     entries: &[Collision],
+    rule: Option<Rule>,
+    with_ways: bool,
     all: bool,
     number: Option<u8>,
 ) -> Result<(), AllocError>
     requires { All (IsRefuted table.now) entries.now }
-    ensures { OnOk result (string_bytes text.new
-        ≡ string_bytes text.old ++ why_not table.now version limit entries.now all number) }
+    ensures { OnOk result (string_bytes text.new ≡ string_bytes text.old
+        ++ why_not table.now version limit entries.now rule with_ways all number) }
 {
     match number {
-        None => push_refutation(text, table, version, entries, all, 2),
-        Some(n) if n < limit => push_refutation(text, table, version, entries, all, n + 1),
+        None => push_refutation(text, table, version, entries, rule, with_ways, all, 2),
+        Some(n) if n < limit => {
+            push_refutation(text, table, version, entries, rule, with_ways, all, n + 1)
+        }
         Some(n) => write!(text, "More than {n} processes were not looked for.\n"),
     }
-}
-
-/// Why the number is no more, in as many lines as it needs.
-fn push_reasons(
-    alloc: Global,
-    text: &mut String,
-    table: &Table,
-    certificate: &Certificate,
-    all: bool,
-) -> Result<(), AllocError>
-    requires { All (IsRefuted table.now) certificate.now.collisions }
-    ensures { OnOk result (string_bytes text.new ≡ string_bytes text.old
-        ++ folded (why_not table.now certificate.now.version certificate.now.limit
-        certificate.now.collisions all certificate.now.number)) }
-{
-    let (version, limit, number) = (certificate.version, certificate.limit, certificate.number);
-    let entries = certificate.collisions.as_slice();
-    let mut reasons = String::new(alloc);
-    push_why_not(&mut reasons, table, version, limit, entries, all, number)?;
-    push_folded(alloc, text, reasons.as_str())
-}
-
-/// The text that tells people why the number of a certificate is what it is. It has the number; the
-/// cells of the table; the pairs by which each process of the witness tells which team was first;
-/// and, for each choice that the certificate refutes, two runs by which a process cannot tell. It
-/// has the first [`MOST_TOLD`] of these choices, or, with `all`, every one. Each line ends with a
-/// line feed.
-///
-/// [`check`](cn_check::check) accepts the certificate for the table, so its number is right.
-///
-/// # Errors
-///
-/// `AllocError` if memory runs out.
-#[tactic(auto, unfolding(crate::specs::Explained::explain_text))]
-pub fn explanation_of(
-    alloc: Global,
-    table: &Table,
-    certificate: &Certificate,
-    all: bool,
-) -> Result<String, AllocError>
-    requires { IsAccepted table.now certificate.now }
-    ensures { IfOk result (λ text. string_bytes text ≡ explain_text table.now certificate.now all) }
-{
-    // By these laws each entry is of a choice of the table.
-    canonical_list();
-    live_list();
-    let (limit, number) = (certificate.limit, certificate.number);
-    let mut text = String::new(alloc);
-    push_head(alloc, &mut text, table, limit, number)?;
-    text.push_str("\n")?;
-    push_cells(&mut text, table)?;
-    text.push_str("\n")?;
-    push_why(alloc, &mut text, table, number, &certificate.witness)?;
-    text.push_str("\n")?;
-    push_reasons(alloc, &mut text, table, certificate, all)?;
-    Ok(text)
 }

@@ -2,16 +2,18 @@
 //!
 //! [`grid_of`] answers the grid of a table, and [`diagram_of`] its picture. [`plan_as`] answers the
 //! text of a plan in a [`Form`]: lines for people, JSON, a picture for Graphviz, or a model in
-//! Promela. [`explanation_of`] tells people why the number of an accepted certificate is what it
-//! is, and [`reasons_of`] why the number with no limit is. Each text is a function of the values
-//! that it shows. By [`laws::told_pairs`] the pairs in an explanation are those of the outcome
-//! sets.
+//! Promela. An [`Explanation`] has what there is to tell of why a number is what it is, and
+//! [`explanation_of`] tells it to people. Each text is a function of the values that it shows. By
+//! [`laws::told_pairs`] the pairs in an explanation are those of the outcome sets, and by
+//! [`laws::like_processes`] those of neighbours with the same operation are the same.
 //!
 //! ```text
 //! print!(rt; "{}", grid_of(alloc, &table)?)?;
 //! print!(rt; "{}", plan_as(alloc, &plan, Form::Promela)?)?;
 //! check(&table, &certificate)?;
-//! print!(rt; "{}", explanation_of(alloc, &table, &certificate, false)?)?;
+//! let number = TypeNumber::UpTo(certificate.limit, certificate.number);
+//! let explanation = Explanation::new(alloc, table, certificate, number, None, false)?;
+//! print!(rt; "{}", explanation_of(alloc, &explanation)?)?;
 //! ```
 #![tactic(auto)]
 
@@ -20,12 +22,14 @@ mod explained;
 mod grid;
 pub mod laws;
 mod limits;
+mod numbers;
 mod plan_forms;
 mod reasons;
 
 pub use diagram::diagram_of;
-pub use explained::explanation_of;
+pub use explained::text::explanation_of;
+pub use explained::value::{Explanation, LeftStates};
 pub use grid::grid_of;
 pub use limits::MOST_TOLD;
+pub use numbers::TypeNumber;
 pub use plan_forms::{Form, plan_as};
-pub use reasons::reasons_of;

@@ -1,77 +1,22 @@
-//! The reasons for a number with no limit: the number, the table, why the number is no less, and
-//! why it is no more.
-ghost use Rattle.std.specs.Prelude.{◌≡◌, ◌<◌, ◌++◌, codes, length, string_bytes, All, IfOk, IfSome, OnOk};
-ghost use Rattle.cn_check.specs.Verdict.{IsAccepted};
+//! The reasons for a number: operations that last, and why the number is no more.
+ghost use Rattle.std.specs.Prelude.{◌≡◌, ◌<◌, ◌++◌, length, string_bytes, true, All, IfSome, OnOk};
 ghost use Rattle.cn_lasting.specs.Leaving.{IsLasting};
-ghost use Rattle.cn_lasting.specs.declared.search.First.TheVariants.{Single, Many};
-ghost use Rattle.cn_forms.specs.Explained.{IsRefuted};
+ghost use Rattle.cn_forms.specs.Explained.{why_not, IsRefuted};
 ghost use Rattle.cn_forms.specs.Folded.{folded};
-ghost use Rattle.cn_forms.specs.Grid.{cells_text};
-ghost use Rattle.cn_forms.specs.Reasons.{each_number_line, exact_line, example_line, first_line, first_words, is_below, is_exactly, lasting_line, lasting_part, lasting_start, lasting_text, many_words, no_list, no_more, single_words, state_if, states_told, AreLeft, HasReasons};
+ghost use Rattle.cn_forms.specs.Reasons.{each_number_line, example_line, first_line, first_words, is_below, is_exactly, lasting_line, lasting_part, lasting_start, lasting_text, many_words, no_list, no_more, single_words, state_if, states_told, with_ways};
+ghost use Rattle.cn_forms.specs.declared.numbers.TypeNumber.TheVariants.{Exact};
 
 use crate::explained::folded::push_folded;
-use crate::explained::{push_theorem, push_why, push_why_not};
-use crate::grid::push_cells;
+use crate::explained::value::LeftStates;
+use crate::explained::{push_theorem, push_why_not};
+use crate::numbers::TypeNumber;
 use cn_cert::Certificate;
-use cn_choice::laws::{canonical_list, live_list};
-use cn_lasting::{First, Lasting, left_states};
+use cn_interference::Rule;
+use cn_lasting::{First, Lasting};
 use cn_outcomes::Bits;
 use cn_search::ConsensusNumber;
 use cn_table::{State, Table};
 use std::alloc::{AllocError, Global};
-
-/// The states that orders leave, by which of two operations that last came first.
-#[derive(Clone, Copy)]
-struct LeftSets {
-    single: Bits,
-    many: Bits,
-}
-
-/// These states, of a type with operations that last.
-fn left_sets(table: &Table, lasting: Option<Lasting>) -> LeftSets
-    requires { IfSome lasting (IsLasting table.now) }
-    ensures { IfSome lasting (λ l. AreLeft table.now l Single result.single
-        × AreLeft table.now l Many result.many) }
-{
-    match lasting {
-        Some(lasting) => LeftSets {
-            single: left_states(table, lasting, First::Single),
-            many: left_states(table, lasting, First::Many),
-        },
-        None => LeftSets {
-            single: Bits::new(),
-            many: Bits::new(),
-        },
-    }
-}
-
-fn push_exact_line(
-    text: &mut String,
-    table: &Table,
-    number: ConsensusNumber,
-) -> Result<(), AllocError>
-    ensures { OnOk result (string_bytes text.new
-        ≡ string_bytes text.old ++ exact_line table.now number) }
-{
-    let name = table.name();
-    write!(text, "{name}: consensus number {number}")?;
-    text.push_str(" (for processes that can read the whole state)\n")
-}
-
-/// The number, in as many lines as it needs.
-fn push_exact(
-    alloc: Global,
-    text: &mut String,
-    table: &Table,
-    number: ConsensusNumber,
-) -> Result<(), AllocError>
-    ensures { OnOk result (string_bytes text.new
-        ≡ string_bytes text.old ++ folded (exact_line table.now number)) }
-{
-    let mut line = String::new(alloc);
-    push_exact_line(&mut line, table, number)?;
-    push_folded(alloc, text, line.as_str())
-}
 
 /// The state behind a space, if it is in the set.
 fn push_state_if(text: &mut String, table: &Table, set: Bits, q: u8) -> Result<(), AllocError>
@@ -180,7 +125,7 @@ fn push_lasting_text(
     text: &mut String,
     table: &Table,
     lasting: Lasting,
-    sets: LeftSets,
+    sets: LeftStates,
 ) -> Result<(), AllocError>
     requires { IsLasting table.now lasting }
     ensures { OnOk result (string_bytes text.new ≡ string_bytes text.old
@@ -195,12 +140,12 @@ fn push_lasting_text(
 }
 
 /// The same in as many lines as it needs, of a type with operations that last.
-fn push_lasting_part(
+pub(crate) fn push_lasting_part(
     alloc: Global,
     text: &mut String,
     table: &Table,
     lasting: Option<Lasting>,
-    sets: LeftSets,
+    sets: LeftStates,
 ) -> Result<(), AllocError>
     requires { IfSome lasting (IsLasting table.now) }
     ensures { OnOk result (string_bytes text.new ≡ string_bytes text.old
@@ -224,17 +169,19 @@ fn is_exactly(number: ConsensusNumber, m: u8) -> bool
     }
 }
 
-/// The number of processes of the witness, if the number is another.
-fn push_example_line(
+/// The number of processes of the witness, if the number is another one with no limit.
+pub(crate) fn push_example_line(
     text: &mut String,
-    number: ConsensusNumber,
+    number: TypeNumber,
     found: Option<u8>,
 ) -> Result<(), AllocError>
     ensures { OnOk result (string_bytes text.new
         ≡ string_bytes text.old ++ example_line number found) }
 {
-    match found {
-        Some(m) if !is_exactly(number, m) => write!(text, "For {m} processes, say:\n"),
+    match (number, found) {
+        (TypeNumber::Exact(number), Some(m)) if !is_exactly(number, m) => {
+            write!(text, "For {m} processes, say:\n")
+        }
         _ => Ok(()),
     }
 }
@@ -262,105 +209,78 @@ fn push_no_list(text: &mut String, n: u16) -> Result<(), AllocError>
     push_theorem(text, n)
 }
 
-/// Why the number is no more.
-fn push_no_more(
+/// Whether the ways are told: with no limit, and with a rule that says the same, only if all are
+/// asked for.
+fn with_ways(rule: Option<Rule>, all: bool) -> bool
+    ensures { result ≡ with_ways rule all }
+{
+    match rule {
+        None => true,
+        Some(_) => all,
+    }
+}
+
+/// Why the number with no limit is no more.
+fn push_exact_no_more(
     text: &mut String,
     table: &Table,
     certificate: &Certificate,
     number: ConsensusNumber,
+    rule: Option<Rule>,
     all: bool,
 ) -> Result<(), AllocError>
     requires { All (IsRefuted table.now) certificate.now.collisions }
-    ensures { OnOk result (string_bytes text.new
-        ≡ string_bytes text.old ++ no_more table.now certificate.now number all) }
+    ensures { OnOk result (string_bytes text.new ≡ string_bytes text.old
+        ++ no_more table.now certificate.now (Exact number) rule all) }
 {
     let (version, limit, found) = (certificate.version, certificate.limit, certificate.number);
     let entries = certificate.collisions.as_slice();
     match number {
         ConsensusNumber::Infinite => push_each_number(text),
         ConsensusNumber::Finite(_) if is_below(limit, found) => {
-            push_why_not(text, table, version, limit, entries, all, found)
+            let ways = with_ways(rule, all);
+            push_why_not(text, table, version, limit, entries, rule, ways, all, found)
         }
         ConsensusNumber::Finite(n) => push_no_list(text, n as u16 + 1),
         ConsensusNumber::Between(_, most) => push_no_list(text, most as u16 + 1),
     }
 }
 
-/// The same in as many lines as it needs.
-fn push_end(
-    alloc: Global,
+/// Why the number up to the limit of the certificate is no more.
+fn push_limited_no_more(
     text: &mut String,
     table: &Table,
     certificate: &Certificate,
-    number: ConsensusNumber,
+    rule: Option<Rule>,
     all: bool,
 ) -> Result<(), AllocError>
     requires { All (IsRefuted table.now) certificate.now.collisions }
-    ensures { OnOk result (string_bytes text.new
-        ≡ string_bytes text.old ++ folded (no_more table.now certificate.now number all)) }
+    ensures { OnOk result (string_bytes text.new ≡ string_bytes text.old
+        ++ why_not table.now certificate.now.version certificate.now.limit
+        certificate.now.collisions rule true all certificate.now.number) }
 {
-    let mut reasons = String::new(alloc);
-    push_no_more(&mut reasons, table, certificate, number, all)?;
-    push_folded(alloc, text, reasons.as_str())
+    let (version, limit, found) = (certificate.version, certificate.limit, certificate.number);
+    let entries = certificate.collisions.as_slice();
+    push_why_not(text, table, version, limit, entries, rule, true, all, found)
 }
 
-/// The number and the table, and the reason of a type with operations that last.
-fn push_begin(
-    alloc: Global,
+/// Why the number is no more.
+pub(crate) fn push_no_more(
     text: &mut String,
     table: &Table,
-    number: ConsensusNumber,
-    lasting: Option<Lasting>,
-    sets: LeftSets,
-) -> Result<(), AllocError>
-    requires { IfSome lasting (IsLasting table.now) }
-    ensures { OnOk result (string_bytes text.new ≡ string_bytes text.old
-        ++ (folded (exact_line table.now number) ++ codes "\n" ++ cells_text table.now
-        ++ codes "\n" ++ lasting_part table.now lasting sets.single sets.many)) }
-{
-    push_exact(alloc, text, table, number)?;
-    text.push_str("\n")?;
-    push_cells(text, table)?;
-    text.push_str("\n")?;
-    push_lasting_part(alloc, text, table, lasting, sets)
-}
-
-/// The text that tells people why the number of a type is what it is, with no limit. It has the
-/// number; the cells of the table; of a type with operations that last, the states by which each
-/// process tells which came first; the pairs by which each process of the certificate's witness
-/// tells which team was first; and, if the number of the certificate is below its limit, the
-/// choices that it refutes, as [`explanation_of`](crate::explanation_of) tells them. Each line ends
-/// with a line feed.
-///
-/// [`check`](cn_check::check) accepts the certificate for the table.
-///
-/// # Errors
-///
-/// `AllocError` if memory runs out.
-#[tactic(auto, unfolding(crate::specs::Reasons::why_text))]
-pub fn reasons_of(
-    alloc: Global,
-    table: &Table,
     certificate: &Certificate,
-    number: ConsensusNumber,
-    lasting: Option<Lasting>,
+    number: TypeNumber,
+    rule: Option<Rule>,
     all: bool,
-) -> Result<String, AllocError>
-    requires accepted { IsAccepted table.now certificate.now }
-    requires lasting { IfSome lasting (IsLasting table.now) }
-    ensures { IfOk result (λ text. HasReasons table.now certificate.now number lasting all
-        (string_bytes text)) }
+) -> Result<(), AllocError>
+    requires { All (IsRefuted table.now) certificate.now.collisions }
+    ensures { OnOk result (string_bytes text.new ≡ string_bytes text.old
+        ++ no_more table.now certificate.now number rule all) }
 {
-    // By these laws each entry is of a choice of the table.
-    canonical_list();
-    live_list();
-    let found = certificate.number;
-    let sets = left_sets(table, lasting);
-    let mut text = String::new(alloc);
-    push_begin(alloc, &mut text, table, number, lasting, sets)?;
-    push_example_line(&mut text, number, found)?;
-    push_why(alloc, &mut text, table, found, &certificate.witness)?;
-    text.push_str("\n")?;
-    push_end(alloc, &mut text, table, certificate, number, all)?;
-    Ok(text)
+    match number {
+        TypeNumber::Exact(number) => {
+            push_exact_no_more(text, table, certificate, number, rule, all)
+        }
+        TypeNumber::UpTo(_, _) => push_limited_no_more(text, table, certificate, rule, all),
+    }
 }

@@ -15,6 +15,6 @@ pub use course::{course_json, decisions_json};
 pub use flaws::flaws_json;
 pub use form::{AnswerForm, DocumentForm};
 pub use log::{Answer, AnswerOf, log_json, service_json};
-pub use numbers::{Classification, TypeNumber, classification_json};
+pub use numbers::{Classification, classification_json};
 pub use pairs::pairs_json;
 pub use verdict::{unread_json, verdict_json};

@@ -5,18 +5,9 @@ ghost use Rattle.cn_json.specs.Numbers.{at_least_data, classification_data, exac
 ghost use Rattle.cn_json.specs.Tokens.{Appends, members_rest, value_tokens};
 
 use crate::json_text::JsonText;
+use cn_forms::TypeNumber;
 use cn_search::ConsensusNumber;
 use std::alloc::{AllocError, Global};
-
-/// The consensus number of a type, or its recoverable number.
-#[derive(Clone, Copy, Debug)]
-pub enum TypeNumber {
-    /// The number, with no limit.
-    Exact(ConsensusNumber),
-    /// The number up to a limit: the greatest n from 2 to the limit for which the type has the
-    /// property, or none.
-    UpTo(u8, Option<u8>),
-}
 
 /// The numbers of a type.
 #[derive(Clone, Copy, Debug)]

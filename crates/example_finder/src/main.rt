@@ -10,7 +10,7 @@ ghost use Rattle.cn_choice.specs.Discerning.{IsNumberUpTo};
 use anyhow::{Result, bail};
 use cn_cert::{Certificate, write_certificate};
 use cn_check::check;
-use cn_forms::{diagram_of, explanation_of};
+use cn_forms::{Explanation, TypeNumber, diagram_of, explanation_of};
 use cn_search::find;
 use cn_table::{Table, read_table};
 use std::alloc::Global;
@@ -51,7 +51,9 @@ fn main(rt: HostRuntime) -> Result<()> {
     let table = read_table(alloc, ticket_roll().as_bytes())?;
     let certificate = certified(&rt, alloc, &table, 3)?;
     println!(rt; "{}", write_certificate(alloc, &certificate)?)?;
-    print!(rt; "{}", explanation_of(alloc, &table, &certificate, false)?)?;
-    print!(rt; "{}", diagram_of(alloc, &table)?)?;
+    let number = TypeNumber::UpTo(certificate.limit, certificate.number);
+    let explanation = Explanation::new(alloc, table, certificate, number, None, false)?;
+    print!(rt; "{}", explanation_of(alloc, &explanation)?)?;
+    print!(rt; "{}", diagram_of(alloc, &explanation.table)?)?;
     Ok(())
 }

@@ -8,7 +8,10 @@ use Rattle.cn_lasting.specs.declared.search.Lasting.{Lasting}
 use Rattle.cn_search.specs.Numbers.{HasNumber}
 use Rattle.cn_search.specs.declared.exact.ConsensusNumber.{ConsensusNumber}
 use Rattle.cn_cert.specs.Certificate.{Certificate}
-use Rattle.cn_forms.specs.Reasons.{HasReasons}
+use Rattle.cn_forms.specs.Explanation.{Explains}
+use Rattle.cn_forms.specs.Reasons.{explanation_text}
+use Rattle.cn_forms.specs.declared.explained.value.Explanation.{Explanation}
+use Rattle.cn_forms.specs.declared.numbers.TypeNumber.TheVariants.{Exact}
 use Rattle.cn_app.specs.Commands.Explain.{IsExplainReport}
 use Rattle.cn_app.specs.Commands.Find.{GivesFound, IsFoundCertificate, IsLimitFor}
 use Rattle.cn_app.specs.Steps.{Then}
@@ -25,9 +28,9 @@ abbrev pub IsLimitedReport : TypeTable → ℕ → Bool → Result Report AppFau
 IsLimitedReport t limit all r =
     Then (GivesFound t limit) (λ c. IsExplainReport (record { table = t; certificate = c }) all) r
 
--- the text tells the number of the table with no limit and the reasons for it: two operations that
--- last, if any do, and the certificate up to the greatest limit
-pub record HasReasonsFor (t : TypeTable) (all : Bool) (text : List ℕ) : Type 0 where
+-- the explanation is of the number of the table with no limit: with two operations that last, if any
+-- do, and the certificate up to the greatest limit
+pub record ExplainsNumber (t : TypeTable) (all : Bool) (e : Explanation) : Type 0 where
   pub number : ConsensusNumber
   pub is_number : HasNumber t number
   pub limit : ℕ
@@ -36,7 +39,13 @@ pub record HasReasonsFor (t : TypeTable) (all : Bool) (text : List ℕ) : Type 0
   pub found : IsFoundCertificate t limit certificate
   pub lasting : Option Lasting
   pub is_lasting : MatchOption lasting (NoneLast t) (IsLasting t)
-  pub reasons : HasReasons t certificate number lasting all text
+  pub explains : Explains t certificate (Exact number) lasting all e
+
+-- the text tells the number of the table with no limit and the reasons for it
+pub record HasReasonsFor (t : TypeTable) (all : Bool) (text : List ℕ) : Type 0 where
+  pub explanation : Explanation
+  pub explains : ExplainsNumber t all explanation
+  pub written : text ≡ explanation_text explanation
 
 -- the result of `why` for a table with no limit; the only fault is want of memory
 abbrev pub IsReasonsReport : TypeTable → Bool → Result Report AppFault → Type 0

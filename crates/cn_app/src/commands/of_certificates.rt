@@ -72,7 +72,7 @@ pub fn explain<R: Read, C: Read, W: Write>(
         output.old output.new result }
 {
     let checked = read_checked(alloc, table, certificate)?;
-    output.report(explain_report(alloc, &checked, all))
+    output.report(explain_report(alloc, checked, all))
 }
 
 /// Reads a type table and a certificate, checks the certificate against the table, and writes the

@@ -1,5 +1,7 @@
 //! The report of `why`.
-ghost use Rattle.cn_app.specs.Commands.Why.{IsLimitedReport, IsReasonsReport, IsWhyReport};
+ghost use Rattle.std.specs.Prelude.{◌≡◌, IfErr, IfOk};
+ghost use Rattle.cn_app.specs.Commands.Why.{ExplainsNumber, IsLimitedReport, IsReasonsReport, IsWhyReport};
+ghost use Rattle.cn_app.specs.declared.fault.AppFault.TheVariants.{OutOfMemory};
 
 use crate::fault::AppFault;
 use crate::readers::checked::Checked;
@@ -7,7 +9,7 @@ use crate::report::Report;
 use crate::reports::explain::explain_report;
 use crate::reports::find::{found_certificate, limit_for};
 use cn_check::laws::accepted_is_right;
-use cn_forms::reasons_of;
+use cn_forms::{Explanation, TypeNumber, explanation_of};
 use cn_lasting::find_lasting;
 use cn_search::consensus_number;
 use cn_table::Table;
@@ -29,32 +31,48 @@ fn limited_report<T: Threads + Sync>(
     accepted_is_right();
     let certificate = found_certificate(rt, alloc, &table, limit)?;
     let checked = Checked { table, certificate };
-    explain_report(alloc, &checked, all)
+    explain_report(alloc, checked, all)
 }
 
-/// The reasons for the number with no limit ([`reasons_of`]), with the certificate up to the
-/// greatest limit that has one.
-fn reasons_report<T: Threads + Sync>(
+/// What there is to tell of the number with no limit, with the certificate up to the greatest limit
+/// that has one.
+pub(crate) fn reasons_for<T: Threads + Sync>(
     rt: &T,
     alloc: Global,
-    table: &Table,
+    table: Table,
     all: bool,
-) -> Result<Report, AppFault>
-    ensures { IsReasonsReport table.now all result }
+) -> Result<Explanation, AppFault>
+    ensures told { IfOk result (ExplainsNumber table all) }
+    ensures memory { IfErr result (λ e. e ≡ OutOfMemory) }
 {
     // The check accepts what is found.
     accepted_is_right();
-    let number = consensus_number(rt, alloc, table)?;
-    let limit = limit_for(table, None);
-    let certificate = found_certificate(rt, alloc, table, limit)?;
-    let lasting = find_lasting(table);
-    let text = reasons_of(alloc, table, &certificate, number, lasting, all)?;
+    let number = consensus_number(rt, alloc, &table)?;
+    let limit = limit_for(&table, None);
+    let certificate = found_certificate(rt, alloc, &table, limit)?;
+    let lasting = find_lasting(&table);
+    let number = TypeNumber::Exact(number);
+    let explanation = Explanation::new(alloc, table, certificate, number, lasting, all)?;
+    Ok(explanation)
+}
+
+/// The reasons for the number with no limit, for people ([`explanation_of`]).
+fn reasons_report<T: Threads + Sync>(
+    rt: &T,
+    alloc: Global,
+    table: Table,
+    all: bool,
+) -> Result<Report, AppFault>
+    ensures { IsReasonsReport table all result }
+{
+    let explanation = reasons_for(rt, alloc, table, all)?;
+    let text = explanation_of(alloc, &explanation)?;
     Ok(Report::whole(text))
 }
 
 /// An explanation for people of the table's consensus number.
 ///
-/// - Without a limit, it tells the number and the reasons for it ([`reasons_of`]). The evidence in
+/// - Without a limit, it tells the number and the reasons for it ([`explanation_of`]). The evidence in
 ///   it is the certificate up to the greatest limit that
 ///   [`find_report`](crate::reports::find_report) accepts.
 /// - With a limit, it is the text of [`explain_report`] for the certificate that
@@ -74,6 +92,6 @@ pub fn why_report<T: Threads + Sync>(
 {
     match limit {
         Some(limit) => limited_report(rt, alloc, table, limit, all),
-        None => reasons_report(rt, alloc, &table, all),
+        None => reasons_report(rt, alloc, table, all),
     }
 }

@@ -1,12 +1,13 @@
 //! The pairs that the processes of a choice can get, by the team that moves first.
 ghost use Rattle.std.specs.Prelude.{◌≡◌, ◌↔◌, ◌+◌, ◌<◌, ◌++◌, ℕ, Bool, length, slice_get, string_bytes, All, IfOk, IfSome, IsTrue, OnOk};
 ghost use Rattle.cn_choice.specs.Canonical.{FitsTable};
+ghost use Rattle.cn_choice.specs.declared.team.Team.TheVariants.{A, B};
 ghost use Rattle.cn_outcomes.specs.PairSets.{Has};
-ghost use Rattle.cn_forms.specs.Pairs.{before_left, before_pair, before_right, has_room, pair_words, pairs_if, left_gap, left_part, pair_line, pair_row, right_part, rows_beside, seen_pairs, seen_rows, side_lines, IsPairOf};
+ghost use Rattle.cn_forms.specs.Pairs.{before_left, before_pair, before_right, has_room, left_gap, left_part, most_beside, pair_line, pair_row, pair_rows, pair_words, pairs_if, right_part, rows_beside, seen_pairs, side_lines, IsPairOf};
 
-use crate::grid::{push_pair_padding, response_width, state_width};
+use crate::grid::{push_pair_padding, push_spaces, response_width, state_width};
 use crate::laws::told_pairs;
-use crate::limits::MOST_BESIDE;
+use crate::limits::{MOST_BESIDE, MOST_BESIDE_SEVERAL};
 use cn_choice::{Choice, Team};
 use cn_outcomes::{OutcomeSet, outcomes};
 use cn_table::{Response, State, Table};
@@ -70,14 +71,14 @@ pub(crate) fn push_pair_words(
 }
 
 /// The words or the spaces before the pair on the left.
-fn push_before_left(text: &mut String, process: u8, row: usize) -> Result<(), AllocError>
+fn push_before_left(text: &mut String, label: &str, row: usize) -> Result<(), AllocError>
     ensures { OnOk result (string_bytes text.new
-        ≡ string_bytes text.old ++ before_left process row) }
+        ≡ string_bytes text.old ++ before_left label.now row) }
 {
     if row == 0 {
-        write!(text, "  p{process}   A first: ")
+        write!(text, "  {label}   A first: ")
     } else {
-        text.push_str("                ")
+        push_spaces(text, label.len() + 14)
     }
 }
 
@@ -146,7 +147,7 @@ fn push_right_part(
 fn push_row(
     text: &mut String,
     table: &Table,
-    process: u8,
+    label: &str,
     row: usize,
     left: Option<(u8, u8)>,
     right: Option<(u8, u8)>,
@@ -154,9 +155,9 @@ fn push_row(
     requires left { IfSome left (IsPairOf table.now) }
     requires right { IfSome right (IsPairOf table.now) }
     ensures { OnOk result (string_bytes text.new
-        ≡ string_bytes text.old ++ pair_row table.now process row left right) }
+        ≡ string_bytes text.old ++ pair_row table.now label.now row left right) }
 {
-    push_before_left(text, process, row)?;
+    push_before_left(text, label, row)?;
     push_left_part(text, table, left)?;
     push_right_part(text, table, row, left, right)?;
     text.push_str("\n")
@@ -172,52 +173,61 @@ fn pair_at(pairs: &[(u8, u8)], place: usize) -> Option<(u8, u8)>
 fn push_rows_beside(
     text: &mut String,
     table: &Table,
-    process: u8,
+    label: &str,
     left: &[(u8, u8)],
     right: &[(u8, u8)],
 ) -> Result<(), AllocError>
     requires left { All (IsPairOf table.now) left.now }
     requires right { All (IsPairOf table.now) right.now }
     ensures { OnOk result (string_bytes text.new
-        ≡ string_bytes text.old ++ rows_beside table.now process left.now right.now) }
+        ≡ string_bytes text.old ++ rows_beside table.now label.now left.now right.now) }
 {
     for row in 0..left.len().max(right.len()) {
         let (a, b) = (pair_at(left, row), pair_at(right, row));
-        push_row(text, table, process, row, a, b)?;
+        push_row(text, table, label, row, a, b)?;
     }
     Ok(())
+}
+
+/// The words before the first pair of team B's side, if it has lines of its own.
+fn push_before_side(text: &mut String, label: &str) -> Result<(), AllocError>
+    ensures { OnOk result (string_bytes text.new
+        ≡ string_bytes text.old ++ before_pair label.now B 0) }
+{
+    push_spaces(text, label.len() + 5)?;
+    text.push_str("B first: ")
 }
 
 /// The words or the spaces before a pair of a side that has lines of its own.
 fn push_before_pair(
     text: &mut String,
-    process: u8,
+    label: &str,
     team: Team,
     place: usize,
 ) -> Result<(), AllocError>
     ensures { OnOk result (string_bytes text.new
-        ≡ string_bytes text.old ++ before_pair process team place) }
+        ≡ string_bytes text.old ++ before_pair label.now team place) }
 {
     match team {
-        Team::A => push_before_left(text, process, place),
-        Team::B if place == 0 => text.push_str("       B first: "),
-        Team::B => text.push_str("                "),
+        Team::A => push_before_left(text, label, place),
+        Team::B if place == 0 => push_before_side(text, label),
+        Team::B => push_spaces(text, label.len() + 14),
     }
 }
 
 fn push_pair_line(
     text: &mut String,
     table: &Table,
-    process: u8,
+    label: &str,
     team: Team,
     place: usize,
     pair: Option<(u8, u8)>,
 ) -> Result<(), AllocError>
     requires { IfSome pair (IsPairOf table.now) }
     ensures { OnOk result (string_bytes text.new
-        ≡ string_bytes text.old ++ pair_line table.now process team place pair) }
+        ≡ string_bytes text.old ++ pair_line table.now label.now team place pair) }
 {
-    push_before_pair(text, process, team, place)?;
+    push_before_pair(text, label, team, place)?;
     push_left_part(text, table, pair)?;
     text.push_str("\n")
 }
@@ -226,48 +236,61 @@ fn push_pair_line(
 fn push_side(
     text: &mut String,
     table: &Table,
-    process: u8,
+    label: &str,
     team: Team,
     pairs: &[(u8, u8)],
 ) -> Result<(), AllocError>
     requires { All (IsPairOf table.now) pairs.now }
     ensures { OnOk result (string_bytes text.new
-        ≡ string_bytes text.old ++ side_lines table.now process team pairs.now) }
+        ≡ string_bytes text.old ++ side_lines table.now label.now team pairs.now) }
 {
     for place in 0..pairs.len() {
         let pair = pair_at(pairs, place);
-        push_pair_line(text, table, process, team, place, pair)?;
+        push_pair_line(text, table, label, team, place, pair)?;
     }
     Ok(())
 }
 
-/// Whether a line has room for two of the widest pairs of the table.
-fn has_room(table: &Table) -> bool
-    ensures { result ≡ has_room table.now }
+/// The greatest width of a response and a state together with which a line has room for two pairs.
+fn most_beside(label: &str) -> usize
+    ensures { result ≡ most_beside label.now }
 {
-    let responses = response_width(table);
-    responses <= MOST_BESIDE && state_width(table) <= MOST_BESIDE - responses
+    if label.len() <= 2 {
+        MOST_BESIDE
+    } else {
+        MOST_BESIDE_SEVERAL
+    }
 }
 
-/// All pairs that a process can get, by the team that is first: the sides side by side if a line
-/// has room for them, else one below the other.
+/// Whether a line has room for two of the widest pairs of the table.
+fn has_room(table: &Table, label: &str) -> bool
+    ensures { result ≡ has_room table.now label.now }
+{
+    let (most, responses) = (most_beside(label), response_width(table));
+    responses <= most && state_width(table) <= most - responses
+}
+
+/// All pairs that these processes can get, by the team that is first: the sides side by side if a
+/// line has room for them, else one below the other.
 pub(crate) fn push_pair_rows(
     alloc: Global,
     text: &mut String,
     table: &Table,
     choice: &Choice,
     process: u8,
+    label: &str,
 ) -> Result<(), AllocError>
     requires fits { FitsTable table.now choice.now }
     requires process { process < length choice.now.a + length choice.now.b }
-    ensures { OnOk result (string_bytes text.new
-        ≡ string_bytes text.old ++ seen_rows table.now choice.now process) }
+    ensures { OnOk result (string_bytes text.new ≡ string_bytes text.old
+        ++ pair_rows table.now label.now (seen_pairs table.now choice.now A process)
+        (seen_pairs table.now choice.now B process)) }
 {
     let left = pairs_of(alloc, table, choice, Team::A, process)?;
     let right = pairs_of(alloc, table, choice, Team::B, process)?;
-    if has_room(table) {
-        return push_rows_beside(text, table, process, &left, &right);
+    if has_room(table, label) {
+        return push_rows_beside(text, table, label, &left, &right);
     }
-    push_side(text, table, process, Team::A, &left)?;
-    push_side(text, table, process, Team::B, &right)
+    push_side(text, table, label, Team::A, &left)?;
+    push_side(text, table, label, Team::B, &right)
 }

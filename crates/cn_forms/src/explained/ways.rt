@@ -6,7 +6,8 @@ ghost use Rattle.std.specs.Fmt.{decimal};
 ghost use Rattle.cn_table.specs.TypeTable.{transition};
 ghost use Rattle.cn_choice.specs.Canonical.{FitsTable};
 ghost use Rattle.cn_choice.specs.RawChoices.{IsRawChoice};
-ghost use Rattle.cn_forms.specs.Explained.{alike, both_teams, cannot_tell, choice_text, does, goes_along, member, members, processes, run_line, run_lines, sight, step_text, steps_text, way, way_line, way_number, ways, IsRefuted};
+ghost use Rattle.cn_forms.specs.Explained.{both_teams, cannot_tell, choice_text, does, member, members, run_line, run_lines, sight, step_text, steps_text, way, way_line, way_number, ways, IsRefuted};
+ghost use Rattle.cn_forms.specs.Groups.{alike, goes_along, processes};
 ghost use Rattle.cn_forms.specs.Pairs.{IsPairOf};
 
 use crate::explained::pairs::push_pair_words;
@@ -23,7 +24,7 @@ fn first_other(operations: &[u8], own: u8) -> Option<usize>
 }
 
 /// The number of operations, from the first on, that are this one.
-fn alike(operations: &[u8], own: u8) -> usize
+pub(crate) fn alike(operations: &[u8], own: u8) -> usize
     ensures count { result ≡ alike operations.now own }
     ensures range { result ≤ length operations.now }
 {
@@ -42,7 +43,7 @@ fn push_decimal(text: &mut String, number: usize) -> Result<(), AllocError>
 }
 
 /// This number of processes, from this one on.
-fn push_processes(text: &mut String, process: u8, count: usize) -> Result<(), AllocError>
+pub(crate) fn push_processes(text: &mut String, process: u8, count: usize) -> Result<(), AllocError>
     requires { count ≤ 8 }
     ensures { OnOk result (string_bytes text.new
         ≡ string_bytes text.old ++ processes process count) }
@@ -64,7 +65,7 @@ fn does(count: usize) -> &'static str
 }
 
 /// Whether a process behind the first one has the operation of the one right before it.
-fn goes_along(choice: &RawChoice, first: u8, process: u8) -> bool
+pub(crate) fn goes_along(choice: &RawChoice, first: u8, process: u8) -> bool
     requires { process < length choice.now.operations }
     ensures { result ≡ goes_along choice.now first process }
 {

@@ -96,7 +96,8 @@ Why 2: from state zero, p0 (team A) does tas, p1 (team B) does tas.
   p1   A first: got one, reads one      B first: got zero, reads one
   No process has a pair on both sides, so each can tell which team was first.
 
-Why not 3: 2 ways to choose a start state, operations and teams; in each a process cannot tell.
+Why not 3: proved, since with two states any two operations commute, or one wipes out the other.
+In full: 2 ways to choose a start state, operations and teams; in each a process cannot tell.
   1. start zero; A: p0 does tas; B: p1 and p2 do tas        p1 cannot tell:
        A first:  zero --p0 tas/zero--> one --p1 tas/one--> one     p1 got one, reads one
        B first:  zero --p2 tas/zero--> one --p1 tas/one--> one     p1 got one, reads one
@@ -119,7 +120,8 @@ Why 2: from state zero, p0 (team A) does tas, p1 (team B) does tas.
   p1   A first: got one, reads one      B first: got zero, reads one
   No process has a pair on both sides, so each can tell which team was first.
 
-Why not 3: 1 way to choose a start state, operations and teams; in it a process cannot tell.
+Why not 3: proved, since with two states any two operations commute, or one wipes out the other.
+In full: 1 way to choose a start state, operations and teams; in it a process cannot tell.
   1. start zero; A: p0 does tas; B: p1 and p2 do tas        p1 cannot tell:
        A first:  zero --p0 tas/zero--> one --p1 tas/one--> one     p1 got one, reads one
        B first:  zero --p2 tas/zero--> one --p1 tas/one--> one     p1 got one, reads one

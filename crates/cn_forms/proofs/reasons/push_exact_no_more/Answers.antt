@@ -2,7 +2,7 @@ use Rattle.std.proofs.Common.{◌∙◌, ap}
 use Rattle.std.proofs.lemmas.List.Elements.{All-same}
 use Rattle.cn_cert.specs.Certificate.{Certificate}
 use Rattle.cn_forms.specs.Explained.{IsRefuted}
-use Rattle.cn_forms.proofs.reasons.push_no_more.Goals as goal
+use Rattle.cn_forms.proofs.reasons.push_exact_no_more.Goals as goal
 
 pub push_why_not-requires : goal.push_why_not-requires
 push_why_not-requires c =
