@@ -2,4 +2,8 @@ pub mod Rows
 pub mod Triangle
 pub mod NumbersTold
 pub mod Sentences
+pub mod TypeTable
+pub mod WitnessTable
+pub mod LastingTable
 pub mod Documents
+pub mod Explanation

@@ -7,7 +7,7 @@ ghost use Rattle.cn_forms.specs.Folded.{folded};
 mod apart;
 pub(crate) mod folded;
 mod groups;
-mod pairs;
+pub(crate) mod pairs;
 pub(crate) mod text;
 pub(crate) mod value;
 mod ways;

@@ -27,6 +27,7 @@ mod plan_forms;
 mod reasons;
 
 pub use diagram::diagram_of;
+pub use explained::pairs::seen_pairs;
 pub use explained::text::explanation_of;
 pub use explained::value::{Explanation, LeftStates};
 pub use grid::grid_of;

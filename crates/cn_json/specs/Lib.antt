@@ -1,4 +1,5 @@
 pub mod Flaws
+pub mod Forms
 pub mod Tokens
 pub mod Values
 pub mod Course
@@ -7,3 +8,6 @@ pub mod Log
 pub mod Pairs
 pub mod Collisions
 pub mod Verdict
+pub mod Apart
+pub mod Lasting
+pub mod Explanation

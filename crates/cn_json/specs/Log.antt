@@ -81,7 +81,8 @@ log_data t start answers es slots =
     (member (codes "entries") (array (items_of (entries_list t start es slots))) no_members))
 
 -- the same, and the events
-unfoldable pub service_data : TypeTable → ℕ → List AnswerOf → List Entry → List ℕ → List Event → Data
+unfoldable pub service_data : TypeTable → ℕ → List AnswerOf → List Entry → List ℕ → List Event
+    → Data
 service_data t start answers es slots events =
     object (member (codes "answers") (list_data (answer_data t) answers)
     (member (codes "entries") (array (items_of (entries_list t start es slots)))

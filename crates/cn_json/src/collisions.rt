@@ -3,9 +3,9 @@ ghost use Rattle.std.specs.Prelude.{◌≡◌, ◌+◌, ◌<◌, All, IfOk, IfSo
 ghost use Rattle.std.specs.List.{range_with_len};
 ghost use Rattle.cn_table.specs.Names.{name_at};
 ghost use Rattle.cn_table.specs.TypeTable.{transition};
-ghost use Rattle.cn_choice.specs.Canonical.{FitsTable, raw_choice_of};
-ghost use Rattle.cn_choice.specs.Collisions.{IsCollision};
+ghost use Rattle.cn_choice.specs.Canonical.{FitsTable};
 ghost use Rattle.cn_choice.specs.RawChoices.{IsRawChoice};
+ghost use Rattle.cn_forms.specs.Explained.{IsRefuted};
 ghost use Rattle.cn_json.specs.Collisions.{collision_data, numbered_step, operation_at, pair_data, process_data, run_data, run_step, runs_data, sight_data, steps_list, team_at};
 ghost use Rattle.cn_json.specs.Tokens.{Appends, list_rest, value_tokens, values_rest};
 
@@ -226,9 +226,7 @@ pub(crate) fn write_collision(
     table: &Table,
     entry: &Collision,
 ) -> Result<(), AllocError>
-    requires fits { FitsTable table.now entry.now.choice }
-    requires collision { IsCollision table.now (raw_choice_of entry.now.choice)
-        entry.now.process entry.now.alpha entry.now.beta }
+    requires { IsRefuted table.now entry.now }
     ensures { Appends result out.old out.new (value_tokens (collision_data table.now entry.now)) }
 {
     let (alpha, beta) = (entry.alpha.as_slice(), entry.beta.as_slice());

@@ -1,17 +1,35 @@
-//! The answers of the program as JSON.
+//! The answers of the program as JSON: one compact value each, its keys in the order of their
+//! bytes, with no line feed at its end.
+//!
+//! [`classification_json`] writes the numbers of a type, [`verdict_json`] the verdict on a
+//! certificate, [`flaws_json`] the flaws of the text of a table, [`course_json`] the decisions and
+//! the steps of processes, [`log_json`] and [`service_json`] what happened in a log,
+//! [`explanation_json`] why a number is what it is, and [`pairs_json`] the numbers of operations
+//! and of their pairs. Each text is that of a JSON value, which is a function of the answer.
+//!
+//! ```text
+//! println!(rt; "{}", verdict_json(alloc, check(&table, &certificate))?)?;
+//! println!(rt; "{}", flaws_json(alloc, &flaws(alloc, bytes)?)?)?;
+//! ```
 #![tactic(auto)]
 
+mod apart;
 mod collisions;
 mod course;
+mod explanation;
 mod flaws;
 mod form;
 mod json_text;
+mod lasting;
 mod log;
 mod numbers;
 mod pairs;
 mod verdict;
+mod witness;
 
+pub use cn_forms::TypeNumber;
 pub use course::{course_json, decisions_json};
+pub use explanation::explanation_json;
 pub use flaws::flaws_json;
 pub use form::{AnswerForm, DocumentForm};
 pub use log::{Answer, AnswerOf, log_json, service_json};

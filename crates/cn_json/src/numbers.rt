@@ -60,7 +60,7 @@ fn write_limited(out: &mut JsonText, limit: u8, number: Option<u8>) -> Result<()
     }
 }
 
-fn write_type_number(out: &mut JsonText, number: TypeNumber) -> Result<(), AllocError>
+pub(crate) fn write_type_number(out: &mut JsonText, number: TypeNumber) -> Result<(), AllocError>
     ensures { Appends result out.old out.new (value_tokens (type_number_data number)) }
 {
     match number {

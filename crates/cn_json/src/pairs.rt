@@ -27,7 +27,11 @@ fn write_each_name(
     out.end_array()
 }
 
-fn write_set(out: &mut JsonText, table: &Table, set: &[Operation]) -> Result<(), AllocError>
+pub(crate) fn write_set(
+    out: &mut JsonText,
+    table: &Table,
+    set: &[Operation],
+) -> Result<(), AllocError>
     requires { AreKnown table.now set.now }
     ensures { Appends result out.old out.new (value_tokens (names_data table.now set.now)) }
 {

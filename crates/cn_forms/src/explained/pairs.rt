@@ -31,8 +31,13 @@ fn push_pairs(
     Ok(())
 }
 
-/// The pairs that a process can get if the team is first.
-fn pairs_of(
+/// The pairs that a process of a choice can get if the team is first: by the number of the response,
+/// and then by that of the state.
+///
+/// # Errors
+///
+/// `AllocError` if memory runs out.
+pub fn seen_pairs(
     alloc: Global,
     table: &Table,
     choice: &Choice,
@@ -286,8 +291,8 @@ pub(crate) fn push_pair_rows(
         ++ pair_rows table.now label.now (seen_pairs table.now choice.now A process)
         (seen_pairs table.now choice.now B process)) }
 {
-    let left = pairs_of(alloc, table, choice, Team::A, process)?;
-    let right = pairs_of(alloc, table, choice, Team::B, process)?;
+    let left = seen_pairs(alloc, table, choice, Team::A, process)?;
+    let right = seen_pairs(alloc, table, choice, Team::B, process)?;
     if has_room(table, label) {
         return push_rows_beside(text, table, label, &left, &right);
     }

@@ -1,7 +1,7 @@
 use Rattle.std.proofs.Common.{◌≡◌, flat_map, length}
 use Rattle.std.specs.List.{range_with_len}
 use Rattle.cn_forms.specs.Pairs.{pairs_if, sees}
-use Rattle.cn_forms.proofs.explained.pairs.pairs_of.Given as goal
+use Rattle.cn_forms.proofs.explained.pairs.seen_pairs.Given as goal
 
 -- the pairs of the responses so far
 abbrev pub invariant-loop-response : goal.invariant-loop-response

@@ -4,7 +4,7 @@ use Rattle.cn_outcomes.specs.PairSets.{Has}
 use Rattle.cn_forms.specs.Pairs.{pairs_if, sees}
 use Rattle.cn_forms.proofs.PairLemmas.{IsBelow, all_below}
 use Rattle.cn_forms.proofs.Pieces.{piece_more}
-use Rattle.cn_forms.proofs.explained.pairs.pairs_of.Goals as goal
+use Rattle.cn_forms.proofs.explained.pairs.seen_pairs.Goals as goal
 
 pub loop-response-preserved : goal.loop-response-preserved
 loop-response-preserved c =
