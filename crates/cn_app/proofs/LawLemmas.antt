@@ -4,3 +4,4 @@ pub mod NumbersTold
 pub mod TypeNumbers
 pub mod Headline
 pub mod OneOutput
+pub mod Classifications

@@ -11,7 +11,8 @@ use Rattle.cn_app.specs.Arguments.Calls.{GivesCalls, calls_in}
 use Rattle.cn_app.specs.Arguments.Events.{GivesCapacity, GivesEvents, events_in, words_of}
 use Rattle.cn_app.specs.Arguments.Lists.{GivesLists}
 use Rattle.cn_app.specs.Commands.Agree.{HasAgreeReport, IsAgreeReport}
-use Rattle.cn_app.specs.Commands.Check.{HasCheckReport, IsCheckReport}
+use Rattle.cn_json.specs.declared.form.AnswerForm.TheVariants as answer
+use Rattle.cn_app.specs.Commands.Check.{HasCheckReport}
 use Rattle.cn_app.specs.Commands.Find.{HasFindReport, IsFindReport, IsLimitFor}
 use Rattle.cn_app.specs.Commands.Replay.{HasReplayReport, IsReplayReport}
 use Rattle.cn_app.specs.Commands.Serve.{HasServeReport, IsServeReport}
@@ -107,8 +108,13 @@ module _ {R C : Type 0} (t : Text R) (c : Text C) (table_bytes certificate_bytes
       then_by (GivesTable t) (ReadsTable table_bytes) (λ u. Then (GivesCertificate c) (λ d. GivesCheck u d)) (λ u. Then (ReadsCertificate certificate_bytes) (λ d. GivesCheck u d)) table_is
       (λ u. then_same (GivesCertificate c) (ReadsCertificate certificate_bytes) (λ d. GivesCheck u d) certificate_is) r h
 
-  pub check_is : (r : Result Report AppFault) → HasCheckReport t c r → check_of table_bytes certificate_bytes r
-  check_is r h = then_same (GivesChecked t c) (ReadsChecked table_bytes certificate_bytes) IsCheckReport checked_is r h
+  certificate_then : (u : TypeTable) (r : Result Checked AppFault) → Then (GivesCertificate c) (λ d. GivesCheck u d) r → Then (ReadsCertificate certificate_bytes) (λ d. GivesCheck u d) r
+  certificate_then u r h = then_same (GivesCertificate c) (ReadsCertificate certificate_bytes) (λ d. GivesCheck u d) certificate_is r h
+
+  pub check_is : (r : Result Report AppFault) → HasCheckReport t c answer.Text r → check_of table_bytes certificate_bytes r
+  check_is r (inl (e, gives, is)) = inl (e, inl (e, table_is (Err e) gives, refl), is)
+  check_is r (inr (u, gives, inl (e, ends, is))) = inl (e, inr (u, table_is (Ok u) gives, certificate_then u (Err e) ends), is)
+  check_is r (inr (u, gives, inr (checked, ends, report))) = inr (checked, inr (u, table_is (Ok u) gives, certificate_then u (Ok checked) ends), report)
 
   pub show_is : (r : Result Report AppFault) → HasShowReport t c form.Text r → show_of table_bytes certificate_bytes r
   show_is r h = then_same (GivesChecked t c) (ReadsChecked table_bytes certificate_bytes) (λ checked. IsShowReport checked form.Text) checked_is r h
@@ -148,13 +154,13 @@ module _ {R C O : Type 0} (given : OpeningArguments R C O) (table_bytes certific
       (λ slots. then_next list (λ l. Then (GivesOpening given slots) (λ o. work o l)) (λ l. Then (ReadsOpening table_bytes certificate_bytes object_bytes start slots) (λ o. work o l))
       (λ l. then_same (GivesOpening given slots) (ReadsOpening table_bytes certificate_bytes object_bytes start slots) (λ o. work o l) (opening_is slots))) r h
 
-  pub replay_is : (events : ListText) (r : Result Report AppFault) → HasReplayReport given events r
+  pub replay_is : (events : ListText) (r : Result Report AppFault) → HasReplayReport given events answer.Text r
       → replay_of table_bytes certificate_bytes object_bytes start capacity events r
-  replay_is events r h = serves (GivesEvents events) (λ o list. IsReplayReport o (events_in o.object (words_of list))) r h
+  replay_is events r h = serves (GivesEvents events) (λ o list. IsReplayReport answer.Text o (events_in o.object (words_of list))) r h
 
-  pub serve_is : (gates : Log → List ProcessHistory → Type 0) (calls : ListText) (r : Result Report AppFault) → HasServeReport gates given calls r
+  pub serve_is : (gates : Log → List ProcessHistory → Type 0) (calls : ListText) (r : Result Report AppFault) → HasServeReport gates given calls answer.Text r
       → serve_of gates table_bytes certificate_bytes object_bytes start capacity calls r
-  serve_is gates calls r h = serves (GivesCalls calls) (λ o lists. IsServeReport gates o (calls_in o.object (map (λ list. list.items) lists.items))) r h
+  serve_is gates calls r h = serves (GivesCalls calls) (λ o lists. IsServeReport gates answer.Text o (calls_in o.object (map (λ list. list.items) lists.items))) r h
 
 -- what a command wrote to an output that keeps it was handed to the writer
 module _ {V W : Type 0} (kept : V → Option (List ℕ)) (contents : W → Option (List ℕ)) (work told : Result Report AppFault → Type 0) (before after : Output V)

@@ -76,7 +76,8 @@ abbrev pub find_of : List ℕ → ℕ → Result Report AppFault → Type 0
 find_of table limit r = Then (ReadsTable table) (λ t. IsFindReport t limit) r
 
 abbrev pub check_of : List ℕ → List ℕ → Result Report AppFault → Type 0
-check_of table certificate r = Then (ReadsChecked table certificate) IsCheckReport r
+check_of table certificate r =
+    Then (ReadsChecked table certificate) (IsCheckReport answer.Text) r
 
 abbrev pub show_of : List ℕ → List ℕ → Result Report AppFault → Type 0
 show_of table certificate r =
@@ -96,14 +97,15 @@ abbrev pub replay_of : List ℕ → List ℕ → List ℕ → List ℕ → List 
 replay_of table certificate object start capacity events r =
     Then (GivesCapacity capacity) (λ slots. Then (GivesEvents events)
     (λ list. Then (ReadsOpening table certificate object start slots)
-    (λ o. IsReplayReport o (events_in o.object (words_of list))))) r
+    (λ o. IsReplayReport answer.Text o (events_in o.object (words_of list))))) r
 
 abbrev pub serve_of : (Log → List ProcessHistory → Type 0) → List ℕ → List ℕ → List ℕ → List ℕ
     → List ℕ → ListText → Result Report AppFault → Type 0
 serve_of gates table certificate object start capacity calls r =
     Then (GivesCapacity capacity) (λ slots. Then (GivesCalls calls)
     (λ lists. Then (ReadsOpening table certificate object start slots)
-    (λ o. IsServeReport gates o (calls_in o.object (map (λ list. list.items) lists.items))))) r
+    (λ o. IsServeReport gates answer.Text o
+    (calls_in o.object (map (λ list. list.items) lists.items))))) r
 
 -- the result of handing the bytes that a command wrote to a writer, if it ended so: its fault, and
 -- the writer is as it was; or its outcome, and the writer took them; or the writer failed

@@ -1,7 +1,7 @@
 //! Reports: what a command writes, and how it ends.
 ghost use Rattle.std.specs.Prelude.{◌≡◌, ◌++◌, IfOk, codes, string_bytes};
 
-use cn_table::TableFault;
+use crate::fault::AppFault;
 use std::alloc::AllocError;
 
 /// How a command that wrote its output ended.
@@ -12,8 +12,8 @@ pub enum Outcome {
     /// All was done, but some call found the log full or was stopped, and has no reply. The output
     /// says which.
     Cut,
-    /// The table is refused for this fault: its flaws were written.
-    Refused(TableFault),
+    /// A text is refused for this fault, and the output tells what is wrong with it.
+    Refused(AppFault),
 }
 
 impl Outcome {

@@ -18,7 +18,7 @@ mod why;
 
 pub use agree::{AskedRun, agree_report};
 pub use check::check_report;
-pub use classify::{AskedNumbers, check_limit, class_report, numbers_report, recoverable_report};
+pub use classify::{AskedNumbers, check_limit, classification_of, head_report, numbers_report};
 pub use draw::draw_report;
 pub use explain::explain_report;
 pub use find::{find_report, limit_for};

@@ -91,7 +91,8 @@ pub fn run_check<T, R: Read + Drop, C: Read + Drop, W: Write>(
     let mut table = Text::new(alloc, table);
     let mut certificate = Text::new(alloc, certificate);
     let mut output = kept(alloc);
-    let ended = commands::check(alloc, &mut table, &mut certificate, &mut output);
+    let form = AnswerForm::Text;
+    let ended = commands::check(alloc, &mut table, &mut certificate, &mut output, form);
     hand_over(writer, &output, ended)
 }
 
@@ -207,7 +208,8 @@ pub fn run_replay<T, R: Read + Drop, C: Read + Drop, O: Read + Drop, W: Write>(
         capacity,
     };
     let mut output = kept(alloc);
-    let ended = commands::replay(alloc, &mut given, &mut output, ListText::Word(events));
+    let (events, form) = (ListText::Word(events), AnswerForm::Text);
+    let ended = commands::replay(alloc, &mut given, &mut output, events, form);
     hand_over(writer, &output, ended)
 }
 
@@ -260,7 +262,7 @@ where
         capacity,
     };
     let mut output = kept(alloc);
-    let calls = ListText::Word(calls);
-    let ended = commands::serve(rt, alloc, &mut given, &mut output, calls, make_gate);
+    let (calls, form) = (ListText::Word(calls), AnswerForm::Text);
+    let ended = commands::serve(rt, alloc, &mut given, &mut output, calls, form, make_gate);
     hand_over(writer, &output, ended)
 }

@@ -2,6 +2,7 @@
 use Rattle.std.proofs.Common.{inl, inr, ℕ, List, map, Option, Result, Ok, Err}
 use Rattle.cn_hall.specs.Seats.{SeatState}
 use Rattle.cn_hall.specs.declared.call.Go.{Go}
+use Rattle.cn_json.specs.declared.form.AnswerForm.{AnswerForm}
 use Rattle.cn_app.specs.Arguments.Calls.{GivesCalls, calls_in}
 use Rattle.cn_app.specs.Arguments.Events.{GivesCapacity}
 use Rattle.cn_app.specs.Commands.Serve.{HasServeReport, IsServeReport}
@@ -36,12 +37,12 @@ reports_less contents work less follows u v r (inl (e, is, fault, silent)) = inl
 reports_less contents work less follows u v r (inr (report, is, handed)) = inr (report, follows (Ok report) is, handed)
 
 module _ {G : Type 0} (asks : G → SeatState → ℕ → G → Type 0) (says : G → Go) (made : ℕ → G → Type 0) where
-  served_by_any : {R C O : Type 0} (given : OpeningArguments R C O) (calls : ListText) (q : Result Report AppFault)
-      → HasServeReport (EachHasOneGate asks says made) given calls q → HasServeReport (EachHasOneGate asks says (λ _ _. Unit {0})) given calls q
-  served_by_any given calls q h =
+  served_by_any : {R C O : Type 0} (given : OpeningArguments R C O) (calls : ListText) (told : AnswerForm) (q : Result Report AppFault)
+      → HasServeReport (EachHasOneGate asks says made) given calls told q → HasServeReport (EachHasOneGate asks says (λ _ _. Unit {0})) given calls told q
+  served_by_any given calls told q h =
       behind (GivesCapacity given.capacity.now) _ _ (λ slots. behind (GivesCalls calls) _ _ (λ lists. behind (GivesOpening given slots) _ _ (λ o.
-      by_result (IsServeReport (EachHasOneGate asks says made) o (calls_in o.object (map (λ list. list.items) lists.items)))
-      (IsServeReport (EachHasOneGate asks says (λ _ _. Unit {0})) o (calls_in o.object (map (λ list. list.items) lists.items)))
+      by_result (IsServeReport (EachHasOneGate asks says made) told o (calls_in o.object (map (λ list. list.items) lists.items)))
+      (IsServeReport (EachHasOneGate asks says (λ _ _. Unit {0})) told o (calls_in o.object (map (λ list. list.items) lists.items)))
       (λ report done. (record {
         fit = done.fit;
         log = done.log;
@@ -73,8 +74,8 @@ module _ {G : Type 0} (asks : G → SeatState → ℕ → G → Type 0) (says : 
       (λ e fault. fault)))) q h
 
   -- the report of a served object, whoever made the gates
-  pub reports_any_gates : {R C O W : Type 0} (contents : W → Option (List ℕ)) (given : OpeningArguments R C O) (calls : ListText) (u v : Output W)
-      (r : Result Outcome AppFault) → Reports contents (HasServeReport (EachHasOneGate asks says made) given calls) u v r
-      → Reports contents (HasServeReport (EachHasOneGate asks says (λ _ _. Unit {0})) given calls) u v r
-  reports_any_gates contents given calls u v r = reports_less contents (HasServeReport (EachHasOneGate asks says made) given calls)
-      (HasServeReport (EachHasOneGate asks says (λ _ _. Unit {0})) given calls) (served_by_any given calls) u v r
+  pub reports_any_gates : {R C O W : Type 0} (contents : W → Option (List ℕ)) (given : OpeningArguments R C O) (calls : ListText) (told : AnswerForm) (u v : Output W)
+      (r : Result Outcome AppFault) → Reports contents (HasServeReport (EachHasOneGate asks says made) given calls told) u v r
+      → Reports contents (HasServeReport (EachHasOneGate asks says (λ _ _. Unit {0})) given calls told) u v r
+  reports_any_gates contents given calls told u v r = reports_less contents (HasServeReport (EachHasOneGate asks says made) given calls told)
+      (HasServeReport (EachHasOneGate asks says (λ _ _. Unit {0})) given calls told) (served_by_any given calls told) u v r

@@ -1,17 +1,16 @@
 -- The exit statuses of the program.
 use Rattle.std.specs.Prelude.{ℕ, Option, Some, None, Result, Ok, Err}
-use Rattle.cn_app.specs.FaultText.{plain_of, status_of}
+use Rattle.cn_app.specs.FaultText.{status_of}
 use Rattle.cn_app.specs.declared.fault.AppFault.{AppFault}
-use Rattle.cn_app.specs.declared.fault.AppFault.TheVariants.{Table}
 use Rattle.cn_app.specs.declared.report.Outcome.{Outcome}
 use Rattle.cn_app.specs.declared.report.Outcome.TheVariants.{Cut, Refused, Whole}
 
--- after a command of one table: 1 if some call has no reply; the status of the fault of a table
--- that lint refuses
+-- after a command of one table: 1 if some call has no reply; the status of the fault if a text is
+-- refused, or if the command wrote nothing
 abbrev pub command_status : Result Outcome AppFault → ℕ
 command_status (Ok Whole) = 0
 command_status (Ok Cut) = 1
-command_status (Ok (Refused fault)) = status_of (plain_of (Table fault))
+command_status (Ok (Refused fault)) = status_of fault
 command_status (Err e) = status_of e
 
 -- after several tables: the status of the first fault

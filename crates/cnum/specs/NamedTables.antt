@@ -1,8 +1,8 @@
 -- The tables that the command line names, and their classification.
-use Rattle.std.specs.Prelude.{◌≡◌, codes, ℕ, List, [], map, Option, Result, Ok, Err}
+use Rattle.std.specs.Prelude.{◌≡◌, codes, ℕ, List, map, Option, Result, Ok, Err}
 use Rattle.cn_words.specs.declared.commands.TextSource.{TextSource}
 use Rattle.cn_words.specs.declared.commands.TextSource.TheVariants.{File, StandardInput}
-use Rattle.cn_app.specs.Commands.ClassifyEach.{AreClassified, AreUnread}
+use Rattle.cn_app.specs.Commands.ClassifyEach.{AreClassifiedIn, AreUnread}
 use Rattle.cn_app.specs.Streams.Writing.{IsSilent}
 use Rattle.cn_app.specs.declared.commands.of_several_tables.NamedTable.{NamedTable}
 use Rattle.cn_app.specs.declared.fault.AppFault.{AppFault}
@@ -29,7 +29,7 @@ pub record AreNamed {R : Type 0} (left : R → Option (List ℕ)) (bytes : TextS
   pub unread : AreUnread tables
 
 -- the result of classifying the tables of these sources: they were classified in order, for the
--- numbers asked for, with this first fault; or memory ran out before, and nothing was written, told
+-- numbers asked for and in their form, with this first fault; or memory ran out before, and nothing was written, told
 -- or noted
 abbrev pub ClassifiesSources : {R W D : Type 0} → (R → Option (List ℕ)) → (W → Option (List ℕ))
     → (D → Option (List ℕ) → AppFault → D → Type 0)
@@ -39,6 +39,6 @@ abbrev pub ClassifiesSources : {R W D : Type 0} → (R → Option (List ℕ)) �
 ClassifiesSources {R} left contents tells notes bytes sources asked u d v e (Ok first) =
     (tables : List (NamedTable R)) × (after : List (NamedTable R))
     × AreNamed left bytes sources tables
-    × AreClassified left contents tells notes asked [] tables after u d first v e
+    × AreClassifiedIn asked.form left contents tells notes asked tables after u d first v e
 ClassifiesSources left contents tells notes bytes sources asked u d v e (Err fault) =
     (fault ≡ OutOfMemory) × IsSilent u v × (e ≡ d)

@@ -42,7 +42,7 @@ module _ {S F D W : Type 0} (remaining : S → Option (List ℕ)) (left : LazyFi
   -- of one table is run
   abbrev pub Does : S → Invocation → Output W → Output W → ℕ → Type 0
   Does stdin (Classify limit recoverable form tables) u v status = ClassifiesAll stdin
-      (record { limit = limit; recoverable = recoverable }) tables.items u v status
+      (record { limit = limit; recoverable = recoverable; form = form }) tables.items u v status
   Does stdin (OfTable table command) u v status = RunsOne stdin table command u v status
 
 -- in the same terms: the command was done with these streams, of which nothing was used before, and

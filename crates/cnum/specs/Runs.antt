@@ -7,6 +7,7 @@ use Rattle.cn_words.specs.declared.commands.Command.TheVariants.{Replay, Serve}
 use Rattle.cn_words.specs.declared.commands.ListSource.{ListSource}
 use Rattle.cn_words.specs.declared.commands.OpeningWords.{OpeningWords}
 use Rattle.cn_words.specs.declared.commands.TextSource.{TextSource}
+use Rattle.cn_json.specs.declared.form.AnswerForm.{AnswerForm}
 use Rattle.cn_hall.specs.declared.call.AlwaysOn.{AlwaysOn}
 use Rattle.cn_hall.specs.declared.call.Go.TheVariants.{On}
 use Rattle.cn_app.specs.Commands.Agree.{HasAgreeReport, SpellLists}
@@ -110,19 +111,19 @@ module _ {R C L W : Type 0} (remaining : R → Option (List ℕ)) (rest : C → 
       (λ t c. HasAgreeReport t c xs ps asked))) u v r
 
   -- `replay` and `serve` with a table, a certificate and these words: the list is read first
-  abbrev pub RunsReplay : Text R → Text C → OpeningWords → ListSource → Output W → Output W
-      → Result Outcome AppFault → Type 0
-  RunsReplay table certificate words events u v r = ReadsList events argument.Events
+  abbrev pub RunsReplay : Text R → Text C → OpeningWords → ListSource → AnswerForm → Output W
+      → Output W → Result Outcome AppFault → Type 0
+  RunsReplay table certificate words events form u v r = ReadsList events argument.Events
       (λ list. ReadsOpening table certificate words (SpellEvents words.capacity.now list)
-      (λ given. HasReplayReport given list)) u v r
+      (λ given. HasReplayReport given list form)) u v r
 
   -- the gate of each process lets every call go on
-  abbrev pub RunsServe : Text R → Text C → OpeningWords → ListSource → Output W → Output W
-      → Result Outcome AppFault → Type 0
-  RunsServe table certificate words calls u v r = ReadsList calls argument.Calls
+  abbrev pub RunsServe : Text R → Text C → OpeningWords → ListSource → AnswerForm → Output W
+      → Output W → Result Outcome AppFault → Type 0
+  RunsServe table certificate words calls form u v r = ReadsList calls argument.Calls
       (λ list. ReadsOpening table certificate words (SpellCalls words.capacity.now list)
       (λ given. HasServeReport
-      (EachHasOneGate {G = AlwaysOn} (λ _ _ _ _. Unit {0}) (λ _. On) (λ _ _. Unit {0})) given list))
+      (EachHasOneGate {G = AlwaysOn} (λ _ _ _ _. Unit {0}) (λ _. On) (λ _ _. Unit {0})) given list form))
       u v r
 
 -- in terms of the bytes that standard input and files have left, those that the writer holds, and
@@ -153,7 +154,7 @@ module _ {S D F W : Type 0} (remaining : S → Option (List ℕ)) (left : LazyFi
       (λ t. HasPairsReport t form) u v r
   RunsOn stdin table (Check certificate form) u v r = With stdin certificate
       (λ c. ReadsBoth (left_of remaining left) (left_of remaining left) left contents files table c
-      (Unit {0}) (λ t d. HasCheckReport t d) u v r)
+      (Unit {0}) (λ t d. HasCheckReport t d form) u v r)
   RunsOn stdin table (Explain certificate all form) u v r = With stdin certificate
       (λ c. ReadsBoth (left_of remaining left) (left_of remaining left) left contents files table c
       (Unit {0}) (λ t d. HasExplainReport t d all) u v r)
@@ -165,10 +166,10 @@ module _ {S D F W : Type 0} (remaining : S → Option (List ℕ)) (left : LazyFi
       inputs schedule (record { steps = steps; form = form }) u v r)
   RunsOn stdin table (Replay opening events form) u v r = With stdin opening.certificate
       (λ c. RunsReplay (left_of remaining left) (left_of remaining left) left contents files
-      table c opening events u v r)
+      table c opening events form u v r)
   RunsOn stdin table (Serve opening calls form) u v r = With stdin opening.certificate
       (λ c. RunsServe (left_of remaining left) (left_of remaining left) left contents files
-      table c opening calls u v r)
+      table c opening calls form u v r)
 
   -- the same for the table of this source, of which nothing was read before
   abbrev pub Runs : S → TextSource → Command → Output W → Output W

@@ -44,15 +44,15 @@ fn fault_exit<R: Eprint>(faults: &mut Faults<'_, R>, fault: AppFault) -> ExitCod
     ExitCode::from(fault.status())
 }
 
-// How the program ends where a command has ended so. What lint says of a refused table is written,
-// and its fault is told as by every command.
+// How the program ends where a command has ended so. What a command says of a refused text is
+// written, and its fault is told as by every command.
 fn command_exit<R: Eprint>(faults: &mut Faults<'_, R>, end: Result<Outcome, AppFault>) -> ExitCode
     ensures { exit_status result ≡ command_status end }
 {
     match end {
         Ok(Outcome::Whole) => ExitCode::SUCCESS,
         Ok(Outcome::Cut) => ExitCode::FAILURE,
-        Ok(Outcome::Refused(fault)) => fault_exit(faults, AppFault::from(fault)),
+        Ok(Outcome::Refused(fault)) => fault_exit(faults, fault),
         Err(fault) => fault_exit(faults, fault),
     }
 }
@@ -88,12 +88,13 @@ fn do_command<T: Threads + Wait + Sync + Disk + Eprint, I: Read + Copy + Drop, O
         Invocation::Classify {
             limit,
             recoverable,
+            form,
             tables,
-            ..
         } => {
             let asked = AskedNumbers {
                 limit: *limit,
                 recoverable: *recoverable,
+                form: *form,
             };
             let first = classify(rt, alloc, stdin, output, faults, asked, tables);
             classify_exit(faults, first)

@@ -15,6 +15,7 @@ use cn_app::readers::OpeningArguments;
 use cn_app::reports::{AskedNumbers, AskedRun};
 use cn_app::{AppFault, Argument, Outcome, Output, Text};
 use cn_hall::AlwaysOn;
+use cn_json::AnswerForm;
 use cn_words::{Command, ListSource, OpeningWords, TextSource};
 use std::alloc::{AllocError, Global};
 use std::io::{Read, Write};
@@ -150,16 +151,17 @@ fn replay<D: Disk, I: Read + Drop, C: Read + Drop, O: Write>(
     output: &mut Output<O>,
     words: OpeningWords<'_>,
     events: ListSource<'_>,
+    form: AnswerForm,
 ) -> Result<Outcome, AppFault>
     requires texts { IsUnread table × IsUnread certificate }
     requires output { IsWritable output.old }
     ensures { RunsReplay I.remaining C.remaining (left_in D.contents D.Reader.remaining) O.contents
-        (D.contents disk.now) table certificate words.entry events.entry output.old output.new
+        (D.contents disk.now) table certificate words.entry events.entry form output.old output.new
         result }
 {
     let events = GivenList::read(disk, alloc, events, Argument::Events)?;
     let mut given = opening(disk, alloc, table, certificate, words);
-    commands::replay(alloc, &mut given, output, events.text())
+    commands::replay(alloc, &mut given, output, events.text(), form)
 }
 
 // Reads the calls, and serves an object by threads that make them.
@@ -171,16 +173,18 @@ fn serve<T: Threads + Wait + Sync + Disk, I: Read + Drop, C: Read + Drop, O: Wri
     output: &mut Output<O>,
     words: OpeningWords<'_>,
     calls: ListSource<'_>,
+    form: AnswerForm,
 ) -> Result<Outcome, AppFault>
     requires texts { IsUnread table × IsUnread certificate }
     requires output { IsWritable output.old }
     ensures { RunsServe I.remaining C.remaining (left_in T.contents T.Reader.remaining) O.contents
-        (T.contents rt.now) table certificate words.entry calls.entry output.old output.new
+        (T.contents rt.now) table certificate words.entry calls.entry form output.old output.new
         result }
 {
     let calls = GivenList::read(rt, alloc, calls, Argument::Calls)?;
     let mut given = opening(rt, alloc, table, certificate, words);
-    commands::serve(rt, alloc, &mut given, output, calls.text(), |_| AlwaysOn)
+    let calls = calls.text();
+    commands::serve(rt, alloc, &mut given, output, calls, form, |_| AlwaysOn)
 }
 
 /// Runs a command of one table, which is read from its source.
@@ -204,9 +208,9 @@ pub fn run<T: Threads + Wait + Sync + Disk, S: Read + Copy + Drop, O: Write>(
         Command::Draw => commands::draw(alloc, text, output),
         Command::Why { limit, all, .. } => commands::why(rt, alloc, text, output, limit, all),
         Command::Pairs { form } => commands::pairs(rt, alloc, text, output, form),
-        Command::Check { certificate, .. } => {
+        Command::Check { certificate, form } => {
             let certificate = &mut text_of(rt, alloc, stdin, certificate);
-            commands::check(alloc, text, certificate, output)
+            commands::check(alloc, text, certificate, output, form)
         }
         Command::Explain {
             certificate,
@@ -235,14 +239,18 @@ pub fn run<T: Threads + Wait + Sync + Disk, S: Read + Copy + Drop, O: Write>(
         Command::Replay {
             opening,
             events,
-            ..
+            form,
         } => {
             let certificate = text_of(rt, alloc, stdin, opening.certificate);
-            replay(rt, alloc, table, certificate, output, opening, events)
+            replay(rt, alloc, table, certificate, output, opening, events, form)
         }
-        Command::Serve { opening, calls, .. } => {
+        Command::Serve {
+            opening,
+            calls,
+            form,
+        } => {
             let certificate = text_of(rt, alloc, stdin, opening.certificate);
-            serve(rt, alloc, table, certificate, output, opening, calls)
+            serve(rt, alloc, table, certificate, output, opening, calls, form)
         }
     }
 }

@@ -1,10 +1,17 @@
 -- From what threads leave to its lines.
-use Rattle.std.proofs.Common.{◌≡◌, ◌<◌, ℕ, List, Option, Some, None, Vec, Global, length, map, option_map, slice_get, slice_index_or, refl, sym, subst, ◌∙◌}
+use Rattle.std.proofs.Common.{◌≡◌, ◌<◌, ◌+◌, ℕ, List, [], ◌∷◌, Option, Some, None, Vec, Global, length, map, option_map, slice_get, slice_index_or, refl, sym, subst, ◌∙◌}
+use Rattle.std.proofs.lemmas.List.Elements.{All-append, All-cons, All-head, All-map, All-nil, All-tail}
 use Rattle.std.proofs.lemmas.Option.{slice_get-get_or, slice_get-map}
 use Rattle.cn_table.proofs.Lists.{there_is}
 use Rattle.cn_table.specs.TypeTable.{TypeTable}
 use Rattle.cn_log.specs.Opening.{Log}
-use Rattle.cn_app.specs.Lines.Threads.{EachHasResponses, RepliesHaveResponses}
+use Rattle.cn_json.specs.Log.{HasResponse, HaveResponses}
+use Rattle.cn_json.specs.declared.log.Answer.TheVariants as told
+use Rattle.cn_json.specs.declared.log.AnswerOf.{AnswerOf}
+use Rattle.cn_log.specs.declared.event.Reply.{Reply}
+use Rattle.cn_app.specs.Lines.Threads.{EachHasResponses, RepliesHaveResponses, call_answers, end_answers, history_answers, reply_answers}
+use Rattle.cn_app.specs.declared.threads.workers.End.{End}
+use Rattle.cn_app.specs.declared.threads.workers.End.TheVariants.{Full, Stopped, Whole}
 use Rattle.cn_app.specs.Threads.Serving.{HasServed}
 use Rattle.cn_app.specs.declared.threads.workers.ProcessHistory.{ProcessHistory}
 
@@ -32,3 +39,24 @@ each_has_responses object calls core worked same many served p d less =
     let w : ProcessHistory = slice_index_or worked p d in
     let at = there_is calls p (subst (λ (n : ℕ). p < n) many less) in
     subst (λ (o : TypeTable). RepliesHaveResponses o w.replies.items) same (served p at.0 w at.1 (slice_get-get_or worked p d less)).range
+
+-- as JSON tells them, calls have the responses of their replies
+module _ (object : TypeTable) where
+  replies_have : (p : ℕ) (replies : List Reply) → RepliesHaveResponses object replies → HaveResponses object (reply_answers p replies)
+  replies_have p replies have =
+      All-map (λ (a : AnswerOf). HasResponse object a.answer) (λ (reply : Reply). record { process = p; answer = told.Replied reply }) replies have
+
+  end_has : (p : ℕ) (end : End) → HaveResponses object (end_answers p end)
+  end_has p Whole = All-nil (λ (a : AnswerOf). HasResponse object a.answer)
+  end_has p Full = All-cons (λ (a : AnswerOf). HasResponse object a.answer) (record { process = p; answer = told.Full }) [] tt
+      (All-nil (λ (a : AnswerOf). HasResponse object a.answer))
+  end_has p Stopped = All-cons (λ (a : AnswerOf). HasResponse object a.answer) (record { process = p; answer = told.Stopped }) [] tt
+      (All-nil (λ (a : AnswerOf). HasResponse object a.answer))
+
+  pub told_have_responses : (p : ℕ) (worked : List ProcessHistory) → EachHasResponses object worked → HaveResponses object (history_answers p worked)
+  told_have_responses p [] each = All-nil (λ (a : AnswerOf). HasResponse object a.answer)
+  told_have_responses p (w ∷ ws) each =
+      All-append (λ (a : AnswerOf). HasResponse object a.answer) (call_answers p w.replies.items w.end) (history_answers (p + 1) ws)
+      (All-append (λ (a : AnswerOf). HasResponse object a.answer) (reply_answers p w.replies.items) (end_answers p w.end)
+      (replies_have p w.replies.items (All-head (λ (v : ProcessHistory). RepliesHaveResponses object v.replies.items) w ws each)) (end_has p w.end))
+      (told_have_responses (p + 1) ws (All-tail (λ (v : ProcessHistory). RepliesHaveResponses object v.replies.items) w ws each))

@@ -1,31 +1,76 @@
--- What `check` writes: a function of the table and the certificate that it reads.
-use Rattle.std.specs.Prelude.{◌≡◌, codes, Result, Ok, Err, string_bytes}
+-- What `check` writes: a function of the table and the certificate that it reads, and of the form.
+use Rattle.std.specs.Prelude.{◌≡◌, ◌⊎◌, ◌++◌, codes, Option, Some, None, MatchOption}
+use Rattle.std.specs.Prelude.{Result, Ok, Err, MatchResult, string_bytes}
+use Rattle.serde_json.specs.Data.{Data}
+use Rattle.serde_json.specs.Written.{compact_text}
+use Rattle.cn_table.specs.TypeTable.{TypeTable}
 use Rattle.cn_choice.specs.Discerning.{IsNumberUpTo}
+use Rattle.cn_json.specs.Verdict.{accepted_data, unread_data, verdict_data}
+use Rattle.cn_json.specs.declared.form.AnswerForm.{AnswerForm}
+use Rattle.cn_json.specs.declared.form.AnswerForm.TheVariants as form
+use Rattle.cn_app.specs.Forms.{if_json}
 use Rattle.cn_app.specs.Steps.{Then}
-use Rattle.cn_app.specs.Texts.Checked.{GivesChecked, IsChecked}
+use Rattle.cn_app.specs.Texts.Checked.{GivesCheck, IsChecked}
+use Rattle.cn_app.specs.Texts.Contents.{GivesCertificate, GivesTable}
 use Rattle.cn_app.specs.declared.readers.checked.Checked.{Checked}
-use Rattle.cn_app.specs.declared.report.Outcome.TheVariants.{Whole}
+use Rattle.cn_app.specs.declared.report.Outcome.TheVariants.{Refused, Whole}
 use Rattle.cn_app.specs.declared.report.Report.{Report}
 use Rattle.cn_app.specs.declared.streams.text.Text.{Text}
 use Rattle.cn_app.specs.declared.fault.AppFault.{AppFault}
-use Rattle.cn_app.specs.declared.fault.AppFault.TheVariants.{OutOfMemory}
+use Rattle.cn_app.specs.declared.fault.AppFault.TheVariants.{Certificate, Check, OutOfMemory}
 
 -- the number of the certificate is that of the table up to its limit
 abbrev pub HasItsNumber : Checked → Type 0
 HasItsNumber checked =
     IsNumberUpTo checked.table checked.certificate.limit checked.certificate.number
 
--- the report on an accepted certificate: its number is right, and the text is `ok`; the only fault
--- is want of memory
-abbrev pub IsCheckReport : Checked → Result Report AppFault → Type 0
-IsCheckReport checked (Ok report) =
-    HasItsNumber checked × (string_bytes report.text ≡ codes "ok\n") × (report.outcome ≡ Whole)
-IsCheckReport checked (Err e) = e ≡ OutOfMemory
+-- the report on an accepted certificate: its number is right, and the text is `ok`, or the verdict
+-- as JSON; the only fault is want of memory
+abbrev pub IsCheckReport : AnswerForm → Checked → Result Report AppFault → Type 0
+IsCheckReport told checked (Ok report) = HasItsNumber checked
+    × (string_bytes report.text
+    ≡ if_json told (compact_text accepted_data ++ codes "\n") (codes "ok\n"))
+    × (report.outcome ≡ Whole)
+IsCheckReport told checked (Err e) = e ≡ OutOfMemory
 
 -- the same report on every accepted certificate
-abbrev pub IsOkReport : Result Report AppFault → Type 0
-IsOkReport r = (checked : Checked) → IsChecked checked → IsCheckReport checked r
+abbrev pub IsOkReport : AnswerForm → Result Report AppFault → Type 0
+IsOkReport told r = (checked : Checked) → IsChecked checked → IsCheckReport told checked r
+
+-- what JSON tells of a fault: those of the certificate
+abbrev pub fault_told : AppFault → Option Data
+fault_told (Certificate fault) = Some (unread_data fault)
+fault_told (Check fault) = Some (verdict_data (Err fault))
+fault_told e = None
+
+-- the report on a certificate that is refused for this fault, which is told; or memory ran out
+abbrev pub IsRefusal : Data → AppFault → Result Report AppFault → Type 0
+IsRefusal told e (Ok report) = (string_bytes report.text ≡ compact_text told ++ codes "\n")
+    × (report.outcome ≡ Refused e)
+IsRefusal told e (Err f) = f ≡ OutOfMemory
+
+-- a certificate with this fault ends the command so: without JSON, by the fault alone
+abbrev pub IsFaultReport : AnswerForm → AppFault → Result Report AppFault → Type 0
+IsFaultReport form.Text e r = r ≡ Err e
+IsFaultReport form.Json e r = MatchOption (fault_told e) (r ≡ Err e) (λ value. IsRefusal value e r)
+
+-- the report on this verdict
+abbrev pub IsVerdictReport : AnswerForm → Result (Unit {0}) AppFault → Result Report AppFault → Type 0
+IsVerdictReport told verdict r =
+    MatchResult verdict (λ _. IsOkReport told r) (λ e. IsFaultReport told e r)
+
+-- the result of reading a certificate and checking it against a table: it is accepted, or this is
+-- its fault
+abbrev pub HasVerdictReport : {C : Type 0} → Text C → AnswerForm → TypeTable
+    → Result Report AppFault → Type 0
+HasVerdictReport certificate told t r = ((e : AppFault)
+    × Then (GivesCertificate certificate) (λ c. GivesCheck t c) (Err e) × IsFaultReport told e r)
+    ⊎ ((checked : Checked)
+    × Then (GivesCertificate certificate) (λ c. GivesCheck t c) (Ok checked)
+    × IsCheckReport told checked r)
 
 -- the result of `check` for two texts
-abbrev pub HasCheckReport : {R C : Type 0} → Text R → Text C → Result Report AppFault → Type 0
-HasCheckReport table certificate r = Then (GivesChecked table certificate) IsCheckReport r
+abbrev pub HasCheckReport : {R C : Type 0} → Text R → Text C → AnswerForm
+    → Result Report AppFault → Type 0
+HasCheckReport table certificate told r =
+    Then (GivesTable table) (λ t. HasVerdictReport certificate told t) r

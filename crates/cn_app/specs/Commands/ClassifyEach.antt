@@ -4,7 +4,9 @@ use Rattle.std.specs.Prelude.{Option, Some, None, IsSomeAnd, Result, Ok, Err, Ma
 use Rattle.std.specs.Prelude.{string_bytes}
 use Rattle.std.specs.Option.{option_map_or}
 use Rattle.std.specs.Str.{bytes_eq}
-use Rattle.cn_app.specs.Commands.Classify.{HasClassReport, given_limit_fault}
+use Rattle.cn_json.specs.declared.form.DocumentForm.{DocumentForm}
+use Rattle.cn_json.specs.declared.form.DocumentForm.TheVariants as form
+use Rattle.cn_app.specs.Commands.Classify.{HasClassReport, IsHeadReport, given_limit_fault}
 use Rattle.cn_app.specs.FaultText.{is_of_every_table}
 use Rattle.cn_app.specs.Streams.Reading.{HasRead, IsUnread}
 use Rattle.cn_app.specs.Streams.Writing.{HandsOver, Reports}
@@ -99,3 +101,29 @@ pub data AreClassified {R W D : Type 0} (remaining : R → Option (List ℕ))
       → is_of_every_table fault ≡ true → tells c None fault d
       → AreClassified remaining contents tells notes asked earlier (old ∷ rest)
       (new ∷ rest) u c (Some fault) v d
+
+-- the tables were classified, and their rows stand below one head: the head was written first, and
+-- then the tables were classified; or it was not, its fault was told with no name, and nothing was
+-- read
+abbrev pub AreRows : {R W D : Type 0} → (R → Option (List ℕ)) → (W → Option (List ℕ))
+    → (D → Option (List ℕ) → AppFault → D → Type 0) → (D → List ℕ → List ℕ → D → Type 0)
+    → AskedNumbers → List (NamedTable R) → List (NamedTable R) → Output W → D
+    → Option AppFault → Output W → D → Type 0
+AreRows {R} {W} remaining contents tells notes asked tables after u d first v e =
+    ((headed : Output W) × (outcome : Outcome)
+    × Reports contents (IsHeadReport asked) u headed (Ok outcome)
+    × AreClassified remaining contents tells notes asked [] tables after headed d first v e)
+    ⊎ ((fault : AppFault) × Reports contents (IsHeadReport asked) u v (Err fault)
+    × tells d None fault e × (first ≡ Some fault) × (after ≡ tables))
+
+-- the tables were classified in this form: as lines, or as the rows of a Markdown table
+abbrev pub AreClassifiedIn : {R W D : Type 0} → DocumentForm → (R → Option (List ℕ))
+    → (W → Option (List ℕ)) → (D → Option (List ℕ) → AppFault → D → Type 0)
+    → (D → List ℕ → List ℕ → D → Type 0) → AskedNumbers → List (NamedTable R)
+    → List (NamedTable R) → Output W → D → Option AppFault → Output W → D → Type 0
+AreClassifiedIn form.Text remaining contents tells notes asked tables after u d first v e =
+    AreClassified remaining contents tells notes asked [] tables after u d first v e
+AreClassifiedIn form.Json remaining contents tells notes asked tables after u d first v e =
+    AreClassified remaining contents tells notes asked [] tables after u d first v e
+AreClassifiedIn form.Markdown remaining contents tells notes asked tables after u d first v e =
+    AreRows remaining contents tells notes asked tables after u d first v e

@@ -4,11 +4,13 @@ use Rattle.std.specs.Prelude.{Result, MatchResult, string_bytes}
 use Rattle.serde_json.specs.Written.{compact_text}
 use Rattle.cn_table.specs.Faults.{reading}
 use Rattle.cn_table.specs.TypeTable.{TypeTable}
+use Rattle.cn_table.specs.declared.fault.TableFault.{TableFault}
 use Rattle.cn_forms.specs.Grid.{IsGrid}
 use Rattle.cn_flaws.specs.Flaws.{Flaw, flaws_at}
 use Rattle.cn_json.specs.Flaws.{flaws_data}
 use Rattle.cn_json.specs.declared.form.AnswerForm.{AnswerForm}
 use Rattle.cn_json.specs.declared.form.AnswerForm.TheVariants as form
+use Rattle.cn_app.specs.FaultText.{plain_of}
 use Rattle.cn_app.specs.Forms.{if_json}
 use Rattle.cn_app.specs.Steps.{Then}
 use Rattle.cn_app.specs.Streams.Reading.{EndsText}
@@ -18,6 +20,7 @@ use Rattle.cn_app.specs.declared.report.Report.{Report}
 use Rattle.cn_app.specs.declared.streams.text.Text.{Text}
 use Rattle.cn_app.specs.declared.fault.AppFault.{AppFault}
 use Rattle.cn_app.specs.declared.fault.AppFault.TheVariants.{OutOfMemory}
+use Rattle.cn_app.specs.declared.fault.AppFault.TheVariants as app
 use Rattle.cn_app.specs.declared.fault.Source.TheVariants.{Table}
 
 -- a line for each flaw
@@ -44,10 +47,11 @@ abbrev pub IsLinted : AnswerForm → List ℕ → List ℕ → Type 0
 IsLinted told bytes text =
     MatchResult (reading bytes) (λ t. IsTableText told t text) (λ _. HasFlawText told bytes text)
 
--- the bytes spell a table, or this is their fault
+-- the bytes spell a table, or this is the fault of a table for which they are refused
 abbrev pub Tells : Outcome → List ℕ → Type 0
 Tells Whole bytes = IsOk (reading bytes)
-Tells (Refused fault) bytes = reading bytes ≡ Err fault
+Tells (Refused e) bytes =
+    (fault : TableFault) × (reading bytes ≡ Err fault) × (e ≡ plain_of (app.Table fault))
 Tells Cut bytes = ⊥
 
 -- the result of `lint` for bytes, unless memory ran out

@@ -1,6 +1,7 @@
--- The lines of a service: the calls of each process, the entries of the log, and the events.
-use Rattle.std.specs.Prelude.{ℕ, ◌+◌, List, ◌++◌, codes, [], ◌∷◌, ◌<◌, All, length}
+-- The text of a service: the calls of each process, the entries of the log, and the events.
+use Rattle.std.specs.Prelude.{ℕ, ◌+◌, List, ◌++◌, codes, [], ◌∷◌, ◌<◌, All, length, map}
 use Rattle.std.specs.Fmt.{decimal}
+use Rattle.serde_json.specs.Written.{compact_text}
 use Rattle.cn_table.specs.TypeTable.{TypeTable}
 use Rattle.cn_log.specs.Linearized.{entry_slots}
 use Rattle.cn_log.specs.Log.{entries}
@@ -9,6 +10,11 @@ use Rattle.cn_log.specs.declared.event.CallEnd.TheVariants as ended
 use Rattle.cn_log.specs.declared.event.Reply.{Reply}
 use Rattle.cn_lines.specs.Events.{events_line}
 use Rattle.cn_lines.specs.Log.{answer_line, entry_lines}
+use Rattle.cn_json.specs.Log.{service_data}
+use Rattle.cn_json.specs.declared.form.AnswerForm.{AnswerForm}
+use Rattle.cn_json.specs.declared.log.Answer.TheVariants as told
+use Rattle.cn_json.specs.declared.log.AnswerOf.{AnswerOf}
+use Rattle.cn_app.specs.Forms.{if_json}
 use Rattle.cn_app.specs.declared.threads.workers.End.{End}
 use Rattle.cn_app.specs.declared.threads.workers.End.TheVariants.{Full, Stopped, Whole}
 use Rattle.cn_app.specs.declared.threads.workers.ProcessHistory.{ProcessHistory}
@@ -41,6 +47,36 @@ abbrev pub service_lines : TypeTable → ℕ → List ProcessHistory → Log →
 service_lines object start worked core = history_lines object 0 worked
     ++ entry_lines object start (entries (setting core) core.schedule)
     (entry_slots (setting core) core.schedule) ++ events_line core.schedule
+
+-- the replies to the calls of a process, as JSON tells them
+abbrev pub reply_answers : ℕ → List Reply → List AnswerOf
+reply_answers p replies =
+    map (λ reply. record { process = p; answer = told.Replied reply }) replies
+
+-- the call that has no reply, if there is one
+abbrev pub end_answers : ℕ → End → List AnswerOf
+end_answers p Whole = []
+end_answers p Full = record { process = p; answer = told.Full } ∷ []
+end_answers p Stopped = record { process = p; answer = told.Stopped } ∷ []
+
+abbrev pub call_answers : ℕ → List Reply → End → List AnswerOf
+call_answers p replies end = reply_answers p replies ++ end_answers p end
+
+-- the calls of each process, from process p on
+abbrev pub history_answers : ℕ → List ProcessHistory → List AnswerOf
+history_answers p [] = []
+history_answers p (w ∷ ws) = call_answers p w.replies.items w.end ++ history_answers (p + 1) ws
+
+-- what the lines tell, as one JSON object
+abbrev pub service_object : TypeTable → ℕ → List ProcessHistory → Log → List ℕ
+service_object object start worked core = compact_text (service_data object start
+    (history_answers 0 worked) (entries (setting core) core.schedule)
+    (entry_slots (setting core) core.schedule) core.schedule) ++ codes "\n"
+
+-- the text of a service in a form
+abbrev pub service_text : AnswerForm → TypeTable → ℕ → List ProcessHistory → Log → List ℕ
+service_text form object start worked core = if_json form
+    (service_object object start worked core) (service_lines object start worked core)
 
 -- the response of each reply is one of the object's
 abbrev pub RepliesHaveResponses : TypeTable → List Reply → Type 0

@@ -16,38 +16,41 @@ use crate::readers::accepted::check_certificate;
 use crate::readers::checked::read_checked;
 use crate::readers::table::read_table;
 use crate::report::Outcome;
-use crate::reports::check::ok_report;
+use crate::reports::check::verdict_report;
 use crate::reports::{AskedRun, agree_report, explain_report, show_report};
 use crate::streams::output::Output;
 use crate::streams::text::Text;
 use cn_forms::Form;
+use cn_json::AnswerForm;
 use std::alloc::Global;
 use std::io::{Read, Write};
 
 /// Reads a type table and a certificate, checks the certificate against the table, and writes `ok`
-/// and a line feed if the check accepts it.
+/// and a line feed if the check accepts it. As JSON, writes the verdict; of a certificate that is
+/// refused it has the fault, and so has the outcome.
 ///
 /// # Errors
 ///
-/// The first of these: those of [`read_checked`]; the writer fails. Want of memory can stand in
-/// place of any answer.
+/// The first of these: those of [`read_checked`], as JSON without those of the text of the
+/// certificate and of the check; the writer fails. Want of memory can stand in place of any answer.
 pub fn check<R: Read, C: Read, W: Write>(
     alloc: Global,
     table: &mut Text<R>,
     certificate: &mut Text<C>,
     output: &mut Output<W>,
+    form: AnswerForm,
 ) -> Result<Outcome, AppFault>
     requires texts { IsUnread table.old × IsUnread certificate.old }
     requires output { IsWritable output.old }
 
     ensures read { HaveReadBoth R.remaining C.remaining table.old table.new
         certificate.old certificate.new }
-    ensures checked { Reports W.contents (HasCheckReport table.new certificate.new)
+    ensures checked { Reports W.contents (HasCheckReport table.new certificate.new form)
         output.old output.new result }
 {
     let table = read_table(alloc, table)?;
-    check_certificate(alloc, &table, certificate)?;
-    output.report(ok_report(alloc))
+    let verdict = check_certificate(alloc, &table, certificate);
+    output.report(verdict_report(alloc, verdict, form))
 }
 
 /// Reads a type table and a certificate, checks the certificate against the table, and writes an

@@ -19,6 +19,7 @@ use crate::report::{Outcome, Report};
 use crate::reports::{replay_report, serve_report};
 use crate::streams::output::Output;
 use cn_hall::Gate;
+use cn_json::AnswerForm;
 use cn_log::Opening;
 use std::alloc::Global;
 use std::io::{Read, Write};
@@ -26,11 +27,16 @@ use std::sync::Wait;
 use std::thread::Threads;
 
 /// What there is to say of the events of a list, by the operations of the object.
-fn event_report(alloc: Global, opening: Opening, list: EventList<'_>) -> Result<Report, AppFault>
-    ensures { IsReplayReport opening (events_in opening.object (words_of list.entry)) result }
+fn event_report(
+    alloc: Global,
+    opening: Opening,
+    list: EventList<'_>,
+    form: AnswerForm,
+) -> Result<Report, AppFault>
+    ensures { IsReplayReport form opening (events_in opening.object (words_of list.entry)) result }
 {
     let events = list.events_in(alloc, opening.object())?;
-    replay_report(alloc, opening, &events)
+    replay_report(alloc, opening, &events, form)
 }
 
 /// What there is to say of the calls of these lists, by the operations of the object.
@@ -39,15 +45,16 @@ fn call_report<T: Threads + Wait + Sync, G: Gate + Send + Drop, F: Fn(u8) -> G>(
     alloc: Global,
     opening: Opening,
     lists: &[Vec<OperationWord<'_>>],
+    form: AnswerForm,
     make_gate: F,
 ) -> Result<Report, AppFault>
     requires gates { F.IsAlwaysCallable make_gate }
     requires on { (p : ℕ) (g : _) → F.post make_gate p g → G.says g ≡ On }
-    ensures { IsServeReport (EachHasOneGate G.asks G.says (λ p g. F.post make_gate p g)) opening
-        (calls_in opening.object (map (λ list. list.items) lists.now)) result }
+    ensures { IsServeReport (EachHasOneGate G.asks G.says (λ p g. F.post make_gate p g)) form
+        opening (calls_in opening.object (map (λ list. list.items) lists.now)) result }
 {
     let calls = calls_in(alloc, lists, opening.object())?;
-    serve_report(rt, alloc, opening, &calls, make_gate)
+    serve_report(rt, alloc, opening, &calls, form, make_gate)
 }
 
 /// Opens a log for an object, serves the object by the events, and writes a line for each call that
@@ -67,19 +74,20 @@ pub fn replay<R: Read, C: Read, O: Read, W: Write>(
     given: &mut OpeningArguments<'_, R, C, O>,
     output: &mut Output<W>,
     events: ListText<'_>,
+    form: AnswerForm,
 ) -> Result<Outcome, AppFault>
     requires given { AreArgumentsUnread given.old }
     requires output { IsWritable output.old }
 
     ensures read { HaveReadAll R.remaining C.remaining O.remaining given.old given.new }
     ensures order { (given.new ≡ given.old) ⊎ SpellEvents given.old.capacity.now events.entry }
-    ensures served { Reports W.contents (HasReplayReport given.new events.entry)
+    ensures served { Reports W.contents (HasReplayReport given.new events.entry form)
         output.old output.new result }
 {
     let slots = read_capacity(given.capacity)?;
     let list = read_events(alloc, events)?;
     let opening = read_opening(alloc, given, slots)?;
-    output.report(event_report(alloc, opening, list))
+    output.report(event_report(alloc, opening, list, form))
 }
 
 /// Opens a log for an object, serves the object by threads that make the calls, and writes for each
@@ -100,6 +108,7 @@ pub fn serve<T, R: Read, C: Read, O: Read, W: Write, G, F>(
     given: &mut OpeningArguments<'_, R, C, O>,
     output: &mut Output<W>,
     calls: ListText<'_>,
+    form: AnswerForm,
     make_gate: F,
 ) -> Result<Outcome, AppFault>
 where
@@ -115,11 +124,11 @@ where
     ensures order { (given.new ≡ given.old) ⊎ SpellCalls given.old.capacity.now calls.entry }
     ensures served { Reports W.contents
         (HasServeReport (EachHasOneGate G.asks G.says (λ p g. F.post make_gate p g)) given.new
-        calls.entry)
+        calls.entry form)
         output.old output.new result }
 {
     let slots = read_capacity(given.capacity)?;
     let lists = read_calls(alloc, calls)?;
     let opening = read_opening(alloc, given, slots)?;
-    output.report(call_report(rt, alloc, opening, &lists, make_gate))
+    output.report(call_report(rt, alloc, opening, &lists, form, make_gate))
 }

@@ -1,16 +1,19 @@
 //! The command `classify` over several tables.
 ghost use Rattle.std.specs.Prelude.{◌≡◌, ◌⊎◌, [], IfSome, None, option_map, string_bytes};
 ghost use Rattle.cn_app.specs.Commands.Classify.{HasClassReport, given_limit_fault};
-ghost use Rattle.cn_app.specs.Commands.ClassifyEach.{AreClassified, AreUnread, HasClassified, IsFirst, Notes, Writes, has_line, names_with};
+ghost use Rattle.cn_app.specs.Commands.ClassifyEach.{AreClassified, AreClassifiedIn, AreRows};
+ghost use Rattle.cn_app.specs.Commands.ClassifyEach.{AreUnread, HasClassified, IsFirst, Notes};
+ghost use Rattle.cn_app.specs.Commands.ClassifyEach.{Writes, has_line, names_with};
 ghost use Rattle.cn_app.specs.Streams.Reading.{HasRead, IsUnread};
 ghost use Rattle.cn_app.specs.Streams.Writing.{IsWritable};
 
 use crate::commands::of_tables::class_report_of;
 use crate::fault::{AppFault, Source};
 use crate::report::{Outcome, Report};
-use crate::reports::AskedNumbers;
+use crate::reports::{AskedNumbers, head_report};
 use crate::streams::output::Output;
 use crate::streams::text::Text;
+use cn_json::DocumentForm;
 use std::alloc::Global;
 use std::io::{Read, Write};
 use std::thread::Threads;
@@ -136,14 +139,8 @@ fn note_line<R: Read, F: Tell>(
     }
 }
 
-/// Classifies tables, one after the other, as [`classify`](crate::commands::classify) does each. A
-/// line is written before the next table is read. Where an earlier table has the same line, that is
-/// noted then, with the name of the first such.
-///
-/// A fault of a table is told with its name, and the others go on. A fault of the limit or of the
-/// writer would be that of every table: it is told with no name, and nothing more is read. The
-/// answer is the first fault.
-pub fn classify_each<T: Threads + Sync, R: Read, W: Write, F: Tell>(
+// Classifies the tables in order, with no head above their lines.
+fn classify_tables<T: Threads + Sync, R: Read, W: Write, F: Tell>(
     rt: &T,
     alloc: Global,
     tables: &mut [NamedTable<'_, R>],
@@ -171,4 +168,56 @@ pub fn classify_each<T: Threads + Sync, R: Read, W: Write, F: Tell>(
         faults.tell(Some(tables[i].name), fault);
     }
     first
+}
+
+// Writes the head of a Markdown table, and classifies the tables in order, with a row for each.
+fn classify_rows<T: Threads + Sync, R: Read, W: Write, F: Tell>(
+    rt: &T,
+    alloc: Global,
+    tables: &mut [NamedTable<'_, R>],
+    output: &mut Output<W>,
+    faults: &mut F,
+    asked: AskedNumbers,
+) -> Option<AppFault>
+    requires tables { AreUnread tables.old }
+    requires output { IsWritable output.old }
+    ensures { AreRows R.remaining W.contents F.tells F.notes asked tables.old tables.new
+        output.old faults.old result output.new faults.new }
+{
+    match output.report(head_report(alloc, asked)) {
+        Ok(_) => classify_tables(rt, alloc, tables, output, faults, asked),
+        Err(fault) => {
+            faults.tell(None, fault);
+            Some(fault)
+        }
+    }
+}
+
+/// Classifies tables, one after the other, as [`classify`](crate::commands::classify) does each. A
+/// line is written before the next table is read. Where an earlier table has the same line, that is
+/// noted then, with the name of the first such. In Markdown the lines are the rows of one table,
+/// whose head is written before the first table is read.
+///
+/// A fault of a table is told with its name, and the others go on. A fault of the limit or of the
+/// writer would be that of every table: it is told with no name, and nothing more is read. The
+/// answer is the first fault.
+pub fn classify_each<T: Threads + Sync, R: Read, W: Write, F: Tell>(
+    rt: &T,
+    alloc: Global,
+    tables: &mut [NamedTable<'_, R>],
+    output: &mut Output<W>,
+    faults: &mut F,
+    asked: AskedNumbers,
+) -> Option<AppFault>
+    requires tables { AreUnread tables.old }
+    requires output { IsWritable output.old }
+    ensures { AreClassifiedIn asked.form R.remaining W.contents F.tells F.notes asked tables.old
+        tables.new output.old faults.old result output.new faults.new }
+{
+    match asked.form {
+        DocumentForm::Text | DocumentForm::Json => {
+            classify_tables(rt, alloc, tables, output, faults, asked)
+        }
+        DocumentForm::Markdown => classify_rows(rt, alloc, tables, output, faults, asked),
+    }
 }

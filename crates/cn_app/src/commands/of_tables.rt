@@ -97,7 +97,7 @@ pub fn pairs<T: Threads + Sync, R: Read, W: Write>(
     output.report(pairs_report(rt, alloc, &table, form))
 }
 
-/// Reads a type table. Answers the line with the numbers asked for ([`numbers_report`]).
+/// Reads a type table. Answers the numbers asked for in their form ([`numbers_report`]).
 ///
 /// # Errors
 ///
@@ -120,7 +120,8 @@ pub(crate) fn class_report_of<T: Threads + Sync, R: Read>(
     numbers_report(rt, alloc, &table, asked)
 }
 
-/// Reads a type table and writes a line with the numbers asked for ([`numbers_report`]).
+/// Reads a type table and writes the numbers asked for in their form ([`numbers_report`]): a line, or
+/// a row of a Markdown table, whose head [`classify_each`](crate::commands::classify_each) writes.
 ///
 /// # Errors
 ///

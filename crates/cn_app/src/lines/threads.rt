@@ -1,10 +1,15 @@
-//! The lines of a service: the calls of each process, the entries of the log, and the events.
+//! The text of a service: the calls of each process, the entries of the log, and the events.
 ghost use Rattle.std.specs.Prelude.{◌≡◌, ◌≤◌, ◌<◌, ◌++◌, length, string_bytes, IfOk, OnOk};
-ghost use Rattle.cn_app.specs.Lines.Threads.{call_lines, end_line, reply_lines, history_lines, EachHasResponses, RepliesHaveResponses, service_lines};
+ghost use Rattle.cn_app.specs.Lines.Threads.{EachHasResponses, RepliesHaveResponses};
+ghost use Rattle.cn_app.specs.Lines.Threads.{call_lines, end_line, history_lines, reply_lines};
+ghost use Rattle.cn_app.specs.Lines.Threads.{end_answers, history_answers, reply_answers};
+ghost use Rattle.cn_app.specs.Lines.Threads.{service_lines, service_object, service_text};
 
+use crate::report::with_line_feed;
 use crate::threads::serving::ServiceHistory;
 use crate::threads::workers::{End, ProcessHistory};
 use cn_hall::Reply;
+use cn_json::{Answer, AnswerForm, AnswerOf, service_json};
 use cn_lines::{entry_lines, events_line, put_answer_line, put_number};
 use cn_log::CallEnd;
 use cn_log::laws::logs_are_linearized;
@@ -78,7 +83,7 @@ pub(crate) fn history_lines(
 }
 
 /// The lines of a service: the calls of each process, the entries of the log, and the events.
-pub(crate) fn service_lines(
+fn service_lines(
     alloc: Global,
     object: &Table,
     start: State,
@@ -98,4 +103,89 @@ pub(crate) fn service_lines(
     let events = events_line(alloc, service.core.schedule())?;
     lines.push_str(&events)?;
     Ok(lines)
+}
+
+/// Appends the replies to the calls of a process.
+fn push_replies(
+    answers: &mut Vec<AnswerOf>,
+    process: u8,
+    replies: &[Reply],
+) -> Result<(), AllocError>
+    ensures { OnOk result (answers.new.items ≡ answers.old.items
+        ++ reply_answers process replies.now) }
+{
+    for reply in replies {
+        answers.push(AnswerOf {
+            process,
+            answer: Answer::Replied(*reply),
+        })?;
+    }
+    Ok(())
+}
+
+/// Appends the call that has no reply, if there is one.
+fn push_end(answers: &mut Vec<AnswerOf>, process: u8, end: End) -> Result<(), AllocError>
+    ensures { OnOk result (answers.new.items ≡ answers.old.items ++ end_answers process end) }
+{
+    let answer = match end {
+        End::Whole => return Ok(()),
+        End::Full => Answer::Full,
+        End::Stopped => Answer::Stopped,
+    };
+    answers.push(AnswerOf { process, answer })?;
+    Ok(())
+}
+
+/// The calls of each process, as JSON tells them.
+fn history_answers(alloc: Global, worked: &[ProcessHistory]) -> Result<Vec<AnswerOf>, AllocError>
+    requires { length worked.now ≤ 8 }
+    ensures { IfOk result (λ answers. answers.items ≡ history_answers 0 worked.now) }
+{
+    let mut answers = Vec::new(alloc);
+    for (process, one) in worked.iter().enumerate() {
+        push_replies(&mut answers, process as u8, &one.replies)?;
+        push_end(&mut answers, process as u8, one.end)?;
+    }
+    Ok(answers)
+}
+
+/// What the lines of a service tell, as one JSON object.
+fn service_object(
+    alloc: Global,
+    object: &Table,
+    start: State,
+    service: &ServiceHistory,
+) -> Result<String, AllocError>
+    requires object { service.now.core.opening.object ≡ object.now }
+    requires start { start.0 < length object.now.states }
+    requires few { length service.now.processes.items ≤ 8 }
+    requires range { EachHasResponses object.now service.now.processes.items }
+    ensures { IfOk result (λ text. string_bytes text
+        ≡ service_object object.now start.0 service.now.processes.items service.now.core) }
+{
+    logs_are_linearized(&service.core);
+    let answers = history_answers(alloc, &service.processes)?;
+    let json = service_json(alloc, object, start, &service.core, &answers)?;
+    with_line_feed(json)
+}
+
+/// The text of a service in a form.
+pub(crate) fn service_text(
+    alloc: Global,
+    object: &Table,
+    start: State,
+    service: &ServiceHistory,
+    form: AnswerForm,
+) -> Result<String, AllocError>
+    requires object { service.now.core.opening.object ≡ object.now }
+    requires start { start.0 < length object.now.states }
+    requires few { length service.now.processes.items ≤ 8 }
+    requires range { EachHasResponses object.now service.now.processes.items }
+    ensures { IfOk result (λ text. string_bytes text
+        ≡ service_text form object.now start.0 service.now.processes.items service.now.core) }
+{
+    match form {
+        AnswerForm::Text => service_lines(alloc, object, start, service),
+        AnswerForm::Json => service_object(alloc, object, start, service),
+    }
 }

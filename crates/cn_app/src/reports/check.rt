@@ -1,33 +1,96 @@
 //! The report of `check`.
-ghost use Rattle.cn_app.specs.Commands.Check.{IsCheckReport, IsOkReport};
+ghost use Rattle.std.specs.Prelude.{◌≡◌, ◌++◌, IfErr, IfOk, codes, string_bytes};
+ghost use Rattle.serde_json.specs.Written.{compact_text};
+ghost use Rattle.cn_json.specs.Verdict.{accepted_data};
+ghost use Rattle.cn_json.specs.declared.form.AnswerForm.TheVariants.{Json};
+ghost use Rattle.cn_app.specs.Commands.Check.{IsCheckReport, IsFaultReport, IsOkReport, IsVerdictReport};
+ghost use Rattle.cn_app.specs.Forms.{if_json};
 ghost use Rattle.cn_app.specs.Texts.Checked.{IsChecked};
+ghost use Rattle.cn_app.specs.declared.fault.AppFault.TheVariants.{OutOfMemory};
+ghost use Rattle.cn_app.specs.declared.report.Outcome.TheVariants.{Refused};
 
 use crate::fault::AppFault;
 use crate::readers::checked::Checked;
-use crate::report::Report;
+use crate::report::{Outcome, Report, with_line_feed};
 use cn_check::laws::accepted_is_right;
-use std::alloc::Global;
+use cn_json::{AnswerForm, unread_json, verdict_json};
+use std::alloc::{AllocError, Global};
 
-/// `ok` and a line feed, for every accepted certificate.
-///
-/// # Errors
-///
-/// `OutOfMemory`.
-pub(crate) fn ok_report(alloc: Global) -> Result<Report, AppFault>
-    ensures { IsOkReport result }
+/// What is written of an accepted certificate.
+fn ok_text(alloc: Global, form: AnswerForm) -> Result<String, AllocError>
+    ensures { IfOk result (λ text. string_bytes text
+        ≡ if_json form (compact_text accepted_data ++ codes "\n") (codes "ok\n")) }
 {
-    accepted_is_right();
-    Ok(Report::whole(String::from_str(alloc, "ok\n")?))
+    match form {
+        AnswerForm::Text => String::from_str(alloc, "ok\n"),
+        AnswerForm::Json => with_line_feed(verdict_json(alloc, Ok(()))?),
+    }
 }
 
-/// `ok` and a line feed, for an accepted certificate.
+/// The report on every accepted certificate.
+fn ok_report(alloc: Global, form: AnswerForm) -> Result<Report, AppFault>
+    ensures { IsOkReport form result }
+{
+    accepted_is_right();
+    Ok(Report::whole(ok_text(alloc, form)?))
+}
+
+/// `ok` and a line feed, for an accepted certificate. As JSON, the verdict ([`verdict_json`]).
 ///
 /// # Errors
 ///
 /// `OutOfMemory`.
-pub fn check_report(alloc: Global, checked: &Checked) -> Result<Report, AppFault>
+pub fn check_report(alloc: Global, checked: &Checked, form: AnswerForm) -> Result<Report, AppFault>
     requires { IsChecked checked.now }
-    ensures { IsCheckReport checked.now result }
+    ensures { IsCheckReport form checked.now result }
 {
-    ok_report(alloc)
+    ok_report(alloc, form)
+}
+
+/// The report on a certificate that is refused for this fault.
+fn refusal(json: String, fault: AppFault) -> Result<Report, AppFault>
+    ensures report { IfOk result (λ report.
+        string_bytes report.text ≡ string_bytes json ++ codes "\n") }
+    ensures outcome { IfOk result (λ report. report.outcome ≡ Refused fault) }
+    ensures memory { IfErr result (λ e. e ≡ OutOfMemory) }
+{
+    Ok(Report {
+        text: with_line_feed(json)?,
+        outcome: Outcome::Refused(fault),
+    })
+}
+
+/// The fault as JSON, if it is one of the certificate.
+fn told_fault(alloc: Global, fault: AppFault) -> Result<Report, AppFault>
+    ensures { IsFaultReport Json fault result }
+{
+    match fault {
+        AppFault::Certificate(unread) => refusal(unread_json(alloc, unread)?, fault),
+        AppFault::Check(refused) => refusal(verdict_json(alloc, Err(refused))?, fault),
+        _ => Err(fault),
+    }
+}
+
+/// What is written of a certificate with this fault.
+fn fault_report(alloc: Global, fault: AppFault, form: AnswerForm) -> Result<Report, AppFault>
+    ensures { IsFaultReport form fault result }
+{
+    match form {
+        AnswerForm::Text => Err(fault),
+        AnswerForm::Json => told_fault(alloc, fault),
+    }
+}
+
+/// What is written of a certificate by the verdict on it.
+pub(crate) fn verdict_report(
+    alloc: Global,
+    verdict: Result<(), AppFault>,
+    form: AnswerForm,
+) -> Result<Report, AppFault>
+    ensures { IsVerdictReport form verdict result }
+{
+    match verdict {
+        Ok(()) => ok_report(alloc, form),
+        Err(fault) => fault_report(alloc, fault, form),
+    }
 }

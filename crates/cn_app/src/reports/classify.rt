@@ -1,35 +1,100 @@
 //! The report of `classify`.
-ghost use Rattle.std.specs.Prelude.{◌≡◌, IfErr, IfOk, None, Some, string_bytes};
-ghost use Rattle.cn_search.specs.NumberText.{number_text};
+ghost use Rattle.std.specs.Prelude.{◌≡◌, IfErr, IfOk, None, Some, option_map, string_bytes};
+ghost use Rattle.cn_documents.specs.Documents.{numbers_row};
 ghost use Rattle.cn_search.specs.declared.fault.FindFault.TheVariants.{OutOfMemory};
-ghost use Rattle.cn_app.specs.Commands.Classify.{AreBothWords, AreNumberWords, GivesLimit, IsClassReport, IsNumbersReport, IsRecoverableReport, given_limit_fault, line_with, line_with_both, number_words};
+ghost use Rattle.cn_app.specs.Commands.Classify.{AreBothNumbers, GivesLimit, IsClassificationOf};
+ghost use Rattle.cn_app.specs.Commands.Classify.{IsHeadReport, IsNumbersReport, IsTypeNumber};
+ghost use Rattle.cn_app.specs.Commands.Classify.{classification_in, classification_line};
+ghost use Rattle.cn_app.specs.Commands.Classify.{given_limit_fault, line_with, line_with_both};
+ghost use Rattle.cn_app.specs.Commands.Classify.{number_words, words_of};
 
 use crate::fault::AppFault;
-use crate::report::Report;
+use crate::report::{Report, with_line_feed};
+use cn_documents::{number_head, number_row};
+use cn_json::{Classification, DocumentForm, TypeNumber, classification_json};
 use cn_recover::{both_numbers, recoverable_number};
-use cn_search::{ConsensusNumber, FindFault, consensus_number, number};
+use cn_search::{FindFault, consensus_number, number};
 use cn_table::Table;
 use std::alloc::{AllocError, Global};
 use std::thread::Threads;
 
-/// Which numbers are written of each type.
+/// Which numbers are written of each type, and in which form.
 #[derive(Clone, Copy)]
 pub struct AskedNumbers {
     /// Up to which limit they are looked for, if one was given.
     pub limit: Option<u8>,
     /// Whether the recoverable number stands behind the number.
     pub recoverable: bool,
+    /// The form of the answer.
+    pub form: DocumentForm,
 }
 
-/// A number with no limit, as it stands in a line.
-fn exact_words_of(alloc: Global, number: ConsensusNumber) -> Result<String, AllocError>
-    ensures { IfOk result (λ words. string_bytes words ≡ number_text number) }
+/// The number of the table.
+fn number_of<T: Threads + Sync>(
+    rt: &T,
+    alloc: Global,
+    table: &Table,
+    limit: Option<u8>,
+) -> Result<TypeNumber, FindFault>
+    requires { given_limit_fault limit ≡ None }
+    ensures number { IfOk result (IsTypeNumber table.now limit) }
+    ensures refused { IfErr result (λ e. e ≡ OutOfMemory) }
 {
-    format!(in alloc; "{number}")
+    match limit {
+        None => Ok(TypeNumber::Exact(consensus_number(rt, alloc, table)?)),
+        Some(limit) => Ok(TypeNumber::UpTo(limit, number(rt, alloc, table, limit)?)),
+    }
 }
 
-/// A number up to the limit, as it stands in a line.
-fn words_of(alloc: Global, limit: u8, number: Option<u8>) -> Result<String, AllocError>
+/// The number and the recoverable number of a table.
+#[derive(Clone, Copy)]
+struct BothNumbers {
+    number: TypeNumber,
+    recoverable: TypeNumber,
+}
+
+/// Both numbers of the table up to the limit.
+fn both_up_to<T: Threads + Sync>(
+    rt: &T,
+    alloc: Global,
+    table: &Table,
+    limit: u8,
+) -> Result<BothNumbers, FindFault>
+    requires { given_limit_fault (Some limit) ≡ None }
+    ensures numbers { IfOk result (AreBothNumbers table.now (Some limit)) }
+    ensures refused { IfErr result (λ e. e ≡ OutOfMemory) }
+{
+    let number = number(rt, alloc, table, limit)?;
+    let recoverable = recoverable_number(rt, alloc, table, limit)?;
+    Ok(BothNumbers {
+        number: TypeNumber::UpTo(limit, number),
+        recoverable: TypeNumber::UpTo(limit, recoverable),
+    })
+}
+
+/// Both numbers of the table. With no limit they are looked for together.
+fn both_of<T: Threads + Sync>(
+    rt: &T,
+    alloc: Global,
+    table: &Table,
+    limit: Option<u8>,
+) -> Result<BothNumbers, FindFault>
+    requires { given_limit_fault limit ≡ None }
+    ensures numbers { IfOk result (AreBothNumbers table.now limit) }
+    ensures refused { IfErr result (λ e. e ≡ OutOfMemory) }
+{
+    let Some(limit) = limit else {
+        let both = both_numbers(rt, alloc, table)?;
+        return Ok(BothNumbers {
+            number: TypeNumber::Exact(both.number),
+            recoverable: TypeNumber::Exact(both.recoverable),
+        });
+    };
+    both_up_to(rt, alloc, table, limit)
+}
+
+/// A number up to the limit, in words.
+fn limited_words(alloc: Global, limit: u8, number: Option<u8>) -> Result<String, AllocError>
     ensures { IfOk result (λ words. string_bytes words ≡ number_words limit number) }
 {
     match number {
@@ -39,78 +104,13 @@ fn words_of(alloc: Global, limit: u8, number: Option<u8>) -> Result<String, Allo
     }
 }
 
-/// The number of the table, as it stands in a line.
-fn number_words<T: Threads + Sync>(
-    rt: &T,
-    alloc: Global,
-    table: &Table,
-    limit: Option<u8>,
-) -> Result<String, FindFault>
-    requires { given_limit_fault limit ≡ None }
-    ensures words { IfOk result (λ words. AreNumberWords table.now limit (string_bytes words)) }
-    ensures refused { IfErr result (λ e. e ≡ OutOfMemory) }
+/// A number in words.
+fn words_of(alloc: Global, number: TypeNumber) -> Result<String, AllocError>
+    ensures { IfOk result (λ words. string_bytes words ≡ words_of number) }
 {
-    match limit {
-        None => Ok(exact_words_of(alloc, consensus_number(rt, alloc, table)?)?),
-        Some(limit) => Ok(words_of(alloc, limit, number(rt, alloc, table, limit)?)?),
-    }
-}
-
-/// The number and the recoverable number of a table, as they stand in a line.
-#[derive(Drop)]
-struct BothWords {
-    number: String,
-    recoverable: String,
-}
-
-/// Both numbers of the table with no limit, which are looked for together.
-fn exact_words_of_both<T: Threads + Sync>(
-    rt: &T,
-    alloc: Global,
-    table: &Table,
-) -> Result<BothWords, AllocError>
-    ensures { IfOk result (AreBothWords table.now None) }
-{
-    let both = both_numbers(rt, alloc, table)?;
-    Ok(BothWords {
-        number: exact_words_of(alloc, both.number)?,
-        recoverable: exact_words_of(alloc, both.recoverable)?,
-    })
-}
-
-/// Both numbers of the table up to the limit.
-fn words_of_both<T: Threads + Sync>(
-    rt: &T,
-    alloc: Global,
-    table: &Table,
-    limit: u8,
-) -> Result<BothWords, FindFault>
-    requires { given_limit_fault (Some limit) ≡ None }
-    ensures words { IfOk result (AreBothWords table.now (Some limit)) }
-    ensures refused { IfErr result (λ e. e ≡ OutOfMemory) }
-{
-    let number = number(rt, alloc, table, limit)?;
-    let recoverable = recoverable_number(rt, alloc, table, limit)?;
-    Ok(BothWords {
-        number: words_of(alloc, limit, number)?,
-        recoverable: words_of(alloc, limit, recoverable)?,
-    })
-}
-
-/// Both numbers of the table.
-fn both_words<T: Threads + Sync>(
-    rt: &T,
-    alloc: Global,
-    table: &Table,
-    limit: Option<u8>,
-) -> Result<BothWords, FindFault>
-    requires { given_limit_fault limit ≡ None }
-    ensures words { IfOk result (AreBothWords table.now limit) }
-    ensures refused { IfErr result (λ e. e ≡ OutOfMemory) }
-{
-    match limit {
-        None => Ok(exact_words_of_both(rt, alloc, table)?),
-        Some(limit) => words_of_both(rt, alloc, table, limit),
+    match number {
+        TypeNumber::Exact(number) => format!(in alloc; "{number}"),
+        TypeNumber::UpTo(limit, number) => limited_words(alloc, limit, number),
     }
 }
 
@@ -119,6 +119,72 @@ fn line_of(alloc: Global, name: &str, number: &str) -> Result<String, AllocError
     ensures { IfOk result (λ line. string_bytes line ≡ line_with name.now number.now) }
 {
     format!(in alloc; "{name}: {number}\n")
+}
+
+/// The line of a type with its number and its recoverable number.
+fn recoverable_line_of(
+    alloc: Global,
+    name: &str,
+    number: &str,
+    recoverable: &str,
+) -> Result<String, AllocError>
+    ensures { IfOk result (λ line. string_bytes line
+        ≡ line_with_both name.now number.now recoverable.now) }
+{
+    format!(in alloc; "{name}: {number}, recoverable {recoverable}\n")
+}
+
+/// The numbers of a type as a line.
+fn classification_line(
+    alloc: Global,
+    classification: Classification<'_>,
+) -> Result<String, AllocError>
+    ensures { IfOk result (λ line. string_bytes line
+        ≡ classification_line classification.entry) }
+{
+    let name = classification.name;
+    let number = words_of(alloc, classification.number)?;
+    let Some(recoverable) = classification.recoverable else {
+        return line_of(alloc, name, number.as_str());
+    };
+    let recoverable = words_of(alloc, recoverable)?;
+    recoverable_line_of(alloc, name, number.as_str(), recoverable.as_str())
+}
+
+/// The numbers of the type of this table as a row of a Markdown table.
+fn classification_row(
+    alloc: Global,
+    table: &Table,
+    classification: Classification<'_>,
+) -> Result<String, AllocError>
+    ensures { IfOk result (λ row. string_bytes row ≡ numbers_row table.now.name
+        (words_of classification.entry.number)
+        (option_map words_of classification.entry.recoverable)) }
+{
+    let number = words_of(alloc, classification.number)?;
+    let Some(recoverable) = classification.recoverable else {
+        return number_row(alloc, table, number.as_str(), None);
+    };
+    let recoverable = words_of(alloc, recoverable)?;
+    number_row(alloc, table, number.as_str(), Some(recoverable.as_str()))
+}
+
+/// The numbers of the type of this table in a form.
+fn text_of(
+    alloc: Global,
+    table: &Table,
+    classification: Classification<'_>,
+    form: DocumentForm,
+) -> Result<String, AllocError>
+    requires { classification.name.now ≡ table.now.name }
+    ensures { IfOk result (λ text. string_bytes text
+        ≡ classification_in form classification.entry) }
+{
+    match form {
+        DocumentForm::Text => classification_line(alloc, classification),
+        DocumentForm::Json => with_line_feed(classification_json(alloc, classification)?),
+        DocumentForm::Markdown => classification_row(alloc, table, classification),
+    }
 }
 
 /// Whether numbers can be told up to the limit, if one was given: from 2 to 8.
@@ -138,68 +204,51 @@ pub fn check_limit(limit: Option<u8>) -> Result<(), AppFault>
     }
 }
 
-/// A line with the table's consensus number: the name of the type, a colon and a space, and the
-/// number ([`consensus_number`]): a number, `infinite`, or `N to M`.
+/// The numbers of the type of this table that are asked for: its consensus number
+/// ([`consensus_number`]), and its recoverable number ([`both_numbers`]) if that is asked for.
 ///
-/// With a limit, the number is the greatest n from 2 to the limit for which the type is
-/// n-discerning; `1` where there is none, and `at least` before it where it is the limit. What
-/// stands there without `at least` is the number for every greater limit too
-/// ([`greatest_below_the_limit`](cn_choice::laws::greatest_below_the_limit)). `rt` starts the
-/// threads of the search.
+/// With a limit, a number is the greatest n from 2 to the limit for which the type is n-discerning,
+/// or n-recording, if there is one. `rt` starts the threads of the search.
 ///
 /// # Errors
 ///
 /// `OutOfMemory`. [`check_limit`] tells whether the limit is one.
-pub fn class_report<T: Threads + Sync>(
+pub fn classification_of<'a, T: Threads + Sync>(
     rt: &T,
     alloc: Global,
-    table: &Table,
+    table: &'a Table,
     limit: Option<u8>,
-) -> Result<Report, AppFault>
+    recoverable: bool,
+) -> Result<Classification<'a>, FindFault>
     requires { given_limit_fault limit ≡ None }
-    ensures { IsClassReport table.now limit result }
+    ensures numbers { IfOk result (IsClassificationOf table.now limit recoverable) }
+    ensures refused { IfErr result (λ e. e ≡ OutOfMemory) }
 {
-    let number = number_words(rt, alloc, table, limit)?;
-    Ok(Report::whole(line_of(alloc, table.name(), number.as_str())?))
+    let name = table.name();
+    if !recoverable {
+        return Ok(Classification {
+            name,
+            number: number_of(rt, alloc, table, limit)?,
+            recoverable: None,
+        });
+    }
+    let both = both_of(rt, alloc, table, limit)?;
+    Ok(Classification {
+        name,
+        number: both.number,
+        recoverable: Some(both.recoverable),
+    })
 }
 
-/// The line of a type with its number and its recoverable number.
-fn recoverable_line_of(
-    alloc: Global,
-    name: &str,
-    number: &str,
-    recoverable: &str,
-) -> Result<String, AllocError>
-    ensures { IfOk result (λ line. string_bytes line
-        ≡ line_with_both name.now number.now recoverable.now) }
-{
-    format!(in alloc; "{name}: {number}, recoverable {recoverable}\n")
-}
-
-/// The line of [`class_report`], with a comma, the word recoverable and the recoverable number
-/// behind the number, written as the number is: the greatest n for which the type is n-recording
-/// ([`both_numbers`]).
+/// The numbers of a table that are asked for ([`classification_of`]), in a form.
 ///
-/// # Errors
-///
-/// `OutOfMemory`. [`check_limit`] tells whether the limit is one.
-pub fn recoverable_report<T: Threads + Sync>(
-    rt: &T,
-    alloc: Global,
-    table: &Table,
-    limit: Option<u8>,
-) -> Result<Report, AppFault>
-    requires { given_limit_fault limit ≡ None }
-    ensures { IsRecoverableReport table.now limit result }
-{
-    let words = both_words(rt, alloc, table, limit)?;
-    let (number, recoverable) = (words.number.as_str(), words.recoverable.as_str());
-    let line = recoverable_line_of(alloc, table.name(), number, recoverable)?;
-    Ok(Report::whole(line))
-}
-
-/// The line of a table with the numbers that are asked for: that of [`class_report`] or of
-/// [`recoverable_report`].
+/// As text they are a line: the name of the type, a colon and a space, and the number; then, if it
+/// is asked for, a comma, the word `recoverable` and the recoverable number. A number is `N`,
+/// `infinite`, or `N to M`. With a limit, it is `1` where there is none, and `at least N` where it
+/// is the limit. What stands there without `at least` is the number for every greater limit too
+/// ([`greatest_below_the_limit`](cn_choice::laws::greatest_below_the_limit)). As JSON they are a
+/// line with one object ([`classification_json`]), and in Markdown a row below the head of
+/// [`head_report`].
 ///
 /// # Errors
 ///
@@ -213,9 +262,18 @@ pub fn numbers_report<T: Threads + Sync>(
     requires { given_limit_fault asked.limit ≡ None }
     ensures { IsNumbersReport table.now asked result }
 {
-    if asked.recoverable {
-        recoverable_report(rt, alloc, table, asked.limit)
-    } else {
-        class_report(rt, alloc, table, asked.limit)
-    }
+    let numbers = classification_of(rt, alloc, table, asked.limit, asked.recoverable)?;
+    Ok(Report::whole(text_of(alloc, table, numbers, asked.form)?))
+}
+
+/// The head of the Markdown table whose rows [`numbers_report`] answers.
+///
+/// # Errors
+///
+/// That of [`check_limit`], or `OutOfMemory`.
+pub fn head_report(alloc: Global, asked: AskedNumbers) -> Result<Report, AppFault>
+    ensures { IsHeadReport asked result }
+{
+    check_limit(asked.limit)?;
+    Ok(Report::whole(number_head(alloc, asked.recoverable)?))
 }

@@ -72,7 +72,7 @@ pub fn lint_report(alloc: Global, bytes: &[u8], form: AnswerForm) -> Result<Repo
         Err(TableFault::OutOfMemory) => Err(AppFault::OutOfMemory),
         Err(fault) => Ok(Report {
             text: text_of_flaws(alloc, bytes, form)?,
-            outcome: Outcome::Refused(fault),
+            outcome: Outcome::Refused(AppFault::from(fault)),
         }),
     }
 }

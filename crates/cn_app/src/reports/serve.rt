@@ -7,11 +7,12 @@ ghost use Rattle.cn_app.specs.Threads.Workers.{EachHasOneGate};
 
 use crate::arguments::calls::calls_fit;
 use crate::fault::{AppFault, Argument};
-use crate::lines::threads::service_lines;
+use crate::lines::threads::service_text;
 use crate::report::{Outcome, Report};
 use crate::threads::serving::serve_calls;
 use crate::threads::workers::{End, ProcessHistory};
 use cn_hall::Gate;
+use cn_json::AnswerForm;
 use cn_log::laws::logs_are_linearized;
 use cn_log::{LogCore, Opening};
 use std::alloc::Global;
@@ -35,7 +36,7 @@ fn has_cut(worked: &[ProcessHistory]) -> bool
 /// Serves the object of this opening with a thread for each process. The thread makes the calls of
 /// the process's list, one after the other, until one has no reply. The report has a line for each
 /// call of each process, from 0 on, then a line for each entry of the log, and last a line with the
-/// events.
+/// events. As JSON it has all this as one object ([`service_json`](cn_json::service_json)).
 ///
 /// `make_gate` makes a gate for each process. Before each step of the process's calls the gate says
 /// whether they go on. It says On before it is asked. However the threads run, the report is that
@@ -52,11 +53,13 @@ pub fn serve_report<T: Threads + Wait + Sync, G: Gate + Send + Drop, F: Fn(u8) -
     alloc: Global,
     opening: Opening,
     calls: &[Vec<u8>],
+    form: AnswerForm,
     make_gate: F,
 ) -> Result<Report, AppFault>
     requires gates { F.IsAlwaysCallable make_gate }
     requires on { (p : ℕ) (g : _) → F.post make_gate p g → G.says g ≡ On }
-    ensures { IsServeReport (EachHasOneGate G.asks G.says (λ p g. F.post make_gate p g)) opening
+    ensures { IsServeReport (EachHasOneGate G.asks G.says (λ p g. F.post make_gate p g)) form
+        opening
         (map (λ list. list.items) calls.now) result }
 {
     if !calls_fit(&opening, calls) {
@@ -66,7 +69,7 @@ pub fn serve_report<T: Threads + Wait + Sync, G: Gate + Send + Drop, F: Fn(u8) -
     let service = serve_calls(rt, alloc, make_gate, core, calls)?;
     logs_are_linearized(&service.core);
     let opening = service.core.opening();
-    let text = service_lines(alloc, opening.object(), opening.start(), &service)?;
+    let text = service_text(alloc, opening.object(), opening.start(), &service, form)?;
     let outcome = Outcome::cut_if(has_cut(&service.processes));
     Ok(Report { text, outcome })
 }

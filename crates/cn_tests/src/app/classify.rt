@@ -6,6 +6,7 @@ use crate::types::*;
 use cn_app::commands::{NamedTable, Tell, classify_each};
 use cn_app::reports::AskedNumbers;
 use cn_app::{AppFault, Output, Source, Text};
+use cn_json::DocumentForm;
 use std::alloc::Global;
 use std::process::Abort;
 use std::thread::Threads;
@@ -66,6 +67,7 @@ fn is_told<T: Threads + Sync>(
     let asked = AskedNumbers {
         limit: Some(8),
         recoverable: false,
+        form: DocumentForm::Text,
     };
     let fault = classify_each(rt, alloc, &mut tables, &mut output, &mut kept, asked);
     let whole = "test_and_set: 2\nsticky_bit: at least 8\n".as_bytes();

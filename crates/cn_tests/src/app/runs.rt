@@ -24,6 +24,21 @@ pub(crate) fn helped_lines() -> &'static str {
     "answer 1 0 1\nanswer 0 0 0\nentry 0 0 inc 0 1\nentry 0 1 inc 1 2"
 }
 
+/// The same as JSON.
+fn helped_log() -> &'static str {
+    concat!(
+        r#"{"answers":[{"end":"answered","process":1,"response":"1","slot":0},"#,
+        r#"{"end":"answered","process":0,"response":"0","slot":0}],"#,
+        r#""entries":[{"operation":"inc","process":0,"response":"0","slot":0,"state":"1"},"#,
+        r#"{"operation":"inc","process":1,"response":"1","slot":0,"state":"2"}]}"#,
+    )
+}
+
+/// The output of `classify` with the recoverable number as JSON.
+fn test_and_set_classified() -> &'static str {
+    r#"{"name":"test_and_set","number":2,"recoverable":1}"#
+}
+
 /// The output of `show` for the plan of test-and-set.
 pub(crate) fn test_and_set_shown() -> &'static str {
     r#"type test_and_set processes 2 nodes 1 start zero
@@ -40,6 +55,18 @@ answer 0 1 1
 entry 0 0 inc 0 1
 entry 1 0 inc 1 2
 events i0:0,s0,s0,s0,s0,s0,s0,i0:0,s0,s0,s0,s0,s0,s0"#
+}
+
+/// The same as JSON.
+fn test_and_set_service() -> &'static str {
+    concat!(
+        r#"{"answers":[{"end":"answered","process":0,"response":"0","slot":0},"#,
+        r#"{"end":"answered","process":0,"response":"1","slot":1}],"#,
+        r#""entries":[{"operation":"inc","process":0,"response":"0","slot":0,"state":"1"},"#,
+        r#"{"operation":"inc","process":0,"response":"1","slot":1,"state":"2"}],"#,
+        r#""events":["i0:0","s0","s0","s0","s0","s0","s0","#,
+        r#""i0:0","s0","s0","s0","s0","s0","s0"]}"#,
+    )
 }
 
 /// The output of `agree` with the steps: process 1 comes first, and process 0 runs alone after it.
@@ -172,16 +199,19 @@ fn opening() -> OpeningWords<'static> {
 }
 
 /// The examples. `run_command` gives them their texts, whatever files they name.
-pub(crate) fn all_examples() -> [Example; 18] {
+pub(crate) fn all_examples() -> [Example; 23] {
     let (certificate, form) = (TextSource::File("CERT"), Form::Text);
     [
         Example::new(Command::Find { limit: Some(3) }, found_test_and_set_at_3()),
-        Example::of_numbers(false, "test_and_set: 2"),
-        Example::of_numbers(true, "test_and_set: 2, recoverable 1"),
+        Example::of_numbers(false, DocumentForm::Text, "test_and_set: 2"),
+        Example::of_numbers(true, DocumentForm::Text, "test_and_set: 2, recoverable 1"),
+        Example::of_numbers(true, DocumentForm::Json, test_and_set_classified()),
+        Example::of_numbers(true, DocumentForm::Markdown, "| test_and_set | 2 | 1 |"),
         Example::of_lint(AnswerForm::Text, test_and_set_grid()),
         Example::of_lint(AnswerForm::Json, r#"{"flaws":[]}"#),
         Example::new(Command::Draw, test_and_set_picture()),
         Example::of_check(AnswerForm::Text, "ok"),
+        Example::of_check(AnswerForm::Json, r#"{"ok":true}"#),
         Example::new(
             Command::Explain {
                 certificate,
@@ -206,7 +236,9 @@ pub(crate) fn all_examples() -> [Example; 18] {
         Example::of_run(false, AnswerForm::Json, r#"{"decisions":[20,null]}"#),
         Example::of_run(true, AnswerForm::Json, test_and_set_course()),
         Example::of_replay(AnswerForm::Text, helped_lines()),
+        Example::of_replay(AnswerForm::Json, helped_log()),
         Example::of_serve(AnswerForm::Text, test_and_set_served()),
+        Example::of_serve(AnswerForm::Json, test_and_set_service()),
     ]
 }
 
@@ -266,7 +298,7 @@ fn run_command<T: Threads + Wait + Sync>(
         Command::Draw => commands::draw(alloc, table, output),
         Command::Why { limit, all, .. } => commands::why(rt, alloc, table, output, limit, all),
         Command::Pairs { form } => commands::pairs(rt, alloc, table, output, form),
-        Command::Check { .. } => commands::check(alloc, table, certificate, output),
+        Command::Check { form, .. } => commands::check(alloc, table, certificate, output, form),
         Command::Explain { all, .. } => commands::explain(alloc, table, certificate, output, all),
         Command::Show { form, .. } => commands::show(alloc, table, certificate, output, form),
         Command::Agree {
@@ -280,12 +312,12 @@ fn run_command<T: Threads + Wait + Sync>(
             let asked = AskedRun { steps, form };
             commands::agree(alloc, table, certificate, output, inputs, schedule, asked)
         }
-        Command::Replay { events, .. } => {
-            commands::replay(alloc, given, output, list_text(events))
+        Command::Replay { events, form, .. } => {
+            commands::replay(alloc, given, output, list_text(events), form)
         }
-        Command::Serve { calls, .. } => {
+        Command::Serve { calls, form, .. } => {
             let calls = list_text(calls);
-            commands::serve(rt, alloc, given, output, calls, |_| AlwaysOn)
+            commands::serve(rt, alloc, given, output, calls, form, |_| AlwaysOn)
         }
     }
 }
@@ -363,12 +395,14 @@ impl Example {
         Example::new(command, lines)
     }
 
-    /// The number up to 8 processes, and the recoverable number too if it is asked for.
-    fn of_numbers(recoverable: bool, lines: &'static str) -> Example {
+    /// The number up to 8 processes, and the recoverable number too if it is asked for, in this
+    /// form.
+    fn of_numbers(recoverable: bool, form: DocumentForm, lines: &'static str) -> Example {
         Example {
             work: Work::Numbers(AskedNumbers {
                 limit: Some(8),
                 recoverable,
+                form,
             }),
             lines,
         }

@@ -8,6 +8,7 @@ use crate::types::*;
 use cn_app::readers::OpeningArguments;
 use cn_app::{AppFault, ListText, Outcome, Output, Text, commands};
 use cn_hall::{Gate, Go};
+use cn_json::AnswerForm;
 use std::alloc::Global;
 use std::process::Abort;
 use std::sync::Wait;
@@ -36,7 +37,8 @@ where
     };
     let mut output = Output::new(alloc, Vec::new(alloc));
     let calls = ListText::Word(calls);
-    let ended = commands::serve(rt, alloc, &mut given, &mut output, calls, make_gate);
+    let form = AnswerForm::Text;
+    let ended = commands::serve(rt, alloc, &mut given, &mut output, calls, form, make_gate);
     (ended, output.into_writer())
 }
 

@@ -1,4 +1,5 @@
 use Rattle.std.proofs.Common.{None}
+use Rattle.cn_json.specs.declared.form.AnswerForm.TheVariants as answer
 use Rattle.cn_app.specs.Commands.Check.{HasCheckReport}
 use Rattle.cn_app.specs.Runs.{check_of}
 use Rattle.cn_app.proofs.RunLemmas.{check_is, of_certificate, of_table, written}
@@ -15,7 +16,7 @@ returns g c =
         (
           d.0,
           d.1,
-          written (λ _. None) g.W.Write.contents (HasCheckReport c.check-ended.new.table c.check-ended.new.certificate) (check_of t.0 d.0) c.kept-output.result c.check-ended.new.output
+          written (λ _. None) g.W.Write.contents (HasCheckReport c.check-ended.new.table c.check-ended.new.certificate answer.Text) (check_of t.0 d.0) c.kept-output.result c.check-ended.new.output
               c.kept-output.ensures (check_is c.check-ended.new.table c.check-ended.new.certificate t.0 d.0 t.2 d.2) c.args.writer.now c.hand_over.new.writer c.check-ended.result c.hand_over.result c.check-ended.ensures.checked c.hand_over.ensures,
         ),
       );

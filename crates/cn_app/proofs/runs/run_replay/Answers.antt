@@ -1,4 +1,5 @@
 use Rattle.std.proofs.Common.{None, ap}
+use Rattle.cn_json.specs.declared.form.AnswerForm.TheVariants as answer
 use Rattle.cn_app.specs.Commands.Replay.{HasReplayReport}
 use Rattle.cn_app.specs.Runs.{replay_of}
 use Rattle.cn_app.specs.declared.arguments.list_text.ListText.TheVariants.{Word}
@@ -22,7 +23,7 @@ returns g c =
           (
             o.0,
             o.1,
-            written (λ _. None) g.W.Write.contents (HasReplayReport c.replay-ended.new.given events)
+            written (λ _. None) g.W.Write.contents (HasReplayReport c.replay-ended.new.given events answer.Text)
                 (replay_of t.0 d.0 o.0 c.args.start.now c.args.capacity.now events) c.kept-output.result c.replay-ended.new.output c.kept-output.ensures
                 (replay_is c.replay-ended.new.given t.0 d.0 o.0 t.2 d.2 o.2 c.args.start.now c.args.capacity.now (ap (λ word. word.now) read.start) (ap (λ word. word.now) read.capacity) events)
                 c.args.writer.now c.hand_over.new.writer c.replay-ended.result c.hand_over.result c.replay-ended.ensures.served c.hand_over.ensures,

@@ -1,4 +1,5 @@
 use Rattle.std.proofs.Common.{None, ap}
+use Rattle.cn_json.specs.declared.form.AnswerForm.TheVariants as answer
 use Rattle.cn_app.specs.Commands.Serve.{HasServeReport}
 use Rattle.cn_app.specs.Runs.{serve_of}
 use Rattle.cn_app.specs.Threads.Workers.{EachHasOneGate}
@@ -24,7 +25,7 @@ returns g c =
           (
             o.0,
             o.1,
-            written (λ _. None) g.W.Write.contents (HasServeReport gates c.serve-ended.new.given calls)
+            written (λ _. None) g.W.Write.contents (HasServeReport gates c.serve-ended.new.given calls answer.Text)
                 (serve_of gates t.0 d.0 o.0 c.args.start.now c.args.capacity.now calls) c.kept-output.result c.serve-ended.new.output c.kept-output.ensures
                 (serve_is c.serve-ended.new.given t.0 d.0 o.0 t.2 d.2 o.2 c.args.start.now c.args.capacity.now (ap (λ word. word.now) read.start) (ap (λ word. word.now) read.capacity) gates calls)
                 c.args.writer.now c.hand_over.new.writer c.serve-ended.result c.hand_over.result c.serve-ended.ensures.served c.hand_over.ensures,

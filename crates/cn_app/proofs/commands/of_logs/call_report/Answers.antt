@@ -15,4 +15,4 @@ pub returns : goal.returns
 returns g c =
     let gates = EachHasOneGate g.G.Gate.asks g.G.Gate.says (λ p x. goal.F-post g c.args.make_gate p x) in
     let same = ap (map (λ list. list.items)) c.deref.ensures.value ∙ c.in_ok-calls.ensures ∙ ap (λ (t : TypeTable). calls_in t (map (λ list. list.items) c.args.lists.now)) c.object.ensures in
-    served_as gates c.args.opening _ _ c.serve_report.result same c.serve_report.ensures
+    served_as gates c.args.form c.args.opening _ _ c.serve_report.result same c.serve_report.ensures

@@ -14,4 +14,4 @@ returns-in_err-events c =
 pub returns : goal.returns
 returns c =
     let same = c.deref.ensures.value ∙ c.in_ok-events.ensures ∙ ap (λ (t : TypeTable). events_in t (words_of c.args.list)) c.object.ensures in
-    subst (λ (events : List Event). IsReplayReport c.args.opening events c.replay_report.result) same c.replay_report.ensures
+    subst (λ (events : List Event). IsReplayReport c.args.form c.args.opening events c.replay_report.result) same c.replay_report.ensures

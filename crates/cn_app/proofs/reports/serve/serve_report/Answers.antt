@@ -5,7 +5,7 @@ use Rattle.cn_log.specs.Opening.{Opening}
 use Rattle.cn_app.specs.Arguments.Calls.{calls_fit}
 use Rattle.cn_app.specs.Commands.Serve.{outcome_of_calls}
 use Rattle.cn_app.specs.Outcomes.{cut_if}
-use Rattle.cn_app.specs.Lines.Threads.{service_lines}
+use Rattle.cn_app.specs.Lines.Threads.{service_text}
 use Rattle.cn_app.proofs.ArgumentLemmas.Calls.{calls_of_operations}
 use Rattle.cn_app.proofs.LineLemmas.Threads.{each_has_responses, each_served}
 use Rattle.cn_app.proofs.reports.serve.serve_report.Goals as goal
@@ -18,8 +18,8 @@ serve_calls-requires-clause-operations g c κs within =
     let fit : calls_fit c.args.opening (lists_of c.args.calls.now) ≡ true = search rules in
     rw c.in_ok-core.ensures.opening (calls_of_operations (λ list. list.items) c.args.opening c.args.calls.now fit)
 
-pub service_lines-requires-clause-range : goal.service_lines-requires-clause-range
-service_lines-requires-clause-range g c =
+pub service_text-requires-clause-range : goal.service_text-requires-clause-range
+service_text-requires-clause-range g c =
     each_has_responses c.object.result.now c.args.calls.now c.in_ok-service.service.core c.in_ok-service.service.processes.items (sym (c.object.ensures ∙ ap (λ (o : Opening). o.object) c.opening-opening.ensures))
     c.in_ok-service.ensures.count c.in_ok-service.ensures.served
 
@@ -43,7 +43,7 @@ returns g c =
       each = c.in_ok-service.ensures.count ∙ sym (length-map c.args.calls.now (λ list. list.items));
       served = each_served core c.args.calls.now worked c.in_ok-service.ensures.served;
       gated = c.in_ok-service.ensures.gates;
-      written = c.in_ok-text.ensures ∙ (λ i. service_lines (object i) (start i) worked core);
+      written = c.in_ok-text.ensures ∙ (λ i. service_text c.args.form (object i) (start i) worked core);
       ended = c.cut_if-outcome.ensures ∙ ap cut_if c.has_cut.ensures ∙ ap outcome_of_calls c.deref.ensures.value;
     }
 

@@ -1,7 +1,7 @@
 use Rattle.std.proofs.Common.{rules, append_assoc}
 use Rattle.std.proofs.lemmas.Bool.{lt-ltb}
 use Rattle.cn_app.proofs.ReportLemmas.Numbers.{not_below}
-use Rattle.cn_app.proofs.reports.classify.words_of.Goals as goal
+use Rattle.cn_app.proofs.reports.classify.limited_words.Goals as goal
 
 pub returns-in-None : goal.returns-in-None
 returns-in-None c = rw c.in-None.is (search (rules, append_assoc))

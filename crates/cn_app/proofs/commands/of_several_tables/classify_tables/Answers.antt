@@ -4,7 +4,7 @@ use Rattle.cn_app.specs.Commands.ClassifyEach.{AreClassified}
 use Rattle.cn_app.specs.Commands.Classify.{HasClassReport}
 use Rattle.cn_app.specs.declared.commands.of_several_tables.NamedTable.{NamedTable}
 use Rattle.cn_app.proofs.CommandLemmas.SeveralTables.{all_classified, ends_all, leads_by_fault, leads_by_line, noted_at, of_line, one_place_on, placed, still_behind, still_unread, writable_after_fault, writable_after_line}
-use Rattle.cn_app.proofs.commands.of_several_tables.classify_each.Goals as goal
+use Rattle.cn_app.proofs.commands.of_several_tables.classify_tables.Goals as goal
 
 pub classify-requires-clause-table : goal.classify-requires-clause-table
 classify-requires-clause-table g c κs within =

@@ -1,7 +1,7 @@
 use Rattle.std.proofs.Common.{◌≡◌, take, drop}
 use Rattle.cn_app.specs.Streams.Writing.{IsWritable}
 use Rattle.cn_app.proofs.CommandLemmas.SeveralTables.{Leads}
-use Rattle.cn_app.proofs.commands.of_several_tables.classify_each.Given as goal
+use Rattle.cn_app.proofs.commands.of_several_tables.classify_tables.Given as goal
 
 abbrev pub invariant-loop-i : goal.invariant-loop-i
 invariant-loop-i g l = record {

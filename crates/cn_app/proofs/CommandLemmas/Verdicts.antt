@@ -1,0 +1,17 @@
+-- The report on the verdict of the check.
+use Rattle.std.proofs.Common.{◌≡◌, inl, inr, Result, Ok, Err, refl}
+use Rattle.cn_table.specs.TypeTable.{TypeTable}
+use Rattle.cn_json.specs.declared.form.AnswerForm.{AnswerForm}
+use Rattle.cn_app.specs.Commands.Check.{HasVerdictReport, IsVerdictReport}
+use Rattle.cn_app.specs.Texts.Checked.{EndsCheck}
+use Rattle.cn_app.specs.declared.fault.AppFault.{AppFault}
+use Rattle.cn_app.specs.declared.readers.checked.Checked.{Checked}
+use Rattle.cn_app.specs.declared.report.Report.{Report}
+use Rattle.cn_app.specs.declared.streams.text.Text.{Text}
+
+pub verdict_told : {C : Type 0} (t : TypeTable) (certificate : Text C) (told : AnswerForm) (verdict : Result (Unit {0}) AppFault) (r : Result Report AppFault)
+    → EndsCheck t certificate verdict → IsVerdictReport told verdict r → HasVerdictReport certificate told t r
+verdict_told t certificate told (Ok done) r ends report =
+    let checked : Checked = record { table = t; certificate = ends.0 } in
+    inr (checked, inr (ends.0, ends.1, (ends.2, refl, refl)), report checked ends.2)
+verdict_told t certificate told (Err e) r ends report = inl (e, ends, report)
