@@ -18,8 +18,8 @@ use Rattle.cn_json.specs.Numbers.{classification_data}
 use Rattle.cn_json.specs.declared.form.DocumentForm.{DocumentForm}
 use Rattle.cn_json.specs.declared.form.DocumentForm.TheVariants as form
 use Rattle.cn_json.specs.declared.numbers.Classification.{Classification}
-use Rattle.cn_json.specs.declared.numbers.TypeNumber.{TypeNumber}
-use Rattle.cn_json.specs.declared.numbers.TypeNumber.TheVariants.{Exact, UpTo}
+use Rattle.cn_forms.specs.declared.numbers.TypeNumber.{TypeNumber}
+use Rattle.cn_forms.specs.declared.numbers.TypeNumber.TheVariants.{Exact, UpTo}
 use Rattle.cn_app.specs.FaultText.{plain_of}
 use Rattle.cn_app.specs.Steps.{Then}
 use Rattle.cn_app.specs.Texts.Contents.{GivesTable}
