@@ -148,7 +148,7 @@ module _ {S D F W : Type 0} (remaining : S → Option (List ℕ)) (left : LazyFi
       contents files table (λ t. HasDrawReport t) u v r
   RunsOn stdin table (Why limit all form) u v r =
       ReadsTable (left_of remaining left) (left_of remaining left) left contents files table
-      (λ t. HasWhyReport t limit all) u v r
+      (λ t. HasWhyReport t limit all form) u v r
   RunsOn stdin table (Pairs form) u v r =
       ReadsTable (left_of remaining left) (left_of remaining left) left contents files table
       (λ t. HasPairsReport t form) u v r
@@ -157,7 +157,7 @@ module _ {S D F W : Type 0} (remaining : S → Option (List ℕ)) (left : LazyFi
       (Unit {0}) (λ t d. HasCheckReport t d form) u v r)
   RunsOn stdin table (Explain certificate all form) u v r = With stdin certificate
       (λ c. ReadsBoth (left_of remaining left) (left_of remaining left) left contents files table c
-      (Unit {0}) (λ t d. HasExplainReport t d all) u v r)
+      (Unit {0}) (λ t d. HasExplainReport t d all form) u v r)
   RunsOn stdin table (Show certificate form) u v r = With stdin certificate
       (λ c. ReadsBoth (left_of remaining left) (left_of remaining left) left contents files table c
       (Unit {0}) (λ t d. HasShowReport t d form) u v r)

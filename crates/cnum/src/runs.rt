@@ -206,7 +206,9 @@ pub fn run<T: Threads + Wait + Sync + Disk, S: Read + Copy + Drop, O: Write>(
         Command::Find { limit } => commands::find(rt, alloc, text, output, limit),
         Command::Lint { form } => commands::lint(alloc, text, output, form),
         Command::Draw => commands::draw(alloc, text, output),
-        Command::Why { limit, all, .. } => commands::why(rt, alloc, text, output, limit, all),
+        Command::Why { limit, all, form } => {
+            commands::why(rt, alloc, text, output, limit, all, form)
+        }
         Command::Pairs { form } => commands::pairs(rt, alloc, text, output, form),
         Command::Check { certificate, form } => {
             let certificate = &mut text_of(rt, alloc, stdin, certificate);
@@ -215,10 +217,10 @@ pub fn run<T: Threads + Wait + Sync + Disk, S: Read + Copy + Drop, O: Write>(
         Command::Explain {
             certificate,
             all,
-            ..
+            form,
         } => {
             let certificate = &mut text_of(rt, alloc, stdin, certificate);
-            commands::explain(alloc, text, certificate, output, all)
+            commands::explain(alloc, text, certificate, output, all, form)
         }
         Command::Show { certificate, form } => {
             let certificate = &mut text_of(rt, alloc, stdin, certificate);

@@ -1,9 +1,16 @@
--- What `explain` writes: a function of the table and the certificate that it reads.
-use Rattle.std.specs.Prelude.{◌≡◌, Bool, None, Result, Ok, Err, string_bytes}
+-- What `explain` writes: a function of the table and the certificate that it reads, and of the form.
+use Rattle.std.specs.Prelude.{◌≡◌, ◌++◌, ℕ, List, codes, Bool, None, Result, Ok, Err, string_bytes}
+use Rattle.serde_json.specs.Written.{compact_text}
+use Rattle.cn_documents.specs.Explanation.{explanation_markdown}
 use Rattle.cn_forms.specs.Explanation.{Explains}
 use Rattle.cn_forms.specs.Reasons.{explanation_text}
 use Rattle.cn_forms.specs.declared.explained.value.Explanation.{Explanation}
 use Rattle.cn_forms.specs.declared.numbers.TypeNumber.TheVariants.{UpTo}
+use Rattle.cn_json.specs.Explanation.{explanation_data}
+use Rattle.cn_json.specs.Forms.{document_form}
+use Rattle.cn_json.specs.declared.form.AnswerForm.{AnswerForm}
+use Rattle.cn_json.specs.declared.form.DocumentForm.{DocumentForm}
+use Rattle.cn_json.specs.declared.form.DocumentForm.TheVariants as form
 use Rattle.cn_app.specs.Commands.Check.{HasItsNumber}
 use Rattle.cn_app.specs.Steps.{Then}
 use Rattle.cn_app.specs.Texts.Checked.{GivesChecked}
@@ -19,17 +26,24 @@ abbrev pub ExplainsChecked : Checked → Bool → Explanation → Type 0
 ExplainsChecked checked all e =
     let c = checked.certificate in Explains checked.table c (UpTo c.limit c.number) None all e
 
--- the result of explaining a certificate: its number is right, and the text tells why; the only
--- fault is want of memory
-abbrev pub IsExplainReport : Checked → Bool → Result Report AppFault → Type 0
-IsExplainReport checked all (Ok report) = HasItsNumber checked
+-- the text of an explanation in a form
+abbrev pub explanation_in : DocumentForm → Explanation → List ℕ
+explanation_in form.Text e = explanation_text e
+explanation_in form.Json e = compact_text (explanation_data e) ++ codes "\n"
+explanation_in form.Markdown e = explanation_markdown e
+
+-- the result of explaining a certificate in a form: its number is right, and the text tells why; the
+-- only fault is want of memory
+abbrev pub IsExplainReport : Checked → Bool → DocumentForm → Result Report AppFault → Type 0
+IsExplainReport checked all told (Ok report) = HasItsNumber checked
     × ((e : Explanation) × ExplainsChecked checked all e
-    × (string_bytes report.text ≡ explanation_text e))
+    × (string_bytes report.text ≡ explanation_in told e))
     × (report.outcome ≡ Whole)
-IsExplainReport checked all (Err e) = e ≡ OutOfMemory
+IsExplainReport checked all told (Err e) = e ≡ OutOfMemory
 
 -- the result of `explain` for two texts
-abbrev pub HasExplainReport : {R C : Type 0} → Text R → Text C → Bool
+abbrev pub HasExplainReport : {R C : Type 0} → Text R → Text C → Bool → AnswerForm
     → Result Report AppFault → Type 0
-HasExplainReport table certificate all r =
-    Then (GivesChecked table certificate) (λ checked. IsExplainReport checked all) r
+HasExplainReport table certificate all told r =
+    Then (GivesChecked table certificate)
+    (λ checked. IsExplainReport checked all (document_form told)) r

@@ -1,4 +1,5 @@
--- What `why` writes: a function of the table that it reads and of the limit, if one was given.
+-- What `why` writes: a function of the table that it reads, of the limit, if one was given, and of the
+-- form.
 use Rattle.std.specs.Prelude.{◌≡◌, ℕ, List, Bool, Option, Some, None, MatchOption, Result, Ok, Err}
 use Rattle.std.specs.Prelude.{string_bytes}
 use Rattle.cn_table.specs.TypeTable.{TypeTable}
@@ -9,10 +10,10 @@ use Rattle.cn_search.specs.Numbers.{HasNumber}
 use Rattle.cn_search.specs.declared.exact.ConsensusNumber.{ConsensusNumber}
 use Rattle.cn_cert.specs.Certificate.{Certificate}
 use Rattle.cn_forms.specs.Explanation.{Explains}
-use Rattle.cn_forms.specs.Reasons.{explanation_text}
 use Rattle.cn_forms.specs.declared.explained.value.Explanation.{Explanation}
 use Rattle.cn_forms.specs.declared.numbers.TypeNumber.TheVariants.{Exact}
-use Rattle.cn_app.specs.Commands.Explain.{IsExplainReport}
+use Rattle.cn_json.specs.declared.form.DocumentForm.{DocumentForm}
+use Rattle.cn_app.specs.Commands.Explain.{explanation_in, IsExplainReport}
 use Rattle.cn_app.specs.Commands.Find.{GivesFound, IsFoundCertificate, IsLimitFor}
 use Rattle.cn_app.specs.Steps.{Then}
 use Rattle.cn_app.specs.Texts.Contents.{GivesTable}
@@ -24,9 +25,10 @@ use Rattle.cn_app.specs.declared.fault.AppFault.TheVariants.{OutOfMemory}
 
 -- the result of `why` for a table and a limit: that of `explain` for the certificate that `find`
 -- finds
-abbrev pub IsLimitedReport : TypeTable → ℕ → Bool → Result Report AppFault → Type 0
-IsLimitedReport t limit all r =
-    Then (GivesFound t limit) (λ c. IsExplainReport (record { table = t; certificate = c }) all) r
+abbrev pub IsLimitedReport : TypeTable → ℕ → Bool → DocumentForm → Result Report AppFault → Type 0
+IsLimitedReport t limit all told r =
+    Then (GivesFound t limit)
+    (λ c. IsExplainReport (record { table = t; certificate = c }) all told) r
 
 -- the explanation is of the number of the table with no limit: with two operations that last, if any
 -- do, and the certificate up to the greatest limit
@@ -41,23 +43,27 @@ pub record ExplainsNumber (t : TypeTable) (all : Bool) (e : Explanation) : Type 
   pub is_lasting : MatchOption lasting (NoneLast t) (IsLasting t)
   pub explains : Explains t certificate (Exact number) lasting all e
 
--- the text tells the number of the table with no limit and the reasons for it
-pub record HasReasonsFor (t : TypeTable) (all : Bool) (text : List ℕ) : Type 0 where
+-- the text tells the number of the table with no limit and the reasons for it, in a form
+pub record HasReasonsFor (t : TypeTable) (all : Bool) (told : DocumentForm) (text : List ℕ)
+    : Type 0 where
   pub explanation : Explanation
   pub explains : ExplainsNumber t all explanation
-  pub written : text ≡ explanation_text explanation
+  pub written : text ≡ explanation_in told explanation
 
 -- the result of `why` for a table with no limit; the only fault is want of memory
-abbrev pub IsReasonsReport : TypeTable → Bool → Result Report AppFault → Type 0
-IsReasonsReport t all (Ok report) =
-    HasReasonsFor t all (string_bytes report.text) × (report.outcome ≡ Whole)
-IsReasonsReport t all (Err e) = e ≡ OutOfMemory
+abbrev pub IsReasonsReport : TypeTable → Bool → DocumentForm → Result Report AppFault → Type 0
+IsReasonsReport t all told (Ok report) =
+    HasReasonsFor t all told (string_bytes report.text) × (report.outcome ≡ Whole)
+IsReasonsReport t all told (Err e) = e ≡ OutOfMemory
 
 -- the result of `why` for a table, with a given limit or none
-abbrev pub IsWhyReport : TypeTable → Option ℕ → Bool → Result Report AppFault → Type 0
-IsWhyReport t (Some limit) all r = IsLimitedReport t limit all r
-IsWhyReport t None all r = IsReasonsReport t all r
+abbrev pub IsWhyReport : TypeTable → Option ℕ → Bool → DocumentForm → Result Report AppFault
+    → Type 0
+IsWhyReport t (Some limit) all told r = IsLimitedReport t limit all told r
+IsWhyReport t None all told r = IsReasonsReport t all told r
 
 -- the result of `why` for a text
-abbrev pub HasWhyReport : {R : Type 0} → Text R → Option ℕ → Bool → Result Report AppFault → Type 0
-HasWhyReport text given all r = Then (GivesTable text) (λ t s. IsWhyReport t given all s) r
+abbrev pub HasWhyReport : {R : Type 0} → Text R → Option ℕ → Bool → DocumentForm
+    → Result Report AppFault → Type 0
+HasWhyReport text given all told r =
+    Then (GivesTable text) (λ t s. IsWhyReport t given all told s) r

@@ -53,8 +53,8 @@ pub fn check<R: Read, C: Read, W: Write>(
     output.report(verdict_report(alloc, verdict, form))
 }
 
-/// Reads a type table and a certificate, checks the certificate against the table, and writes an
-/// explanation of the number for people ([`explain_report`]).
+/// Reads a type table and a certificate, checks the certificate against the table, and writes
+/// why its number is what it is, in a form ([`explain_report`]).
 ///
 /// # Errors
 ///
@@ -65,17 +65,18 @@ pub fn explain<R: Read, C: Read, W: Write>(
     certificate: &mut Text<C>,
     output: &mut Output<W>,
     all: bool,
+    form: AnswerForm,
 ) -> Result<Outcome, AppFault>
     requires texts { IsUnread table.old × IsUnread certificate.old }
     requires output { IsWritable output.old }
 
     ensures read { HaveReadBoth R.remaining C.remaining table.old table.new
         certificate.old certificate.new }
-    ensures explained { Reports W.contents (HasExplainReport table.new certificate.new all)
+    ensures explained { Reports W.contents (HasExplainReport table.new certificate.new all form)
         output.old output.new result }
 {
     let checked = read_checked(alloc, table, certificate)?;
-    output.report(explain_report(alloc, checked, all))
+    output.report(explain_report(alloc, checked, all, form.of_document()))
 }
 
 /// Reads a type table and a certificate, checks the certificate against the table, and writes the

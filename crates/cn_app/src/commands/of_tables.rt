@@ -48,8 +48,8 @@ pub fn find<T: Threads + Sync, R: Read, W: Write>(
     output.report(find_report(rt, alloc, &table, limit))
 }
 
-/// Reads a type table and writes an explanation for people of its consensus number, up to the limit
-/// if one was given ([`why_report`]).
+/// Reads a type table and writes why its consensus number is what it is, up to the limit if one was
+/// given, in a form ([`why_report`]).
 ///
 /// # Errors
 ///
@@ -61,16 +61,17 @@ pub fn why<T: Threads + Sync, R: Read, W: Write>(
     output: &mut Output<W>,
     limit: Option<u8>,
     all: bool,
+    form: DocumentForm,
 ) -> Result<Outcome, AppFault>
     requires table { IsUnread table.old }
     requires output { IsWritable output.old }
 
     ensures read { HasRead Source.Table R.remaining table.old table.new }
-    ensures told { Reports W.contents (HasWhyReport table.new limit all)
+    ensures told { Reports W.contents (HasWhyReport table.new limit all form)
         output.old output.new result }
 {
     let table = read_table(alloc, table)?;
-    output.report(why_report(rt, alloc, table, limit, all))
+    output.report(why_report(rt, alloc, table, limit, all, form))
 }
 
 /// Reads a type table and writes the numbers of its operations and of their pairs in a form

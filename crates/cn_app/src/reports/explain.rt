@@ -1,15 +1,18 @@
 //! The report of `explain`.
-ghost use Rattle.std.specs.Prelude.{◌≡◌, IfErr, IfOk};
-ghost use Rattle.cn_app.specs.Commands.Explain.{ExplainsChecked, IsExplainReport};
+ghost use Rattle.std.specs.Prelude.{◌≡◌, IfErr, IfOk, string_bytes};
+ghost use Rattle.cn_forms.specs.Explanation.{IsExplanation};
+ghost use Rattle.cn_app.specs.Commands.Explain.{explanation_in, ExplainsChecked, IsExplainReport};
 ghost use Rattle.cn_app.specs.declared.fault.AppFault.TheVariants.{OutOfMemory};
 ghost use Rattle.cn_app.specs.Texts.Checked.{IsChecked};
 
 use crate::fault::AppFault;
 use crate::readers::checked::Checked;
-use crate::report::Report;
+use crate::report::{Report, with_line_feed};
 use cn_check::laws::accepted_is_right;
+use cn_documents::explanation_markdown;
 use cn_forms::{Explanation, TypeNumber, explanation_of};
-use std::alloc::Global;
+use cn_json::{DocumentForm, explanation_json};
+use std::alloc::{AllocError, Global};
 
 /// What there is to tell of a certificate and its number up to its limit.
 pub(crate) fn explanation_for(
@@ -27,25 +30,39 @@ pub(crate) fn explanation_for(
     Ok(explanation)
 }
 
-/// An explanation of the number for people:
-///
-/// - the table;
-/// - for each process of the witness, how it can tell which team was first;
-/// - the rule by which the operations alone bound the number, if one applies;
-/// - for each choice that the certificate refutes, two runs that some process cannot tell apart;
-/// - the pairs of operations that do not interfere, if they are few and the number is above 2.
-///
-/// Without `all`, it tells the first 12 of these choices.
+/// The text of an explanation in a form.
+pub(crate) fn text_of(
+    alloc: Global,
+    explanation: &Explanation,
+    form: DocumentForm,
+) -> Result<String, AllocError>
+    requires { IsExplanation explanation.now }
+    ensures { IfOk result (λ text. string_bytes text ≡ explanation_in form explanation.now) }
+{
+    match form {
+        DocumentForm::Text => explanation_of(alloc, explanation),
+        DocumentForm::Json => with_line_feed(explanation_json(alloc, explanation)?),
+        DocumentForm::Markdown => explanation_markdown(alloc, explanation),
+    }
+}
+
+/// Why the number of a certificate is what it is, up to its limit, in a form: that of
+/// [`explanation_of`], of [`explanation_json`] or of [`explanation_markdown`]. Without `all`, it
+/// tells the first 12 of the choices that the certificate refutes.
 ///
 /// # Errors
 ///
 /// `OutOfMemory`.
-pub fn explain_report(alloc: Global, checked: Checked, all: bool) -> Result<Report, AppFault>
+pub fn explain_report(
+    alloc: Global,
+    checked: Checked,
+    all: bool,
+    form: DocumentForm,
+) -> Result<Report, AppFault>
     requires { IsChecked checked }
-    ensures { IsExplainReport checked all result }
+    ensures { IsExplainReport checked all form result }
 {
     accepted_is_right();
     let explanation = explanation_for(alloc, checked, all)?;
-    let text = explanation_of(alloc, &explanation)?;
-    Ok(Report::whole(text))
+    Ok(Report::whole(text_of(alloc, &explanation, form)?))
 }

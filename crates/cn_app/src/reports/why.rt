@@ -6,10 +6,11 @@ ghost use Rattle.cn_app.specs.declared.fault.AppFault.TheVariants.{OutOfMemory};
 use crate::fault::AppFault;
 use crate::readers::checked::Checked;
 use crate::report::Report;
-use crate::reports::explain::explain_report;
+use crate::reports::explain::{explain_report, text_of};
 use crate::reports::find::{found_certificate, limit_for};
 use cn_check::laws::accepted_is_right;
-use cn_forms::{Explanation, TypeNumber, explanation_of};
+use cn_forms::{Explanation, TypeNumber};
+use cn_json::DocumentForm;
 use cn_lasting::find_lasting;
 use cn_search::consensus_number;
 use cn_table::Table;
@@ -24,14 +25,15 @@ fn limited_report<T: Threads + Sync>(
     table: Table,
     limit: u8,
     all: bool,
+    form: DocumentForm,
 ) -> Result<Report, AppFault>
-    ensures { IsLimitedReport table limit all result }
+    ensures { IsLimitedReport table limit all form result }
 {
     // The check accepts what is found.
     accepted_is_right();
     let certificate = found_certificate(rt, alloc, &table, limit)?;
     let checked = Checked { table, certificate };
-    explain_report(alloc, checked, all)
+    explain_report(alloc, checked, all, form)
 }
 
 /// What there is to tell of the number with no limit, with the certificate up to the greatest limit
@@ -56,23 +58,23 @@ pub(crate) fn reasons_for<T: Threads + Sync>(
     Ok(explanation)
 }
 
-/// The reasons for the number with no limit, for people ([`explanation_of`]).
+/// The reasons for the number with no limit, in a form.
 fn reasons_report<T: Threads + Sync>(
     rt: &T,
     alloc: Global,
     table: Table,
     all: bool,
+    form: DocumentForm,
 ) -> Result<Report, AppFault>
-    ensures { IsReasonsReport table all result }
+    ensures { IsReasonsReport table all form result }
 {
     let explanation = reasons_for(rt, alloc, table, all)?;
-    let text = explanation_of(alloc, &explanation)?;
-    Ok(Report::whole(text))
+    Ok(Report::whole(text_of(alloc, &explanation, form)?))
 }
 
-/// An explanation for people of the table's consensus number.
+/// Why the consensus number of the table is what it is, in a form.
 ///
-/// - Without a limit, it tells the number and the reasons for it ([`explanation_of`]). The evidence in
+/// - Without a limit, it tells the number and the reasons for it ([`Explanation`]). The evidence in
 ///   it is the certificate up to the greatest limit that
 ///   [`find_report`](crate::reports::find_report) accepts.
 /// - With a limit, it is the text of [`explain_report`] for the certificate that
@@ -87,11 +89,12 @@ pub fn why_report<T: Threads + Sync>(
     table: Table,
     limit: Option<u8>,
     all: bool,
+    form: DocumentForm,
 ) -> Result<Report, AppFault>
-    ensures { IsWhyReport table limit all result }
+    ensures { IsWhyReport table limit all form result }
 {
     match limit {
-        Some(limit) => limited_report(rt, alloc, table, limit, all),
-        None => reasons_report(rt, alloc, table, all),
+        Some(limit) => limited_report(rt, alloc, table, limit, all, form),
+        None => reasons_report(rt, alloc, table, all, form),
     }
 }

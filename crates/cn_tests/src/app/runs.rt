@@ -157,6 +157,54 @@ In full: 1 way to choose a start state, operations and teams; in it a process ca
 No protocol at all does it for 3: this is proved (docs/PROVED.md)."#
 }
 
+/// The output of `explain` for the certificate of test-and-set, as JSON.
+fn test_and_set_explanation() -> &'static str {
+    concat!(
+        r#"{"apart":[],"collisions":["#,
+        r#"{"a_first":{"pair":{"response":"one","state":"one"},"steps":["#,
+        r#"{"operation":"tas","process":0,"response":"zero","state":"one"},"#,
+        r#"{"operation":"tas","process":1,"response":"one","state":"one"}]},"#,
+        r#""b_first":{"pair":{"response":"one","state":"one"},"steps":["#,
+        r#"{"operation":"tas","process":2,"response":"zero","state":"one"},"#,
+        r#"{"operation":"tas","process":1,"response":"one","state":"one"}]},"process":1,"#,
+        r#""processes":[{"operation":"tas","team":"A"},{"operation":"tas","team":"B"},"#,
+        r#"{"operation":"tas","team":"B"}],"start":"zero"},"#,
+        r#"{"a_first":{"pair":{"response":"one","state":"one"},"steps":["#,
+        r#"{"operation":"tas","process":0,"response":"one","state":"one"}]},"#,
+        r#""b_first":{"pair":{"response":"one","state":"one"},"steps":["#,
+        r#"{"operation":"tas","process":1,"response":"one","state":"one"},"#,
+        r#"{"operation":"tas","process":0,"response":"one","state":"one"}]},"process":0,"#,
+        r#""processes":[{"operation":"tas","team":"A"},{"operation":"tas","team":"B"},"#,
+        r#"{"operation":"tas","team":"B"}],"start":"one"}],"lasting":null,"limit":3,"more":0,"#,
+        r#""name":"test_and_set","number":2,"rule":"two_states","version":1,"#,
+        r#""witness":{"processes":[{"a_first":[{"response":"zero","state":"one"}],"#,
+        r#""b_first":[{"response":"one","state":"one"}],"operation":"tas","team":"A"},"#,
+        r#"{"a_first":[{"response":"one","state":"one"}],"#,
+        r#""b_first":[{"response":"zero","state":"one"}],"operation":"tas","team":"B"}],"#,
+        r#""start":"zero"}}"#
+    )
+}
+
+/// The output of `why` for test-and-set up to 3 processes, in Markdown.
+fn test_and_set_documented() -> &'static str {
+    r#"| Type | Consensus number |
+| --- | ---: |
+| test_and_set | 2 |
+
+| response > next state | zero | one |
+| --- | --- | --- |
+| tas | zero>one | one>one |
+
+2 processes: from state zero, each can tell which team was first, by its response and the state that it reads.
+
+| Processes | Team | Operation | Team A first: response/state | Team B first: response/state |
+| --- | --- | --- | --- | --- |
+| 1 | A | tas | zero/one | one/one |
+| 1 | B | tas | one/one | zero/one |
+
+With two states any two operations commute, or one wipes out the other, so the number is at most 2."#
+}
+
 /// The output of `pairs` for test-and-set.
 fn test_and_set_pairs() -> &'static str {
     r#"     tas
@@ -199,7 +247,7 @@ fn opening() -> OpeningWords<'static> {
 }
 
 /// The examples. `run_command` gives them their texts, whatever files they name.
-pub(crate) fn all_examples() -> [Example; 23] {
+pub(crate) fn all_examples() -> [Example; 25] {
     let (certificate, form) = (TextSource::File("CERT"), Form::Text);
     [
         Example::new(Command::Find { limit: Some(3) }, found_test_and_set_at_3()),
@@ -212,22 +260,10 @@ pub(crate) fn all_examples() -> [Example; 23] {
         Example::new(Command::Draw, test_and_set_picture()),
         Example::of_check(AnswerForm::Text, "ok"),
         Example::of_check(AnswerForm::Json, r#"{"ok":true}"#),
-        Example::new(
-            Command::Explain {
-                certificate,
-                all: false,
-                form: AnswerForm::Text,
-            },
-            test_and_set_explained(),
-        ),
-        Example::new(
-            Command::Why {
-                limit: Some(3),
-                all: false,
-                form: DocumentForm::Text,
-            },
-            test_and_set_reasons(),
-        ),
+        Example::of_explain(AnswerForm::Text, test_and_set_explained()),
+        Example::of_explain(AnswerForm::Json, test_and_set_explanation()),
+        Example::of_why(DocumentForm::Text, test_and_set_reasons()),
+        Example::of_why(DocumentForm::Markdown, test_and_set_documented()),
         Example::of_pairs(DocumentForm::Text, test_and_set_pairs()),
         Example::of_pairs(DocumentForm::Json, test_and_set_numbers()),
         Example::new(Command::Show { certificate, form }, test_and_set_shown()),
@@ -296,10 +332,14 @@ fn run_command<T: Threads + Wait + Sync>(
         Command::Find { limit } => commands::find(rt, alloc, table, output, limit),
         Command::Lint { form } => commands::lint(alloc, table, output, form),
         Command::Draw => commands::draw(alloc, table, output),
-        Command::Why { limit, all, .. } => commands::why(rt, alloc, table, output, limit, all),
+        Command::Why { limit, all, form } => {
+            commands::why(rt, alloc, table, output, limit, all, form)
+        }
         Command::Pairs { form } => commands::pairs(rt, alloc, table, output, form),
         Command::Check { form, .. } => commands::check(alloc, table, certificate, output, form),
-        Command::Explain { all, .. } => commands::explain(alloc, table, certificate, output, all),
+        Command::Explain { all, form, .. } => {
+            commands::explain(alloc, table, certificate, output, all, form)
+        }
         Command::Show { form, .. } => commands::show(alloc, table, certificate, output, form),
         Command::Agree {
             inputs,
@@ -350,6 +390,26 @@ impl Example {
     /// `pairs` in this form.
     fn of_pairs(form: DocumentForm, lines: &'static str) -> Example {
         Example::new(Command::Pairs { form }, lines)
+    }
+
+    /// `explain` in this form.
+    fn of_explain(form: AnswerForm, lines: &'static str) -> Example {
+        let command = Command::Explain {
+            certificate: TextSource::File("CERT"),
+            all: false,
+            form,
+        };
+        Example::new(command, lines)
+    }
+
+    /// `why` up to 3 processes in this form.
+    fn of_why(form: DocumentForm, lines: &'static str) -> Example {
+        let command = Command::Why {
+            limit: Some(3),
+            all: false,
+            form,
+        };
+        Example::new(command, lines)
     }
 
     /// `check` in this form.

@@ -5,5 +5,5 @@ use Rattle.cn_app.proofs.commands.of_tables.why.Goals as goal
 
 pub returns-clause-told : goal.returns-clause-told
 returns-clause-told g c =
-    reported g.W.Write.contents (HasWhyReport c.read_table.new.text c.args.limit c.args.all) c.args.output.now c.report.new.self c.why_report.result c.report.result
+    reported g.W.Write.contents (λ r. HasWhyReport c.read_table.new.text c.args.limit c.args.all c.args.form r) c.args.output.now c.report.new.self c.why_report.result c.report.result
     (inr (c.in_ok-table.table, c.in_ok-table.ensures.table, c.why_report.ensures)) c.report.ensures

@@ -1,8 +1,12 @@
-use Rattle.std.proofs.Common.{rules}
-use Rattle.cn_app.specs.Commands.Check.{HasItsNumber}
+use Rattle.std.proofs.Common.{◌∙◌, ap, string_bytes}
 use Rattle.cn_app.proofs.reports.explain.explain_report.Goals as goal
 
+pub text_of-requires : goal.text_of-requires
+text_of-requires c = c.in_ok-explanation.ensures.explained.right
+
 pub returns : goal.returns
-returns c =
-    let number : HasItsNumber c.args.checked = c.accepted_is_right.ensures.number c.args.checked.table c.args.checked.certificate c.requires in
-    (number, (c.in_ok-explanation.explanation, c.in_ok-explanation.ensures.explained, search rules), search rules)
+returns c = (
+  c.accepted_is_right.ensures.number c.args.checked.table c.args.checked.certificate c.requires,
+  (c.in_ok-explanation.explanation, c.in_ok-explanation.ensures.explained, ap string_bytes c.whole.ensures.text ∙ c.in_ok-text_of.ensures),
+  c.whole.ensures.outcome,
+)
