@@ -155,7 +155,9 @@ Reads a type table in TOML from standard input and a certificate in JSON from th
 checks the certificate. Writes the number; the table as a grid; who does what in the witness, and
 what each process got and reads where team A was first and where team B was; and for each choice
 for one process more two runs by which one of its processes cannot tell which team was first. Of
-these choices the first 12 are told, with --all all of them.
+these choices the first 12 are told, with --all all of them. Where any two operations bound the
+number by themselves, it says so, too. It names the pairs of operations of which in some state
+neither wipes out the other and the order matters, if the number is above 2 and they are few.
 
 With --as json this is one JSON object.
 
@@ -172,7 +174,8 @@ Reads a type table in TOML from FILE; - is standard input. Writes the number, th
 number is what it is. For infinite this is two operations that last: where one process does the one
 and any number of others do the other, the state always tells which came first. Then it writes the
 witness and the counterexamples of the certificate that find writes, as explain does. Where these
-are for fewer processes than the number, it says so.
+are for fewer processes than the number, it says so. Where any two operations bound the number by
+themselves, it says that in place of the counterexamples; with --all it writes both.
 
 With --limit N, from 2 to 8, finds the certificate of the type up to N as find does, and writes of it
 what explain writes. A search of more than 100000 choices for N processes is refused.
