@@ -9,22 +9,26 @@ _cnum() {
         [[ $previous == --limit ]] && values='2 3 4 5 6 7 8'
         ;;
     classify)
-        options='--limit --recoverable -h --help' arguments='FILE...'
+        options='--limit --recoverable --as -h --help' arguments='FILE...'
         [[ $previous == --limit ]] && values='2 3 4 5 6 7 8'
+        [[ $previous == --as ]] && values='text json markdown'
         ;;
     lint)
         options='--as --table -h --help' arguments='FILE'
         [[ $previous == --as ]] && values='text json'
         ;;
     check)
-        options='--table -h --help' arguments='CERT FILE'
+        options='--as --table -h --help' arguments='CERT FILE'
+        [[ $previous == --as ]] && values='text json'
         ;;
     explain)
-        options='--all --table -h --help' arguments='CERT FILE'
+        options='--all --as --table -h --help' arguments='CERT FILE'
+        [[ $previous == --as ]] && values='text json'
         ;;
     why)
-        options='--limit --all -h --help' arguments='FILE'
+        options='--limit --all --as -h --help' arguments='FILE'
         [[ $previous == --limit ]] && values='2 3 4 5 6 7 8'
+        [[ $previous == --as ]] && values='text json markdown'
         ;;
     pairs)
         options='--as -h --help' arguments='FILE'
@@ -42,10 +46,12 @@ _cnum() {
         [[ $previous == --as ]] && values='text json'
         ;;
     replay)
-        options='--table -h --help' arguments='CERT OBJECT START CAPACITY EVENTS FILE'
+        options='--as --table -h --help' arguments='CERT OBJECT START CAPACITY EVENTS FILE'
+        [[ $previous == --as ]] && values='text json'
         ;;
     serve)
-        options='--table -h --help' arguments='CERT OBJECT START CAPACITY CALLS FILE'
+        options='--as --table -h --help' arguments='CERT OBJECT START CAPACITY CALLS FILE'
+        [[ $previous == --as ]] && values='text json'
         ;;
     help)
         options='' arguments='COMMAND...'

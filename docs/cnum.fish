@@ -60,23 +60,27 @@ complete -c cnum -n '__cnum_is find' -s h -l help -d 'Print help'
 complete -c cnum -n '__cnum_at find 1' -F
 complete -c cnum -n '__cnum_is classify' -l limit -x -a '2 3 4 5 6 7 8' -d 'The greatest number looked for, from 2 to 8'
 complete -c cnum -n '__cnum_is classify' -l recoverable -d 'Writes the recoverable number of each type too'
+complete -c cnum -n '__cnum_is classify' -l as -x -a 'text json markdown' -d 'The form in which the numbers are written'
 complete -c cnum -n '__cnum_is classify' -s h -l help -d 'Print help'
 complete -c cnum -n '__cnum_from classify 1' -F
 complete -c cnum -n '__cnum_is lint' -l as -x -a 'text json' -d 'The form in which the table or its flaws are written'
 complete -c cnum -n '__cnum_is lint' -l table -r -F -d 'The file that holds the type table, in place of standard input'
 complete -c cnum -n '__cnum_is lint' -s h -l help -d 'Print help'
 complete -c cnum -n '__cnum_at lint 1' -F
+complete -c cnum -n '__cnum_is check' -l as -x -a 'text json' -d 'The form in which the answer is written'
 complete -c cnum -n '__cnum_is check' -l table -r -F -d 'The file that holds the type table, in place of standard input'
 complete -c cnum -n '__cnum_is check' -s h -l help -d 'Print help'
 complete -c cnum -n '__cnum_at check 1' -F
 complete -c cnum -n '__cnum_at check 2' -F
 complete -c cnum -n '__cnum_is explain' -l all -d 'Tells all choices that are refuted, not the first 12 alone'
+complete -c cnum -n '__cnum_is explain' -l as -x -a 'text json' -d 'The form in which the reasons are written'
 complete -c cnum -n '__cnum_is explain' -l table -r -F -d 'The file that holds the type table, in place of standard input'
 complete -c cnum -n '__cnum_is explain' -s h -l help -d 'Print help'
 complete -c cnum -n '__cnum_at explain 1' -F
 complete -c cnum -n '__cnum_at explain 2' -F
 complete -c cnum -n '__cnum_is why' -l limit -x -a '2 3 4 5 6 7 8' -d 'The greatest number looked for, from 2 to 8'
 complete -c cnum -n '__cnum_is why' -l all -d 'Tells all choices that are refuted, not the first 12 alone'
+complete -c cnum -n '__cnum_is why' -l as -x -a 'text json markdown' -d 'The form in which the reasons are written'
 complete -c cnum -n '__cnum_is why' -s h -l help -d 'Print help'
 complete -c cnum -n '__cnum_at why 1' -F
 complete -c cnum -n '__cnum_is pairs' -l as -x -a 'text json markdown' -d 'The form in which the numbers are written'
@@ -98,12 +102,14 @@ complete -c cnum -n '__cnum_at agree 1' -F
 complete -c cnum -n '__cnum_at agree 2' -a '(__cnum_list)'
 complete -c cnum -n '__cnum_at agree 3' -a '(__cnum_list)'
 complete -c cnum -n '__cnum_at agree 4' -F
+complete -c cnum -n '__cnum_is replay' -l as -x -a 'text json' -d 'The form in which the log is written'
 complete -c cnum -n '__cnum_is replay' -l table -r -F -d 'The file that holds the type table, in place of standard input'
 complete -c cnum -n '__cnum_is replay' -s h -l help -d 'Print help'
 complete -c cnum -n '__cnum_at replay 1' -F
 complete -c cnum -n '__cnum_at replay 2' -F
 complete -c cnum -n '__cnum_at replay 5' -a '(__cnum_list)'
 complete -c cnum -n '__cnum_at replay 6' -F
+complete -c cnum -n '__cnum_is serve' -l as -x -a 'text json' -d 'The form in which the log is written'
 complete -c cnum -n '__cnum_is serve' -l table -r -F -d 'The file that holds the type table, in place of standard input'
 complete -c cnum -n '__cnum_is serve' -s h -l help -d 'Print help'
 complete -c cnum -n '__cnum_at serve 1' -F
