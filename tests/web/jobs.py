@@ -53,7 +53,8 @@ class Jobs:
             for words in (["lint"], ["lint", "--as", "json"], ["find", "--limit", "3"], ["draw"], ["classify", "--limit", "3", "-"]):
                 self.run(words, table)
         for certificate in hostile_certificates():
-            for words in (["check", "C"], ["explain", "C"], ["show", "C"], ["show", "--as", "promela", "C"], ["agree", "C", "1,2", "0,1,0,1"]):
+            as_forms = (["check", "--as", "json", "C"], ["show", "--as", "promela", "C"])
+            for words in (["check", "C"], ["explain", "C"], ["show", "C"], *as_forms, ["agree", "C", "1,2", "0,1,0,1"]):
                 self.run(words, BIT, C=certificate)
         self.of_words()
 
@@ -75,7 +76,9 @@ class Jobs:
         self.run(["classify", "--limit", "5", "-"], table)
         for form in ("text", "json", "markdown"):
             self.run(["pairs", "--as", form, "-"], table)
-        self.run(["classify", "--recoverable", "-"], table)
+        for form in ("text", "json", "markdown"):
+            self.run(["classify", "--recoverable", "--as", form, "-"], table)
+            self.run(["why", "--as", form, "-"], table)
         self.run(["classify", "--limit", "3", "T", "-", "T"], table, T=table)
         certificate = self.run(["find", "--limit", "4"], table)
         if not 0 < len(certificate) < MOST_CERTIFICATE:
@@ -84,12 +87,14 @@ class Jobs:
         listed = lambda numbers: ",".join(map(str, numbers))
         schedule = [(k * 5 + k // 3) % n for k in range(60 * n)]
         events = ",".join([f"i{p}:0" for p in range(n)] + [f"s{p}" for p in schedule])
-        for words in (["check"], ["explain"], ["explain", "--all"], ["show"], *(["show", "--as", form] for form in ("json", "dot", "promela", "rust", "c"))):
+        as_forms = [["check", "--as", "json"], ["explain", "--as", "json"], ["explain", "--all", "--as", "json"]]
+        as_forms += [["show", "--as", form] for form in ("json", "dot", "promela", "rust", "c")]
+        for words in (["check"], ["explain"], ["explain", "--all"], ["show"], *as_forms):
             self.run([*words, "C"], table, C=certificate)
         self.run(["agree", "C", listed(range(1, 1 + n)), listed(schedule[:60])], table, C=certificate)
         self.run(["agree", "--steps", "--as", "json", "C", listed(range(1, 1 + n)), listed(schedule[:60])], table, C=certificate)
         self.run(["replay", "C", "O", "0", "4", events], table, C=certificate, O=COUNTER)
-        self.run(["replay", "C", "O", "0", "4", "@E"], table, C=certificate, O=COUNTER, E=events.encode() + b"\n")
+        self.run(["replay", "--as", "json", "C", "O", "0", "4", "@E"], table, C=certificate, O=COUNTER, E=events.encode() + b"\n")
         self.run(["serve", "C", "O", "0", "4", "/".join(["0,0"] + ["none"] * (n - 1))], table, C=certificate, O=COUNTER)
 
     def of_words(self):

@@ -6,8 +6,8 @@ const { describe, it } = require('node:test');
 const vm = require('node:vm');
 
 const WEB = path.join(__dirname, '../../web');
-const PARTS = ['texts_en', 'texts_de', 'texts', 'link', 'table_text', 'table_edits', 'flaw_places', 'past', 'example_search', 'comparison'];
-PARTS.push('run', 'schedules', 'space_time', 'points', 'layout');
+const PARTS = ['texts_en', 'texts_de', 'texts', 'elements', 'answers', 'link', 'table_text', 'table_edits', 'flaw_places', 'notes', 'past'];
+PARTS.push('example_search', 'comparison', 'run', 'schedules', 'space_time', 'dot', 'points', 'layout', 'explanation');
 
 globalThis.Cnum = {};
 for (const part of ['examples', ...PARTS.map(it => `page/${it}`)]) {
@@ -17,7 +17,7 @@ const { Cnum } = globalThis;
 
 describe('links', () => {
     const RUN = [{ process: 1, stops: false }, { process: 0, stops: true }];
-    const SHOWN = { text: 'name = "größe" # →\n', limit: '3', inputs: ['7', '18446744073709551615'], acts: RUN, view: 'run' };
+    const SHOWN = { text: 'name = "größe" # →\n', limit: 3, inputs: ['7', '18446744073709551615'], acts: RUN, view: 'run' };
 
     it('hold a table, a limit, a run and a view', async () => {
         const { text, limit, inputs, acts, view } = await Cnum.linkedBy(await Cnum.linkOf(SHOWN));
@@ -28,6 +28,11 @@ describe('links', () => {
         const link = await Cnum.linkOf({ ...SHOWN, example: 'types/idle', view: undefined });
         assert.equal(link, '#example=types/idle&limit=3&inputs=7,18446744073709551615&run=1,x0');
         assert.equal((await Cnum.linkedBy(link)).example, 'types/idle');
+    });
+
+    it('have a limit only if one was chosen', async () => {
+        assert.equal(await Cnum.linkOf({ example: 'types/idle', limit: null, inputs: [], acts: [] }), '#example=types/idle');
+        assert.equal((await Cnum.linkedBy('#example=types/idle&limit=4')).limit, 4);
     });
 
     it('of older pages, without a checksum, are read', async () => {
@@ -68,15 +73,23 @@ const stop = process => ({ process, stops: true });
 describe('a run', () => {
     const PLAN = { nodes: 1, processes: 2, start: 'zero' };
     const ACTS = [step(0), step(1), step(1), step(1), step(1), step(1), stop(1), step(0), stop(0), step(0)];
-    const LINES = ['0: writes 10 to A of node 0', '1: writes 20 to B of node 0', '1: applies tas at node 0: zero'];
-    LINES.push('1: reads one at node 0: team B', '1: decides 20', '1: has decided', '0: applies tas at node 0: one');
+    const STEPS = [
+        { action: 'write', node: 0, process: 0, team: 'A', value: 10 },
+        { action: 'write', node: 0, process: 1, team: 'B', value: 20 },
+        { action: 'apply', node: 0, operation: 'tas', process: 1, response: 'zero' },
+        { action: 'read', judged: 'B', node: 0, process: 1, state: 'one' },
+        { action: 'decide', process: 1, value: 20 },
+        { action: 'none', process: 1 },
+        { action: 'apply', node: 0, operation: 'tas', process: 0, response: 'one' },
+    ];
     const TABLE = Cnum.examples[0].types[0].text;
     const { run } = Cnum;
-    const events = run.withStates(run.eventsOf(run.withoutStopped(ACTS), LINES), PLAN, run.movesOf(TABLE));
+    const events = run.withStates(run.eventsOf(run.withoutStopped(ACTS), STEPS), PLAN, run.movesOf(TABLE));
 
     it('has no act of a process that has decided or stopped', () => {
         const kinds = ['writes', 'writes', 'applies', 'reads', 'decides', 'applies', 'stops'];
         assert.deepEqual(events.map(it => it.kind), kinds);
+        assert.deepEqual([events[3].team, events[4].value], ['B', '20']);
     });
 
     it('has the state before and after each operation', () => {
@@ -192,8 +205,8 @@ describe('the search over examples', () => {
     it('finds those of a number', () => assert.deepEqual(names('bit', path => path === 'types/sticky_bit'), ['sticky_bit']));
 
     it('orders the numbers', () => {
-        const { numbers, kinds } = Cnum.numbersOf('a: 2\nb: infinite\nc: 10\nd: 2\n');
-        assert.deepEqual([numbers, kinds], [['2', 'infinite', '10', '2'], ['2', '10', 'infinite']]);
+        const kinds = Cnum.kindsOf([2, 'infinite', { from: 9, to: 16 }, 10, 2]);
+        assert.deepEqual(kinds, ['2', '9 to 16', '10', 'infinite']);
     });
 });
 
@@ -243,21 +256,202 @@ describe('comparisons', () => {
         assert.deepEqual(Cnum.withoutEach(more).map(it => it.operation), ['op0', 'op1']);
         assert.equal(Cnum.withoutEach(more)[1].text, SLOT);
         assert.deepEqual(Cnum.withoutEach(SLOT), []);
-        const pairs = Cnum.pairsOf(more);
-        assert.deepEqual(pairs.map(it => [it.row, it.column]), [[0, 0], [1, 0], [1, 1]]);
-        assert.deepEqual([pairs[0].text, pairs[1].text], [SLOT, more]);
+        const alone = [{ number: 1, operations: ['op0'] }, { number: 2, operations: ['op1'] }];
+        const pairs = Cnum.pairsOf(more, { alone, pairs: [{ number: 'infinite', operations: ['op0', 'op1'] }] });
+        assert.deepEqual(pairs.map(it => [it.row, it.column, it.number]), [[0, 0, '1'], [1, 1, '2'], [1, 0, 'infinite']]);
+        assert.deepEqual([pairs[0].text, pairs[2].text], [SLOT, more]);
     });
 });
 
 describe('places of flaws', () => {
-    const text = 'name = "Tas"\nstates = ["a", "b"]\nresponses = ["r"]\n[[operation]]\nname = "o"\nresponse = ["r", "r"]\nnext = ["a", "c"]\n';
-    const marked = flaw => Cnum.placesOf([flaw], text).map(it => it && text.slice(it.from, it.to));
+    const text = 'name = "Tas"\nstates = ["a", "b"]\nresponses = ["r"]\ncolor = 1\n[[operation]]\nname = "o"\nresponse = ["r", "r"]\nnext = ["a", "c"]\n';
+    const marked = (kind, path, more) => Cnum.placesOf([{ kind, path, ...more }], text).map(it => it && text.slice(it.from, it.to))[0];
 
-    it('are those of the text', () => {
-        assert.deepEqual(marked('operation "o", next[1]: "c"'), ['"c"']);
-        assert.deepEqual(marked('name "Tas": 1 to 32 of a to z, 0 to 9, _'), ['"Tas"']);
-        assert.deepEqual(marked('line 2, column 1: not TOML'), ['s']);
-        assert.deepEqual(marked('no such flaw'), [null]);
+    it('are those of the text, by their paths', () => {
+        assert.equal(marked('UnknownName', ['operation', 0, 'next', 1]), '"c"');
+        assert.equal(marked('RowLength', ['operation', 0, 'next']), '["a", "c"]');
+        assert.equal(marked('BadName', ['name']), '"Tas"');
+        assert.equal(marked('BadName', ['states', 1]), '"b"');
+        assert.equal(marked('Count', ['responses']), '["r"]');
+        assert.equal(marked('UnknownKey', ['color']), 'color');
+        assert.equal(marked('WrongKind', ['color']), '1');
+        assert.equal(marked('MissingKey', ['operation', 0]), '[[operation]]');
+    });
+
+    it('are those of lines and columns', () => assert.equal(marked('NotToml', [], { line: 2, column: 1 }), 's'));
+
+    it('are none, if a key is missing in the whole or nothing stands there', () => {
+        assert.equal(marked('MissingKey', []), null);
+        assert.equal(marked('UnknownName', ['operation', 3, 'next', 1]), null);
+        assert.equal(marked('UnknownName', ['name', 'next', 1]), null);
+    });
+});
+
+describe('notes on a table', () => {
+    const LOOP = { name: 'nop', response: ['ok', 'ok'], next: ['s0', 's1'] };
+
+    it('tell what is never reached and what changes nothing', () => {
+        const text = Cnum.FIRST_TABLE.replace('"op0"', `"${LOOP.name}"`).replace('next = ["s1", "s1"]', 'next = ["s0", "s1"]');
+        assert.deepEqual(Cnum.notesOf(text), ['State s1 cannot be reached from s0.', 'Operation nop changes nothing.']);
+        assert.deepEqual(Cnum.notesOf(Cnum.FIRST_TABLE), []);
+    });
+});
+
+describe('answers', () => {
+    it('have numbers of any length', () => {
+        const text = '{"a":[18446744073709551615,7],"b":"12345678901234567890"}';
+        assert.deepEqual(Cnum.exactValueOf(text), { a: ['18446744073709551615', 7], b: '12345678901234567890' });
+    });
+
+    it('stand one in a line', () => assert.deepEqual(Cnum.valuesOf('{"a":1}\n{"a":2}\n'), [{ a: 1 }, { a: 2 }]));
+
+    it('have numbers in words', () => {
+        const numbers = [3, 'infinite', { from: 9, to: 12 }, { at_least: 4 }];
+        assert.deepEqual(numbers.map(Cnum.numberText), ['3', 'infinite', '9 to 12', 'at least 4']);
+        assert.deepEqual(numbers.map(Cnum.leastOf), [3, Infinity, 9, 4]);
+        assert.deepEqual(numbers.map(Cnum.mostOf), [3, Infinity, 12, Infinity]);
+    });
+
+    const FAULTS = [
+        ['cnum: table: 8 RowLength', 'A row does not have one entry for each state.'],
+        ['cnum: check: 6 NotNext 8', 'Its collision 8 is not for the choice whose turn it is.'],
+        ['cnum: check: 4 WitnessMeets 0', 'Its witness is none: process 0 can get the same response and read the same state after either team was first.'],
+        ['cnum: certificate: too long', 'It is longer than any certificate.'],
+        ['cnum: certificate: no witness', 'It has no witness: one process alone has nobody to agree with.'],
+        ['cnum: argument: SCHEDULE', 'The run has more steps than the program takes.'],
+        ['cnum: -: out of memory', 'The memory is not enough.'],
+        ['cnum: cannot write', 'The program ended with a fault.'],
+    ];
+    for (const [line, sentence] of FAULTS) {
+        it(`tell in words: ${line}`, () => assert.equal(Cnum.inWords({ status: 1, stderr: `${line}\n` }), `${sentence} (${line})`));
+    }
+
+    it('tell a fault that is a value', () => {
+        const told = Cnum.inWords({ status: 1, stderr: 'cnum: check: 7 NotACollision 3\n' }, { entry: 3, name: 'NotACollision', number: 7 });
+        assert.equal(told, 'Its collision 3 is none. (cnum: check: 7 NotACollision 3)');
+    });
+
+    it('have a sentence for each flaw and each fault of a certificate', () => {
+        const namesIn = schema => (schema && typeof schema === 'object' ? Object.entries(schema).flatMap(namesUnder) : []);
+        const namesUnder = ([key, value]) => (['kind', 'name'].includes(key) ? value.enum || [value.const] : namesIn(value));
+        const names = ['flaws', 'verdict'].flatMap(it => namesIn(JSON.parse(fs.readFileSync(path.join(WEB, `../docs/schema/${it}.json`), 'utf8'))));
+        assert.ok(names.length > 20);
+        assert.deepEqual(names.filter(it => !(`fault_${it}` in Cnum.texts)), []);
+    });
+
+    it('tell a run that failed', () => {
+        assert.equal(Cnum.inWords({ status: null, stderr: 'unreachable' }), 'The run of the program failed. (unreachable)');
+    });
+});
+
+describe('a picture in DOT', () => {
+    const DOT = 'digraph "t" {\n  "a";\n  "b";\n  "a" -> "b" [label="x/r\\ly/s\\l"];\n  "b" -> "b" [label="x/s\\l"];\n}\n';
+    const graph = Cnum.graphOf(DOT);
+
+    it('is read', () => {
+        const x = text => ({ text, operation: 'x' });
+        const arrows = [{ from: 0, to: 1, lines: [x('x/r'), { text: 'y/s', operation: 'y' }] }, { from: 1, to: 1, lines: [x('x/s')] }];
+        assert.deepEqual(graph, { names: ['a', 'b'], arrows });
+    });
+
+    it('is shown with some operations alone', () => {
+        assert.deepEqual(Cnum.operationsOf(graph), ['x', 'y']);
+        const { names, arrows } = Cnum.graphWith(graph, it => it === 'y');
+        assert.deepEqual([names, arrows.map(it => it.lines.map(one => one.text))], [['a', 'b'], [['y/s']]]);
+    });
+});
+
+// Elements as far as an explanation needs them: their texts, in order.
+class FakeElement {
+    constructor(name) {
+        Object.assign(this, { name, parts: [] });
+    }
+
+    append(...parts) {
+        this.parts.push(...parts);
+    }
+
+    replaceChildren(...parts) {
+        this.parts = parts;
+    }
+
+    setAttribute() {}
+
+    addEventListener() {}
+
+    get children() {
+        return this.parts;
+    }
+
+    set textContent(text) {
+        this.parts = [text];
+    }
+
+    get textContent() {
+        return this.parts.map(it => (typeof it === 'string' ? it : it.hidden ? '' : it.textContent)).join(' ');
+    }
+}
+
+describe('an explanation', () => {
+    const pair = (response, state) => ({ response, state });
+    const step = (process, operation, response, state) => ({ operation, process, response, state });
+    const of = (team, a, b) => ({ a_first: [a], b_first: [b], operation: 'tas', team });
+    const NUMBER_2 = {
+        apart: [],
+        collisions: [{
+            a_first: { pair: pair('one', 'one'), steps: [step(0, 'tas', 'zero', 'one'), step(1, 'tas', 'one', 'one')] },
+            b_first: { pair: pair('one', 'one'), steps: [step(2, 'tas', 'zero', 'one'), step(1, 'tas', 'one', 'one')] },
+            process: 1,
+            processes: [{ operation: 'tas', team: 'A' }, { operation: 'tas', team: 'B' }, { operation: 'tas', team: 'B' }],
+            start: 'zero',
+        }],
+        lasting: null, limit: 8, more: 0, name: 'test_and_set', number: 2, rule: 'two_states', version: 2,
+        witness: { processes: [of('A', pair('zero', 'one'), pair('one', 'one')), of('B', pair('one', 'one'), pair('zero', 'one'))], start: 'zero' },
+    };
+    const NUMBER_1 = { ...NUMBER_2, collisions: [], number: 1, rule: 'hidden_operations', witness: null };
+    const lasting = { many: 'put0', many_states: ['unset', 'zero'], single: 'put1', single_states: ['one'], start: 'unset' };
+    const alike = { ...of('B', pair('one', 'one'), pair('zero', 'zero')), operation: 'put1' };
+    const eight = { processes: [{ ...alike, team: 'A', operation: 'put0' }, ...Array(7).fill(alike)], start: 'unset' };
+    const INFINITE = { ...NUMBER_2, apart: [['put0', 'put1']], collisions: [], lasting, number: 'infinite', rule: null, witness: eight };
+
+    function shown(value, language = 'en') {
+        globalThis.document = { createElement: name => new FakeElement(name) };
+        Cnum.useLanguage(language);
+        const place = new FakeElement('div');
+        Cnum.showExplanation(place, value, { all: async () => value, printed: async () => '' });
+        Cnum.useLanguage('en');
+        return place.textContent.replace(/\s+/g, ' ');
+    }
+
+    const has = (text, ...parts) => parts.forEach(it => assert.ok(text.includes(it), `${it} in ${text}`));
+
+    it('of a number has a witness and collisions', () => {
+        has(shown(NUMBER_2), 'Why 2: ', 'It starts in zero; A: p0 does tas; B: p1 does tas.', 'got zero, reads one', 'at most 2', 'Why not 3: 1 way ');
+        has(shown(NUMBER_2), 'Start zero; A: p0 does tas; B: p1 and p2 do tas.', 'p1 cannot tell', 'B first zero p2 tas', 'p1 got one, reads one');
+        has(shown(NUMBER_2), 'No protocol at all does it for 3: this is proved.');
+        has(shown(NUMBER_2, 'de'), 'Warum 2: ', 'p1 kann es nicht sagen', 'p1 und p2 machen tas', 'Kein Protokoll');
+    });
+
+    it('of more ways has a button for the rest', () => has(shown({ ...NUMBER_2, more: 150 }), 'Why not 3: 151 ways ', 'Show 100 more of 151'));
+
+    it('of the number 1 has no witness', () => {
+        has(shown(NUMBER_1), 'One process alone', 'one tells nothing of the other', 'Why not 2: no way ', 'for 2: this is proved');
+    });
+
+    it('of no greatest number has two operations that last', () => {
+        const text = shown(INFINITE);
+        has(text, 'Why any number: from state unset, one process does put1', 'put0, or no step yet unset, zero', 'For 8 processes, say:');
+        has(text, 'p1 to p7', 'B: p1 to p7 do put1', 'put0 with put1', 'for each number of processes');
+    });
+
+    it('of a number beyond the limit tells no ways', () => {
+        const text = shown({ ...INFINITE, lasting: null, number: { from: 9, to: 16 } });
+        has(text, 'The ways for 17 processes are not listed here.', 'No protocol at all does it for 17');
+        assert.ok(!text.includes('Why not'));
+    });
+
+    it('of a smaller limit says that no more were looked for', () => {
+        has(shown({ ...NUMBER_2, collisions: [], limit: 2, number: { at_least: 2 } }), 'More than 2 processes were not looked for here.');
     });
 });
 
@@ -280,7 +474,7 @@ describe('the layout', () => {
 
 describe('the texts', () => {
     const { en, de } = Cnum.languages;
-    const pieces = text => (text.match(/\{\w+\}|<[^>]*>/g) || []).sort();
+    const pieces = text => [...new Set(text.match(/\{\w+\}|<[^>]*>|\]\(word_\w+\)/g))].sort();
 
     it('are the same ones in each language, with the same words in them', () => {
         assert.deepEqual(Object.keys(de.texts).sort(), Object.keys(en.texts).sort());
@@ -290,10 +484,47 @@ describe('the texts', () => {
     it('are all used, and no other', () => {
         const files = fs.readdirSync(path.join(WEB, 'page')).filter(it => !it.startsWith('texts_'));
         const sources = [...files.map(it => `page/${it}`), 'index.html'].map(it => fs.readFileSync(path.join(WEB, it), 'utf8')).join('\n');
-        const families = ['fault_', 'log_', 'kind_', 'save_', 'word_'];
+        const families = ['fault_', 'log_', 'kind_', 'save_', 'word_', 'rule_'];
         const isUsed = key => sources.includes(`'${key}'`) || sources.includes(`"${key}"`) || families.some(it => key.startsWith(it));
         assert.deepEqual(Object.keys(en.texts).filter(key => !isUsed(key)), []);
-        const asked = [...sources.matchAll(/\bsay\('(\w+)'|data-(?:text|label|placeholder)="(\w+)"/g)].map(it => it[1] || it[2]);
+        const asked = [...sources.matchAll(/\b(?:say|marked|paragraph|head)\('(\w+)'|data-(?:text|label|placeholder)="(\w+)"/g)].map(it => it[1] || it[2]);
         assert.deepEqual(asked.filter(key => !(key in en.texts)), []);
+        const explained = Object.values(en.texts).flatMap(text => [...text.matchAll(/\]\((\w+)\)/g)].map(it => it[1]));
+        assert.deepEqual(explained.filter(key => !(key in en.texts)), []);
+        assert.deepEqual(Object.keys(en.texts).filter(it => it.startsWith('word_') && !explained.includes(it)), []);
     });
+});
+
+// Each pattern of the page. None reads what the program prints for people, but that of its version. Texts of TOML, DOT
+// and JSON, links, names, keys and what the reader types are no such texts.
+const PATTERNS = {
+    'answers.js': [/"(?:[^"\\]|\\.)*"|\d+/g], // JSON
+    'dot.js': [/\s*("(?:[^"\\]|\\.)*"|->|\w+|[^\s\w"])/y], // DOT
+    'dropped_file.js': [/\.toml(\.txt)?$/i], // the name of a file
+    'example_search.js': [/[-_/\s]+/g], // what the reader looks for
+    'link.js': [/\+/g, /\//g, /=+$/, /-/g, /_/g, /^[2-8]$/, /^x?[0-7]$/, /^\d{1,20}$/], // links
+    'page.js': [/^(.*?), proved (by .*)\n$/, /^\w+$/, / /g], // the version; a name of a type; a number for a name of a file
+    'run_view.js': [/^(?:Digit|Numpad)([0-7])$/], // a key
+    'table_edits.js': [/^[^\n]*\n?/], // TOML
+    'table_text.js': [
+        /[ \t\r\n]*(?:#[^\n]*[ \t\r\n]*)*/y, /[ \t]*/y, /[^\n]*\n?/y, /[A-Za-z0-9_-]+|"(?:[^"\\\n]|\\.)*"|'[^'\n]*'/y,
+        /"""[^]*?(?:[^\\]"""|$)/y, /'''[^]*?(?:'''|$)/y, /"(?:[^"\\\n]|\\.)*"?/y, /'[^'\n]*'?/y, /[^\s,\]}#]+/y,
+        /\]*/y, /[ \t]*(?:\.[^=\]\n]*)?/y, /^("""|'''|["'])/,
+    ], // TOML
+    'texts.js': [/\[([^\]]+)\]\((word_\w+)\)/g, /\{(\w+)\}/g], // the texts of the page
+};
+
+describe('the page', () => {
+    const LITERAL = /(?:[=(,:[!&|?{;]|=>|return)\s*(\/(?![/*])(?:[^/\\\n[]|\\.|\[(?:[^\]\\\n]|\\.)*\])+\/[a-z]*)/g;
+    const files = fs.readdirSync(path.join(WEB, 'page'));
+
+    for (const file of files) {
+        it(`has no other pattern in ${file}`, () => {
+            const text = fs.readFileSync(path.join(WEB, 'page', file), 'utf8');
+            assert.deepEqual([...text.matchAll(LITERAL)].map(found => found[1]), (PATTERNS[file] || []).map(String));
+            assert.ok(!text.includes('RegExp'));
+        });
+    }
+
+    it('has each of these files', () => assert.deepEqual(Object.keys(PATTERNS).filter(file => !files.includes(file)), []));
 });

@@ -9,6 +9,7 @@ import json
 import pathlib
 import random
 import re
+import shutil
 import tempfile
 import threading
 import time
@@ -218,7 +219,8 @@ class Use:
         self.value(f"(it => {{ it.value += {json.dumps(text)}; it.dispatchEvent(new Event('input')); }})(document.getElementById('table'))")
 
     def limit(self, limit):
-        self.do(f"document.getElementById('limit').value = '{limit}'; await Cnum.page.refresh();")
+        """Chooses the number of processes of the protocol, if more can agree."""
+        self.do(f"Cnum.page.limit = {limit}; await Cnum.page.refresh();")
 
     def edit(self, change, *words):
         """Changes the table by one of Cnum.edits."""
@@ -326,9 +328,17 @@ def examples(use):
         grid = called(["lint"], table)[0].decode().splitlines()[2:]
         cells, shown = [line.split()[1:] for line in grid if line.startswith("  ")], use.value(CELLS)
         yield f"the grid of {path}", shown == [row[: len(shown[0])] for row in cells], shown
+        notes = [it for it in grid if it.startswith(("state ", "operation "))]
+        told = use.texts("#notes li")
+        yield f"the notes on {path}", [names_in(it) for it in told] == [names_in(it) for it in notes], (told, notes)
         yield f"the picture of {path}", use.value(OVERLAPS) == [], use.value(OVERLAPS)
         arrows = called(["draw"], table)[0].decode().count("->")
         yield f"each arrow of {path}", use.count("#picture .label") == arrows, arrows
+
+
+def names_in(note):
+    """The names in a note of `lint` or of the page: those of states, and of an operation that changes nothing."""
+    return [it.strip(":.") for it in note.split()[1 :: 5 if note.lower().startswith("state") else 100]]
 
 
 def meanings(use):
@@ -494,8 +504,13 @@ def comparisons(use):
     use.value(press % "Each pair of operations")
     use.until("document.querySelectorAll('#comparison tbody button').length === 6")
     cells = use.texts("#comparison tbody button")
-    wanted_cells = [native_number(use.value(f"Cnum.pairsOf(Cnum.page.text)[{index}].text")) for index in range(6)]
+    told = json.loads(called(["pairs", "--as", "json", "-"], use.table())[0])
+    numbers = {frozenset(it["operations"]): str(it["number"]) for it in told["alone"] + told["pairs"]}
+    names = [it["operations"][0] for it in told["alone"]]
+    wanted_cells = [numbers[frozenset({first, second})] for k, first in enumerate(names) for second in names[: k + 1]]
     yield "the number of each pair", cells == wanted_cells and len(set(cells)) > 1, (cells, wanted_cells)
+    sets = use.texts("#comparison li")
+    yield "the smallest sets with the number", sets == [", ".join(it) for it in told["smallest"]] != [], sets
     use.open("#example=catalogue/queue_2&view=pairs")
     yield "they are a view of their own", use.until("document.querySelectorAll('#comparison tbody button').length === 6"), ""
     use.value("document.querySelectorAll('#comparison tbody button')[1].click()")
@@ -548,6 +563,7 @@ def schedules(use):
     with tempfile.TemporaryDirectory() as room:
         for name in ("test_and_set", "three_shot", "sticky_bit", "counter_3"):
             use.choose(f"types/{name}")
+            use.limit(4)
             certificate = found(name, 4, room)
             n = json.loads(pathlib.Path(certificate).read_text())["number"]
             inputs = ",".join(str(10 * (p + 1)) for p in range(n))
@@ -653,6 +669,7 @@ def adversaries(use):
     use.press("Try to break it")
     yield "schedules of three", use.until(TRIED, 120) and use.trial().startswith("All 1412 schedules agree"), use.trial()
     use.choose("catalogue/cas_3")
+    use.limit(4)
     use.press("Try to break it")
     yield "schedules of four, at random", use.until(TRIED, 120) and use.trial().startswith("500 schedules, chosen at random"), use.trial()
     use.press("Try to break it")
@@ -695,10 +712,15 @@ def phone(use):
 
 
 def links(use):
-    use.open("#example=types/three_shot&limit=3&inputs=7,8,9&run=2,2,x2,0,0,0,0")
+    use.open("#example=types/three_shot&limit=2&inputs=7,8&run=1,1,0,x0")
+    shown = use.text("number"), use.value("JSON.parse(Cnum.page.certificate).limit"), use.texts(".decision")
+    yield "a link shows fewer processes than can agree", shown[:2] == ("3", 2) and len(shown[2]) == 2, shown
+    yield "and keeps that", use.until("location.hash.includes('&limit=2&')", 5), use.value("location.hash")
+    use.open("#example=types/sticky_bit&inputs=7,8,9&run=2,0")
+    yield "inputs without a limit tell how many processes there are", use.count(".process") == 3, use.count(".process")
+    use.open("#example=types/three_shot&limit=4&inputs=7,8,9&run=2,2,x2,0,0,0,0")
     yield "a link shows an example", use.text("number") == "3", use.text("number")
-    limit = use.value("JSON.parse(Cnum.page.certificate).limit")
-    yield "and its certificate", limit == 3, limit
+    yield "a limit that is no smaller is none", use.until("!location.hash.includes('limit')", 5), use.value("location.hash")
     told = use.texts(".decision")
     yield "and its run", told[0].startswith("4 steps, decides") and told[2] == "2 steps, undecided, stopped", told
     use.open()
@@ -712,7 +734,7 @@ def links(use):
     use.open()
     use.value("Cnum.page.address.copy()")
     yield "a link of a file says so", "on this machine only" in use.text("link-said"), use.text("link-said")
-    for number, damaged in enumerate((link[:-6], link.replace("limit=", "limi="), "#table=%%%", "#table=AAAA", *WRONG_LINKS)):
+    for number, damaged in enumerate((link[:-6], f"{link}&limi=4", "#table=%%%", "#table=AAAA", *WRONG_LINKS)):
         use.open(damaged)
         told = use.text("trouble")
         yield f"damaged link {number}", told.startswith("This link cannot be shown: ") and use.is_hidden("content"), (damaged, told)
@@ -767,7 +789,7 @@ def on_a_server(use):
         sections = "[...frames[0].document.querySelectorAll('main > section')].filter(it => it.checkVisibility()).map(it => it.id).join()"
         yield "a part of it stands in a frame", use.until(f"frames[0].{READY} && {sections} === 'protocol-part'"), ""
         whole = use.value("frames[0].document.getElementById('whole-link').href")
-        yield "with a link to the whole page", whole.endswith("/cnum.html#example=types/three_shot&limit=4"), whole
+        yield "with a link to the whole page", whole.endswith("/cnum.html#example=types/three_shot"), whole
         server.shutdown()
 
 
@@ -797,8 +819,7 @@ def missing_parts(use):
 
 def certificates(use):
     use.open()
-    with tempfile.TemporaryDirectory() as room:
-        whole = pathlib.Path(found("test_and_set", 4, room)).read_text()
+    whole = called(["find"], TYPES["test_and_set"])[0].decode()
     yield "the certificate is the program's", use.value("Cnum.page.certificate") == whole, ""
     drop = """((name, text) => {
         const dataTransfer = new DataTransfer();
@@ -809,6 +830,8 @@ def certificates(use):
         (whole, "claim.json is right: it is a certificate of this table."),
         (whole.replace('"number":2', '"number":3'), "claim.json is refused. Its witness does not fit its number"),
         (whole.replace("test_and_set", "idle"), "claim.json is refused. It is a certificate of another type"),
+        (whole.replace("[0,1],[2,1]", "[0,1],[1,2]"), "claim.json is refused. Its collision 0 is none. (cnum: check: 7 NotACollision 0)"),
+        ("{" * 16777217, "claim.json is refused. It is longer than any certificate. (cnum: certificate: too long)"),
         ("{", "claim.json is refused. It is no JSON, and so no certificate. (cnum: certificate: 1 NotJson)"),
     ):
         use.value(drop % f"'claim.json', {json.dumps(text)}")
@@ -832,22 +855,29 @@ def certificates(use):
 
 def explanations(use):
     use.open()
-    with tempfile.TemporaryDirectory() as room:
-        for name in ("test_and_set", "sticky_bit", "idle", "counter_3", "three_shot"):
-            use.choose(f"types/{name}")
-            wanted = called(["explain", found(name, 4, room)], TYPES[name])[0].decode()
-            yield f"the explanation of {name}", use.texts("#why details pre") == [wanted], use.texts("#why details pre")
-            shown = use.value("document.getElementById('why').innerText")
-            words = wanted.partition("\n\nWhy")[2].replace("(--all tells them)", "").split()
-            missing = [it for it in words if it.isalnum() and it not in shown]
-            yield f"all of it is shown for {name}", missing == [], missing
-    use.limit(8)
-    said = "A certificate for 8 processes would be too long. Why and the protocol are for 7 at most."
+    for name in ("test_and_set", "sticky_bit", "idle", "counter_3", "three_shot"):
+        use.choose(f"types/{name}")
+        wanted = called(["why", "-"], TYPES[name])[0].decode()
+        use.value("(() => { document.querySelector('#why details').open = true; })()")
+        use.until("document.querySelector('#why details pre').textContent")
+        yield f"the explanation of {name}, as it is printed", use.texts("#why details pre") == [wanted], use.texts("#why details pre")
+        use.value("(() => { document.querySelector('#why details').open = false; })()")
+        told = json.loads(called(["why", "--as", "json", "-"], TYPES[name])[0])
+        for about, selector, texts in shown_of(told):
+            yield f"{about} of {name}", use.texts(selector) == texts, (use.texts(selector), texts)
+    for name, most, count in (("test_and_set", "as many as can agree", 2), ("sticky_bit", "the most for which the program gives evidence", 8)):
+        use.choose(f"types/{name}")
+        said = use.text("limit-said"), use.count(".process")
+        yield f"for how many processes the evidence of {name} is", most in said[0] and f" {count} " in said[0] and said[1] == count, said
+    use.value("(it => { it.value = '3'; it.dispatchEvent(new Event('change')); })(document.getElementById('limit'))")
+    well = use.until("document.querySelectorAll('.process').length === 3", 20) and "as you chose" in use.text("limit-said")
+    yield "one can choose fewer", well and use.text("number") == "infinite", (use.text("limit-said"), use.count(".process"))
+    use.choose("types/idle")
+    yield "for one process there is nothing to say or choose", use.is_hidden("limit-part") and use.text("limit-said") == "", use.text("limit-said")
     use.choose("catalogue/cas_3")
-    told = use.text("limit-said"), use.count(".process")
-    yield "a limit that is too large gives the greatest that is not", told == (said, 7), told
+    said = use.text("limit-said"), use.count(".process"), use.text("fault")
+    yield "a type with many choices has evidence too", " 7 are the most" in said[0] and said[1:] == (7, ""), said
     use.choose("types/three_shot")
-    use.limit(5)
     label = use.value("document.querySelector('#why > button').textContent")
     whole = use.value("JSON.parse(Cnum.page.certificate).collisions.length")
     yield "how many more there are, of how many", label == f"Show {min(100, whole - 12)} more of {whole}", label
@@ -855,8 +885,27 @@ def explanations(use):
         before = use.count(".collisions > li")
         use.value("document.querySelector('#why > button').click()")
         use.until(f"document.querySelectorAll('.collisions > li').length > {before}")
-    count = use.value("JSON.parse(Cnum.page.certificate).collisions.length")
-    yield "all collisions on demand", use.count(".collisions > li") == count > 12, count
+    yield "all collisions on demand", use.count(".collisions > li") == whole > 12, whole
+
+
+def shown_of(told):
+    """What the page has to show of an explanation, as (about, selector, texts)."""
+    runs = [run for it in told["collisions"] for run in ((it, it["a_first"]), (it, it["b_first"]))]
+    yield "the states of the collisions", "#why .run .state", [it for one, run in runs for it in (one["start"], *(step["state"] for step in run["steps"]))]
+    steps = [step for _, run in runs for step in run["steps"]]
+    yield "the steps of the collisions", "#why .step", [f"p{it['process']} {it['operation']} answers {it['response']}" for it in steps]
+    ends = [f"p{one['process']} got {run['pair']['response']}, reads {run['pair']['state']}" for one, run in runs]
+    yield "what the process got", "#why .run .end", ends
+    yield "who cannot tell", "#why .collisions strong", [f"p{it['process']} cannot tell" for it in told["collisions"]]
+    rows = []
+    for it in told["witness"]["processes"] if told["witness"] else []:
+        pairs = [f"got {pair['response']}, reads {pair['state']}" for side in ("a_first", "b_first") for pair in it[side]]
+        if not rows or rows[-1] != (it["operation"], it["team"], pairs):
+            rows.append((it["operation"], it["team"], pairs))
+    yield "the pairs of the witness", "#why .pairs td li", [pair for *_, pairs in rows for pair in pairs]
+    lasting = told["lasting"] or {"single_states": [], "many_states": []}
+    states = [", ".join(it) for it in (lasting["single_states"], lasting["many_states"]) if it]
+    yield "the states of operations that last", "#why .pairs tr td:last-child:nth-child(2)", states
 
 
 def searches(use):
@@ -1010,13 +1059,66 @@ def quiet(use):
     yield "no error is logged", logged == [], logged
 
 
+# What the copy of a page does with an answer of the program: in each text for people each word has another letter.
+PLANTED = """
+    const changed = text => text.replace(/\\b[a-z]{3,}\\b/g, word => `${word}z`);
+    function planted(words, { status, stdout, stderr }) {
+        const text = new TextDecoder().decode(stdout);
+        const isForm = words.includes('--as') || ['find', 'draw'].includes(words[0]);
+        const isLint = isForm && words[0] === 'lint' && text;
+        const flaws = isLint && JSON.parse(text).flaws.map(it => ({ ...it, text: changed(it.text) }));
+        const told = isLint ? JSON.stringify({ flaws }) : isForm ? text : changed(text);
+        return { status, stdout: encoder.encode(told), stderr };
+    }
+"""
+PLANTED_AT = "    return function run(words"
+ANSWERED = "return { status, stdout: joined(written[1]), stderr: joined(written[2]) };"
+SHOWN = """(() => {
+    const texts = selector => [...document.querySelectorAll(selector)].map(it => it.textContent);
+    const places = ['number', 'meaning', 'recoverable', 'limit-said', 'notes', 'fault'].map(it => document.getElementById(it).textContent);
+    const why = [...document.querySelectorAll('#why > :not(details)')].map(it => it.textContent);
+    return [places, why, texts('#marks mark'), texts('.log li'), texts('.decision'), texts('#protocol td'), texts('#comparison td')];
+})()"""
+
+
+def planted(use):
+    """A copy of the page whose program speaks otherwise: it shows the same numbers, reasons, places of flaws and runs."""
+    pages = {"web": TOP / "web/index.html"}
+    with tempfile.TemporaryDirectory() as room:
+        shutil.copytree(TOP / "web", f"{room}/web")
+        pages["copy"] = pathlib.Path(room, "web/index.html")
+        host = pages["copy"].parent / "page/host.js"
+        text = host.read_text()
+        yield "the host is as the copy wants it", text.count(PLANTED_AT) == text.count(ANSWERED) == 1, ""
+        answered = ANSWERED.replace("{ status", "planted(words, { status").replace("};", "});")
+        host.write_text(text.replace(PLANTED_AT, PLANTED + PLANTED_AT).replace(ANSWERED, answered))
+        for path in ("types/three_shot&run=0,1,x1,0,0,2", "types/sticky_bit&run=1,1", "types/idle", "types/wide", "catalogue/queue_2"):
+            link, shown = f"#example={path}", {}
+            for name, page in pages.items():
+                use.open(link, page)
+                use.value("[...document.querySelectorAll('#comparison button')].find(it => it.textContent === 'Each pair of operations').click()")
+                use.until("document.querySelector('#comparison table') || document.querySelector('#comparison button').disabled", 20)
+                shown[name] = use.value(SHOWN)
+            yield f"{link} is shown the same", shown["web"] == shown["copy"] and shown["web"][1], shown
+        use.value("(() => { document.querySelector('#why details').open = true; })()")
+        use.until("document.querySelector('#why details pre').textContent")
+        yield "the copy speaks otherwise", "consensusz numberz" in use.text("why"), use.texts("#why details pre")
+        for table, _ in flawed(TYPES["test_and_set"]):
+            marks = {}
+            for name, page in pages.items():
+                use.open("", page)
+                use.give(table)
+                marks[name] = use.value(SHOWN)
+            yield f"the places of flaws of {table!r}", marks["web"] == marks["copy"] and marks["web"][2], marks
+
+
 ALL = (
-    first_answer, flaws, examples, meanings, pictures, picture_tools, words, grid, changes, comparisons, example_search,
+    first_answer, flaws, examples, meanings, pictures, picture_tools, words, grid, changes, comparisons, example_search, planted,
     schedules, pictured_runs, adversaries, keys, phone, links, certificates, explanations, searches, one_file, without, for_all,
     paper, slides, languages, foot, quiet, on_a_server, missing_parts,
 )
 # The parts that also run in a browser that is not driven by DevTools.
 WITHOUT_DEVTOOLS = (
-    first_answer, meanings, pictures, words, grid, changes, comparisons, example_search, schedules, pictured_runs, adversaries,
+    first_answer, meanings, pictures, words, grid, changes, comparisons, example_search, planted, schedules, pictured_runs, adversaries,
     keys, links, certificates, explanations, searches, one_file, languages, foot, on_a_server, missing_parts,
 )

@@ -40,17 +40,29 @@ var Cnum = globalThis.Cnum || {};
         return others.reduce((left, index) => Cnum.edits.removeOperation(new Cnum.TableText(left), index), text);
     }
 
-    // The table with each operation alone and with each pair of them, as { row, column, text }.
-    Cnum.pairsOf = function (text) {
-        const places = new Cnum.TableText(text).operations.map((_, index) => index);
-        return places.flatMap(row => places.slice(0, row + 1).map(column => ({ row, column, text: only(text, [row, column]) })));
+    // The table with each operation alone and with each pair of them, as { row, column, number, text }, by what `pairs`
+    // tells of the table.
+    Cnum.pairsOf = function (text, { alone, pairs }) {
+        const names = new Cnum.TableText(text).operations.map(it => it.name.text);
+        return [...alone, ...pairs].map(({ number, operations }) => {
+            const places = operations.map(it => names.indexOf(it));
+            return { row: Math.max(...places), column: Math.min(...places), number: Cnum.numberText(number), text: only(text, places) };
+        });
     };
 
+    // The smallest sets of operations with the number of the type, as `pairs` tells them.
+    function smallest({ number, smallest: sets }) {
+        if (!sets.length) return [];
+        const listed = element('ul', {}, ...sets.map(it => element('li', {}, it.join(', '))));
+        return [element('p', {}, say('smallest_sets', { number: Cnum.numberText(number) })), listed];
+    }
+
     class Comparison {
-        // Shows comparisons in this place. `numbers` gives the numbers of tables, `take` makes a table the
-        // present one, and `openWhy` also shows why it has its number.
-        constructor(place, { numbers, take, openWhy }) {
-            Object.assign(this, { numbers, take, openWhy, text: '', first: null, round: 0 });
+        // Shows comparisons in this place. `numbers` gives the numbers of tables, and `pairs` what `pairs` tells of
+        // one; either is null if the program ends with a fault. `take` makes a table the present one, and `openWhy`
+        // also shows why it has its number.
+        constructor(place, { numbers, pairs, take, openWhy }) {
+            Object.assign(this, { numbers, pairs, take, openWhy, text: '', first: null, round: 0 });
             this.withoutButton = button(say('without_each'), () => this.leaveOut());
             this.pairsButton = button(say('each_pair'), () => this.pair());
             this.keepButton = button(say('keep_table'), () => this.keep());
@@ -74,8 +86,9 @@ var Cnum = globalThis.Cnum || {};
         async leaveOut() {
             const round = this.round;
             const tables = Cnum.withoutEach(this.text);
-            const [whole, ...numbers] = await this.numbers([this.text, ...tables.map(it => it.text)]);
-            if (round !== this.round) return;
+            const told = await this.numbers([this.text, ...tables.map(it => it.text)]);
+            if (!told || round !== this.round) return;
+            const [whole, ...numbers] = told.map(Cnum.numberText);
             const showing = text => button(say('show_table'), () => this.take(text));
             const rows = tables.map((it, index) => [it.operation, numbers[index], showing(it.text)]);
             const heads = ['operation_left', 'number_head', 'show_head'].map(it => say(it));
@@ -83,23 +96,20 @@ var Cnum = globalThis.Cnum || {};
             this.answer.replaceChildren(element('h3', {}, say('without_head')), wide(say('without_head'), table));
         }
 
-        // The number of each operation alone and of each pair, in a triangle. A cell leads to the table.
+        // The number of each operation alone and of each pair, in a triangle. A cell leads to the table. Below it, the
+        // smallest sets with the number of the whole.
         async pair() {
-            const round = this.round;
-            const names = new Cnum.TableText(this.text).operations.map(it => it.name.text);
-            const pairs = Cnum.pairsOf(this.text);
-            const numbers = await this.numbers(pairs.map(it => it.text));
-            if (round !== this.round) return;
-            const cells = pairs.map(({ row, column, text }, index) => {
-                const about = say('pair_label', { first: names[row], second: names[column], number: numbers[index] });
-                return { row, shown: button(numbers[index], () => this.openWhy(text), { 'aria-label': about, title: about }) };
-            });
-            const rows = names.map((name, row) => {
-                const own = cells.filter(it => it.row === row).map(it => it.shown);
-                return [name, ...own, ...Array(names.length - own.length).fill('')];
-            });
+            const { round, text } = this;
+            const told = await this.pairs(text);
+            if (!told || round !== this.round) return;
+            const names = told.alone.map(it => it.operations[0]);
+            const rows = names.map(name => [name, ...Array(names.length).fill('')]);
+            for (const { row, column, number, text: pair } of Cnum.pairsOf(text, told)) {
+                const about = say('pair_label', { first: names[row], second: names[column], number });
+                rows[row][column + 1] = button(number, () => this.openWhy(pair), { 'aria-label': about, title: about });
+            }
             const table = tableOf([say('operation_head'), ...names], rows, { class: 'pairs' });
-            this.answer.replaceChildren(element('h3', {}, say('pairs_head')), wide(say('pairs_head'), table));
+            this.answer.replaceChildren(element('h3', {}, say('pairs_head')), wide(say('pairs_head'), table), ...smallest(told));
         }
 
         keep() {
@@ -114,15 +124,16 @@ var Cnum = globalThis.Cnum || {};
                 this.beside.replaceChildren(...(first && text ? [element('p', { class: 'quiet' }, say('table_kept'))] : []));
                 return;
             }
-            const numbers = await this.numbers([first, text]);
-            if (round !== this.round) return;
+            const told = await this.numbers([first, text]);
+            if (!told || round !== this.round) return;
+            const numbers = told.map(Cnum.numberText);
             const found = Cnum.differences(first, text);
             const heads = ['operation_head', 'state_head', 'table_kept_head', 'table_now_head'].map(it => say(it));
             const rows = found.map(it => [it.operation, it.state, it.first || say('no_cell'), it.second || say('no_cell')]);
-            const told = element('p', {}, say('two_numbers', { first: numbers[0], second: numbers[1], count: found.length }));
+            const sentence = element('p', {}, say('two_numbers', { first: numbers[0], second: numbers[1], count: found.length }));
             const back = button(say('show_kept'), () => this.take(first));
             const table = wide(say('beside_head'), tableOf(heads, rows, { class: 'pairs' }));
-            this.beside.replaceChildren(element('h3', {}, say('beside_head')), told, ...(found.length ? [table] : []), back);
+            this.beside.replaceChildren(element('h3', {}, say('beside_head')), sentence, ...(found.length ? [table] : []), back);
         }
     }
 

@@ -19,7 +19,7 @@ var Cnum = globalThis.Cnum || {};
             this.marks.scrollLeft = this.text.scrollLeft;
         }
 
-        // Shows flaws, one for each line of `lint`.
+        // Shows the flaws that `lint` tells.
         show(flaws) {
             const text = this.text.value;
             const places = Cnum.placesOf(flaws, text);
@@ -28,9 +28,9 @@ var Cnum = globalThis.Cnum || {};
             this.mark(text, places.filter(Boolean));
         }
 
-        flaw(flaw, place) {
-            if (!place) return flaw;
-            return button(flaw, () => {
+        flaw({ text }, place) {
+            if (!place) return text;
+            return button(text, () => {
                 this.text.focus();
                 this.text.setSelectionRange(place.from, place.to);
             });

@@ -38,16 +38,15 @@ var Cnum = globalThis.Cnum || {};
         return found.sort((a, b) => distances.get(a) - distances.get(b));
     };
 
-    // The numbers in a text of `classify`, by the places of their lines, and each of them once, in order.
-    Cnum.numbersOf = function (text) {
-        const numbers = text.trimEnd().split('\n').map(line => line.replace(/^.*: /, ''));
-        const worth = it => (it === 'infinite' ? Infinity : parseInt(it, 10));
-        return { numbers, kinds: [...new Set(numbers)].sort((a, b) => worth(a) - worth(b)) };
+    // The texts of numbers, each of them once, in order.
+    Cnum.kindsOf = function (numbers) {
+        const ordered = [...numbers].sort((a, b) => Cnum.leastOf(a) - Cnum.leastOf(b));
+        return [...new Set(ordered.map(Cnum.numberText))];
     };
 
     class ExampleSearch {
         // The field, the list and the choice of a number. `choose` is called with the path of an example, and
-        // `classify` gives the text of the numbers of all examples.
+        // `classify` gives the numbers of all examples.
         constructor({ field, list, number }, { choose, classify }) {
             Object.assign(this, { field, list, number, choose, classify, at: -1, numbers: null });
             this.index = Cnum.exampleIndex();
@@ -76,9 +75,10 @@ var Cnum = globalThis.Cnum || {};
         async begin() {
             if (this.numbers) return;
             this.numbers = new Map();
-            const { numbers, kinds } = Cnum.numbersOf(await this.classify(this.index.map(it => it.path)));
-            this.index.forEach(({ path }, place) => this.numbers.set(path, numbers[place]));
-            this.number.append(...kinds.map(it => element('option', { value: it }, it)));
+            const numbers = await this.classify(this.index.map(it => it.path));
+            if (!numbers) return;
+            this.index.forEach(({ path }, place) => this.numbers.set(path, Cnum.numberText(numbers[place])));
+            this.number.append(...Cnum.kindsOf(numbers).map(it => element('option', { value: it }, it)));
             if (!this.list.hidden) this.open();
         }
 

@@ -1,97 +1,122 @@
-// Why the number is what it is: reads the output of `explain`, and shows it as a table of pairs and as rows
-// of states and arrows.
+// Why the number is what it is: shows what `why --as json` tells, as a table of pairs and as rows of states and
+// arrows, in the words of the page.
 var Cnum = globalThis.Cnum || {};
 
 (() => {
     'use strict';
 
-    const { button, element, say, tableOf, wide } = Cnum;
+    const { button, element, marked, say, tableOf, wide } = Cnum;
     const AT_ONCE = 100; // how many more collisions each demand shows
-    const COLLISION = /^ +(\d+)\. (start .*?) +(p\d+) cannot tell:$/;
-    const RUN = /^ +([AB]) first: +(.*?) +(p\d+ got .*)$/;
-    const FOLD = /(\S)\n {10}(?=\S)/g; // where a line of more than 100 columns goes on in the next one
-    const STEP = / --(p\d+) (\w+)\/(\w+)--> (\w+)/g;
-    const MORE = /^ +and (\d+) more \(--all tells them\)$/;
+    const MOST_APART = 3; // more pairs of operations are no reason to remember
 
-    // The parts of the text: its head line, the lines on the witness, the collisions, the number of further
-    // ones, and the sentences around them.
-    function read(text) {
-        const [head, , why, rest = ''] = text.trimEnd().replace(FOLD, '$1 ').split('\n\n');
-        const found = { head, why: why.split('\n'), title: '', collisions: [], more: 0, sentences: [] };
-        const lines = rest.split('\n');
-        found.title = lines[0];
-        for (let at = 1; at < lines.length; at++) {
-            const more = MORE.exec(lines[at]);
-            if (COLLISION.test(lines[at])) {
-                found.collisions.push(lines.slice(at, at + 3));
-                at += 2;
-            } else if (more) {
-                found.more = Number(more[1]);
-            } else {
-                found.sentences.push(lines[at].trim());
-            }
-        }
-        return found;
+    const process = place => `p${place}`;
+    const paragraph = (...words) => element('p', {}, ...marked(...words));
+    const head = (...words) => element('h3', {}, ...marked(...words));
+
+    // Processes that do the same, as far as they follow one another: { first, last } with what they do.
+    function grouped(processes, isSame) {
+        const groups = [];
+        processes.forEach((it, place) => {
+            const group = groups[groups.length - 1];
+            if (group && isSame(group, it)) group.last = place;
+            else groups.push({ ...it, first: place, last: place });
+        });
+        return groups;
     }
 
-    // The pairs of each process: what it gets and reads if team A was first, and if team B was. The columns
-    // of the text tell the team of a pair. If there is no room for them side by side, those of team B stand
-    // below.
-    function pairs(lines) {
-        const found = [];
-        for (const line of lines) {
-            const begun = /^ {2}(p\d+) +A first: /.exec(line);
-            if (begun) found.push({ process: begun[1], column: line.indexOf('B first: '), side: 'A', A: [], B: [] });
-            const last = found[found.length - 1];
-            const put = (team, part) => part.trim() && last[team].push(part.replace(`${team} first: `, '').trim());
-            if (last.column < 0) {
-                if (/^ +B first: /.test(line)) last.side = 'B';
-                put(last.side, line.slice(5));
-            } else {
-                put('A', line.slice(5, last.column));
-                put('B', line.slice(last.column));
-            }
-        }
-        return found;
+    function namesOf({ first, last }) {
+        if (first === last) return process(first);
+        return say(first + 1 === last ? 'two_processes' : 'more_processes', { first: process(first), last: process(last) });
     }
 
-    function witness(lines) {
-        const [title, ...rest] = lines;
-        if (!rest.length) return [element('p', {}, title)];
-        const told = rest.slice(0, -1);
-        const list = its => element('ul', {}, ...its.map(it => element('li', {}, it)));
-        const rows = pairs(told).map(it => [it.process, list(it.A), list(it.B)]);
-        const table = tableOf(['why_process', 'why_A', 'why_B'].map(it => say(it)), rows, { class: 'pairs' });
-        return [element('h3', {}, title), wide(say('why_pairs'), table), element('p', {}, rest[rest.length - 1].trim())];
+    const doing = it => say(it.first === it.last ? 'does' : 'do', { processes: namesOf(it), operation: it.operation });
+    const isSameTask = (a, b) => a.team === b.team && a.operation === b.operation;
+
+    // Who does what in a choice, team by team.
+    function tasks(processes) {
+        const groups = grouped(processes, isSameTask);
+        const ofTeam = team => groups.filter(it => it.team === team).map(doing).join(', ');
+        return ['A', 'B'].map(team => say('tasks_of_team', { team, tasks: ofTeam(team) })).join('; ');
+    }
+
+    // Two operations by which each process knows which of them came first.
+    function lasting(told) {
+        if (!told) return [];
+        const { single, single_states: afterSingle, many, many_states: afterMany } = told;
+        const rows = [
+            [say('lasting_single', { operation: single }), afterSingle.join(', ')],
+            [say('lasting_many', { operation: many }), afterMany.join(', ')],
+        ];
+        const table = tableOf([say('lasting_first'), say('lasting_states')], rows, { class: 'pairs' });
+        return [head('why_lasting', told), wide(say('lasting_states'), table), paragraph('why_lasting_end')];
+    }
+
+    function witness(told) {
+        if (!told) return [paragraph('why_one')];
+        const isSame = (a, b) => isSameTask(a, b) && ['a_first', 'b_first'].every(it => JSON.stringify(a[it]) === JSON.stringify(b[it]));
+        const list = its => element('ul', {}, ...its.map(it => element('li', {}, say('got', it))));
+        const rows = grouped(told.processes, isSame).map(it => [namesOf(it), it.operation, list(it.a_first), list(it.b_first)]);
+        const table = tableOf(['why_process', 'why_operation', 'why_A', 'why_B'].map(it => say(it)), rows, { class: 'pairs' });
+        const words = { count: told.processes.length, start: told.start, tasks: tasks(told.processes) };
+        return [head('why_witness', words), wide(say('why_pairs'), table), paragraph('why_witness_end')];
+    }
+
+    // What two operations at a time tell of the number.
+    function ofOperations({ rule, apart, number }) {
+        if (rule) return [paragraph(`rule_${rule}`)];
+        if (Cnum.leastOf(number) <= 2 || apart.length > MOST_APART) return [];
+        const pairs = apart.map(([first, second]) => say('pair', { first, second })).join(', ');
+        return apart.length ? [paragraph('why_apart', { pairs })] : [];
     }
 
     // A run of a collision: the states in a row, with an arrow between two of them for the operation.
-    function run(line, doubting) {
-        const [, team, steps, end] = RUN.exec(line);
+    function run({ steps, pair }, team, start, doubting) {
         const part = (kind, ...content) => element('span', { class: kind }, ...content);
-        const parts = [...steps.matchAll(STEP)].flatMap(([, process, operation, response, next]) => {
-            const kind = process === doubting ? 'step doubting' : 'step';
-            const answer = [part('hidden', say('answers')), part('response', response)];
-            return [part(kind, `${process} ${operation}`, ...answer), part('state', next)];
+        const parts = steps.flatMap(it => {
+            const kind = it.process === doubting ? 'step doubting' : 'step';
+            const answer = [part('hidden', say('answers')), part('response', it.response)];
+            return [part(kind, `${process(it.process)} ${it.operation}`, ...answer), part('state', it.state)];
         });
         const first = part(`first team-${team}`, say('team_first', { team }));
-        return element('div', { class: 'run' }, first, part('state', steps.split(' ')[0]), ...parts, part('end', end));
+        const end = part('end', say('got_at_end', { process: process(doubting), ...pair }));
+        return element('div', { class: 'run' }, first, part('state', start), ...parts, end);
     }
 
-    function collision([head, ...runs]) {
-        const [, number, choice, doubting] = COLLISION.exec(head);
-        const title = element('p', {}, choice, element('strong', {}, say('cannot_tell', { process: doubting })));
-        return element('li', { value: number }, title, ...runs.map(it => run(it, doubting)));
+    function collision(it, number) {
+        const choice = say('collision_of', { start: it.start, tasks: tasks(it.processes) });
+        const title = element('p', {}, `${choice} `, element('strong', {}, say('cannot_tell', { process: process(it.process) })));
+        const runs = [run(it.a_first, 'A', it.start, it.process), run(it.b_first, 'B', it.start, it.process)];
+        return element('li', { value: number }, title, ...runs);
     }
 
-    // Shows an explanation in this place. `tellAll` gives the text with all collisions, on demand.
-    Cnum.showExplanation = function (place, text, tellAll) {
-        const told = read(text);
-        const list = element('ol', { class: 'collisions' });
-        const shown = its => list.append(...its.map(collision));
-        const more = button('', demand);
+    // The heading of the collisions of a choice for so many processes. It may be that no choice is left.
+    function titleOf({ collisions, more }, count) {
+        const ways = collisions.length + more;
+        const key = ways > 1 ? 'why_not' : ways ? 'why_not_one_way' : 'why_no_way';
+        return head(key, { count, ways });
+    }
+
+    // What is said of more processes than those of the witness: a heading if there are collisions, and sentences.
+    function beyond(told, count) {
+        if (told.number === 'infinite') return { end: [say('why_each')] };
+        if (told.number.at_least) return { end: [say('why_not_looked', { count })] };
+        const most = Cnum.mostOf(told.number);
+        const end = say('why_proved', { count: most + 1 });
+        if (count === told.limit) return { end: [say('why_not_listed', { count: most + 1 }), end] };
+        const about = [say('why_same_ways'), ...(told.version > 1 ? [say('why_left_out')] : [])];
+        return { title: titleOf(told, count + 1), end: [...about, end] };
+    }
+
+    // Collisions, and a button for more of them on demand. `all` gives the explanation with all of them.
+    function collisions(told, all) {
         const whole = told.collisions.length + told.more;
+        const list = element('ol', { class: 'collisions' });
+        const more = button('', demand);
         let left = [];
+
+        function shown(its) {
+            its.forEach(it => list.append(collision(it, list.children.length + 1)));
+        }
 
         function label(count) {
             more.hidden = !count;
@@ -100,13 +125,12 @@ var Cnum = globalThis.Cnum || {};
 
         async function demand() {
             if (!left.length) {
-                const whole = await tellAll();
-                if (whole === null) return;
-                left = read(whole).collisions.slice(list.children.length);
+                const found = await all();
+                if (found === null) return;
+                left = found.collisions.slice(list.children.length);
             }
-            const first = left.splice(0, AT_ONCE);
             const before = list.children.length;
-            shown(first);
+            shown(left.splice(0, AT_ONCE));
             label(left.length);
             list.children[before].tabIndex = -1;
             list.children[before].focus();
@@ -114,9 +138,33 @@ var Cnum = globalThis.Cnum || {};
 
         shown(told.collisions);
         label(told.more);
-        const title = told.title ? [element(told.collisions.length ? 'h3' : 'p', {}, told.title)] : [];
-        const sentences = told.sentences.map(it => element('p', { class: 'quiet' }, it));
-        const raw = element('details', {}, element('summary', {}, say('as_printed')), element('pre', { tabindex: 0 }, text));
-        place.replaceChildren(...witness(told.why), ...title, list, more, ...sentences, raw);
+        return [list, more];
+    }
+
+    // The text that the program prints, once somebody asks for it.
+    function asPrinted(printed) {
+        const text = element('pre', { tabindex: 0 });
+        const whole = element('details', {}, element('summary', {}, say('as_printed')), text);
+        whole.addEventListener('toggle', async () => {
+            if (whole.open && !text.textContent) text.textContent = (await printed()) || '';
+        });
+        return whole;
+    }
+
+    // Shows an explanation in this place. On demand, `all` gives it with all collisions, and `printed` gives the text
+    // of the program. Either is null if another table has come since.
+    Cnum.showExplanation = function (place, told, { all, printed }) {
+        const count = told.witness ? told.witness.processes.length : 1;
+        const { title, end } = beyond(told, count);
+        const many = told.lasting && told.witness ? [paragraph('why_so_many', { count })] : [];
+        place.replaceChildren(
+            ...lasting(told.lasting),
+            ...many,
+            ...witness(told.witness),
+            ...ofOperations(told),
+            ...(title ? [title, ...collisions(told, all)] : []),
+            element('p', { class: 'quiet' }, end.join(' ')),
+            asPrinted(printed),
+        );
     };
 })();

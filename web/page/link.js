@@ -50,7 +50,7 @@ var Cnum = globalThis.Cnum || {};
             return isThere ? { example: name } : refuse('link_example', { name });
         },
         table: async letters => ({ text: await unpacked(letters) }),
-        limit: limit => (/^[2-8]$/.test(limit) ? { limit } : refuse('link_limit', { limit })),
+        limit: limit => (/^[2-8]$/.test(limit) ? { limit: Number(limit) } : refuse('link_limit', { limit })),
         inputs(value) {
             const inputs = value.split(',');
             const wrong = inputs.find(it => !Cnum.isInput(it));
@@ -68,10 +68,11 @@ var Cnum = globalThis.Cnum || {};
     // Whether a process can propose what stands in its field.
     Cnum.isInput = text => /^\d{1,20}$/.test(text) && BigInt(text) <= MOST_INPUT;
 
-    // The part of the address for what the page shows: the path of an example or a text, the limit, the
-    // inputs and the acts, the part that is shown alone, and the language.
+    // The part of the address for what the page shows: the path of an example or a text, the limit if there is one,
+    // the inputs and the acts, the part that is shown alone, and the language.
     Cnum.linkOf = async function ({ example, text, limit, inputs, acts, view, lang }) {
-        const parts = [example ? `example=${example}` : `table=${await packed(text)}`, `limit=${limit}`];
+        const parts = [example ? `example=${example}` : `table=${await packed(text)}`];
+        if (limit) parts.push(`limit=${limit}`);
         if (acts.length) parts.push(`inputs=${inputs.join(',')}`, `run=${acts.map(wordOf).join(',')}`);
         if (view) parts.push(`view=${view}`);
         if (lang && lang !== Cnum.FIRST_LANGUAGE) parts.push(`lang=${lang}`);

@@ -1,5 +1,5 @@
-// The page: hands what a person types or chooses to the program, and the output of the program to the parts
-// that show it. Every number and text on the subject comes from a command of the program.
+// The page: hands what a person types or chooses to the program, and the answers of the program to the parts
+// that show them. Every number and reason comes from a command of the program, as a value.
 var Cnum = globalThis.Cnum || {};
 
 (() => {
@@ -9,11 +9,7 @@ var Cnum = globalThis.Cnum || {};
     const AFTER_TYPING = 150;
     const BEFORE_TEAMS = 400;
     const FIRST_EXAMPLE = 'types/test_and_set';
-    const FIRST_LIMIT = '4';
-    const CLASS = /: (infinite|(\d+)(?: to (\d+))?)\n$/;
-    const RECOVERABLE = /, recoverable (.+)\n$/;
     const PROVED = /^(.*?), proved (by .*)\n$/;
-    const TOO_MANY = /^cnum: find: \d+ TooManyChoices/;
     const CERTIFICATE = 'certificate';
     const NO_NUMBER = '–';
 
@@ -30,6 +26,7 @@ var Cnum = globalThis.Cnum || {};
             this.round = 0;
             this.past = new Cnum.Past();
             this.certificate = '';
+            this.limit = null; // what was chosen for the processes of the protocol, if fewer than the most
             this.editor = new Cnum.Editor(at('table'), at('marks'), at('flaws'));
             this.grid = new Cnum.Grid(at('grid'), text => this.edit(text));
             this.picture = new Cnum.PictureView(
@@ -38,10 +35,11 @@ var Cnum = globalThis.Cnum || {};
             );
             this.examples = new Cnum.ExampleSearch(
                 { field: at('example'), list: at('examples'), number: at('example-number') },
-                { choose: path => this.choose(path), classify: paths => this.classifyAll(paths.map(path => examples.get(path).text)) },
+                { choose: path => this.choose(path), classify: paths => this.numbersOf(paths.map(path => examples.get(path).text)) },
             );
             this.comparison = new Cnum.Comparison(at('comparison'), {
-                numbers: async texts => Cnum.numbersOf(await this.classifyAll(texts)).numbers,
+                numbers: texts => this.numbersOf(texts),
+                pairs: async text => JSON.parse(await this.aside(['pairs', '--as', 'json', '-'], text)),
                 take: text => this.edit(text),
                 openWhy: text => this.openWhy(text),
             });
@@ -57,7 +55,7 @@ var Cnum = globalThis.Cnum || {};
                 tryOut: words => this.agree(this.adversary, words),
                 breakOff: () => this.adversary.breakOff(),
                 next: () => Cnum.run.movesOf(this.table),
-                picture: () => Cnum.pictureOf(this.dot, this.picture.plan),
+                picture: () => Cnum.pictureOf(this.graph, this.picture.plan),
                 mainPicture: () => this.mainPicture(),
                 changed: () => this.address.keepSoon(),
                 say: text => (at('step-said').textContent = text),
@@ -85,7 +83,10 @@ var Cnum = globalThis.Cnum || {};
                 typed = setTimeout(() => this.refresh(), AFTER_TYPING);
             });
             at('own').addEventListener('click', () => this.edit(Cnum.FIRST_TABLE));
-            at('limit').addEventListener('change', () => this.refresh());
+            at('limit').addEventListener('change', () => {
+                this.limit = at('limit').value === String(this.most) ? null : Number(at('limit').value);
+                this.refresh();
+            });
             this.listenToUndo();
             at('break-off').addEventListener('click', () => this.breakOff());
             const offers = {
@@ -202,18 +203,27 @@ var Cnum = globalThis.Cnum || {};
             await this.refresh();
         }
 
-        // The numbers of these tables, a line each.
-        async classifyAll(texts) {
-            const files = Object.fromEntries(texts.map((text, index) => [String(index), text]));
+        // What a command prints beside those on the table that is shown. If it ends with a fault, the page says so, and
+        // the answer is null, as JSON.
+        async aside(words, stdin, files) {
             const runner = new Cnum.Runner(this.module);
-            const answer = await runner.run(['classify', ...Object.keys(files)], '', files);
+            const answer = await runner.run(words, stdin, files);
             runner.end();
-            return answer.stdout;
+            if (answer.status === 0) return answer.stdout;
+            this.notice(Cnum.inWords(answer));
+            return 'null';
         }
 
-        // Shows what a link says.
+        // The numbers of these tables, or null.
+        async numbersOf(texts) {
+            const files = Object.fromEntries(texts.map((text, index) => [String(index), text]));
+            const values = Cnum.valuesOf(await this.aside(['classify', '--as', 'json', ...Object.keys(files)], '', files));
+            return values[0] && values.map(it => it.number);
+        }
+
+        // Shows what a link says. If it has no limit, there are as many processes as it has inputs.
         async showLinked(linked) {
-            at('limit').value = linked.limit || FIRST_LIMIT;
+            this.limit = linked.limit || (linked.inputs.length > 1 ? linked.inputs.length : null);
             this.text = linked.text === undefined ? examples.get(linked.example || FIRST_EXAMPLE).text : linked.text;
             await this.refresh(linked);
         }
@@ -222,7 +232,7 @@ var Cnum = globalThis.Cnum || {};
         linkContent() {
             const example = this.example();
             const { inputs } = this.protocol;
-            return { example: example && example.path, text: this.text, limit: at('limit').value, inputs, acts: this.protocol.actsSoFar() };
+            return { example: example && example.path, text: this.text, limit: this.limit, inputs, acts: this.protocol.actsSoFar() };
         }
 
         // Ends what runs, so that nothing is shown any more.
@@ -251,13 +261,12 @@ var Cnum = globalThis.Cnum || {};
             this.examples.show(example && example.path);
             at('about').textContent = example ? example.about : '';
             this.grid.show(this.text);
-            const lint = await this.ask(this.quick, ['lint']);
+            const lint = await this.ask(this.quick, ['lint', '--as', 'json']);
             if (!lint) return;
-            const lines = lint.stdout.trimEnd().split('\n');
             const isTable = lint.status === 0;
-            this.editor.show(isTable || !lint.stdout ? [] : lines);
-            at('fault').textContent = lint.stderr && Cnum.inWords(lint.stderr);
-            at('notes').textContent = isTable ? lines.filter(it => /^(state|operation) \w+: /.test(it)).join('\n') : '';
+            this.editor.show(lint.stdout ? JSON.parse(lint.stdout).flaws : []);
+            at('fault').textContent = isTable ? '' : Cnum.inWords(lint);
+            at('notes').replaceChildren(...(isTable ? Cnum.notesOf(this.table) : []).map(it => element('li', {}, it)));
             this.forget(isTable ? '' : say('no_number'));
             this.comparison.show(isTable ? this.table : '');
             if (isTable && this.address.view === 'pairs') this.comparison.pair();
@@ -277,6 +286,7 @@ var Cnum = globalThis.Cnum || {};
             at('claim-file').value = '';
             at('recoverable').textContent = '';
             at('limit-said').textContent = '';
+            at('limit-part').hidden = true;
             at('legend').hidden = true;
             at('download').disabled = at('picture-svg').disabled = at('picture-png').disabled = true;
             this.protocol.clear(why);
@@ -285,75 +295,82 @@ var Cnum = globalThis.Cnum || {};
         async find(linked) {
             const draw = await this.ask(this.quick, ['draw']);
             if (!draw) return;
-            this.dot = draw.stdout;
+            this.graph = Cnum.graphOf(draw.stdout);
             // If the search takes long, the picture comes before it, without teams.
             this.early = setTimeout(() => this.draw(null), BEFORE_TEAMS);
             await this.showNumber(linked);
         }
 
-        // Finds the number, and shows it, and then the evidence up to the limit.
+        // Finds the number, and shows it, and then the evidence.
         async showNumber(linked) {
             at('meaning').textContent = say('searching');
-            const classify = await this.timed(this.ask(this.search, ['classify', '-']));
+            const classify = await this.found(['classify', '--as', 'json', '-']);
             if (!classify) return;
-            if (classify.status !== 0) {
-                this.refuse(classify.stderr);
-                return;
-            }
-            this.tellNumber(CLASS.exec(classify.stdout));
+            this.tellNumber(JSON.parse(classify.stdout).number);
             await this.showEvidence(linked);
             await this.showRecoverable();
         }
 
         async showRecoverable() {
-            const answer = await this.timed(this.ask(this.search, ['classify', '--recoverable', '-']));
-            const found = answer && RECOVERABLE.exec(answer.stdout);
-            if (found) at('recoverable').textContent = say('recoverable', { number: found[1] });
+            const answer = await this.timed(this.ask(this.search, ['classify', '--recoverable', '--as', 'json', '-']));
+            if (!answer || answer.status !== 0) return;
+            const { recoverable } = JSON.parse(answer.stdout);
+            at('recoverable').textContent = say('recoverable', { number: Cnum.numberText(recoverable) });
         }
 
-        // Finds the certificate for the number up to the limit, and shows its explanation and the protocol.
+        // The answer of a search. If it is a fault, the page says so, and there is no answer.
+        async found(words) {
+            const answer = await this.timed(this.ask(this.search, words));
+            if (!answer || answer.status === 0) return answer;
+            this.refuse(Cnum.inWords(answer));
+            return null;
+        }
+
+        // Finds the certificate for as many processes as the program can, or as were chosen, and shows why and the
+        // protocol.
         async showEvidence(linked) {
-            const find = await this.timed(this.findUpTo(at('limit').value));
+            const most = await this.found(['find']);
+            const find = most && (await this.findChosen(most));
             if (!find) return;
-            if (find.status !== 0) {
-                this.refuse(find.stderr);
-                return;
-            }
             this.certificate = find.stdout;
             at('download').disabled = false;
-            const explain = await this.ask(this.search, ['explain', CERTIFICATE], this.files());
-            if (!explain) return;
-            if (explain.status !== 0) {
-                this.refuse(explain.stderr);
-                return;
-            }
-            Cnum.showExplanation(at('why'), explain.stdout, () => this.explainAll());
+            const why = await this.found(this.whyWords('--as', 'json'));
+            if (!why) return;
+            Cnum.showExplanation(at('why'), JSON.parse(why.stdout), { all: () => this.explainAll(), printed: () => this.printedWhy() });
             Cnum.explainWords(at('why'));
             await this.showProtocol(linked);
         }
 
-        // The certificate up to this limit. If it would be too long, that of the greatest limit that the
-        // program permits for a table of this size.
-        async findUpTo(limit) {
-            const find = await this.ask(this.search, ['find', '--limit', limit]);
-            if (!find || !TOO_MANY.test(find.stderr)) return find;
-            const lower = await this.ask(this.search, ['find']);
-            if (lower && lower.status === 0) {
-                at('limit-said').textContent = say('limit_lower', { limit, least: JSON.parse(lower.stdout).limit });
-            }
-            return lower;
+        // The certificate for the chosen processes, if they are fewer than those of this one.
+        findChosen(most) {
+            this.most = JSON.parse(most.stdout).number || 1;
+            if (this.limit >= this.most) this.limit = null;
+            this.offerLimits();
+            return this.limit ? this.found(['find', '--limit', String(this.limit)]) : most;
+        }
+
+        // Says for how many processes why and the protocol are, and lets one choose fewer.
+        offerLimits() {
+            const { most, limit, number } = this;
+            const options = Array.from({ length: most - 1 }, (_, index) => element('option', {}, String(index + 2)));
+            at('limit').replaceChildren(...options);
+            at('limit').value = limit || most;
+            at('limit-part').hidden = most < 3;
+            const key = limit ? 'evidence_chosen' : most < Cnum.mostOf(number) ? 'evidence_most' : 'evidence_whole';
+            at('limit-said').textContent = most === 1 ? '' : say(key, { count: limit || most, most });
+        }
+
+        // The words that ask why the number is what it is, as far as was chosen.
+        whyWords(...words) {
+            const limit = this.limit ? ['--limit', String(this.limit)] : [];
+            return ['why', ...limit, ...words, '-'];
         }
 
         // Says why there is no evidence, and so no protocol.
         refuse(why) {
-            const words = Cnum.inWords(why);
             this.draw(null);
-            at('why').replaceChildren(element('p', {}, words));
-            this.protocol.clear(words);
-        }
-
-        files() {
-            return { [CERTIFICATE]: this.certificate };
+            at('why').replaceChildren(element('p', {}, why));
+            this.protocol.clear(why);
         }
 
         // The protocol is that of the certificate for the number alone, which has the same witness and no
@@ -381,7 +398,7 @@ var Cnum = globalThis.Cnum || {};
         // The picture, with the start and the teams of this plan, if there is one.
         draw(plan) {
             clearTimeout(this.early);
-            this.picture.show(this.dot, plan);
+            this.picture.show(this.graph, plan);
             at('legend').hidden = !plan;
             at('picture-svg').disabled = at('picture-png').disabled = false;
         }
@@ -409,30 +426,38 @@ var Cnum = globalThis.Cnum || {};
             else this.refuse(say('certificate_broken_off'));
         }
 
-        // A number, that there is no greatest, or a range in which the number is.
-        tellNumber([, words, least, most]) {
-            at('number').textContent = words;
-            at('meaning').textContent = least ? meaningOf(Number(least), most && Number(most)) : say('any_together', { how: say('how') });
+        // Tells a number, that there is no greatest, or a range in which the number is.
+        tellNumber(number) {
+            this.number = number;
+            at('number').textContent = Cnum.numberText(number);
+            at('meaning').textContent = meaningOf(number);
         }
 
         async explainAll() {
-            const answer = await this.ask(this.search, ['explain', '--all', CERTIFICATE], this.files());
-            return answer && answer.stdout;
+            const answer = await this.ask(this.search, this.whyWords('--all', '--as', 'json'));
+            if (!answer || answer.status === 0) return answer && JSON.parse(answer.stdout);
+            this.notice(Cnum.inWords(answer));
+            return null;
+        }
+
+        async printedWhy() {
+            const answer = await this.ask(this.search, this.whyWords());
+            return answer && (answer.status === 0 ? answer.stdout : Cnum.inWords(answer));
         }
 
         agree(runner, words) {
-            return runner.run(['agree', '--steps', CERTIFICATE, ...words], this.table, this.witness);
+            return runner.run(['agree', '--steps', '--as', 'json', CERTIFICATE, ...words], this.table, this.witness);
         }
 
         // Checks a certificate of somebody else by this table.
         async check(file) {
             if (!file) return;
             const claim = new Uint8Array(await file.arrayBuffer());
-            const answer = await this.ask(this.quick, ['check', CERTIFICATE], { [CERTIFICATE]: claim });
+            const answer = await this.ask(this.quick, ['check', '--as', 'json', CERTIFICATE], { [CERTIFICATE]: claim });
             if (!answer) return;
             const { name } = file;
-            const key = answer.status === 0 ? 'certificate_ok' : 'certificate_wrong';
-            const told = say(key, { name, why: Cnum.inWords(answer.stderr) });
+            const { ok, fault } = answer.stdout ? JSON.parse(answer.stdout) : {};
+            const told = ok ? say('certificate_ok', { name }) : say('certificate_wrong', { name, why: Cnum.inWords(answer, fault) });
             at('claim-said').textContent = told;
             this.notice(told);
         }
@@ -446,11 +471,13 @@ var Cnum = globalThis.Cnum || {};
         }
     }
 
-    // What a number says, or a range, of which the second number is the greatest.
-    function meaningOf(least, most) {
+    // What a number says, or a range of numbers.
+    function meaningOf(number) {
+        if (number === 'infinite') return say('any_together', { how: say('how') });
+        const least = Cnum.leastOf(number);
         const can = least === 1 ? say('alone') : say('together', { count: least, how: say('how') });
-        const sentences = [can, say('no_more', { count: (most || least) + 1 }), ...(most ? [say('too_long')] : [])];
-        return sentences.join(' ');
+        const most = Cnum.mostOf(number);
+        return [can, say('no_more', { count: most + 1 }), ...(most > least ? [say('too_long')] : [])].join(' ');
     }
 
     // What a key undoes: -1 for undo, 1 for redo, 0 for none.

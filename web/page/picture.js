@@ -1,12 +1,10 @@
-// The picture of the states of a type: reads the output of `draw`, and draws it as SVG.
+// The picture of the states of a type, as SVG: draws the graph that `draw` tells.
 var Cnum = globalThis.Cnum || {};
 
 (() => {
     'use strict';
 
     const { say, svgElement } = Cnum;
-    const NODE = /^ {2}"(\w+)";$/;
-    const ARROW = /^ {2}"(\w+)" -> "(\w+)" \[label="(.*)"\];$/;
     const SIZE = 13;
     const LINE = 17;
     const FONT = `${SIZE}px ui-monospace, "DejaVu Sans Mono", Menlo, Consolas, monospace`;
@@ -22,24 +20,8 @@ var Cnum = globalThis.Cnum || {};
         return measuring.measureText(text).width;
     }
 
-    // The states and arrows in the text of `draw`, each arrow with its lines.
-    function read(dot) {
-        const names = [];
-        const arrows = [];
-        for (const line of dot.split('\n')) {
-            const node = NODE.exec(line);
-            const arrow = ARROW.exec(line);
-            if (node) names.push(node[1]);
-            if (!arrow) continue;
-            const [from, to] = arrow.slice(1, 3).map(name => names.indexOf(name));
-            arrows.push({ from, to, lines: arrow[3].split('\\l').filter(Boolean) });
-        }
-        return { names, arrows };
-    }
-
-    // The teams that do the operation of a line, 'operation/response', by the roles of the witness.
-    function teamsOf(line, roles) {
-        const operation = line.split('/')[0];
+    // The teams that do the operation of a line, by the roles of the witness.
+    function teamsOf({ operation }, roles) {
         return ['A', 'B'].filter(team => roles.some(it => it.team === team && it.operation === operation));
     }
 
@@ -53,7 +35,7 @@ var Cnum = globalThis.Cnum || {};
             const y = box.top + LINE * index + SIZE;
             const teams = teamsOf(line, roles);
             const badges = teams.flatMap((team, place) => badge(team, box.left + BADGE * place, y));
-            const text = svgElement('text', { x: box.left + BADGE * teams.length, y, 'data-operation': line.split('/')[0], ...ends }, line);
+            const text = svgElement('text', { x: box.left + BADGE * teams.length, y, 'data-operation': line.operation, ...ends }, line.text);
             return [...badges, text];
         });
         const frame = svgElement('rect', { x: box.left, y: box.top, width: box.right - box.left, height: box.bottom - box.top });
@@ -78,16 +60,15 @@ var Cnum = globalThis.Cnum || {};
         return svgElement('g', { class: 'way-of-operation', ...ends }, svgElement('path', { class: 'arrow', d }), tip);
     }
 
-    // The picture in the text of `draw`, as an element. The plan of a witness, as `show --as json` writes it,
-    // adds the start state and the operations of the teams, if there is one.
-    Cnum.pictureOf = function (dot, plan) {
-        const { names, arrows } = read(dot);
+    // The picture of a graph, as an element. The plan of a witness, as `show --as json` writes it, adds the start
+    // state and the operations of the teams, if there is one.
+    Cnum.pictureOf = function ({ names, arrows }, plan) {
         const roles = plan ? plan.roles : [];
         const start = plan ? names.indexOf(plan.start) : -1;
         const sized = arrows.map(it => ({
             ...it,
             ends: { 'data-from': names[it.from], 'data-to': names[it.to] },
-            width: Math.max(...it.lines.map(line => widthOf(line) + BADGE * teamsOf(line, roles).length)),
+            width: Math.max(...it.lines.map(line => widthOf(line.text) + BADGE * teamsOf(line, roles).length)),
             height: LINE * it.lines.length,
         }));
         const shown = names.map((name, index) => (index === start ? `▶ ${name}` : name));

@@ -11,20 +11,6 @@ var Cnum = globalThis.Cnum || {};
     const STEP = 1.25;
     const OF_SCREEN = 0.74; // how much of the height a picture alone takes
 
-    // The text of `draw` with the lines of these operations alone.
-    Cnum.dotOf = function (dot, isShown) {
-        const lines = dot.split('\n').map(line => {
-            const found = /^(.* \[label=")(.*)("\];)$/.exec(line);
-            if (!found) return line;
-            const kept = found[2].split('\\l').filter(it => it && isShown(it.split('/')[0]));
-            return kept.length ? `${found[1]}${kept.map(it => `${it}\\l`).join('')}${found[3]}` : null;
-        });
-        return lines.filter(it => it !== null).join('\n');
-    };
-
-    // The operations that the text of `draw` names, each once.
-    Cnum.operationsOf = dot => [...new Set([...dot.matchAll(/(\w+)\/\w+\\l/g)].map(it => it[1]))].sort();
-
     // Scrolls a place so that a part of its picture is in the middle.
     Cnum.reveal = function (place, selector) {
         const part = place.querySelector(selector);
@@ -39,7 +25,7 @@ var Cnum = globalThis.Cnum || {};
         // Shows pictures in this place, with its controls in `tools` and the choice of operations in
         // `choice`. `part` is what fills the screen. `afterDrawing` is called with each picture.
         constructor({ place, tools, choice, part }, afterDrawing) {
-            Object.assign(this, { place, choice, part, afterDrawing, hidden: new Set(), zoom: null, dot: '' });
+            Object.assign(this, { place, choice, part, afterDrawing, hidden: new Set(), zoom: null, graph: null });
             const whole = button(say('full_screen'), () => this.fillScreen());
             whole.hidden = !document.fullscreenEnabled;
             const tool = (text, key, act) => button(text, act, { 'aria-label': say(key), title: say(key) });
@@ -57,15 +43,15 @@ var Cnum = globalThis.Cnum || {};
             return this.place.firstElementChild;
         }
 
-        show(dot, plan) {
-            Object.assign(this, { dot, plan, zoom: null });
+        show(graph, plan) {
+            Object.assign(this, { graph, plan, zoom: null });
             this.offerOperations();
             this.draw();
             Cnum.reveal(this.place, plan ? '.start' : '.node');
         }
 
         draw() {
-            this.place.replaceChildren(Cnum.pictureOf(Cnum.dotOf(this.dot, it => !this.hidden.has(it)), this.plan));
+            this.place.replaceChildren(Cnum.pictureOf(Cnum.graphWith(this.graph, it => !this.hidden.has(it)), this.plan));
             this.fit();
             this.afterDrawing();
         }
@@ -77,7 +63,7 @@ var Cnum = globalThis.Cnum || {};
 
         // The operations to choose from, if there are several.
         offerOperations() {
-            const names = Cnum.operationsOf(this.dot);
+            const names = Cnum.operationsOf(this.graph);
             this.hidden = new Set(names.filter(it => this.hidden.has(it)));
             const boxes = names.map(name => {
                 const box = element('input', { type: 'checkbox' });

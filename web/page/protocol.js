@@ -1,5 +1,4 @@
-// The protocol, stepped by hand: keeps the acts of a run, and shows what the program says of them. The lines of
-// the steps are the output of `agree --steps`.
+// The protocol, stepped by hand: keeps the acts of a run, and shows what `agree --steps` says of them.
 var Cnum = globalThis.Cnum || {};
 
 (() => {
@@ -111,9 +110,9 @@ var Cnum = globalThis.Cnum || {};
             const { plan, inputs, next } = this;
             const answer = await agree([inputs.join(','), schedule.join(',') || 'none']);
             if (answer.isBrokenOff) return null;
-            if (answer.status !== 0) return { fault: answer.stderr };
-            const lines = answer.stdout.trimEnd().split('\n').slice(0, schedule.length);
-            return { events: run.withStates(run.eventsOf(acts, lines), plan, next) };
+            if (answer.status !== 0) return { fault: Cnum.inWords(answer) };
+            const { steps } = Cnum.exactValueOf(answer.stdout);
+            return { events: run.withStates(run.eventsOf(acts, steps), plan, next) };
         }
 
         // Runs the acts, and shows what the program says of them.
@@ -122,7 +121,7 @@ var Cnum = globalThis.Cnum || {};
             const told = await this.runOf(this.acts);
             if (turn !== this.turn) return;
             if (told.fault) {
-                this.view.fail(Cnum.inWords(told.fault));
+                this.view.fail(told.fault);
                 return;
             }
             this.events = told.events;

@@ -1,4 +1,4 @@
-// A run of the protocol as data: reads the lines of `agree --steps`, and tells what holds after each of the
+// A run of the protocol as data: takes the steps of `agree --steps`, and tells what holds after each of the
 // acts. An act is { process, stops }: the process takes a step, or stops for good.
 var Cnum = globalThis.Cnum || {};
 
@@ -6,22 +6,13 @@ var Cnum = globalThis.Cnum || {};
     'use strict';
 
     const UNDECIDED = null;
-    // The lines of steps, each with the kind of the step and the names of its parts.
-    const LINES = [
-        [/^\d+: writes (\d+) to ([AB]) of node (\d+)$/, 'writes', ['value', 'team', 'node']],
-        [/^\d+: applies (\w+) at node (\d+): (\w+)$/, 'applies', ['operation', 'node', 'response']],
-        [/^\d+: reads (\w+) at node (\d+): team ([AB])$/, 'reads', ['state', 'node', 'team']],
-        [/^\d+: takes (\d+) from ([AB]) of node (\d+)$/, 'takes', ['value', 'team', 'node']],
-        [/^\d+: decides (\d+)$/, 'decides', ['value']],
-        [/^\d+: has decided$/, 'rests', []],
-    ];
+    // The kinds of events, by the actions of the steps.
+    const KINDS = { write: 'writes', apply: 'applies', read: 'reads', take: 'takes', decide: 'decides', none: 'rests' };
 
-    function readLine(line) {
-        const [pattern, kind, names] = LINES.find(([it]) => it.test(line));
-        const values = pattern.exec(line).slice(1);
-        const step = { kind };
-        names.forEach((name, index) => (step[name] = name === 'node' ? Number(values[index]) : values[index]));
-        return step;
+    // A step as an event. The values of processes are texts, and the team of a read is the one that it judges to have
+    // come first.
+    function eventOf({ action, process, judged, value, ...rest }) {
+        return { kind: KINDS[action], ...rest, ...(judged && { team: judged }), ...(value !== undefined && { value: String(value) }) };
     }
 
     // The acts without those of a process that has stopped before.
@@ -36,14 +27,14 @@ var Cnum = globalThis.Cnum || {};
 
     // The acts with what the program says of each step. A process that has decided takes no step and cannot
     // stop, so that such acts are left out.
-    function eventsOf(acts, lines) {
+    function eventsOf(acts, steps) {
         const decided = new Set();
         let count = 0;
         return acts.flatMap(act => {
-            const step = act.stops ? { kind: 'stops' } : readLine(lines[count++]);
+            const event = act.stops ? { kind: 'stops' } : eventOf(steps[count++]);
             if (decided.has(act.process)) return [];
-            if (step.kind === 'decides') decided.add(act.process);
-            return [{ ...act, ...step }];
+            if (event.kind === 'decides') decided.add(act.process);
+            return [{ ...act, ...event }];
         });
     }
 

@@ -62,7 +62,7 @@ var Cnum = globalThis.Cnum || {};
         figures() {
             this.states = this.protocol.page.picture();
             const states = wide(say('states_of_run'), this.states);
-            const objects = element('div', {}, element('h3', {}, say('nodes')), this.nodes, this.object, states);
+            const objects = element('div', {}, element('h3', {}, ...Cnum.marked('nodes')), this.nodes, this.object, states);
             return [
                 element('h3', {}, say('diagram')),
                 this.diagram,

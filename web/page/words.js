@@ -1,4 +1,4 @@
-// The words of the subject, explained where they stand: in a text, the first place of each word becomes a
+// The words of the subject, explained where they stand: the first place of each word that a text marks becomes a
 // button that opens a short explanation.
 var Cnum = globalThis.Cnum || {};
 
@@ -6,24 +6,7 @@ var Cnum = globalThis.Cnum || {};
     'use strict';
 
     const { element, say } = Cnum;
-    const NOT_IN = 'button, label, pre, svg, textarea, select, summary, .note, .about, .process, .log';
     let count = 0;
-
-    // The first place of a word in these texts, and that text.
-    function placeOf(texts, pattern) {
-        for (const text of texts) {
-            const found = pattern.exec(text.data);
-            if (found) return { text, from: found.index, word: found[0] };
-        }
-        return null;
-    }
-
-    function textsIn(place) {
-        const walker = document.createTreeWalker(place, NodeFilter.SHOW_TEXT);
-        const found = [];
-        while (walker.nextNode()) if (!walker.currentNode.parentElement.closest(NOT_IN)) found.push(walker.currentNode);
-        return found;
-    }
 
     // A word as a button, with its explanation, which is closed at first.
     function noteFor(word, key) {
@@ -37,12 +20,11 @@ var Cnum = globalThis.Cnum || {};
 
     // Explains the words in this place, each once.
     Cnum.explainWords = function (place) {
-        for (const [pattern, key] of Cnum.words) {
-            const found = placeOf(textsIn(place), pattern);
-            if (!found) continue;
-            const rest = found.text.splitText(found.from);
-            rest.data = rest.data.slice(found.word.length);
-            rest.before(...noteFor(found.word, key));
+        const explained = new Set();
+        for (const it of place.querySelectorAll('[data-word]')) {
+            const { word } = it.dataset;
+            it.replaceWith(...(explained.has(word) ? [it.textContent] : noteFor(it.textContent, word)));
+            explained.add(word);
         }
     };
 })();

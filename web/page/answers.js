@@ -1,0 +1,46 @@
+// What the program answers, as values: its JSON, its numbers in words, and its faults as a sentence of the page with
+// the line of the program behind it.
+var Cnum = globalThis.Cnum || {};
+
+(() => {
+    'use strict';
+
+    const { say } = Cnum;
+    const EXACT = 15; // so many digits JavaScript holds exactly
+
+    // The value of a JSON text. A greater number than JavaScript holds stands in it as a text.
+    Cnum.exactValueOf = function (text) {
+        const quoted = it => (it[0] !== '"' && it.length > EXACT ? `"${it}"` : it);
+        return JSON.parse(text.replace(/"(?:[^"\\]|\\.)*"|\d+/g, quoted));
+    };
+
+    // The values of JSON texts with a line each.
+    Cnum.valuesOf = text => text.split('\n').filter(Boolean).map(it => JSON.parse(it));
+
+    // A number of `classify` in words.
+    Cnum.numberText = function (number) {
+        if (number === 'infinite') return say('infinite');
+        if (typeof number !== 'object') return String(number);
+        return 'at_least' in number ? say('at_least', { least: number.at_least }) : say('range', number);
+    };
+
+    // The least and the greatest that a number can be.
+    Cnum.leastOf = number => (number === 'infinite' ? Infinity : number.from || number.at_least || number);
+    Cnum.mostOf = number => (number === 'infinite' || number.at_least ? Infinity : number.to || number);
+
+    // The parts of a fault line: `cnum: SOURCE: NUMBER NAME PLACE`, or `cnum: ` and words. In `classify` the name of
+    // standard input stands before them.
+    Cnum.faultOf = function (line) {
+        const words = line.trim().split(' ').slice(1).filter(it => it !== '-:');
+        const [, number, name, place] = words;
+        return Number(number) ? { name, place } : { name: words.join('_').split(':').join('') };
+    };
+
+    // What an answer of the program says that is a fault, in words. `check` also tells it as a value.
+    Cnum.inWords = function ({ status, stderr }, fault = Cnum.faultOf(stderr)) {
+        const named = `fault_${fault.name}`;
+        const key = status === null ? 'fault_failed' : named in Cnum.texts ? named : 'fault_other';
+        const place = [fault.place, fault.process, fault.entry].find(it => it !== undefined);
+        return say('in_words', { sentence: say(key, { place }), line: stderr.trim() });
+    };
+})();
