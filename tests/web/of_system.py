@@ -28,7 +28,7 @@ def starts_threads(row):
     if row.words()[:1] != [b"serve"]:
         return False
     printed, told, _ = row.wanted()
-    return re.search(rb"^events ", printed, re.M) or told == b"cnum: cannot write\n"
+    return re.search(rb'^events |"events":', printed, re.M) or told == b"cnum: cannot write\n"
 
 
 def ended(words, stdin=b""):
