@@ -1,15 +1,16 @@
 -- The first sets with a number.
 use Rattle.std.proofs.Common.{◌≡◌, ℕ, zero, suc, ◌+◌, ◌<◌, ◌≤◌, List, [], ◌∷◌, ◌++◌, length, map, take, get_or, Bool, true, false, cond, refl, sym, ap, ◌∙◌, subst, arith, append-nil, All}
 use Rattle.std.specs.List.{filter}
-use Rattle.std.proofs.lemmas.List.{length-map, map-append}
+use Rattle.std.proofs.lemmas.List.{length-map, map-append, nil_from_length}
 use Rattle.std.proofs.lemmas.List.Elements.{All-from_recursion, filter_more}
 use Rattle.std.specs.List.{AllByRecursion}
+use Rattle.cn_table.specs.TypeTable.{TypeTable}
 use Rattle.cn_search.specs.declared.exact.ConsensusNumber.{ConsensusNumber}
-use Rattle.std.specs.Prelude.{Vec}
+use Rattle.std.specs.Prelude.{Vec, vec_len}
 use Rattle.std.specs.declared.alloc.Global.{Global}
 use Rattle.cn_table.specs.declared.elements.Operation.{Operation}
-use Rattle.cn_pairs.specs.SetNumbers.{numbers, set_of}
-use Rattle.cn_pairs.specs.Smallest.{same_number}
+use Rattle.cn_pairs.specs.SetNumbers.{AreSetNumbers, numbers, set_lists, set_of}
+use Rattle.cn_pairs.specs.Smallest.{AreSmallest, NoneHas, same_number}
 use Rattle.cn_pairs.specs.declared.restricted.SetNumber.{SetNumber}
 
 take_nil : {X : Type 0} (n : ℕ) (xs : List X) → xs ≡ [] → take n xs ≡ []
@@ -103,3 +104,31 @@ none_found number all found e empty =
     nothing : (ss : List SetNumber) → map set_of (take 12 ss) ≡ [] → ss ≡ []
     nothing [] f = refl
     nothing (s ∷ ss) f = absurd (cc f)
+
+-- ---- the sets of a size, by the numbers of all of them
+
+module _ (t : TypeTable) (size : ℕ) (number : ConsensusNumber) (all : List SetNumber) (are : AreSetNumbers t size all) (found : Vec (Vec Operation Global) Global)
+    (first : set_lists found ≡ map set_of (take 12 (with_number number all))) where
+  -- none has the number if none is found
+  pub none_of_size : found.items ≡ [] → NoneHas t size number
+  none_of_size empty =
+      (all, are, none_found number all (set_lists found) first (ap (map (λ (set : Vec Operation Global). numbers set.items)) empty))
+
+  -- what is found is what the smallest sets are if no smaller set has the number
+  pub smallest_of_size : 1 ≤ size → ((k : ℕ) → 1 ≤ k → k < size → NoneHas t k number) → AreSmallest t number (set_lists found)
+  smallest_of_size some none = record { size = size; some = some; all = all; are = are; first = first; none_smaller = none }
+
+-- no set of one or two operations
+pub up_to_two : (P : ℕ → Type 0) → P 1 → P 2 → (k : ℕ) → 1 ≤ k → k < 3 → P k
+up_to_two P one two zero some l = absurd (omega (arith, some))
+up_to_two P one two (suc zero) some l = one
+up_to_two P one two (suc (suc zero)) some l = two
+up_to_two P one two (suc (suc (suc k))) some l = absurd (omega (arith, l))
+
+pub up_to_one : (P : ℕ → Type 0) → P 1 → (k : ℕ) → 1 ≤ k → k < 2 → P k
+up_to_one P one zero some l = absurd (omega (arith, some))
+up_to_one P one (suc zero) some l = one
+up_to_one P one (suc (suc k)) some l = absurd (omega (arith, l))
+
+pub nothing_in : (found : Vec (Vec Operation Global) Global) → vec_len found ≡ 0 → found.items ≡ []
+nothing_in found e = nil_from_length found.items (omega (arith, e, found.ok.0))

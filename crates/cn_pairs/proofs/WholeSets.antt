@@ -19,13 +19,13 @@ none_longer zero xs l = absurd (omega (arith, l))
 none_longer (suc k) [] l = refl
 none_longer (suc k) (x ∷ xs) l = rw (none_longer k xs (omega (arith, l)), none_longer (suc k) xs (omega (arith, l))) refl
 
-itself : (a m : ℕ) → sublists m (range_with_len a m) ≡ range_with_len a m ∷ []
+pub itself : (a m : ℕ) → sublists m (range_with_len a m) ≡ range_with_len a m ∷ []
 itself a zero = refl
 itself a (suc m) =
     rw (itself (a + 1) m, none_longer (suc m) (range_with_len (a + 1) m) (omega (arith, length-range_with_len (a + 1) m))) refl
 
 -- with all its operations a type is the same
-with_all : (t : TypeTable) → with_operations t (range_with_len 0 (length t.operations)) ≡ t
+pub with_all : (t : TypeTable) → with_operations t (range_with_len 0 (length t.operations)) ≡ t
 with_all t = ap (λ (rows : List Row). let u : TypeTable = record t { operations = rows } in u)
     (sym (fill_by_all (λ (o : ℕ). get_or t.operations o no_row) t.operations (length t.operations) no_row refl (λ k l. refl)))
 

@@ -1,5 +1,5 @@
 -- The smallest sets of operations of a type that have a number.
-use Rattle.std.specs.Prelude.{◌≡◌, ℕ, ◌<◌, ◌≤◌, ◌==◌, ◌&&◌, Bool, true, false, List, map, take, All}
+use Rattle.std.specs.Prelude.{◌≡◌, ℕ, ◌<◌, ◌≤◌, ◌==◌, ◌&&◌, Bool, true, false, List, map, take, All, Contains}
 use Rattle.std.specs.List.{filter}
 use Rattle.cn_table.specs.TypeTable.{TypeTable}
 use Rattle.cn_search.specs.declared.exact.ConsensusNumber.{ConsensusNumber}
@@ -19,6 +19,10 @@ same_number a b = false
 abbrev pub IsExact : ConsensusNumber → Type 0
 IsExact (Between least most) = ⊥
 IsExact number = Unit {0}
+
+-- each of these operations is one of the larger set
+abbrev pub IsWithin : List ℕ → List ℕ → Type 0
+IsWithin set larger = (o : ℕ) → Contains set o → Contains larger o
 
 -- no set of so many operations has this number, by the numbers of all of them
 abbrev pub NoneHas : TypeTable → ℕ → ConsensusNumber → Type 0

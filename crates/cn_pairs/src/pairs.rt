@@ -5,7 +5,7 @@ ghost use Rattle.cn_pairs.specs.SetNumbers.{AreSetNumbers, set_lists};
 ghost use Rattle.cn_pairs.specs.Smallest.{AreSmallest, NoneHas};
 
 use crate::restricted::{SetNumber, set_numbers};
-use crate::smallest::smallest_sets;
+use crate::smallest::smallest_with;
 use cn_search::{ConsensusNumber, consensus_number};
 use cn_table::{Operation, Table};
 use std::alloc::{AllocError, Global};
@@ -48,7 +48,7 @@ pub fn pairs_of<T: Threads + Sync>(
     let number = consensus_number(rt, alloc, table)?;
     let alone = set_numbers(rt, alloc, table, 1)?;
     let pairs = set_numbers(rt, alloc, table, 2)?;
-    let smallest = smallest_sets(rt, alloc, table, number)?;
+    let smallest = smallest_with(rt, alloc, table, number, alone.as_slice(), pairs.as_slice())?;
     Ok(Pairs {
         number,
         alone,

@@ -1,12 +1,15 @@
 //! The smallest sets of operations with the number of the type.
 ghost use Rattle.std.specs.Prelude.{◌≡◌, ◌≢◌, ◌≤◌, ◌<◌, ◌+◌, [], ℕ, IfOk, length, map, take};
 ghost use Rattle.std.specs.List.{filter};
+ghost use Rattle.cn_search.specs.Numbers.{HasNumber};
 ghost use Rattle.cn_search.specs.declared.exact.ConsensusNumber.{ConsensusNumber};
-ghost use Rattle.cn_pairs.specs.SetNumbers.{set_lists, set_of};
+ghost use Rattle.cn_search.specs.declared.exact.ConsensusNumber.TheVariants.{Between};
+ghost use Rattle.cn_pairs.specs.SetNumbers.{AreSetNumbers, set_lists, set_of};
 ghost use Rattle.cn_pairs.specs.Smallest.{AreSmallest, NoneHas, same_number};
 ghost use Rattle.cn_pairs.specs.declared.smallest.TheConstants.{MOST_SETS};
 
 use crate::restricted::{SetNumber, set_numbers};
+use crate::sets::sets_of_size;
 use cn_search::ConsensusNumber;
 use cn_table::{Operation, Table};
 use std::alloc::{AllocError, Global};
@@ -47,6 +50,103 @@ fn sets_with(
     Ok(found)
 }
 
+/// The smallest sets of operations that have this number, where no operation and no pair has it.
+fn larger_sets<T: Threads + Sync>(
+    rt: &T,
+    alloc: Global,
+    table: &Table,
+    number: ConsensusNumber,
+) -> Result<Vec<Vec<Operation>>, AllocError>
+    requires alone { NoneHas table.now 1 number }
+    requires pairs { NoneHas table.now 2 number }
+    ensures found { IfOk result (λ sets. sets.items ≢ []
+        → AreSmallest table.now number (set_lists sets)) }
+    ensures none { IfOk result (λ sets. sets.items ≡ [] → (size : ℕ) → 1 ≤ size
+        → size ≤ length table.now.operations → NoneHas table.now size number) }
+{
+    for size in 3..table.operations() + 1 {
+        let sets = set_numbers(rt, alloc, table, size)?;
+        let found = sets_with(alloc, sets.as_slice(), number)?;
+        if !found.is_empty() {
+            return Ok(found);
+        }
+    }
+    Ok(Vec::new(alloc))
+}
+
+/// The smallest sets of operations that have this number, as [`smallest_sets`] answers them, from
+/// the numbers of each operation alone and of each pair.
+fn smallest_after_pairs<T: Threads + Sync>(
+    rt: &T,
+    alloc: Global,
+    table: &Table,
+    number: ConsensusNumber,
+    alone: &[SetNumber],
+    pairs: &[SetNumber],
+) -> Result<Vec<Vec<Operation>>, AllocError>
+    requires alone { AreSetNumbers table.now 1 alone.now }
+    requires pairs { AreSetNumbers table.now 2 pairs.now }
+    ensures found { IfOk result (λ sets. sets.items ≢ []
+        → AreSmallest table.now number (set_lists sets)) }
+    ensures none { IfOk result (λ sets. sets.items ≡ [] → (size : ℕ) → 1 ≤ size
+        → size ≤ length table.now.operations → NoneHas table.now size number) }
+{
+    let of_one = sets_with(alloc, alone, number)?;
+    if !of_one.is_empty() {
+        return Ok(of_one);
+    }
+    let of_two = sets_with(alloc, pairs, number)?;
+    if !of_two.is_empty() {
+        return Ok(of_two);
+    }
+    larger_sets(rt, alloc, table, number)
+}
+
+/// The set of all operations, alone in a list: the smallest set with a range that is told for the
+/// type. Each smaller set has a number that is no range.
+fn whole_set(
+    alloc: Global,
+    table: &Table,
+    least: u8,
+    most: u8,
+) -> Result<Vec<Vec<Operation>>, AllocError>
+    requires { HasNumber table.now (Between least most) }
+    ensures found { IfOk result (λ sets. sets.items ≢ []
+        → AreSmallest table.now (Between least most) (set_lists sets)) }
+    ensures none { IfOk result (λ sets. sets.items ≡ [] → (size : ℕ) → 1 ≤ size
+        → size ≤ length table.now.operations → NoneHas table.now size (Between least most)) }
+{
+    let whole = sets_of_size(alloc, table, table.operations())?;
+    Ok(whole)
+}
+
+/// The smallest sets of operations with the number of the type, from this number, those of each
+/// operation alone, and those of each pair.
+///
+/// Where the number is told as a range, this is the set of all operations. A range begins with a
+/// greater number the fewer operations there are, so no smaller set is told the same one.
+pub(crate) fn smallest_with<T: Threads + Sync>(
+    rt: &T,
+    alloc: Global,
+    table: &Table,
+    number: ConsensusNumber,
+    alone: &[SetNumber],
+    pairs: &[SetNumber],
+) -> Result<Vec<Vec<Operation>>, AllocError>
+    requires number { HasNumber table.now number }
+    requires alone { AreSetNumbers table.now 1 alone.now }
+    requires pairs { AreSetNumbers table.now 2 pairs.now }
+    ensures found { IfOk result (λ sets. sets.items ≢ []
+        → AreSmallest table.now number (set_lists sets)) }
+    ensures none { IfOk result (λ sets. sets.items ≡ [] → (size : ℕ) → 1 ≤ size
+        → size ≤ length table.now.operations → NoneHas table.now size number) }
+{
+    match number {
+        ConsensusNumber::Between(least, most) => whole_set(alloc, table, least, most),
+        _ => smallest_after_pairs(rt, alloc, table, number, alone, pairs),
+    }
+}
+
 /// The smallest sets of operations that have this number: of one size, in lexicographic order of
 /// their ascending lists, and at most [`MOST_SETS`] of them. There is none if no set of operations
 /// has the number.
@@ -65,12 +165,7 @@ pub fn smallest_sets<T: Threads + Sync>(
     ensures none { IfOk result (λ sets. sets.items ≡ [] → (size : ℕ) → 1 ≤ size
         → size ≤ length table.now.operations → NoneHas table.now size number) }
 {
-    for size in 1..table.operations() + 1 {
-        let sets = set_numbers(rt, alloc, table, size)?;
-        let found = sets_with(alloc, sets.as_slice(), number)?;
-        if !found.is_empty() {
-            return Ok(found);
-        }
-    }
-    Ok(Vec::new(alloc))
+    let alone = set_numbers(rt, alloc, table, 1)?;
+    let pairs = set_numbers(rt, alloc, table, 2)?;
+    smallest_after_pairs(rt, alloc, table, number, alone.as_slice(), pairs.as_slice())
 }
