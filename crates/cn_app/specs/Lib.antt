@@ -5,6 +5,7 @@ pub mod ConsensusNumber
 pub mod FaultText
 pub mod Forms
 pub mod Headline
+pub mod Hints
 pub mod Lines
 pub mod Outcomes
 pub mod Runs

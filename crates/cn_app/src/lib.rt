@@ -33,6 +33,8 @@ mod answers;
 mod arguments;
 pub mod commands;
 mod fault;
+mod hints;
+mod known;
 pub mod laws;
 mod limits;
 mod lines;
@@ -51,6 +53,8 @@ pub use arguments::lists::{read_inputs, read_schedule};
 pub use arguments::operations::{OperationName, OperationWord};
 pub use cn_forms::{Form, MOST_TOLD};
 pub use fault::{AppFault, Argument, Source};
+pub use hints::Hint;
+pub use known::Known;
 pub use limits::{
     MOST_ARGUMENT_BYTES, MOST_CALLS, MOST_CERTIFICATE_BYTES, MOST_DIGITS, MOST_FILE_ITEMS,
     MOST_ITEMS, MOST_TABLE_BYTES,

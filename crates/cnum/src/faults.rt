@@ -1,6 +1,7 @@
-//! Faults and notes on standard error.
-use cn_app::AppFault;
+//! Faults, hints and notes on standard error.
 use cn_app::commands::Tell;
+use cn_app::{AppFault, Known};
+use cn_words::{Command, TextSource};
 
 /// Tells each fault in a line on standard error. The status of the program tells of it too, so that
 /// it is not lost where that stream is closed. A failed write is told at the [`end`](Faults::end),
@@ -8,16 +9,37 @@ use cn_app::commands::Tell;
 #[derive(Drop)]
 pub struct Faults<'a, R: Eprint> {
     pub rt: &'a R,
+    /// Whether standard error is a terminal. A hint for a person then stands behind each fault.
+    pub is_at_terminal: bool,
     /// Whether a failed write is still to be told.
     pub has_failed: bool,
 }
 
 impl<'a, R: Eprint> Faults<'a, R> {
     /// No fault was met yet.
-    pub fn new(rt: &'a R) -> Faults<'a, R> {
+    pub fn new(rt: &'a R, is_at_terminal: bool) -> Faults<'a, R> {
         Faults {
             rt,
+            is_at_terminal,
             has_failed: false,
+        }
+    }
+
+    /// Tells a fault, of the table of this name or of no one table, with a hint by what is known.
+    pub fn tell_knowing(&mut self, name: Option<&str>, fault: AppFault, known: &Known<'_>) {
+        if fault == AppFault::Write {
+            self.has_failed = true;
+            return;
+        }
+        let _ = match name {
+            Some(name) => eprintln!(self.rt; "cnum: {name}: {fault}"),
+            None => eprintln!(self.rt; "cnum: {fault}"),
+        };
+        if !self.is_at_terminal {
+            return;
+        }
+        if let Some(hint) = fault.hint(known) {
+            let _ = eprintln!(self.rt; "  hint: {hint}");
         }
     }
 
@@ -35,17 +57,25 @@ impl<'a, R: Eprint> Tell for Faults<'a, R> {
     ghost notes = { λ _ _ _ _. Unit {0} };
 
     fn tell(&mut self, name: Option<&str>, fault: AppFault) {
-        if fault == AppFault::Write {
-            self.has_failed = true;
-            return;
-        }
-        let _ = match name {
-            Some(name) => eprintln!(self.rt; "cnum: {name}: {fault}"),
-            None => eprintln!(self.rt; "cnum: {fault}"),
-        };
+        self.tell_knowing(name, fault, &Known::of_files(name, None));
     }
 
     fn note_same_line(&mut self, name: &str, earlier: &str) {
         let _ = eprintln!(self.rt; "cnum: {name}: the same line as {earlier}");
     }
+}
+
+/// What is known of the texts of a command before they are read.
+pub fn known_of<'a>(table: TextSource<'a>, command: &Command<'a>) -> Known<'a> {
+    let file = match table {
+        TextSource::StandardInput => None,
+        TextSource::File(path) => Some(path),
+    };
+    let object = match command {
+        Command::Replay { opening, .. } | Command::Serve { opening, .. } => Some(opening.object),
+        _ => None,
+    };
+    let mut known = Known::of_files(file, object);
+    known.is_linted = matches!(command, Command::Lint { .. });
+    known
 }

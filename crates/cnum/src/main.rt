@@ -23,10 +23,10 @@ mod text_reader;
 use awaited_input::{AwaitedInput, FirstRead};
 use cn_app::commands::Tell;
 use cn_app::reports::AskedNumbers;
-use cn_app::{AppFault, Outcome, Output};
+use cn_app::{AppFault, Known, Outcome, Output};
 use cn_words::{CommandFault, Invocation, Reply};
 use disk::Disk;
-use faults::Faults;
+use faults::{Faults, known_of};
 use pipe_writer::{PipeWriter, is_broken_pipe};
 use runs::{classify, run};
 use std::alloc::Global;
@@ -37,23 +37,34 @@ use std::thread::{Threads, join};
 use std::time::Clock;
 
 // How the program ends after a fault, which it tells.
-fn fault_exit<R: Eprint>(faults: &mut Faults<'_, R>, fault: AppFault) -> ExitCode
+fn fault_exit<R: Eprint>(faults: &mut Faults<'_, R>, fault: AppFault, known: &Known<'_>) -> ExitCode
     ensures { exit_status result ≡ status_of fault }
 {
-    faults.tell(None, fault);
+    faults.tell_knowing(None, fault, known);
     ExitCode::from(fault.status())
+}
+
+// The same, where no text was read.
+fn early_exit<R: Eprint>(faults: &mut Faults<'_, R>, fault: AppFault) -> ExitCode
+    ensures { exit_status result ≡ status_of fault }
+{
+    fault_exit(faults, fault, &Known::of_files(None, None))
 }
 
 // How the program ends where a command has ended so. What a command says of a refused text is
 // written, and its fault is told as by every command.
-fn command_exit<R: Eprint>(faults: &mut Faults<'_, R>, end: Result<Outcome, AppFault>) -> ExitCode
+fn command_exit<R: Eprint>(
+    faults: &mut Faults<'_, R>,
+    end: Result<Outcome, AppFault>,
+    known: &Known<'_>,
+) -> ExitCode
     ensures { exit_status result ≡ command_status end }
 {
     match end {
         Ok(Outcome::Whole) => ExitCode::SUCCESS,
         Ok(Outcome::Cut) => ExitCode::FAILURE,
-        Ok(Outcome::Refused(fault)) => fault_exit(faults, fault),
-        Err(fault) => fault_exit(faults, fault),
+        Ok(Outcome::Refused(fault)) => fault_exit(faults, fault, known),
+        Err(fault) => fault_exit(faults, fault, known),
     }
 }
 
@@ -67,7 +78,7 @@ fn classify_exit<R: Eprint>(
     match first {
         Ok(None) => ExitCode::SUCCESS,
         Ok(Some(fault)) => ExitCode::from(fault.status()),
-        Err(fault) => fault_exit(faults, fault),
+        Err(fault) => early_exit(faults, fault),
     }
 }
 
@@ -100,8 +111,9 @@ fn do_command<T: Threads + Wait + Sync + Disk + Eprint, I: Read + Copy + Drop, O
             classify_exit(faults, first)
         }
         Invocation::OfTable { table, command } => {
-            let end = run(rt, alloc, stdin, output, *table, command);
-            command_exit(faults, end)
+            let mut known = known_of(*table, command);
+            let end = run(rt, alloc, stdin, output, *table, command, &mut known);
+            command_exit(faults, end, &known)
         }
     }
 }
@@ -114,6 +126,7 @@ fn obey<T: Threads + Wait + Sync + Disk + Eprint, I: Read + Copy + Drop, O: Writ
     stdin: I,
     first_read: &FirstRead,
     stdout: O,
+    mut faults: Faults<'_, T>,
     given: &Invocation<'_>,
 ) -> (ExitCode, PipeWriter<O>)
     ensures { Obeys I.remaining (left_in T.contents T.Reader.remaining) O.contents
@@ -121,7 +134,6 @@ fn obey<T: Threads + Wait + Sync + Disk + Eprint, I: Read + Copy + Drop, O: Writ
 {
     let input = AwaitedInput::new(rt, stdin, first_read);
     let mut output = Output::new(alloc, PipeWriter::new(stdout));
-    let mut faults = Faults::new(rt);
     let exit = do_command(rt, alloc, input, &mut output, &mut faults, given);
     let writer = output.into_writer();
     faults.end(!writer.is_broken);
@@ -134,13 +146,20 @@ fn obey_and_tell<
     T: Threads + Wait + Clock + Sync + Disk + Eprint,
     I: Read + IsTerminal + Copy + Drop,
     O: Write + Drop,
->(rt: &T, alloc: Global, stdin: I, stdout: O, given: &Invocation<'_>) -> (ExitCode, PipeWriter<O>)
+>(
+    rt: &T,
+    alloc: Global,
+    stdin: I,
+    stdout: O,
+    faults: Faults<'_, T>,
+    given: &Invocation<'_>,
+) -> (ExitCode, PipeWriter<O>)
     ensures { Obeys I.remaining (left_in T.contents T.Reader.remaining) O.contents
         (T.contents rt.now) stdin stdout given.now (exit_status result.0) result.1 }
 {
     let first_read = FirstRead::new();
     if !stdin.is_terminal() {
-        return obey(rt, alloc, stdin, &first_read, stdout, given);
+        return obey(rt, alloc, stdin, &first_read, stdout, faults, given);
     }
     let (_, done) = join(
         rt,
@@ -153,7 +172,7 @@ fn obey_and_tell<
                 (T.contents rt.entry.now) stdin stdout given.entry.now
                 (exit_status result.0) result.1 }
         {
-            let done = obey(rt, alloc, stdin, &first_read, stdout, given);
+            let done = obey(rt, alloc, stdin, &first_read, stdout, faults, given);
             first_read.end(rt);
             done
         },
@@ -161,15 +180,20 @@ fn obey_and_tell<
     done
 }
 
+// The faults of the program on its standard error.
+fn faults_of(rt: &HostRuntime) -> Faults<'_, HostRuntime> {
+    Faults::new(rt, rt.stderr().is_terminal())
+}
+
 // Tells what there is to tell in place of a command; how the program ends.
 fn answer(rt: &HostRuntime, reply: Reply) -> ExitCode {
-    let mut faults = Faults::new(rt);
+    let mut faults = faults_of(rt);
     match reply {
         Reply::Help(text) => {
             let written = print!(rt; "{text}");
             let exit = match written {
                 Ok(()) => ExitCode::SUCCESS,
-                Err(_) => fault_exit(&mut faults, AppFault::Write),
+                Err(_) => early_exit(&mut faults, AppFault::Write),
             };
             faults.end(!is_broken_pipe(&written));
             exit
@@ -178,8 +202,8 @@ fn answer(rt: &HostRuntime, reply: Reply) -> ExitCode {
             let _ = eprint!(rt; "{text}");
             ExitCode::from(AppFault::Words.status())
         }
-        Reply::Fault(CommandFault::Words) => fault_exit(&mut faults, AppFault::Words),
-        Reply::Fault(CommandFault::OutOfMemory) => fault_exit(&mut faults, AppFault::OutOfMemory),
+        Reply::Fault(CommandFault::Words) => early_exit(&mut faults, AppFault::Words),
+        Reply::Fault(CommandFault::OutOfMemory) => early_exit(&mut faults, AppFault::OutOfMemory),
     }
 }
 
@@ -194,11 +218,12 @@ fn given_words(rt: &HostRuntime) -> Result<Vec<String>, AppFault> {
 fn main(rt: HostRuntime) -> ExitCode {
     let given = match given_words(&rt) {
         Ok(given) => given,
-        Err(fault) => return fault_exit(&mut Faults::new(&rt), fault),
+        Err(fault) => return early_exit(&mut faults_of(&rt), fault),
     };
     match cn_words::parse(rt.alloc(), given.as_slice()) {
         Ok(given) => {
-            let (exit, _) = obey_and_tell(&rt, rt.alloc(), rt.stdin(), rt.stdout(), &given);
+            let (stdin, stdout, faults) = (rt.stdin(), rt.stdout(), faults_of(&rt));
+            let (exit, _) = obey_and_tell(&rt, rt.alloc(), stdin, stdout, faults, &given);
             exit
         }
         Err(reply) => answer(&rt, reply),

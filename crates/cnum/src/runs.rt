@@ -13,7 +13,7 @@ use crate::text_reader::TextReader;
 use cn_app::commands::{self, NamedTable, Tell};
 use cn_app::readers::OpeningArguments;
 use cn_app::reports::{AskedNumbers, AskedRun};
-use cn_app::{AppFault, Argument, Outcome, Output, Text};
+use cn_app::{AppFault, Argument, Known, Outcome, Output, Text};
 use cn_hall::AlwaysOn;
 use cn_json::AnswerForm;
 use cn_words::{Command, ListSource, OpeningWords, TextSource};
@@ -118,6 +118,34 @@ fn opening<'a, D: Disk, I: Read, C: Read>(
     }
 }
 
+// Notes what the text of the table says of the fault of a command.
+fn note_of_table<I>(
+    alloc: Global,
+    known: &mut Known<'_>,
+    table: &Text<I>,
+    end: &Result<Outcome, AppFault>,
+) {
+    match end {
+        Ok(Outcome::Refused(fault)) => {
+            known.note_table(alloc, *fault, &table.bytes);
+        }
+        Ok(Outcome::Whole | Outcome::Cut) => {}
+        Err(fault) => known.note_table(alloc, *fault, &table.bytes),
+    }
+}
+
+// Notes what the text of the certificate says of the fault of a command.
+fn note_of_certificate<C>(
+    alloc: Global,
+    known: &mut Known<'_>,
+    certificate: &Text<C>,
+    end: &Result<Outcome, AppFault>,
+) {
+    if let Err(fault) = end {
+        known.note_certificate(alloc, *fault, &certificate.bytes);
+    }
+}
+
 // Reads the lists, and runs the plan of a certificate's witness by them.
 fn agree<D: Disk, I: Read, C: Read, O: Write>(
     disk: &D,
@@ -127,6 +155,7 @@ fn agree<D: Disk, I: Read, C: Read, O: Write>(
     output: &mut Output<O>,
     lists: (ListSource<'_>, ListSource<'_>),
     asked: AskedRun,
+    known: &mut Known<'_>,
 ) -> Result<Outcome, AppFault>
     requires texts { IsUnread table.old × IsUnread certificate.old }
     requires output { IsWritable output.old }
@@ -139,7 +168,9 @@ fn agree<D: Disk, I: Read, C: Read, O: Write>(
     let inputs = input_list.text();
     let schedule_list = GivenList::read(disk, alloc, schedule, Argument::Schedule)?;
     let schedule = schedule_list.text();
-    commands::agree(alloc, table, certificate, output, inputs, schedule, asked)
+    let end = commands::agree(alloc, table, certificate, output, inputs, schedule, asked);
+    note_of_certificate(alloc, known, certificate, &end);
+    end
 }
 
 // Reads the events, and serves an object by them.
@@ -187,7 +218,8 @@ fn serve<T: Threads + Wait + Sync + Disk, I: Read + Drop, C: Read + Drop, O: Wri
     commands::serve(rt, alloc, &mut given, output, calls, form, |_| AlwaysOn)
 }
 
-/// Runs a command of one table, which is read from its source.
+/// Runs a command of one table, which is read from its source. What the texts say of its fault is
+/// noted.
 pub fn run<T: Threads + Wait + Sync + Disk, S: Read + Copy + Drop, O: Write>(
     rt: &T,
     alloc: Global,
@@ -195,6 +227,7 @@ pub fn run<T: Threads + Wait + Sync + Disk, S: Read + Copy + Drop, O: Write>(
     output: &mut Output<O>,
     table: TextSource<'_>,
     command: &Command<'_>,
+    known: &mut Known<'_>,
 ) -> Result<Outcome, AppFault>
     requires { IsWritable output.old }
     ensures { Runs S.remaining (left_in T.contents T.Reader.remaining) O.contents
@@ -203,11 +236,21 @@ pub fn run<T: Threads + Wait + Sync + Disk, S: Read + Copy + Drop, O: Write>(
     let mut table = text_of(rt, alloc, stdin, table);
     let text = &mut table;
     match *command {
-        Command::Find { limit } => commands::find(rt, alloc, text, output, limit),
-        Command::Lint { form } => commands::lint(alloc, text, output, form),
+        Command::Find { limit } => {
+            let end = commands::find(rt, alloc, text, output, limit);
+            note_of_table(alloc, known, text, &end);
+            end
+        }
+        Command::Lint { form } => {
+            let end = commands::lint(alloc, text, output, form);
+            note_of_table(alloc, known, text, &end);
+            end
+        }
         Command::Draw => commands::draw(alloc, text, output),
         Command::Why { limit, all, form } => {
-            commands::why(rt, alloc, text, output, limit, all, form)
+            let end = commands::why(rt, alloc, text, output, limit, all, form);
+            note_of_table(alloc, known, text, &end);
+            end
         }
         Command::Pairs { form } => commands::pairs(rt, alloc, text, output, form),
         Command::Check { certificate, form } => {
@@ -236,7 +279,7 @@ pub fn run<T: Threads + Wait + Sync + Disk, S: Read + Copy + Drop, O: Write>(
             let certificate = &mut text_of(rt, alloc, stdin, certificate);
             let lists = (inputs, schedule);
             let asked = AskedRun { steps, form };
-            agree(rt, alloc, text, certificate, output, lists, asked)
+            agree(rt, alloc, text, certificate, output, lists, asked, known)
         }
         Command::Replay {
             opening,
