@@ -42,7 +42,8 @@ _cnum() {
         options='--table -h --help' arguments='FILE'
         ;;
     agree)
-        options='--steps --as --table -h --help' arguments='CERT INPUTS SCHEDULE FILE'
+        options='--steps --recoverable --processes --as --table -h --help' arguments='CERT INPUTS SCHEDULE FILE'
+        [[ $previous == --processes ]] && values='2 3 4 5 6 7 8'
         [[ $previous == --as ]] && values='text json'
         ;;
     replay)
@@ -74,7 +75,7 @@ _cnum() {
     fi
     for ((at = 2; at < COMP_CWORD; at++)); do
         case ${COMP_WORDS[at]} in
-        --as | --limit | --table) ((at++)) ;;
+        --as | --limit | --processes | --table) ((at++)) ;;
         [\<\>]*) ((at++)) ;;
         -* | @) ;;
         *) words+=("${COMP_WORDS[at]}") ;;

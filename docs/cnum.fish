@@ -7,7 +7,7 @@ function __cnum_words
             set is_value no
         else
             switch $word
-                case --as --limit --table
+                case --as --limit --processes --table
                     set is_value yes
                 case '-*'
                 case '*'
@@ -95,6 +95,8 @@ complete -c cnum -n '__cnum_is draw' -l table -r -F -d 'The file that holds the 
 complete -c cnum -n '__cnum_is draw' -s h -l help -d 'Print help'
 complete -c cnum -n '__cnum_at draw 1' -F
 complete -c cnum -n '__cnum_is agree' -l steps -d 'Tells what each step does, before the decisions'
+complete -c cnum -n '__cnum_is agree' -l recoverable -d 'Lets processes crash: CERT is the table, and a cP in SCHEDULE a crash'
+complete -c cnum -n '__cnum_is agree' -l processes -x -a '2 3 4 5 6 7 8' -d 'How many processes crash and come back, from 2 to 8'
 complete -c cnum -n '__cnum_is agree' -l as -x -a 'text json' -d 'The form in which the run is written'
 complete -c cnum -n '__cnum_is agree' -l table -r -F -d 'The file that holds the type table, in place of standard input'
 complete -c cnum -n '__cnum_is agree' -s h -l help -d 'Print help'

@@ -3,4 +3,5 @@ pub mod Calls
 pub mod Events
 pub mod Files
 pub mod Lists
+pub mod Lives
 pub mod Operations

@@ -7,6 +7,7 @@ pub mod Draw
 pub mod Explain
 pub mod Find
 pub mod Lint
+pub mod Lives
 pub mod Pairs
 pub mod Replay
 pub mod Serve

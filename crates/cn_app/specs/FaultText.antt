@@ -27,6 +27,7 @@ argument_text argument.Start = codes "START"
 argument_text argument.Capacity = codes "CAPACITY"
 argument_text argument.Events = codes "EVENTS"
 argument_text argument.Calls = codes "CALLS"
+argument_text argument.Processes = codes "PROCESSES"
 
 abbrev pub source_text : Source → List ℕ
 source_text source.Table = codes "table"
@@ -54,6 +55,7 @@ head_of (fault.Certificate f) = codes "certificate: "
 head_of (fault.TooLong s) = source_text s
 head_of (fault.Check f) = codes "check: "
 head_of fault.NoWitness = codes "certificate: no witness"
+head_of fault.NoRecordingWitness = codes "table: no recording witness"
 head_of (fault.Find f) = codes "find: "
 head_of (fault.Schedule f) = codes "schedule: "
 head_of (fault.Replay f) = codes "replay: "
@@ -88,6 +90,7 @@ app_fault_text f = head_of (plain_of f) ++ carried_text (plain_of f) ++ tail_of 
 abbrev pub plain_status : AppFault → ℕ
 plain_status (fault.Check f) = 1
 plain_status fault.NoWitness = 1
+plain_status fault.NoRecordingWitness = 1
 plain_status (fault.Table f) = 2
 plain_status (fault.Object f) = 2
 plain_status (fault.Certificate f) = 2

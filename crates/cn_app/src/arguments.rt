@@ -5,5 +5,6 @@ pub mod events;
 pub mod files;
 pub mod list_text;
 pub mod lists;
+pub mod lives;
 pub mod operations;
 pub mod short;

@@ -10,11 +10,13 @@
 //! A command that fails has written nothing, unless its writer failed.
 
 mod of_certificates;
+mod of_lives;
 mod of_logs;
 mod of_several_tables;
 mod of_tables;
 
 pub use of_certificates::{agree, check, explain, show};
+pub use of_lives::agree_recoverably;
 pub use of_logs::{replay, serve};
 pub use of_several_tables::{NamedTable, Tell, classify_each};
 pub use of_tables::{classify, draw, find, lint, pairs, why};

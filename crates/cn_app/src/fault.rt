@@ -42,6 +42,8 @@ pub enum Argument {
     Events,
     /// The calls of each process.
     Calls,
+    /// How many processes there are.
+    Processes,
 }
 
 /// Why a command wrote nothing, or could not write.
@@ -63,6 +65,8 @@ pub enum AppFault {
     Check(CheckFault),
     /// The certificate has no witness.
     NoWitness,
+    /// The type has no recording witness for so many processes.
+    NoRecordingWitness,
     /// The limit, or the count of choices at the limit, was refused.
     Find(FindFault),
     /// The inputs or the schedule were refused.
@@ -121,6 +125,7 @@ impl Argument {
             Argument::Capacity => "CAPACITY",
             Argument::Events => "EVENTS",
             Argument::Calls => "CALLS",
+            Argument::Processes => "PROCESSES",
         }
     }
 }
@@ -177,6 +182,7 @@ impl AppFault {
             AppFault::TooLong(source) => source.name(),
             AppFault::Check(_) => "check: ",
             AppFault::NoWitness => "certificate: no witness",
+            AppFault::NoRecordingWitness => "table: no recording witness",
             AppFault::Find(_) => "find: ",
             AppFault::Schedule(_) => "schedule: ",
             AppFault::Replay(_) => "replay: ",
@@ -201,7 +207,7 @@ impl AppFault {
 
     /// The exit status of the program:
     ///
-    /// - 1: the check refused the certificate, or the certificate has no witness;
+    /// - 1: the check refused the certificate, or there is no witness;
     /// - 2: a text was refused;
     /// - 3: words, an argument, a limit, a count of choices, a schedule or events were refused;
     /// - 4: reading or writing failed, or a thread could not be started;
@@ -211,6 +217,7 @@ impl AppFault {
     {
         match self.plain() {
             AppFault::Check(_) | AppFault::NoWitness => 1,
+            AppFault::NoRecordingWitness => 1,
             AppFault::Table(_) | AppFault::Object(_) => 2,
             AppFault::Certificate(_) | AppFault::TooLong(_) => 2,
             AppFault::Words | AppFault::Argument(_) => 3,

@@ -50,6 +50,7 @@ pub use arguments::events::{EventList, EventWord, read_events};
 pub use arguments::files::read_argument;
 pub use arguments::list_text::ListText;
 pub use arguments::lists::{read_inputs, read_schedule};
+pub use arguments::lives::read_life_schedule;
 pub use arguments::operations::{OperationName, OperationWord};
 pub use cn_forms::{Form, MOST_TOLD};
 pub use fault::{AppFault, Argument, Source};

@@ -47,7 +47,7 @@ module _ (t : TypeTable) (R : RecoverablePlan) (n nodes : ℕ) (team : ℕ → T
         (sym (get_or_past (R.round.path p) i nowhere past)) (omega arith)
   ]
 
-  of_type : R.round.start < length t.states
+  pub of_type : R.round.start < length t.states
       → ((role : ℕ) → role < n → R.operation role < length t.operations)
       → IsProtocolOf (all_of t) n (recoverable_protocol R)
   of_type start known = record {
@@ -237,7 +237,7 @@ module _ (t : TypeTable) (R : RecoverablePlan) (n nodes : ℕ) (team : ℕ → T
         (subst (LocalHolds S g c.registers p) e (h.local p lp)).0) in
         omega (arith, few, short p lp)
 
-  agreement : HasRecoverableAgreement (all_of t) n (recoverable_protocol R)
+  pub agreement : HasRecoverableAgreement (all_of t) n (recoverable_protocol R)
   agreement inputs es us k m p q x y lp lq d e =
       let a = run inputs es (λ v. Fresh) (initial (recoverable_protocol R) inputs) (first inputs) k
       in
@@ -254,7 +254,7 @@ module _ (t : TypeTable) (R : RecoverablePlan) (n nodes : ℕ) (team : ℕ → T
       one_outcome b.ghost c'.registers 0 x y
       (outcome_grows a.ghost b.ghost c.registers c'.registers 0 x b.grows o.1) u.1
 
-  validity : HasRecoverableValidity (all_of t) n (recoverable_protocol R)
+  pub validity : HasRecoverableValidity (all_of t) n (recoverable_protocol R)
   validity inputs es k p x lp d =
       let a = run inputs es (λ v. Fresh) (initial (recoverable_protocol R) inputs) (first inputs) k
       in
@@ -262,7 +262,7 @@ module _ (t : TypeTable) (R : RecoverablePlan) (n nodes : ℕ) (team : ℕ → T
       (initial (recoverable_protocol R) inputs) es in
       (decided_is inputs a.ghost c.registers p (c.locals p) x (a.holds.local p lp) d).0
 
-  in_time : (inputs : ℕ → Bool)
+  pub in_time : (inputs : ℕ → Bool)
       → DecidesWithin (all_of t) n (recoverable_protocol R) inputs (6 * nodes)
   in_time inputs es us k m p lp never often =
       (let a = run inputs es (λ v. Fresh) (initial (recoverable_protocol R) inputs)
@@ -283,7 +283,7 @@ module _ (t : TypeTable) (R : RecoverablePlan) (n nodes : ℕ) (team : ℕ → T
   bounded : IsBoundedRecoverablyWaitFree (all_of t) n (recoverable_protocol R)
   bounded inputs = (6 * nodes, in_time inputs)
 
-  consensus : IsRecoverableConsensusProtocol (all_of t) n (recoverable_protocol R)
+  pub consensus : IsRecoverableConsensusProtocol (all_of t) n (recoverable_protocol R)
   consensus = record {
     agreement = agreement;
     validity = validity;

@@ -4,6 +4,7 @@ pub mod Tokens
 pub mod Values
 pub mod Course
 pub mod Numbers
+pub mod Lives
 pub mod Log
 pub mod Pairs
 pub mod Collisions

@@ -24,7 +24,10 @@ fn write_decision(out: &mut JsonText, decision: Option<u64>) -> Result<(), Alloc
 }
 
 /// Writes the decisions, and the end of their array.
-fn write_each_decision(out: &mut JsonText, decisions: &[Option<u64>]) -> Result<(), AllocError>
+pub(crate) fn write_each_decision(
+    out: &mut JsonText,
+    decisions: &[Option<u64>],
+) -> Result<(), AllocError>
     ensures { Appends result out.old out.new (list_rest decision_data decisions.now) }
 {
     for decision in decisions {
@@ -112,7 +115,7 @@ fn write_decide(out: &mut JsonText, process: u8, value: u64) -> Result<(), Alloc
 }
 
 /// Writes that a process has decided before.
-fn write_idle(out: &mut JsonText, process: u8) -> Result<(), AllocError>
+pub(crate) fn write_idle(out: &mut JsonText, process: u8) -> Result<(), AllocError>
     ensures { Appends result out.old out.new (value_tokens (idle_data process)) }
 {
     out.begin_object()?;
@@ -121,7 +124,7 @@ fn write_idle(out: &mut JsonText, process: u8) -> Result<(), AllocError>
     out.end_object()
 }
 
-fn write_action(
+pub(crate) fn write_action(
     out: &mut JsonText,
     table: &Table,
     process: u8,

@@ -3,7 +3,8 @@
 //! [`decision_lines`] answers a line for each process of a round, and [`step_lines`] one for each
 //! step of a schedule. [`answer_lines`] answers a line for each call that ended, [`entry_lines`]
 //! one for each entry of a log, and [`events_line`] the events of a log in the form in which lists
-//! of them are read. [`put_answer_line`] and [`put_number`] append a line or a number to a text.
+//! of them are read. [`put_action`], [`put_answer_line`] and [`put_number`] append an action, a line
+//! or a number to a text.
 //!
 //! ```text
 //! let core = replay(alloc, &plan, &counter, start, 8, &events)?;
@@ -22,4 +23,4 @@ pub use decisions::decision_lines;
 pub use events::events_line;
 pub use log::{answer_lines, entry_lines, put_answer_line};
 pub use number::put_number;
-pub use steps::step_lines;
+pub use steps::{put_action, step_lines};

@@ -7,8 +7,13 @@ use cn_agree::{Action, StepRecord};
 use cn_table::Table;
 use std::alloc::{AllocError, Global};
 
-/// Appends an action in words.
-fn put_action(lines: &mut String, table: &Table, action: Action<u64>) -> Result<(), AllocError>
+/// Appends an action in words, as it stands in a line of [`step_lines`]. Its operation, response and
+/// state are those of the table.
+///
+/// # Errors
+///
+/// Fails only for want of memory, and may then have appended a part of the words.
+pub fn put_action(lines: &mut String, table: &Table, action: Action<u64>) -> Result<(), AllocError>
     requires { IsOfTable table.now action }
     ensures { OnOk result (string_bytes lines.new
         ≡ string_bytes lines.old ++ action_text table.now action) }

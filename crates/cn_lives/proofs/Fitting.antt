@@ -6,7 +6,8 @@ use Rattle.std.proofs.Common.{slice_index_or, slice_set, length-set, get_or-set_
 use Rattle.std.proofs.Common.{get_or-set_other}
 use Rattle.std.specs.Prelude.{slice_index, if◌then◌else◌}
 use Rattle.std.proofs.lemmas.Bool.{cases_eq, ltb-true}
-use Rattle.std.proofs.lemmas.List.{get_or_default, get_or-map, get_or-replicate, length-map, length-replicate}
+use Rattle.std.proofs.lemmas.List.{get_or_default, get_or-map, get_or-replicate, length-map}
+use Rattle.std.proofs.lemmas.List.{length-replicate}
 use Rattle.cn_table.specs.declared.elements.State.{State}
 use Rattle.cn_choice.specs.Canonical.{raw_choice_of}
 use Rattle.cn_choice.specs.declared.team.Team.{Team}
@@ -22,7 +23,8 @@ use Rattle.cn_crashes.specs.Execution.{Event, IsExecution}
 use Rattle.cn_crashes.specs.Execution.Event.{Step, Crash}
 use Rattle.cn_lives.specs.Plans.{RecordingPlan, recoverable_plan}
 use Rattle.cn_lives.specs.Runs.{AreLivesOf, after_events, first_world}
-use Rattle.cn_lives.specs.Steps.{World, after_crash, after_step, after_step_from, held_at, local_after}
+use Rattle.cn_lives.specs.Steps.{World, after_crash, after_step, after_step_from, held_at}
+use Rattle.cn_lives.specs.Steps.{local_after}
 use Rattle.cn_lives.specs.Steps.{local_at, objects_after, onward, onward_if, registers_after}
 use Rattle.cn_lives.specs.Steps.{state_at}
 use Rattle.cn_lives.specs.Turns.{IsTurn}
@@ -153,7 +155,8 @@ module _ (p : RecordingPlan) (is : IsPlan p.plan)
       let within : here.node < length w.objects = subst (λ (k : ℕ). here.node < k)
       (sym h.objects_are) ln in
       elim (cases_eq v here.node) [
-        | inl e ↦ subst (λ (z : ℕ). state_at (slice_set w.objects here.node next) z < states) (sym e)
+        | inl e ↦ subst (λ (z : ℕ). state_at (slice_set w.objects here.node next) z < states)
+            (sym e)
             (subst (λ (z : State). z.0 < states)
             (sym (get_or-set_same w.objects here.node next (record { 0 = 0 }) within)) known)
         | inr d ↦ subst (λ (z : State). z.0 < states)

@@ -1,7 +1,9 @@
+pub mod Exchange
+pub mod FirstPlans
 pub mod Fitting
 pub mod Mirroring
 pub mod Planning
 pub mod Reaching
-pub mod RightRounds
 pub mod Rightness
 pub mod Running
+pub mod Telling

@@ -25,10 +25,13 @@ use Rattle.cn_crashes.specs.Execution.Event.{Step, Crash}
 use Rattle.cn_crashes.specs.RecoverableRound.{RecoverableLocal, RecoverablePlan, RecoverableStage}
 use Rattle.cn_crashes.specs.RecoverableRound.{local_action, recoverable_protocol, stage_action}
 use Rattle.cn_crashes.specs.RecoverableRound as rounds
-use Rattle.cn_crashes.specs.RecoverableRound.RecoverableLocal.{Active as ActiveLocal, Decided as DecidedLocal}
-use Rattle.cn_crashes.specs.RecoverableRound.RecoverableStage.{Write as WriteStage, Look as LookStage}
+use Rattle.cn_crashes.specs.RecoverableRound.RecoverableLocal.{Active as ActiveLocal}
+use Rattle.cn_crashes.specs.RecoverableRound.RecoverableLocal.{Decided as DecidedLocal}
+use Rattle.cn_crashes.specs.RecoverableRound.RecoverableStage.{Write as WriteStage}
+use Rattle.cn_crashes.specs.RecoverableRound.RecoverableStage.{Look as LookStage}
 use Rattle.cn_crashes.specs.RecoverableRound.RecoverableStage.{Peek as PeekStage, Act as ActStage}
-use Rattle.cn_crashes.specs.RecoverableRound.RecoverableStage.{Again as AgainStage, Take as TakeStage}
+use Rattle.cn_crashes.specs.RecoverableRound.RecoverableStage.{Again as AgainStage}
+use Rattle.cn_crashes.specs.RecoverableRound.RecoverableStage.{Take as TakeStage}
 use Rattle.cn_lives.specs.Mirrors.{Mirrors, inputs_of, lives_protocol, local_of, stage_of}
 use Rattle.cn_lives.specs.Plans.{RecordingPlan, recoverable_plan}
 use Rattle.cn_lives.specs.Runs.{after_events, decision_of, first_world}

@@ -1,5 +1,6 @@
 -- The lives of a recording plan reach consensus in every execution.
-use Rattle.std.proofs.Common.{◌≡◌, ℕ, ◌*◌, ◌-◌, ◌<◌, ◌≤◌, List, [], ◌∷◌, ◌++◌, length, refl, sym, ap}
+use Rattle.std.proofs.Common.{◌≡◌, ℕ, ◌*◌, ◌-◌, ◌<◌, ◌≤◌, List, [], ◌∷◌, ◌++◌, length, refl, sym}
+use Rattle.std.proofs.Common.{ap}
 use Rattle.std.proofs.Common.{◌∙◌, subst, Bool, false, nat_eq, Option, Some, None}
 use Rattle.std.specs.Prelude.{option_map, slice_index}
 use Rattle.std.proofs.lemmas.Bool.{eq-eqb, eqb-true}
@@ -14,17 +15,16 @@ use Rattle.cn_crashes.specs.Execution.{Event, HasDecidedIn, IsExecution}
 use Rattle.cn_crashes.specs.RecoverableConsensus.{HasStrongRecoverableValidity}
 use Rattle.cn_crashes.specs.RecoverableConsensus.{IsRecoverableConsensusProtocol}
 use Rattle.cn_crashes.specs.RecoverableWaitFreedom.{DecidesWithin}
-use Rattle.cn_crashes.proofs.Bounds.{endless}
 use Rattle.cn_crashes.proofs.Executions.{execution-append}
-use Rattle.cn_crashes.proofs.RoundInvariant.{Setting}
+use Rattle.cn_crashes.proofs.LawsBelow.{Tournaments}
+use Rattle.cn_crashes.proofs.RoundExecutions as rounds
 use Rattle.cn_crashes.proofs.StrongValidity.{strongly_valid}
 use Rattle.cn_lives.specs.Consensus.{HasDecided, IsRecoverableConsensus}
 use Rattle.cn_lives.specs.Mirrors.{Mirrors, configuration_after, inputs_of, lives_protocol}
 use Rattle.cn_lives.specs.Plans.{IsRecordingPlan, RecordingPlan, recoverable_plan}
 use Rattle.cn_lives.specs.Runs.{decision_at, world_after}
 use Rattle.cn_lives.proofs.Mirroring.{mirrors_execution, same_decision}
-use Rattle.cn_lives.proofs.RightRounds.{agree, in_time, valid}
-use Rattle.cn_lives.proofs.Rightness.{RunsAreSeen, right}
+use Rattle.cn_lives.proofs.Rightness.{right}
 
 -- the two parts of an execution
 execution_parts : (n : ℕ) (es us : List Event) → IsExecution n (es ++ us)
@@ -41,40 +41,26 @@ module _ (p : RecordingPlan) (is : IsRecordingPlan p)
     (sound : IsSound (protocol_of p.plan) (processes_of p.plan) (nodes_of p.plan)
     (team_of (length p.plan.choice.a)))
     (short : (q : ℕ) → q < processes_of p.plan
-    → length ((protocol_of p.plan).path q) ≤ nodes_of p.plan) (seen : RunsAreSeen)
+    → length ((protocol_of p.plan).path q) ≤ nodes_of p.plan) (tournaments : Tournaments)
     (reachable : (order : List ℕ) → after (protocol_of p.plan).act (protocol_of p.plan).start order
     < length p.plan.table.states) where
   abbrev n : ℕ
   n = processes_of p.plan
 
-  abbrev setting : (ℕ → Bool) → Setting
-  setting inputs = record {
-    table = p.plan.table;
-    plan = recoverable_plan p;
-    count = n;
-    nodes = nodes_of p.plan;
-    team = team_of (length p.plan.choice.a);
-    sound = sound;
-    right = right p is seen reachable;
-    acts = λ role q. refl;
-    inputs = inputs;
-  }
-
   -- ---- the protocol
 
   pub bound : (inputs : ℕ → Bool)
       → DecidesWithin (all_of p.plan.table) n (lives_protocol p) inputs (6 * (n - 1))
-  bound inputs es us k m q lq never often =
-      in_time (setting inputs) short es us k m q lq never often
+  bound inputs =
+      rounds.in_time p.plan.table (recoverable_plan p) n (nodes_of p.plan)
+      (team_of (length p.plan.choice.a)) sound (right p is tournaments reachable) (λ role q. refl)
+      is.is_plan.fits.some short inputs
 
   pub protocol : IsRecoverableConsensusProtocol (all_of p.plan.table) n (lives_protocol p)
-  protocol = record {
-    agreement = λ inputs es us k m q r x y lq lr d e.
-        agree (setting inputs) es us k m q r x y lq lr d e;
-    validity = λ inputs es k q x lq d. valid (setting inputs) es k q x lq d;
-    wait_freedom = endless (all_of p.plan.table) n (lives_protocol p)
-        (λ inputs. (6 * (n - 1), bound inputs));
-  }
+  protocol =
+      rounds.consensus p.plan.table (recoverable_plan p) n (nodes_of p.plan)
+      (team_of (length p.plan.choice.a)) sound (right p is tournaments reachable) (λ role q. refl)
+      is.is_plan.fits.some short
 
   strong : HasStrongRecoverableValidity (all_of p.plan.table) n (lives_protocol p)
   strong = strongly_valid (all_of p.plan.table) n (lives_protocol p) protocol.validity
@@ -106,7 +92,7 @@ module _ (p : RecordingPlan) (is : IsRecordingPlan p)
           let ku = (execution_parts n us vs parts.1).0 in
           let f : ℕ → Bool = λ v. nat_eq v x in
           let same : nat_eq x x ≡ nat_eq y x =
-          agree (setting (inputs_of f inputs)) es us ke ku q r (nat_eq x x) (nat_eq y x) lq lr
+          protocol.agreement (inputs_of f inputs) es us ke ku q r (nat_eq x x) (nat_eq y x) lq lr
           (decided f es ke q x lq d)
           (decided f (es ++ us) (execution-append n es us ke ku) r y lr d') in
           sym (eqb-true y x (sym same ∙ eq-eqb x x refl)));
@@ -123,7 +109,7 @@ module _ (p : RecordingPlan) (is : IsRecordingPlan p)
           let ke = parts.0 in
           let ku = (execution_parts n us vs parts.1).0 in
           let f : ℕ → Bool = λ v. false in
-          let d = in_time (setting (inputs_of f inputs)) short es us ke ku q lq never often in
+          let d = bound (inputs_of f inputs) es us ke ku q lq never often in
           some_value f (decision_at (world_after p inputs (es ++ us)) q) d.0
           (sym (decision_is f (es ++ us) (execution-append n es us ke ku) q lq) ∙ d.1));
     }

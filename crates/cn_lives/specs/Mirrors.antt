@@ -7,11 +7,15 @@ use Rattle.cn_consensus.specs.Protocol.{Protocol}
 use Rattle.cn_consensus.specs.Types.{all_of}
 use Rattle.cn_solvable.specs.RoundProtocol.{register_of}
 use Rattle.cn_crashes.specs.Execution.{Event, after_execution}
-use Rattle.cn_crashes.specs.RecoverableRound.{RecoverableLocal, RecoverableStage, recoverable_protocol}
-use Rattle.cn_crashes.specs.RecoverableRound.RecoverableLocal.{Active as ActiveLocal, Decided as DecidedLocal}
-use Rattle.cn_crashes.specs.RecoverableRound.RecoverableStage.{Write as WriteStage, Look as LookStage}
+use Rattle.cn_crashes.specs.RecoverableRound.{RecoverableLocal, RecoverableStage}
+use Rattle.cn_crashes.specs.RecoverableRound.{recoverable_protocol}
+use Rattle.cn_crashes.specs.RecoverableRound.RecoverableLocal.{Active as ActiveLocal}
+use Rattle.cn_crashes.specs.RecoverableRound.RecoverableLocal.{Decided as DecidedLocal}
+use Rattle.cn_crashes.specs.RecoverableRound.RecoverableStage.{Write as WriteStage}
+use Rattle.cn_crashes.specs.RecoverableRound.RecoverableStage.{Look as LookStage}
 use Rattle.cn_crashes.specs.RecoverableRound.RecoverableStage.{Peek as PeekStage, Act as ActStage}
-use Rattle.cn_crashes.specs.RecoverableRound.RecoverableStage.{Again as AgainStage, Take as TakeStage}
+use Rattle.cn_crashes.specs.RecoverableRound.RecoverableStage.{Again as AgainStage}
+use Rattle.cn_crashes.specs.RecoverableRound.RecoverableStage.{Take as TakeStage}
 use Rattle.cn_lives.specs.Plans.{RecordingPlan, recoverable_plan}
 use Rattle.cn_lives.specs.Steps.{World, held_at, local_at, state_at}
 use Rattle.cn_lives.specs.declared.local.Local.{Local}

@@ -1,17 +1,20 @@
 -- The plan of a recording witness: of its states alone a process tells which team came first.
-use Rattle.std.specs.Prelude.{◌≡◌, ◌<◌, ◌↔◌, ℕ, IsBitSet, List, length, nat_eq, Result, Ok, Err}
+use Rattle.std.specs.Prelude.{◌≡◌, ◌<◌, ◌↔◌, ◌⊎◌, ℕ, IsBitSet, List, length, nat_eq}
+use Rattle.std.specs.Prelude.{Result, Ok, Err}
+use Rattle.std.specs.Prelude.{Option, None, Some}
 use Rattle.std.specs.Prelude.{slice_index, slice_index_or}
 use Rattle.cn_table.specs.TypeTable.{TypeTable}
 use Rattle.cn_choice.specs.Canonical.{Choice, raw_choice_of}
+use Rattle.cn_choice.specs.Live.{live_choices}
 use Rattle.cn_choice.specs.declared.team.Team.{Team}
 use Rattle.cn_choice.specs.declared.team.Team.TheVariants.{A, B}
 use Rattle.cn_outcomes.specs.LeftStates.{LeavesIn}
-use Rattle.cn_proto.specs.Plan.{IsPlan, Plan, protocol_of}
-use Rattle.cn_recover.specs.Recording.{IsRecordingWitness}
+use Rattle.cn_search.specs.Evidence.{IsFirst}
+use Rattle.cn_proto.specs.Plan.{IsPlan, Plan, processes_of, protocol_of}
+use Rattle.cn_recover.specs.Recording.{IsRecording, IsRecordingWitness}
 use Rattle.cn_crashes.specs.RecoverableRound.{RecoverablePlan}
 use Rattle.cn_lives.specs.declared.fault.RecordingFault.{RecordingFault}
-use Rattle.cn_lives.specs.declared.fault.RecordingFault.TheVariants.{ComesBack, NotRecording}
-use Rattle.cn_lives.specs.declared.fault.RecordingFault.TheVariants.{OutOfMemory}
+use Rattle.cn_lives.specs.declared.fault.RecordingFault.TheVariants.{NotRecording, OutOfMemory}
 
 -- the plan of the witness, and for each state the team that came first where it is read
 pub record RecordingPlan : Type 0 where
@@ -43,12 +46,27 @@ pub record AreTeamsOf (set states : ℕ) (teams : List Team) : Type 0 where
   pub count : length teams ≡ states
   pub each : (q : ℕ) → q < states → (slice_index_or teams q B ≡ A) ↔ IsBitSet set q
 
--- the plan of the choice exactly for a recording witness none of whose orders that begin in team A
--- leaves the start state; or memory ran out
+-- the same choice with the teams exchanged
+abbrev pub exchanged : Choice → Choice
+exchanged c = record { state = c.state; a = c.b; b = c.a }
+
+-- d is c; or if an order that begins in team A leaves the start state, it is c with the teams
+-- exchanged
+abbrev pub IsHomeForm : TypeTable → Choice → Choice → Type 0
+IsHomeForm t c d = ((¬ LeavesIn t (raw_choice_of c) A c.state) × (d ≡ c))
+    ⊎ (LeavesIn t (raw_choice_of c) A c.state × (d ≡ exchanged c))
+
+-- a plan of the choice, perhaps with the teams exchanged, exactly for a recording witness; or
+-- memory ran out
 abbrev pub IsRecordingPlanned : TypeTable → Choice → Result RecordingPlan RecordingFault → Type 0
-IsRecordingPlanned t c (Ok p) = IsRecordingWitness t (raw_choice_of c)
-    × (¬ LeavesIn t (raw_choice_of c) A c.state) × (p.plan.table ≡ t) × (p.plan.choice ≡ c)
+IsRecordingPlanned t c (Ok p) =
+    IsRecordingWitness t (raw_choice_of c) × (p.plan.table ≡ t) × IsHomeForm t c p.plan.choice
 IsRecordingPlanned t c (Err NotRecording) = ¬ IsRecordingWitness t (raw_choice_of c)
-IsRecordingPlanned t c (Err ComesBack) =
-    IsRecordingWitness t (raw_choice_of c) × LeavesIn t (raw_choice_of c) A c.state
 IsRecordingPlanned t c (Err OutOfMemory) = Unit {0}
+
+-- the plan of the first recording witness for n processes among the live canonical choices, exactly
+-- if the type is n-recording
+abbrev pub IsFirstPlan : TypeTable → ℕ → Option RecordingPlan → Type 0
+IsFirstPlan t n None = ¬ IsRecording t n
+IsFirstPlan t n (Some p) = (w : Choice) × IsFirst (IsRecordingWitness t) (live_choices t n) w
+    × (p.plan.table ≡ t) × IsHomeForm t w p.plan.choice × (processes_of p.plan ≡ n)

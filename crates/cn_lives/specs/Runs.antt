@@ -1,5 +1,6 @@
 -- Worlds after steps and crashes.
-use Rattle.std.specs.Prelude.{ℕ, ◌≡◌, ◌*◌, List, [], ◌∷◌, length, map, replicate, Option, None, Some}
+use Rattle.std.specs.Prelude.{ℕ, ◌≡◌, ◌*◌, List, [], ◌∷◌, length, map, replicate}
+use Rattle.std.specs.Prelude.{Option, None, Some}
 use Rattle.cn_proto.specs.Plan.{nodes_of, processes_of}
 use Rattle.cn_crashes.specs.Execution.{Event, IsExecution}
 use Rattle.cn_crashes.specs.RecoverableRound.{RecoverablePlan}

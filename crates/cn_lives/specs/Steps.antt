@@ -107,4 +107,5 @@ after_step R p w = after_step_from R p w (local_at w p)
 -- the world after a crash of process p: it begins again with its input, at its first place, and the
 -- registers and the objects stay as they are
 abbrev pub after_crash : ℕ → World → World
-after_crash p w = record w { locals = slice_set w.locals p (Active 0 (slice_index w.inputs p) Write) }
+after_crash p w =
+    record w { locals = slice_set w.locals p (Active 0 (slice_index w.inputs p) Write) }

@@ -9,8 +9,6 @@ use std::alloc::AllocError;
 pub enum RecordingFault {
     /// The choice is no recording witness.
     NotRecording,
-    /// Some order that begins in team A leaves the start state: the teams are to be exchanged.
-    ComesBack,
     /// Memory ran out.
     OutOfMemory,
 }

@@ -8,6 +8,7 @@ ghost use Rattle.cn_solvable.specs.RoundProtocol.{register_of as register_number
 ghost use Rattle.cn_crashes.specs.Execution.{Event, after_crash as crash_of_protocol};
 ghost use Rattle.cn_crashes.specs.Execution.Event.{Step, Crash};
 ghost use Rattle.cn_crashes.specs.RecoverableRound.{RecoverableLocal};
+ghost use Rattle.cn_lives.specs.Courses.{IsOfTable, action_of};
 ghost use Rattle.cn_lives.specs.Lives.{world_of};
 ghost use Rattle.cn_lives.specs.Mirrors.{Mirrors, inputs_of, lives_protocol};
 ghost use Rattle.cn_lives.specs.Plans.{recoverable_plan};
@@ -18,6 +19,7 @@ ghost use Rattle.cn_lives.specs.declared.local.Local.TheVariants.{Active};
 ghost use Rattle.cn_lives.specs.declared.local.Stage.TheVariants.{Write};
 
 use crate::laws::recording_plans_are_sound;
+use crate::life_action::{LifeAction, action_at};
 use crate::local::{Local, Stage};
 use crate::plan::RecordingPlan;
 use crate::turn::{Turn, local_after, register_of, share};
@@ -86,6 +88,20 @@ impl Lives {
             value,
             stage,
         })
+    }
+
+    /// What process `p` does in its next step.
+    pub fn next_action(&self, plan: &RecordingPlan, p: u8) -> LifeAction
+        requires of_plan { LiveBy plan.now (world_of self.now) }
+        requires process { p < processes_of plan.now.plan }
+        ensures action { result ≡ action_of (recoverable_plan plan.now) (world_of self.now) p }
+        ensures table { IsOfTable plan.now.plan.table result }
+    {
+        recording_plans_are_sound(plan);
+        match self.turn(plan, p) {
+            Some(turn) => action_at(plan, turn, &self.registers, &self.objects),
+            None => LifeAction::HasDecided,
+        }
     }
 
     /// One atomic step of process `p`. A process that has decided takes no step.

@@ -1,9 +1,11 @@
 //! Plans of recording witnesses.
-ghost use Rattle.std.specs.Prelude.{◌≡◌, ◌<◌, ◌≤◌, IfOk, length};
+ghost use Rattle.std.specs.Prelude.{◌≡◌, ◌<◌, ◌↔◌, IfOk, IsTrue, length};
 ghost use Rattle.cn_choice.specs.Canonical.{FitsTable, raw_choice_of};
+ghost use Rattle.cn_choice.specs.declared.team.Team.TheVariants.{A};
+ghost use Rattle.cn_outcomes.specs.LeftStates.{LeavesIn};
 ghost use Rattle.cn_recover.specs.Recording.{IsRecordingWitness};
 ghost use Rattle.cn_lives.specs.Plans.{AreTeamsOf, IsRecordingPlan, IsRecordingPlanned};
-ghost use Rattle.cn_lives.specs.Plans.{recoverable_plan};
+ghost use Rattle.cn_lives.specs.Plans.{exchanged, recoverable_plan};
 
 use crate::fault::RecordingFault;
 use cn_choice::{Choice, RawChoice, Team};
@@ -11,7 +13,7 @@ use cn_outcomes::{Bits, left_states};
 use cn_proto::laws::plans_are_sound;
 use cn_proto::{Plan, PlanFault};
 use cn_recover::is_recording_witness;
-use cn_recover::laws::recording_witness_is_witness;
+use cn_recover::laws::{recording_witness_is_witness, renumbering};
 use cn_table::{State, Table};
 use std::alloc::{AllocError, Global};
 use std::marker::Model;
@@ -35,16 +37,16 @@ impl Model for RecordingPlan {
 }
 
 impl RecordingPlan {
-    /// The plan of a recording witness none of whose orders that begin in team A leaves the start
-    /// state.
+    /// The plan of a recording witness. If an order that begins in team A leaves the start state,
+    /// it is that of the witness with the teams exchanged.
     ///
     /// The choice is one of the table, for 2 to [`MOST_PROCESSES`](cn_choice::MOST_PROCESSES)
     /// processes.
     ///
     /// # Errors
     ///
-    /// `NotRecording` if the choice is no recording witness; `ComesBack` if an order that begins in
-    /// team A leaves the start state. `OutOfMemory` can come in place of a plan.
+    /// `NotRecording` if the choice is no recording witness. `OutOfMemory` can come in place of a
+    /// plan.
     pub fn from_witness(
         alloc: Global,
         table: &Table,
@@ -53,17 +55,15 @@ impl RecordingPlan {
         requires { FitsTable table.now choice.now }
         ensures { IsRecordingPlanned table.now choice.now result }
     {
+        renumbering();
         if !is_recording_witness(table, choice) {
             return Err(RecordingFault::NotRecording);
         }
-        let left_by_a = left_states(table, &RawChoice::of(choice), Team::A);
-        if left_by_a.contains(choice.state.0) {
-            return Err(RecordingFault::ComesBack);
+        if comes_back(table, choice) {
+            Ok(plan_of(alloc, table, &exchanged(choice))?)
+        } else {
+            Ok(plan_of(alloc, table, choice)?)
         }
-        let plan = witness_plan(alloc, table, choice)?;
-        plans_are_sound(&plan);
-        let first_teams = teams_of(alloc, left_by_a, table.states())?;
-        Ok(RecordingPlan { plan, first_teams })
     }
 
     /// The plan of the witness: its table, and the paths and operations of its processes.
@@ -97,7 +97,40 @@ impl RecordingPlan {
     }
 }
 
-/// The plan of a recording witness.
+/// Whether an order that begins in team A leaves the start state.
+fn comes_back(table: &Table, choice: &Choice) -> bool
+    requires { FitsTable table.now choice.now }
+    ensures { IsTrue result
+        ↔ LeavesIn table.now (raw_choice_of choice.now) A choice.now.state }
+{
+    left_states(table, &RawChoice::of(choice), Team::A).contains(choice.state.0)
+}
+
+/// The same choice with the teams exchanged.
+fn exchanged(choice: &Choice) -> Choice
+    ensures { result ≡ exchanged choice.now }
+{
+    let Choice { state, a, b } = choice.copy();
+    Choice { state, a: b, b: a }
+}
+
+/// The plan of a recording witness none of whose orders that begin in team A leaves the start
+/// state.
+fn plan_of(alloc: Global, table: &Table, choice: &Choice) -> Result<RecordingPlan, AllocError>
+    requires fits { FitsTable table.now choice.now }
+    requires recording { IsRecordingWitness table.now (raw_choice_of choice.now) }
+    requires home { ¬ LeavesIn table.now (raw_choice_of choice.now) A choice.now.state }
+    ensures table { IfOk result (λ p. p.plan.table ≡ table.now) }
+    ensures choice { IfOk result (λ p. p.plan.choice ≡ choice.now) }
+{
+    let plan = witness_plan(alloc, table, choice)?;
+    plans_are_sound(&plan);
+    let left_by_a = left_states(table, &RawChoice::of(choice), Team::A);
+    let first_teams = teams_of(alloc, left_by_a, table.states())?;
+    Ok(RecordingPlan { plan, first_teams })
+}
+
+/// The plan of a recording witness, as of a witness.
 fn witness_plan(alloc: Global, table: &Table, choice: &Choice) -> Result<Plan, AllocError>
     requires fits { FitsTable table.now choice.now }
     requires recording { IsRecordingWitness table.now (raw_choice_of choice.now) }

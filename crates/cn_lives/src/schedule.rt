@@ -61,7 +61,7 @@ fn fault_of(plan: &RecordingPlan, inputs: &[u64], schedule: &[Event]) -> Option<
 }
 
 /// The event of a schedule.
-fn take_event(plan: &RecordingPlan, lives: &mut Lives, event: Event)
+pub(crate) fn take_event(plan: &RecordingPlan, lives: &mut Lives, event: Event)
     requires of_plan { LiveBy plan.now (world_of lives.old) }
     requires process { process_of event < processes_of plan.now.plan }
     ensures world { world_of lives.new
@@ -89,7 +89,11 @@ fn take_all(plan: &RecordingPlan, lives: &mut Lives, schedule: &[Event])
 }
 
 /// The decision of each of this number of processes.
-fn decisions_of(alloc: Global, lives: &Lives, processes: u8) -> Result<Vec<Option<u64>>, AllocError>
+pub(crate) fn decisions_of(
+    alloc: Global,
+    lives: &Lives,
+    processes: u8,
+) -> Result<Vec<Option<u64>>, AllocError>
     requires { processes ≡ length (world_of lives.now).locals }
     ensures { IfOk result (λ decisions. decisions.items ≡ decisions_of (world_of lives.now)) }
 {
@@ -101,7 +105,7 @@ fn decisions_of(alloc: Global, lives: &Lives, processes: u8) -> Result<Vec<Optio
 }
 
 /// Lives in which nothing has happened, if the inputs and the schedule have no fault.
-fn first_lives(
+pub(crate) fn first_lives(
     alloc: Global,
     plan: &RecordingPlan,
     inputs: &[u64],
@@ -152,8 +156,8 @@ pub fn run_lives(
         ≡ decisions_after plan.now inputs.now schedule.now) }
     ensures consensus { OnOk result (IsRecoverableConsensus plan.now inputs.now
         (execution_of schedule.now)) }
-    ensures run { OnOk result (schedule_fault (processes_of plan.now.plan) inputs.now (named schedule.now)
-        ≡ None) }
+    ensures run { OnOk result (schedule_fault (processes_of plan.now.plan) inputs.now
+        (named schedule.now) ≡ None) }
     ensures told { (e : FaultOf)
         → schedule_fault (processes_of plan.now.plan) inputs.now (named schedule.now) ≡ Some e
         → result ≡ Err e }

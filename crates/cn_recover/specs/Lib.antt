@@ -1,2 +1,3 @@
+pub mod NotRecording
 pub mod Recording
 pub mod StatesApart

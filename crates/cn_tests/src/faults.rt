@@ -123,7 +123,7 @@ fn of_calls() -> [(CallFault, &'static str); 2] {
 }
 
 /// Each kind of fault of a command.
-fn of_commands() -> [(AppFault, &'static str); 14] {
+fn of_commands() -> [(AppFault, &'static str); 15] {
     [
         (AppFault::Words, "words refused"),
         (AppFault::Argument(Argument::Inputs), "argument: INPUTS"),
@@ -145,6 +145,7 @@ fn of_commands() -> [(AppFault, &'static str); 14] {
             "check: 6 NotNext 8",
         ),
         (AppFault::NoWitness, "certificate: no witness"),
+        (AppFault::NoRecordingWitness, "table: no recording witness"),
         (
             AppFault::Find(FindFault::TooManyChoices(407_616)),
             "find: 2 TooManyChoices 407616",

@@ -1,5 +1,5 @@
 -- The getters of clap, in the words of the command line.
-use Rattle.std.proofs.Common.{ℕ, ◌≡◌, ◌∙◌, Bool, true, false, List, [], ◌∷◌, Option, Some, None, Result, Ok, Err, ap, ap₂, refl, subst, sym, codes, Vec, Global}
+use Rattle.std.proofs.Common.{ℕ, ◌≡◌, ◌∙◌, ◌||◌, Bool, true, false, List, [], ◌∷◌, Option, Some, None, Result, Ok, Err, ap, ap₂, refl, subst, sym, codes, Vec, Global}
 use Rattle.std.specs.Prelude.{MatchBool, is_some, not, option_and_then, option_map, slice_get, unwrap_or, map}
 use Rattle.std.specs.List.{find}
 use Rattle.std.specs.Str.{bytes_eq}
@@ -15,11 +15,12 @@ use Rattle.cn_json.specs.declared.form.AnswerForm.{AnswerForm}
 use Rattle.cn_words.specs.declared.commands.Command.{Command}
 use Rattle.cn_words.specs.declared.commands.Command.TheVariants.{Find, Lint, Draw, Check, Explain, Why, Pairs, Show, Agree, Replay, Serve}
 use Rattle.cn_words.specs.declared.commands.Invocation.{Invocation}
-use Rattle.cn_words.specs.declared.commands.Invocation.TheVariants.{Classify, OfTable}
+use Rattle.cn_words.specs.declared.commands.Invocation.TheVariants.{Classify, Lives, OfTable}
 use Rattle.cn_words.specs.declared.commands.ListSource.{ListSource}
 use Rattle.cn_words.specs.declared.commands.OpeningWords.{OpeningWords}
 use Rattle.cn_words.specs.declared.commands.TextSource.{TextSource}
-use Rattle.cn_words.specs.GivenCommands.{Finds, HasAnswerForm, HasCertificate, HasDocumentForm, HasFlag, HasForm, HasLimit, HasList, HasNumber, HasOpening, HasTables, IsByte, IsInvocation, IsNamed, path_in, path_of}
+use Rattle.cn_words.specs.declared.lives.LivesWords.{LivesWords}
+use Rattle.cn_words.specs.GivenCommands.{Finds, HasAnswerForm, HasCertificate, HasDocumentForm, HasFlag, HasForm, HasLimit, HasList, HasNumber, HasOpening, HasOptionalNumber, HasTables, IsByte, HasLives, HasLivesTable, IsInvocation, IsNamed, is_flag_set, is_of_lives, path_in, path_of}
 
 -- two views of an optional value make their pair
 pub pair_of : {A B C : Type 0} (f : A → B) (g : A → C) (o : Option A) (q : Option (B × C)) → option_map f o ≡ option_map (λ p. p.0) q
@@ -57,12 +58,12 @@ no_first id rows none = go (find (λ r. bytes_eq r.id id) rows) none
     go None e = refl
     go (Some r) e = of_row _ (slice_get r.values 0) e
 
--- a limit that is no number gives none
-pub no_limit : (rows : List Row) (word : Option (Bor Text)) (given : Option ℕ) (none : Bool) → option_map (λ w. w.now) word ≡ first_of (codes "limit") rows
-    → is_some word ≡ not none → none ≡ false → ((n : ℕ) → HasNumber (codes "limit") rows n → ⊥) → HasLimit rows given → ⊥
-no_limit rows word (Some n) none found some isnt numbers is = numbers n is
-no_limit rows None None none found some isnt numbers is = let bad : false ≡ true = some ∙ ap not isnt in cc
-no_limit rows (Some w) None none found some isnt numbers is = let bad = found ∙ no_first (codes "limit") rows is in cc
+-- the value of an option that is no number gives none
+pub no_number : (id : Text) (rows : List Row) (word : Option (Bor Text)) (given : Option ℕ) (none : Bool) → option_map (λ w. w.now) word ≡ first_of id rows
+    → is_some word ≡ not none → none ≡ false → ((n : ℕ) → HasNumber id rows n → ⊥) → HasOptionalNumber id rows given → ⊥
+no_number id rows word (Some n) none found some isnt numbers is = numbers n is
+no_number id rows None None none found some isnt numbers is = let bad : false ≡ true = some ∙ ap not isnt in cc
+no_number id rows (Some w) None none found some isnt numbers is = let bad = found ∙ no_first id rows is in cc
 
 -- a flag as `get_flag` reads it
 pub flag_read : (f : Found) (id : Text) (is_set : Bool) → (one_text f id ≡ None → is_set ≡ false)
@@ -98,7 +99,7 @@ Wants name rows =
     (MatchBool (bytes_eq name (codes "why")) (((n : Option ℕ) × HasLimit rows n) × ((form : DocumentForm) × HasDocumentForm rows form))
     (MatchBool (bytes_eq name (codes "pairs")) ((form : DocumentForm) × HasDocumentForm rows form)
     (MatchBool (bytes_eq name (codes "show")) (((w : TextSource) × HasCertificate rows w) × ((plan : Form) × HasForm rows plan))
-    (MatchBool (bytes_eq name (codes "agree")) (((w : TextSource) × HasCertificate rows w) × ((l : ListSource) × HasList (codes "INPUTS") rows l) × ((l : ListSource) × HasList (codes "SCHEDULE") rows l) × ((form : AnswerForm) × HasAnswerForm rows form))
+    (MatchBool (bytes_eq name (codes "agree")) (((w : TextSource) × HasCertificate rows w) × ((l : ListSource) × HasList (codes "INPUTS") rows l) × ((l : ListSource) × HasList (codes "SCHEDULE") rows l) × ((form : AnswerForm) × HasAnswerForm rows form) × (is_of_lives rows ≡ false))
     (MatchBool (bytes_eq name (codes "replay")) (((o : OpeningWords) × HasOpening rows o) × ((l : ListSource) × HasList (codes "EVENTS") rows l) × ((form : AnswerForm) × HasAnswerForm rows form))
     (MatchBool (bytes_eq name (codes "serve")) (((o : OpeningWords) × HasOpening rows o) × ((l : ListSource) × HasList (codes "CALLS") rows l) × ((form : AnswerForm) × HasAnswerForm rows form))
     ⊥))))))))))
@@ -114,7 +115,7 @@ wants name rows (Why limit all form) h = subst (λ n. Wants n rows) (sym h.0) ((
 wants name rows (Pairs form) h = subst (λ n. Wants n rows) (sym h.0) (form, h.1)
 wants name rows (Show certificate plan) h = subst (λ n. Wants n rows) (sym h.0) ((certificate, h.1.0), (plan, h.1.1))
 wants name rows (Agree certificate inputs schedule steps form) h =
-    subst (λ n. Wants n rows) (sym h.0) ((certificate, h.1.0), (inputs, h.1.1), (schedule, h.1.2), (form, h.1.4))
+    subst (λ n. Wants n rows) (sym h.0) ((certificate, h.1.0), (inputs, h.1.1), (schedule, h.1.2), (form, h.1.4), h.1.5)
 wants name rows (Replay opening events form) h = subst (λ n. Wants n rows) (sym h.0) ((opening, h.1.0), (events, h.1.1), (form, h.1.2))
 wants name rows (Serve opening calls form) h = subst (λ n. Wants n rows) (sym h.0) ((opening, h.1.0), (calls, h.1.1), (form, h.1.2))
 
@@ -123,3 +124,16 @@ pub classify_wants : (rows : List Row) (i : Invocation) → IsInvocation (codes 
     → ((n : Option ℕ) × HasLimit rows n) × ((form : DocumentForm) × HasDocumentForm rows form) × ((ts : Vec TextSource Global) × HasTables rows ts.items)
 classify_wants rows (Classify limit recoverable form tables) h = ((limit, h.1), (form, h.3), (tables, h.4))
 classify_wants rows (OfTable table command) h = absurd (wants (codes "classify") rows command h.arguments)
+classify_wants rows (Lives table words) h = absurd (subst (λ n. MatchBool (bytes_eq n (codes "classify")) (Unit {0}) ⊥) h.0 tt)
+
+-- what `agree --recoverable` requires of its words
+pub lives_wants : (rows : List Row) (i : Invocation) → is_flag_set (codes "recoverable") rows ≡ true → IsInvocation (codes "agree") rows i
+    → ((t : TextSource) × HasLivesTable rows t) × ((w : LivesWords) × HasLives rows w)
+lives_wants rows (Classify limit recoverable form tables) flag h = absurd (subst (λ n. MatchBool (bytes_eq n (codes "agree")) (Unit {0}) ⊥) h.0 tt)
+lives_wants rows (OfTable table command) flag h =
+    absurd (go (is_flag_set (codes "recoverable") rows) _ flag (wants (codes "agree") rows command h.arguments).4)
+  where
+    go : (b d : Bool) → b ≡ true → (b || d) ≡ false → ⊥
+    go true d e h = cc
+    go false d e h = cc
+lives_wants rows (Lives table words) flag h = ((table, h.2), (words, h.3))

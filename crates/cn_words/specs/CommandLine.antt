@@ -32,6 +32,11 @@ abbrev pub limit_option : Rule
 limit_option =
     record (value_option (codes "limit")) { parser = Some (Signed (pos 0) (pos 255)) }
 
+-- --processes N, where N is a number of one byte
+abbrev pub processes_option : Rule
+processes_option =
+    record (value_option (codes "processes")) { parser = Some (Signed (pos 0) (pos 255)) }
+
 -- --table FILE
 abbrev pub table_option : Rule
 table_option = value_option (codes "table")
@@ -146,7 +151,8 @@ draw_words = command_with (codes "draw") (table_option ∷ file_word ∷ [])
 abbrev pub agree_words : ValueParser → Shape
 agree_words forms = command_with (codes "agree")
     (certificate_word ∷ required_word (codes "INPUTS") ∷ required_word (codes "SCHEDULE")
-    ∷ flag (codes "steps") ∷ form_option forms ∷ table_option ∷ file_word ∷ [])
+    ∷ flag (codes "steps") ∷ flag (codes "recoverable") ∷ processes_option ∷ form_option forms
+    ∷ table_option ∷ file_word ∷ [])
 
 abbrev pub replay_words : ValueParser → Shape
 replay_words forms = command_with (codes "replay")

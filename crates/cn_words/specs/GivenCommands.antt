@@ -1,5 +1,5 @@
 -- The command that the words of the command line give, by what clap found in them.
-use Rattle.std.specs.Prelude.{◌≡◌, ◌<◌, ◌^◌, ◌++◌, ◌&&◌, ℕ, Bool, true, false, List, Option, Some}
+use Rattle.std.specs.Prelude.{◌≡◌, ◌<◌, ◌^◌, ◌++◌, ◌&&◌, ◌||◌, ℕ, Bool, true, false, List, Option, Some}
 use Rattle.std.specs.Prelude.{None, MatchOption, if◌then◌else◌, codes, is_some, map}
 use Rattle.std.specs.Prelude.{option_and_then}
 use Rattle.std.specs.Option.{option_map_or, option_or}
@@ -22,11 +22,12 @@ use Rattle.cn_words.specs.declared.commands.Command.TheVariants.{Replay, Serve}
 use Rattle.cn_words.specs.declared.commands.CommandFault.{CommandFault}
 use Rattle.cn_words.specs.declared.commands.CommandFault.TheVariants as fault
 use Rattle.cn_words.specs.declared.commands.Invocation.{Invocation}
-use Rattle.cn_words.specs.declared.commands.Invocation.TheVariants.{Classify, OfTable}
+use Rattle.cn_words.specs.declared.commands.Invocation.TheVariants.{Classify, Lives, OfTable}
 use Rattle.cn_words.specs.declared.commands.ListSource.{ListSource}
 use Rattle.cn_words.specs.declared.commands.ListSource.TheVariants as list
 use Rattle.cn_words.specs.declared.commands.OpeningWords.{OpeningWords}
 use Rattle.cn_words.specs.declared.commands.TextSource.{TextSource}
+use Rattle.cn_words.specs.declared.lives.LivesWords.{LivesWords}
 use Rattle.cn_words.specs.declared.commands.TextSource.TheVariants as source
 
 -- what clap found, argument by argument
@@ -52,16 +53,24 @@ IsByte text n = (IsNumeral 10 (without_leading_plus text)
 abbrev pub HasNumber : Text → List Row → ℕ → Type 0
 HasNumber id rows n = (text : Text) × (one_of id rows ≡ Some text) × IsByte text n
 
+-- the number, or none if it was not given
+abbrev pub HasOptionalNumber : Text → List Row → Option ℕ → Type 0
+HasOptionalNumber id rows None = one_of id rows ≡ None
+HasOptionalNumber id rows (Some n) = HasNumber id rows n
+
 -- the number of the limit, or none if it was not given
 abbrev pub HasLimit : List Row → Option ℕ → Type 0
-HasLimit rows None = one_of (codes "limit") rows ≡ None
-HasLimit rows (Some n) = HasNumber (codes "limit") rows n
+HasLimit rows limit = HasOptionalNumber (codes "limit") rows limit
 
 -- a flag is set if it was given, and else it is not
 abbrev pub HasFlag : Text → List Row → Bool → Type 0
 HasFlag id rows is_set = (one_of id rows ≡ Some (codes "true") → is_set ≡ true)
     × (one_of id rows ≡ Some (codes "false") → is_set ≡ false)
     × (one_of id rows ≡ None → is_set ≡ false)
+
+-- whether a flag was given
+abbrev pub is_flag_set : Text → List Row → Bool
+is_flag_set id rows = option_map_or (λ w. bytes_eq w (codes "true")) (first_of id rows) false
 
 abbrev pub form_word : Form → Text
 form_word form.Text = codes "text"
@@ -145,6 +154,24 @@ HasOpening rows opening = HasCertificate rows opening.certificate
     × HasWord (codes "START") rows opening.start.now
     × HasWord (codes "CAPACITY") rows opening.capacity.now
 
+-- ---- a run of processes that crash and come back
+
+-- each argument is what its word says
+abbrev pub HasLives : List Row → LivesWords → Type 0
+HasLives rows words = HasList (codes "INPUTS") rows words.inputs
+    × HasList (codes "SCHEDULE") rows words.schedule
+    × HasOptionalNumber (codes "processes") rows words.processes
+    × (words.steps ≡ is_flag_set (codes "steps") rows) × HasAnswerForm rows words.form
+
+-- the first word says where the table is, and no other word does
+abbrev pub HasLivesTable : List Row → TextSource → Type 0
+HasLivesTable rows table = HasCertificate rows table × (table_in rows ≡ None)
+
+-- whether a word is there that only such a run has
+abbrev pub is_of_lives : List Row → Bool
+is_of_lives rows =
+    is_flag_set (codes "recoverable") rows || is_some (first_of (codes "processes") rows)
+
 -- ---- the commands
 
 abbrev pub name_of : Command → Text
@@ -176,7 +203,7 @@ HasArguments rows (Show certificate plan) = HasCertificate rows certificate × H
 HasArguments rows (Agree certificate inputs schedule steps form) =
     HasCertificate rows certificate × HasList (codes "INPUTS") rows inputs
     × HasList (codes "SCHEDULE") rows schedule × HasFlag (codes "steps") rows steps
-    × HasAnswerForm rows form
+    × HasAnswerForm rows form × (is_of_lives rows ≡ false)
 HasArguments rows (Replay opening events form) =
     HasOpening rows opening × HasList (codes "EVENTS") rows events × HasAnswerForm rows form
 HasArguments rows (Serve opening calls form) =
@@ -201,6 +228,9 @@ IsInvocation name rows (Classify limit recoverable form tables) = (name ≡ code
     × HasLimit rows limit × HasFlag (codes "recoverable") rows recoverable
     × HasDocumentForm rows form × HasTables rows tables.items
 IsInvocation name rows (OfTable table command) = IsOfTable name rows table command
+IsInvocation name rows (Lives table words) = (name ≡ codes "agree")
+    × (is_flag_set (codes "recoverable") rows ≡ true) × HasLivesTable rows table
+    × HasLives rows words
 
 -- the invocation of the parsed command, by the words behind its name
 abbrev pub IsInvocationOf : ArgMatches → Invocation → Type 0

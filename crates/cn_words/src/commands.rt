@@ -1,10 +1,11 @@
 //! The command that the words of the command line give, with its arguments.
-ghost use Rattle.std.specs.Prelude.{◌≡◌, IfOk, MatchResult, codes, map, option_map};
+ghost use Rattle.std.specs.Prelude.{◌≡◌, IfOk, MatchResult, codes, map, option_map, true};
 ghost use Rattle.clap.specs.Simple.{subcommand_rows_of};
 ghost use Rattle.clap.specs.Walk.{first_of};
-ghost use Rattle.cn_words.specs.GivenCommands.{Finds, HasAnswerForm, HasCertificate, HasDocumentForm, HasForm, HasLimit, HasList, HasNumber, HasOpening, HasTable, HasTables, IsInvocation, IsInvocationOf, IsList, IsNamed, RefusesCommand, is_input, is_input_shared, is_table_twice, path_in, path_of, rows_in, table_in};
+ghost use Rattle.cn_words.specs.GivenCommands.{Finds, HasAnswerForm, HasCertificate, HasDocumentForm, HasForm, HasLimit, HasList, HasNumber, HasOpening, HasOptionalNumber, HasTable, HasTables, IsInvocation, IsInvocationOf, IsList, IsNamed, RefusesCommand, is_flag_set, is_input, is_input_shared, is_table_twice, path_in, path_of, rows_in, table_in};
 ghost use Rattle.cn_words.specs.declared.commands.CommandFault.TheVariants.{OutOfMemory};
 
+use crate::lives::{LivesWords, is_flag_set, is_of_lives, lives, lives_table};
 use clap::ArgMatches;
 use cn_forms::Form;
 use cn_json::{AnswerForm, DocumentForm};
@@ -148,6 +149,13 @@ pub enum Invocation<'a> {
         /// The command.
         command: Command<'a>,
     },
+    /// Runs the plan of a recording witness by a schedule of steps and crashes.
+    Lives {
+        /// Where the table is read from.
+        table: TextSource<'a>,
+        /// The words for the run.
+        words: LivesWords<'a>,
+    },
 }
 
 /// Why there is no command.
@@ -181,7 +189,7 @@ impl<'a> ListSource<'a> {
 
 impl<'a> TextSource<'a> {
     // The text that a word names.
-    fn of(word: &'a str) -> TextSource<'a>
+    pub(crate) fn of(word: &'a str) -> TextSource<'a>
         ensures { path_of result ≡ path_in word.entry.now }
     {
         if word == "-" {
@@ -193,32 +201,39 @@ impl<'a> TextSource<'a> {
 }
 
 // The word that stands for an argument.
-fn word<'a>(words: &ArgMatches<'a>, id: &str) -> Option<&'a str>
+pub(crate) fn word<'a>(words: &ArgMatches<'a>, id: &str) -> Option<&'a str>
     ensures { option_map (λ w. w.now) result ≡ first_of id.now (rows_in words.now) }
 {
     words.get_str(id)
 }
 
-fn list<'a>(words: &ArgMatches<'a>, id: &str) -> Option<ListSource<'a>>
+pub(crate) fn list<'a>(words: &ArgMatches<'a>, id: &str) -> Option<ListSource<'a>>
     ensures { Finds (HasList id.now (rows_in words.now)) result }
 {
     Some(ListSource::of(word(words, id)?))
 }
 
-fn limit(words: &ArgMatches<'_>) -> Option<u8>
-    ensures { Finds (HasNumber (codes "limit") (rows_in words.now)) result }
+fn number(words: &ArgMatches<'_>, id: &str) -> Option<u8>
+    ensures { Finds (HasNumber id.now (rows_in words.now)) result }
 {
-    words.get_one::<u8>("limit")
+    words.get_one::<u8>(id)
+}
+
+// The number of an option, if it was given.
+pub(crate) fn optional_number(words: &ArgMatches<'_>, id: &str) -> Option<Option<u8>>
+    ensures { Finds (HasOptionalNumber id.now (rows_in words.now)) result }
+{
+    if word(words, id).is_none() {
+        return Some(None);
+    }
+    Some(Some(number(words, id)?))
 }
 
 // The limit, if one was given.
 fn optional_limit(words: &ArgMatches<'_>) -> Option<Option<u8>>
     ensures { Finds (HasLimit (rows_in words.now)) result }
 {
-    if word(words, "limit").is_none() {
-        return Some(None);
-    }
-    Some(Some(limit(words)?))
+    optional_number(words, "limit")
 }
 
 fn certificate<'a>(words: &ArgMatches<'a>) -> Option<TextSource<'a>>
@@ -241,7 +256,7 @@ fn form(words: &ArgMatches<'_>) -> Option<Form>
     }
 }
 
-fn answer_form(words: &ArgMatches<'_>) -> Option<AnswerForm>
+pub(crate) fn answer_form(words: &ArgMatches<'_>) -> Option<AnswerForm>
     ensures { Finds (HasAnswerForm (rows_in words.now)) result }
 {
     match word(words, "as")? {
@@ -380,6 +395,9 @@ fn show<'a>(words: &ArgMatches<'a>) -> Option<Command<'a>>
 fn agree<'a>(words: &ArgMatches<'a>) -> Option<Command<'a>>
     ensures { Finds (IsNamed (codes "agree") (rows_in words.now)) result }
 {
+    if is_of_lives(words) {
+        return None;
+    }
     Some(Command::Agree {
         certificate: certificate(words)?,
         inputs: list(words, "INPUTS")?,
@@ -430,7 +448,7 @@ fn command_named<'a>(name: &str, words: &ArgMatches<'a>) -> Option<Command<'a>>
 }
 
 // The word that says where the table is.
-fn table_word<'a>(words: &ArgMatches<'a>) -> Option<&'a str>
+pub(crate) fn table_word<'a>(words: &ArgMatches<'a>) -> Option<&'a str>
     ensures { option_map (λ w. w.now) result ≡ table_in (rows_in words.now) }
 {
     match word(words, "table") {
@@ -473,6 +491,17 @@ fn is_input_shared(words: &ArgMatches<'_>) -> bool
     is_input(word(words, "CERT"), false) && is_input(table_word(words), true)
 }
 
+// What `agree --recoverable` asks for.
+fn lives_run<'a>(words: &ArgMatches<'a>) -> Option<Invocation<'a>>
+    requires { is_flag_set (codes "recoverable") (rows_in words.now) ≡ true }
+    ensures { Finds (IsInvocation (codes "agree") (rows_in words.now)) result }
+{
+    Some(Invocation::Lives {
+        table: lives_table(words)?,
+        words: lives(words)?,
+    })
+}
+
 // What the command of this name asks for, by the words behind the name.
 fn invocation_named<'a>(
     alloc: Global,
@@ -483,6 +512,9 @@ fn invocation_named<'a>(
 {
     if name == "classify" {
         return classify(alloc, words);
+    }
+    if name == "agree" && is_flag_set(words, "recoverable") {
+        return Ok(lives_run(words));
     }
     if is_table_twice(words) || is_input_shared(words) {
         return Ok(None);
@@ -508,9 +540,9 @@ fn command_met<'m, 'a>(matches: &'m ArgMatches<'a>) -> Option<(&'a str, &'m ArgM
 ///
 /// # Errors
 ///
-/// `Words` if there is no command, a word is missing, the limit is no number of one byte, the form
-/// is unknown, two words say where the table is, or standard input would be both the table and the
-/// certificate; `OutOfMemory` for want of memory.
+/// `Words` if there is no command, a word is missing or too many, a number is none of one byte, the
+/// form is unknown, two words say where the table is, or standard input would be both the table and
+/// the certificate; `OutOfMemory` for want of memory.
 pub fn invocation_of<'a>(
     alloc: Global,
     matches: &ArgMatches<'a>,

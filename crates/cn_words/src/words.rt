@@ -2,7 +2,7 @@
 ghost use Rattle.std.specs.Prelude.{◌≡◌, [], ◌∷◌, IfOk, codes};
 ghost use Rattle.clap.specs.Simple.{new_shape};
 ghost use Rattle.clap.specs.Walk.{texts};
-ghost use Rattle.cn_words.specs.CommandLine.{AddsArgument, AddsCommand, AddsTable, HasCommands, HasCommandsFor, IsArgument, IsCommand, IsCommandFor, TakesWords, agree_words, answer_forms, certificate_word, check_words, classify_words, command_with, commands, document_forms, draw_words, explain_words, file_word, find_words, flag, form_option, limit_option, lint_words, opening_words, pairs_words, plan_forms, replay_words, required_word, required_words, serve_words, show_words, table_option, table_word, value_option, why_words};
+ghost use Rattle.cn_words.specs.CommandLine.{AddsArgument, AddsCommand, AddsTable, HasCommands, HasCommandsFor, IsArgument, IsCommand, IsCommandFor, TakesWords, agree_words, answer_forms, certificate_word, check_words, classify_words, command_with, commands, document_forms, draw_words, explain_words, file_word, find_words, flag, form_option, limit_option, lint_words, opening_words, pairs_words, plan_forms, processes_option, replay_words, required_word, required_words, serve_words, show_words, table_option, table_word, value_option, why_words};
 
 use clap::builder::ValueParser;
 use clap::{Arg, ArgAction, Command, value_parser};
@@ -270,6 +270,14 @@ P: decides V, the same at the last node of its path; and P: has decided, where i
 
 With --as json writes the decisions, and the steps if they are asked for, as one JSON object.
 
+With --recoverable processes crash and come back: agree --recoverable FILE INPUTS SCHEDULE. The
+type is in FILE, and there is no certificate. The plan is that of the first recording witness for N
+processes, or without --processes N for as many as the recoverable number up to 8. In SCHEDULE P is
+a step of process P, and cP a crash: the process begins again with its number. All decisions that
+are ever made are equal, and each is the number of a process that has taken a step or has decided.
+With --steps there are three lines more: P: crashes; P: reads S at node N: start state, before its
+operation; P: finds nothing in T of node N, where no process of team T has written.
+
 A list is numbers with a comma and no space between two, at most 65536 of them, or the word none.
 INPUTS are from 0 to 18446744073709551615, one for each process, SCHEDULE is processes from 0 on.
 @ and the name of a file stand for the list in that file: at most 1048576 bytes, with a line feed at
@@ -348,6 +356,14 @@ fn value_option<'a>(alloc: Global, id: &'a str, value: &'a str, help: &'a str) -
         .value_name(value)
         .help(help)
         .action(ArgAction::Set)
+}
+
+/// The number of processes that crash and come back.
+fn processes<'a>(alloc: Global) -> Arg<'a>
+    ensures { IsArgument processes_option result }
+{
+    let help = "How many processes crash and come back, from 2 to 8";
+    value_option(alloc, "processes", "N", help).value_parser(value_parser!(u8))
 }
 
 /// The limit of a search.
@@ -564,11 +580,14 @@ fn agree<'a>(alloc: Global) -> Result<Command<'a>, AllocError>
     let inputs = "The numbers that the processes begin with, or @FILE";
     let schedule = "The processes in the order of their steps, or @FILE";
     let steps = "Tells what each step does, before the decisions";
+    let crashes = "Lets processes crash: CERT is the table, and a cP in SCHEDULE a crash";
     let help = "The form in which the run is written";
     let command = with_certificate(alloc, "agree", AGREE_ABOUT, AGREE_AFTER);
     let command = with_argument(command, required_word(alloc, "INPUTS", inputs));
     let command = with_argument(command, required_word(alloc, "SCHEDULE", schedule));
     let command = with_argument(command, flag(alloc, "steps", steps));
+    let command = with_argument(command, flag(alloc, "recoverable", crashes));
+    let command = with_argument(command, processes(alloc));
     let command = with_argument(command, form(alloc, &ANSWER_FORMS, help));
     with_table(alloc, command)
 }

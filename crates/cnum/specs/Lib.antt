@@ -1,5 +1,6 @@
 pub mod Exits
 pub mod GivenLists
+pub mod LivesRuns
 pub mod NamedTables
 pub mod Obeying
 pub mod Runs

@@ -2,14 +2,16 @@
 use Rattle.std.specs.Prelude.{◌≡◌, ℕ, List, Option, Result}
 use Rattle.cn_words.specs.declared.commands.Command.{Command}
 use Rattle.cn_words.specs.declared.commands.Invocation.{Invocation}
-use Rattle.cn_words.specs.declared.commands.Invocation.TheVariants.{Classify, OfTable}
+use Rattle.cn_words.specs.declared.commands.Invocation.TheVariants.{Classify, Lives, OfTable}
 use Rattle.cn_words.specs.declared.commands.TextSource.{TextSource}
+use Rattle.cn_words.specs.declared.lives.LivesWords.{LivesWords}
 use Rattle.cn_app.specs.Streams.Writing.{IsUnwritten}
 use Rattle.cn_app.specs.declared.fault.AppFault.{AppFault}
 use Rattle.cn_app.specs.declared.report.Outcome.{Outcome}
 use Rattle.cn_app.specs.declared.reports.classify.AskedNumbers.{AskedNumbers}
 use Rattle.cn_app.specs.declared.streams.output.Output.{Output}
 use Rattle.cnum.specs.Exits.{classify_status, command_status}
+use Rattle.cnum.specs.LivesRuns.{RunsLives}
 use Rattle.cnum.specs.NamedTables.{ClassifiesSources, bytes_of}
 use Rattle.cnum.specs.Runs.{Runs}
 use Rattle.cnum.specs.Texts.{left_of}
@@ -29,6 +31,12 @@ module _ {S F D W : Type 0} (remaining : S → Option (List ℕ)) (left : LazyFi
       × Runs remaining left contents files stdin table command u v end
       × (status ≡ command_status end)
 
+  -- a plan was run by a schedule of steps and crashes, and the exit status is that of the result
+  abbrev pub RunsPlans : S → TextSource → LivesWords → Output W → Output W → ℕ → Type 0
+  RunsPlans stdin table words u v status = (end : Result Outcome AppFault)
+      × RunsLives remaining left contents files stdin table words u v end
+      × (status ≡ command_status end)
+
   -- the tables of these sources were classified for the numbers asked for, and the exit status is
   -- that of the first fault
   abbrev pub ClassifiesAll : S → AskedNumbers → List TextSource → Output W → Output W → ℕ → Type 0
@@ -38,12 +46,13 @@ module _ {S F D W : Type 0} (remaining : S → Option (List ℕ)) (left : LazyFi
       (λ _ _ _ _. Unit {0}) (bytes_of (remaining stdin) files)
       sources asked u before v after first × (status ≡ classify_status first)
 
-  -- what the words ask for is done: the tables that `classify` names are classified, or a command
-  -- of one table is run
+  -- what the words ask for is done: the tables that `classify` names are classified, a command of one
+  -- table is run, or a plan is run by a schedule of steps and crashes
   abbrev pub Does : S → Invocation → Output W → Output W → ℕ → Type 0
   Does stdin (Classify limit recoverable form tables) u v status = ClassifiesAll stdin
       (record { limit = limit; recoverable = recoverable; form = form }) tables.items u v status
   Does stdin (OfTable table command) u v status = RunsOne stdin table command u v status
+  Does stdin (Lives table words) u v status = RunsPlans stdin table words u v status
 
 -- in the same terms: the command was done with these streams, of which nothing was used before, and
 -- the writer is handed back as the command left it; a reader over standard input read the command's

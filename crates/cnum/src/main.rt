@@ -16,6 +16,7 @@ mod disk;
 mod faults;
 mod given_list;
 mod lazy_file;
+mod lives_run;
 mod pipe_writer;
 mod runs;
 mod text_reader;
@@ -27,6 +28,7 @@ use cn_app::{AppFault, Known, Outcome, Output};
 use cn_words::{CommandFault, Invocation, Reply};
 use disk::Disk;
 use faults::{Faults, known_of};
+use lives_run::run_lives;
 use pipe_writer::{PipeWriter, is_broken_pipe};
 use runs::{classify, run};
 use std::alloc::Global;
@@ -114,6 +116,10 @@ fn do_command<T: Threads + Wait + Sync + Disk + Eprint, I: Read + Copy + Drop, O
             let mut known = known_of(*table, command);
             let end = run(rt, alloc, stdin, output, *table, command, &mut known);
             command_exit(faults, end, &known)
+        }
+        Invocation::Lives { table, words } => {
+            let end = run_lives(rt, alloc, stdin, output, *table, *words);
+            command_exit(faults, end)
         }
     }
 }

@@ -23,7 +23,7 @@ use std::sync::Wait;
 use std::thread::Threads;
 
 // The text of this source, of which nothing was read.
-fn text_of<'a, D: Disk, S: Read + Copy>(
+pub(crate) fn text_of<'a, D: Disk, S: Read + Copy>(
     disk: &'a D,
     alloc: Global,
     stdin: S,

@@ -29,7 +29,7 @@ pub struct AskedRun {
 }
 
 /// The text of decisions.
-fn decision_text(
+pub(crate) fn decision_text(
     alloc: Global,
     decisions: &[Option<u64>],
     form: AnswerForm,

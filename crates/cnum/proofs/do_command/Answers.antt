@@ -12,3 +12,7 @@ returns-in-Classify g c = rw c.in-Classify.is (
 
 pub returns-in-OfTable : goal.returns-in-OfTable
 returns-in-OfTable g c = rw c.in-OfTable.is (c.run-end.result, c.run-end.ensures, c.command_exit.ensures)
+
+pub returns-in-Lives : goal.returns-in-Lives
+returns-in-Lives g c =
+    rw c.in-Lives.is (c.run_lives-end.result, c.run_lives-end.ensures, c.command_exit.ensures)

@@ -1,8 +1,15 @@
+use Rattle.cn_crashes.proofs.LawsBelow.{Tournaments}
 use Rattle.cn_lives.proofs.Reaching.{mirrors}
 use Rattle.cn_lives.proofs.laws.lives_go_as_the_protocol.Goals as goal
 
 pub returns : goal.returns
 returns c = λ f inputs events many k.
     (let laws = c.recording_plans_are_sound.ensures in
-    mirrors c.args.plan.now laws.plan laws.sound laws.short c.tournaments_are_sound.ensures.outcomes
+    let below = c.tournaments_are_sound.ensures in
+    let tournaments : Tournaments = record {
+      outcomes = below.outcomes;
+      sound = below.sound;
+      short = below.short;
+    } in
+    mirrors c.args.plan.now laws.plan laws.sound laws.short tournaments
     laws.reachable inputs many f events k)

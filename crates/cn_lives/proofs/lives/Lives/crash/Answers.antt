@@ -1,4 +1,4 @@
-use Rattle.std.proofs.Common.{arith, ◌++◌, ◌∷◌, [], ◌<◌, length, sym, subst}
+use Rattle.std.proofs.Common.{arith, ◌++◌, ◌∷◌, [], sym, subst}
 use Rattle.std.proofs.lemmas.Grind.{common_steps}
 use Rattle.cn_crashes.specs.Execution.{after_crash}
 use Rattle.cn_crashes.specs.Execution.Event.{Crash}

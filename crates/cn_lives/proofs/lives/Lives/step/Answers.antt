@@ -1,4 +1,4 @@
-use Rattle.std.proofs.Common.{arith, ◌++◌, ◌∷◌, [], Bool, Option, ℕ, sym, subst}
+use Rattle.std.proofs.Common.{arith, ◌++◌, ◌∷◌, [], sym, subst}
 use Rattle.std.proofs.lemmas.Grind.{common_steps}
 use Rattle.cn_consensus.specs.Configuration.{step}
 use Rattle.cn_consensus.specs.Types.{all_of}

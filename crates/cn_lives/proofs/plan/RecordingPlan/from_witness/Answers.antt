@@ -1,41 +1,27 @@
-use Rattle.std.proofs.Common.{◌∙◌, ◌↔◌, ℕ, ap, sym, subst, true≢false}
-use Rattle.std.specs.Prelude.{IsBitSet}
-use Rattle.cn_choice.specs.Canonical.{Choice, raw_choice_of}
-use Rattle.cn_choice.specs.RawChoices.{RawChoice}
+use Rattle.std.proofs.Common.{sym, subst}
+use Rattle.cn_choice.specs.Canonical.{Choice, FitsTable, raw_choice_of}
 use Rattle.cn_choice.specs.declared.team.Team.TheVariants.{A}
 use Rattle.cn_outcomes.specs.LeftStates.{LeavesIn}
-use Rattle.cn_lives.proofs.Planning.{planned}
+use Rattle.cn_recover.specs.Recording.{IsRecordingWitness}
+use Rattle.cn_lives.proofs.Exchange.{exchanged_fits, exchanged_home, exchanged_records}
 use Rattle.cn_lives.proofs.plan.RecordingPlan.from_witness.Goals as goal
-use Rattle.cn_lives.proofs.plan.RecordingPlan.from_witness.Goals.{In_ok-first_teams}
 
--- the set that was computed
-left : (c : In_ok-first_teams) → (q : ℕ) → IsBitSet c.left_states-left_by_a.result q
-    ↔ LeavesIn c.args.table.now (raw_choice_of c.args.choice.now) A q
-left c q = (
-  λ h. subst (λ (r : RawChoice). LeavesIn c.args.table.now r A q) c.of.ensures
-      ((c.left_states-left_by_a.ensures q).0 h),
-  λ h. (c.left_states-left_by_a.ensures q).1
-      (subst (λ (r : RawChoice). LeavesIn c.args.table.now r A q) (sym c.of.ensures) h),
-)
+pub plan_of-requires-clause-fits : goal.plan_of-requires-clause-fits
+plan_of-requires-clause-fits c =
+    subst (FitsTable c.args.table.now) (sym c.exchanged.ensures)
+    (exchanged_fits c.args.choice.now c.args.table.now c.requires)
 
--- the start state is not in it
-home : (c : In_ok-first_teams) → IsBitSet c.left_states-left_by_a.result c.args.choice.now.state → ⊥
-home c h = true≢false (sym (c.contains.ensures.found.1
-    (subst (IsBitSet c.left_states-left_by_a.result)
-    (sym (ap (λ (d : Choice). d.state) c.choice.view_is)) h)) ∙ c.if-contains.false)
+pub plan_of-requires-clause-recording : goal.plan_of-requires-clause-recording
+plan_of-requires-clause-recording c =
+    let t = c.args.table.now in
+    let yes = c.is_recording_witness.ensures.0 c.if-not-is_recording_witness.false in
+    subst (λ (d : Choice). IsRecordingWitness t (raw_choice_of d)) (sym c.exchanged.ensures)
+    (exchanged_records c.args.choice.now t (c.renumbering.ensures.some t)
+    (c.renumbering.ensures.exchanged t (raw_choice_of c.args.choice.now) yes))
 
-pub invariant_of-result : goal.invariant_of-result
-invariant_of-result c =
-    planned c.args.table.now c.args.choice.now c.in_ok-plan.plan c.plans_are_sound.ensures.plan
-    c.in_ok-plan.ensures.table c.in_ok-plan.ensures.choice c.left_states-left_by_a.result
-    c.states.result c.in_ok-first_teams.first_teams.items
-    (c.is_recording_witness.ensures.0 c.if-not-is_recording_witness.false) (left c)
-    c.states.ensures.number c.in_ok-first_teams.ensures (home c)
-
-pub returns : goal.returns
-returns c = (
-  c.is_recording_witness.ensures.0 c.if-not-is_recording_witness.false,
-  λ h. home c ((left c c.args.choice.now.state).1 h),
-  c.in_ok-plan.ensures.table,
-  c.in_ok-plan.ensures.choice,
-)
+pub plan_of-requires-clause-home : goal.plan_of-requires-clause-home
+plan_of-requires-clause-home c =
+    let t = c.args.table.now in
+    let yes = c.is_recording_witness.ensures.0 c.if-not-is_recording_witness.false in
+    subst (λ (d : Choice). LeavesIn t (raw_choice_of d) A d.state → ⊥) (sym c.exchanged.ensures)
+    (exchanged_home c.args.choice.now t yes (c.comes_back.ensures.0 c.if-comes_back.true))

@@ -1,0 +1,54 @@
+//! The command that runs processes which crash and come back.
+ghost use Rattle.std.specs.Prelude.{◌≡◌, ◌⊎◌};
+ghost use Rattle.cn_app.specs.Arguments.Lives.{SpellLifeLists};
+ghost use Rattle.cn_app.specs.Commands.Lives.{HasLivesReport};
+ghost use Rattle.cn_app.specs.Streams.Reading.{HasRead, IsUnread};
+ghost use Rattle.cn_app.specs.Streams.Writing.{IsWritable, Reports};
+
+use crate::arguments::list_text::ListText;
+use crate::arguments::lives::read_life_lists;
+use crate::fault::{AppFault, Source};
+use crate::readers::table::read_table;
+use crate::report::Outcome;
+use crate::reports::{AskedLives, lives_report};
+use crate::streams::output::Output;
+use crate::streams::text::Text;
+use std::alloc::Global;
+use std::io::{Read, Write};
+use std::thread::Threads;
+
+/// Reads a type table, and runs the plan of its first recording witness under a schedule of steps
+/// and crashes ([`lives_report`]). Writes a line for each process: its decision, or that it has
+/// none. With the steps, a line for each step and each crash comes first.
+///
+/// `inputs` are the numbers that the processes begin with, written as for
+/// [`read_inputs`](crate::read_inputs). `schedule` has the processes in the order of their steps and
+/// crashes, written as for [`read_life_schedule`](crate::read_life_schedule).
+///
+/// # Errors
+///
+/// The first of these: `inputs`, then `schedule`, is misspelled or has too many items, and the text
+/// is not touched; those of [`read_table`]; those of [`lives_report`]; the writer fails. Want of
+/// memory can stand in place of any answer.
+pub fn agree_recoverably<T: Threads + Sync, R: Read, W: Write>(
+    rt: &T,
+    alloc: Global,
+    table: &mut Text<R>,
+    output: &mut Output<W>,
+    inputs: ListText<'_>,
+    schedule: ListText<'_>,
+    asked: AskedLives,
+) -> Result<Outcome, AppFault>
+    requires table { IsUnread table.old }
+    requires output { IsWritable output.old }
+
+    ensures read { HasRead Source.Table R.remaining table.old table.new }
+    ensures order { (table.new ≡ table.old) ⊎ SpellLifeLists inputs.entry schedule.entry }
+    ensures agreed { Reports W.contents
+        (HasLivesReport table.new inputs.entry schedule.entry asked)
+        output.old output.new result }
+{
+    let lists = read_life_lists(alloc, inputs, schedule)?;
+    let table = read_table(alloc, table)?;
+    output.report(lives_report(rt, alloc, &table, &lists.inputs, &lists.schedule, asked))
+}

@@ -1,0 +1,25 @@
+use Rattle.std.proofs.Common.{inr}
+use Rattle.cnum.proofs.lives_run.run_lives.Goals as goal
+
+pub returns : goal.returns
+returns g c =
+    inr (
+      c.in_ok-input_list.input_list,
+      c.text.result,
+      c.in_ok-input_list.ensures,
+      c.text.ensures,
+      inr (
+        c.in_ok-schedule_list.schedule_list,
+        c.text-2.result,
+        c.in_ok-schedule_list.ensures,
+        c.text-2.ensures,
+        record {
+          table = c.text_of-table.result;
+          after = c.agree_recoverably.new.table;
+          text = c.text_of-table.ensures;
+          read = c.agree_recoverably.ensures.read;
+          order = c.agree_recoverably.ensures.order;
+          reported = c.agree_recoverably.ensures.agreed;
+        },
+      ),
+    )

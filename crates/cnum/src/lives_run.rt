@@ -1,0 +1,39 @@
+//! The run of processes that crash and come back: it opens the files, and calls the library.
+ghost use Rattle.cn_app.specs.Streams.Writing.{IsWritable};
+ghost use Rattle.cnum.specs.LivesRuns.{RunsLives};
+ghost use Rattle.cnum.specs.Texts.{left_in};
+
+use crate::disk::Disk;
+use crate::given_list::GivenList;
+use crate::runs::text_of;
+use cn_app::reports::AskedLives;
+use cn_app::{AppFault, Argument, Outcome, Output, commands};
+use cn_words::{LivesWords, TextSource};
+use std::alloc::Global;
+use std::io::{Read, Write};
+use std::thread::Threads;
+
+/// Reads the lists, and runs the plan of the table's first recording witness by them.
+pub fn run_lives<T: Threads + Sync + Disk, S: Read + Copy + Drop, O: Write>(
+    rt: &T,
+    alloc: Global,
+    stdin: S,
+    output: &mut Output<O>,
+    table: TextSource<'_>,
+    words: LivesWords<'_>,
+) -> Result<Outcome, AppFault>
+    requires { IsWritable output.old }
+    ensures { RunsLives S.remaining (left_in T.contents T.Reader.remaining) O.contents
+        (T.contents rt.now) stdin table.entry words.entry output.old output.new result }
+{
+    let input_list = GivenList::read(rt, alloc, words.inputs, Argument::Inputs)?;
+    let schedule_list = GivenList::read(rt, alloc, words.schedule, Argument::Schedule)?;
+    let mut table = text_of(rt, alloc, stdin, table);
+    let asked = AskedLives {
+        processes: words.processes,
+        steps: words.steps,
+        form: words.form,
+    };
+    let (inputs, schedule) = (input_list.text(), schedule_list.text());
+    commands::agree_recoverably(rt, alloc, &mut table, output, inputs, schedule, asked)
+}
