@@ -1,3 +1,2 @@
-pub mod NotRecording
 pub mod Recording
 pub mod StatesApart
