@@ -1,14 +1,13 @@
 //! Operations that last, with the states that each leaves, as a Markdown table.
-ghost use Rattle.std.specs.Prelude.{◌≡◌, ◌<◌, ◌++◌, OnOk, length, string_bytes};
+ghost use Rattle.std.specs.Prelude.{◌≡◌, ◌++◌, OnOk, string_bytes};
 ghost use Rattle.cn_lasting.specs.Leaving.{IsLasting};
-ghost use Rattle.cn_forms.specs.Reasons.{state_if, states_told};
 ghost use Rattle.cn_documents.specs.LastingTable.{first_cell, first_row, lasting_end, lasting_head, lasting_line, lasting_start, lasting_table, many_words, single_words};
 
 use crate::type_table::push_name_rule;
-use cn_forms::LeftStates;
+use cn_forms::{LeftStates, push_states};
 use cn_lasting::{First, Lasting};
 use cn_outcomes::Bits;
-use cn_table::{State, Table};
+use cn_table::Table;
 use std::alloc::AllocError;
 
 fn push_lasting_start(text: &mut String, table: &Table, lasting: Lasting) -> Result<(), AllocError>
@@ -85,32 +84,6 @@ fn push_first_cell(
             write!(text, "| {many}, or no step yet |")
         }
     }
-}
-
-/// The state behind a space, if it is in the set.
-fn push_state_if(text: &mut String, table: &Table, set: Bits, q: u8) -> Result<(), AllocError>
-    requires { q < length table.now.states }
-    ensures { OnOk result (string_bytes text.new
-        ≡ string_bytes text.old ++ state_if table.now set q) }
-{
-    let _states = table.states();
-    if set.has(q) {
-        let name = table.state_name(State(q));
-        write!(text, " {name}")
-    } else {
-        Ok(())
-    }
-}
-
-/// The states of the set, each behind a space.
-fn push_states(text: &mut String, table: &Table, set: Bits) -> Result<(), AllocError>
-    ensures { OnOk result (string_bytes text.new
-        ≡ string_bytes text.old ++ states_told table.now set) }
-{
-    for q in 0..table.states() {
-        push_state_if(text, table, set, q)?;
-    }
-    Ok(())
 }
 
 /// The row of the operation that came first, with the states that are left then.

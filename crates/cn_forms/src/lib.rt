@@ -34,3 +34,4 @@ pub use grid::grid_of;
 pub use limits::MOST_TOLD;
 pub use numbers::TypeNumber;
 pub use plan_forms::{Form, plan_as};
+pub use reasons::push_states;

@@ -33,8 +33,12 @@ fn push_state_if(text: &mut String, table: &Table, set: Bits, q: u8) -> Result<(
     }
 }
 
-/// The states of the set, each behind a space.
-fn push_states(text: &mut String, table: &Table, set: Bits) -> Result<(), AllocError>
+/// Writes the names of the states of the set behind the text, in order, each behind a space.
+///
+/// # Errors
+///
+/// `AllocError` if memory is too little. The text may then have some of the names.
+pub fn push_states(text: &mut String, table: &Table, set: Bits) -> Result<(), AllocError>
     ensures { OnOk result (string_bytes text.new
         ≡ string_bytes text.old ++ states_told table.now set) }
 {
