@@ -71,6 +71,7 @@ argument_hint argument.Events =
     codes "EVENTS is a list with commas, such as i0:inc,s0: process 0 calls inc and takes a step"
 argument_hint argument.Calls =
     codes "CALLS has operations of the object for each process, such as inc,inc/none for two"
+argument_hint argument.Processes = codes "the number of processes is from 2 to 8"
 
 -- how long a text may be
 abbrev pub size_hint : Source → List ℕ
@@ -144,7 +145,7 @@ replay_hint replay.OutOfMemory = None
 -- what to do about a fault, if there is something to say
 abbrev pub hint_of : AppFault → Known → Option (List ℕ)
 hint_of fault.Words known = Some (codes
-    "a word is no UTF-8, or two texts would both be standard input")
+    "a word is no UTF-8, two texts would both be standard input, or two words exclude each other")
 hint_of (fault.Argument a) known = Some (argument_hint a)
 hint_of (fault.Table f) known = table_hint f (option_map (λ s. s.now) known.table) known.is_linted
     (option_map string_bytes known.reason)
@@ -153,6 +154,8 @@ hint_of (fault.Certificate f) known = certificate_hint f
 hint_of (fault.TooLong s) known = Some (size_hint s)
 hint_of (fault.Check f) known = Some (check_hint f)
 hint_of fault.NoWitness known = Some (codes "the number is null, so there is no protocol")
+hint_of fault.NoRecordingWitness known =
+    Some (codes "classify --recoverable tells for how many processes there is one")
 hint_of (fault.Find f) known = find_hint f known.greatest_limit
 hint_of (fault.Schedule f) known = schedule_hint f known.processes
 hint_of (fault.Replay f) known = replay_hint f

@@ -66,6 +66,7 @@ fn argument_hint(argument: &Argument) -> &'static str
         Argument::Calls => {
             "CALLS has operations of the object for each process, such as inc,inc/none for two"
         }
+        Argument::Processes => "the number of processes is from 2 to 8",
     }
 }
 
@@ -197,7 +198,7 @@ impl AppFault {
     {
         match self {
             AppFault::Words => Some(Hint::Says(
-                "a word is no UTF-8, or two texts would both be standard input",
+                "a word is no UTF-8, two texts would both be standard input, or two words exclude each other",
             )),
             AppFault::Argument(argument) => Some(Hint::Says(argument_hint(argument))),
             AppFault::Table(fault) => {
@@ -208,6 +209,9 @@ impl AppFault {
             AppFault::TooLong(source) => Some(Hint::Says(size_hint(source))),
             AppFault::Check(fault) => Some(Hint::Says(check_hint(fault))),
             AppFault::NoWitness => Some(Hint::Says("the number is null, so there is no protocol")),
+            AppFault::NoRecordingWitness => Some(Hint::Says(
+                "classify --recoverable tells for how many processes there is one",
+            )),
             AppFault::Find(fault) => find_hint(*fault, known.greatest_limit),
             AppFault::Schedule(fault) => schedule_hint(*fault, known.processes),
             AppFault::Replay(fault) => replay_hint(*fault),

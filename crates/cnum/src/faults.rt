@@ -1,7 +1,7 @@
 //! Faults, hints and notes on standard error.
 use cn_app::commands::Tell;
 use cn_app::{AppFault, Known};
-use cn_words::{Command, TextSource};
+use cn_words::{Command, LivesWords, TextSource};
 
 /// Tells each fault in a line on standard error. The status of the program tells of it too, so that
 /// it is not lost where that stream is closed. A failed write is told at the [`end`](Faults::end),
@@ -65,17 +65,29 @@ impl<'a, R: Eprint> Tell for Faults<'a, R> {
     }
 }
 
-/// What is known of the texts of a command before they are read.
-pub fn known_of<'a>(table: TextSource<'a>, command: &Command<'a>) -> Known<'a> {
-    let file = match table {
+// The name of the file of a text, if it has one.
+fn file_of<'a>(source: TextSource<'a>) -> Option<&'a str> {
+    match source {
         TextSource::StandardInput => None,
         TextSource::File(path) => Some(path),
-    };
+    }
+}
+
+/// What is known of the texts of a command before they are read.
+pub fn known_of<'a>(table: TextSource<'a>, command: &Command<'a>) -> Known<'a> {
     let object = match command {
         Command::Replay { opening, .. } | Command::Serve { opening, .. } => Some(opening.object),
         _ => None,
     };
-    let mut known = Known::of_files(file, object);
+    let mut known = Known::of_files(file_of(table), object);
     known.is_linted = matches!(command, Command::Lint { .. });
+    known
+}
+
+/// What is known of a run of processes that crash and come back: how many there are, if a number
+/// was given.
+pub fn known_of_lives<'a>(table: TextSource<'a>, words: LivesWords<'a>) -> Known<'a> {
+    let mut known = Known::of_files(file_of(table), None);
+    known.processes = words.processes;
     known
 }

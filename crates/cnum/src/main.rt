@@ -27,7 +27,7 @@ use cn_app::reports::AskedNumbers;
 use cn_app::{AppFault, Known, Outcome, Output};
 use cn_words::{CommandFault, Invocation, Reply};
 use disk::Disk;
-use faults::{Faults, known_of};
+use faults::{Faults, known_of, known_of_lives};
 use lives_run::run_lives;
 use pipe_writer::{PipeWriter, is_broken_pipe};
 use runs::{classify, run};
@@ -118,8 +118,9 @@ fn do_command<T: Threads + Wait + Sync + Disk + Eprint, I: Read + Copy + Drop, O
             command_exit(faults, end, &known)
         }
         Invocation::Lives { table, words } => {
+            let known = known_of_lives(*table, *words);
             let end = run_lives(rt, alloc, stdin, output, *table, *words);
-            command_exit(faults, end)
+            command_exit(faults, end, &known)
         }
     }
 }
