@@ -19,7 +19,7 @@ mod replies;
 mod words;
 
 pub use commands::{
-    Command, CommandFault, Invocation, ListSource, OpeningWords, TextSource, invocation_of,
+    Command, CommandFault, Invocation, OpeningWords, TextSource, invocation_of,
 };
 pub use replies::{Reply, parse};
 pub use words::command;
