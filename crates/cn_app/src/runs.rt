@@ -159,8 +159,8 @@ pub fn run_agree<T, R: Read + Drop, C: Read + Drop, W: Write>(
         &mut table,
         &mut certificate,
         &mut output,
-        inputs,
-        schedule,
+        &inputs,
+        &schedule,
         asked,
     );
     hand_over(writer, &output, ended)
@@ -209,7 +209,7 @@ pub fn run_replay<T, R: Read + Drop, C: Read + Drop, O: Read + Drop, W: Write>(
     };
     let mut output = kept(alloc);
     let (events, form) = (ListText::Word(events), AnswerForm::Text);
-    let ended = commands::replay(alloc, &mut given, &mut output, events, form);
+    let ended = commands::replay(alloc, &mut given, &mut output, &events, form);
     hand_over(writer, &output, ended)
 }
 
@@ -263,6 +263,6 @@ where
     };
     let mut output = kept(alloc);
     let (calls, form) = (ListText::Word(calls), AnswerForm::Text);
-    let ended = commands::serve(rt, alloc, &mut given, &mut output, calls, form, make_gate);
+    let ended = commands::serve(rt, alloc, &mut given, &mut output, &calls, form, make_gate);
     hand_over(writer, &output, ended)
 }

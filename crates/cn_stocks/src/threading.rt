@@ -3,7 +3,7 @@ ghost use Rattle.std.specs.Prelude.{◌≡◌, ◌-◌, ◌^◌, ◌≤◌};
 ghost use Rattle.cn_stocks.specs.declared.threading.Threading.TheVariants.{Many, One};
 
 /// The fewest stocks that several threads share.
-const FEWEST_STOCKS: usize = 256;
+const FEWEST_STOCKS: usize = 2048;
 
 /// In which threads a search goes on. The answer does not depend on it.
 #[derive(Clone, Copy)]

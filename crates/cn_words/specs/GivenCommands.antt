@@ -23,8 +23,6 @@ use Rattle.cn_words.specs.declared.commands.CommandFault.{CommandFault}
 use Rattle.cn_words.specs.declared.commands.CommandFault.TheVariants as fault
 use Rattle.cn_words.specs.declared.commands.Invocation.{Invocation}
 use Rattle.cn_words.specs.declared.commands.Invocation.TheVariants.{Classify, Lives, OfTable}
-use Rattle.cn_words.specs.declared.commands.ListSource.{ListSource}
-use Rattle.cn_words.specs.declared.commands.ListSource.TheVariants as list
 use Rattle.cn_words.specs.declared.commands.OpeningWords.{OpeningWords}
 use Rattle.cn_words.specs.declared.commands.TextSource.{TextSource}
 use Rattle.cn_words.specs.declared.lives.LivesWords.{LivesWords}
@@ -98,18 +96,6 @@ document_word document.Markdown = codes "markdown"
 abbrev pub HasDocumentForm : List Row → DocumentForm → Type 0
 HasDocumentForm rows form = HasWord (codes "as") rows (document_word form)
 
--- a word with an @ at its front names a file
-abbrev pub NamesFile : Text → Type 0
-NamesFile word = (path : Text) × (word ≡ codes "@" ++ path)
-
--- the list that a word gives
-abbrev pub IsList : Text → ListSource → Type 0
-IsList word (list.Word text) = (text.now ≡ word) × ¬ (NamesFile word)
-IsList word (list.File path) = word ≡ codes "@" ++ path.now
-
-abbrev pub HasList : Text → List Row → ListSource → Type 0
-HasList id rows given = (word : Text) × HasWord id rows word × IsList word given
-
 -- the name of the file that a word names, or none for -, which is standard input
 abbrev pub path_in : Text → Option Text
 path_in word = if bytes_eq word (codes "-") then None else Some word
@@ -158,8 +144,8 @@ HasOpening rows opening = HasCertificate rows opening.certificate
 
 -- each argument is what its word says
 abbrev pub HasLives : List Row → LivesWords → Type 0
-HasLives rows words = HasList (codes "INPUTS") rows words.inputs
-    × HasList (codes "SCHEDULE") rows words.schedule
+HasLives rows words = HasWord (codes "INPUTS") rows words.inputs.now
+    × HasWord (codes "SCHEDULE") rows words.schedule.now
     × HasOptionalNumber (codes "processes") rows words.processes
     × (words.steps ≡ is_flag_set (codes "steps") rows) × HasAnswerForm rows words.form
 
@@ -201,13 +187,13 @@ HasArguments rows (Why limit all form) =
 HasArguments rows (Pairs form) = HasDocumentForm rows form
 HasArguments rows (Show certificate plan) = HasCertificate rows certificate × HasForm rows plan
 HasArguments rows (Agree certificate inputs schedule steps form) =
-    HasCertificate rows certificate × HasList (codes "INPUTS") rows inputs
-    × HasList (codes "SCHEDULE") rows schedule × HasFlag (codes "steps") rows steps
+    HasCertificate rows certificate × HasWord (codes "INPUTS") rows inputs.now
+    × HasWord (codes "SCHEDULE") rows schedule.now × HasFlag (codes "steps") rows steps
     × HasAnswerForm rows form × (is_of_lives rows ≡ false)
 HasArguments rows (Replay opening events form) =
-    HasOpening rows opening × HasList (codes "EVENTS") rows events × HasAnswerForm rows form
+    HasOpening rows opening × HasWord (codes "EVENTS") rows events.now × HasAnswerForm rows form
 HasArguments rows (Serve opening calls form) =
-    HasOpening rows opening × HasList (codes "CALLS") rows calls × HasAnswerForm rows form
+    HasOpening rows opening × HasWord (codes "CALLS") rows calls.now × HasAnswerForm rows form
 
 -- the command has this name, and its arguments are what the words behind the name say
 abbrev pub IsNamed : Text → List Row → Command → Type 0

@@ -2,7 +2,7 @@
 ghost use Rattle.std.specs.Prelude.{◌≡◌, IfOk, MatchResult, codes, map, option_map, true};
 ghost use Rattle.clap.specs.Simple.{subcommand_rows_of};
 ghost use Rattle.clap.specs.Walk.{first_of};
-ghost use Rattle.cn_words.specs.GivenCommands.{Finds, HasAnswerForm, HasCertificate, HasDocumentForm, HasForm, HasLimit, HasList, HasNumber, HasOpening, HasOptionalNumber, HasTable, HasTables, IsInvocation, IsInvocationOf, IsList, IsNamed, RefusesCommand, is_flag_set, is_input, is_input_shared, is_table_twice, path_in, path_of, rows_in, table_in};
+ghost use Rattle.cn_words.specs.GivenCommands.{Finds, HasAnswerForm, HasCertificate, HasDocumentForm, HasForm, HasLimit, HasNumber, HasOpening, HasOptionalNumber, HasTable, HasTables, HasWord, IsInvocation, IsInvocationOf, IsNamed, RefusesCommand, is_flag_set, is_input, is_input_shared, is_table_twice, path_in, path_of, rows_in, table_in};
 ghost use Rattle.cn_words.specs.declared.commands.CommandFault.TheVariants.{OutOfMemory};
 
 use crate::lives::{LivesWords, is_flag_set, is_of_lives, lives, lives_table};
@@ -10,15 +10,6 @@ use clap::ArgMatches;
 use cn_forms::Form;
 use cn_json::{AnswerForm, DocumentForm};
 use std::alloc::{AllocError, Global};
-
-/// A list, as a word gives it.
-#[derive(Clone, Copy)]
-pub enum ListSource<'a> {
-    /// The list itself.
-    Word(&'a str),
-    /// The name of the file that holds it, which the word has behind an `@`.
-    File(&'a str),
-}
 
 /// Where a table or a certificate is read from.
 #[derive(Clone, Copy)]
@@ -100,9 +91,9 @@ pub enum Command<'a> {
         /// The certificate.
         certificate: TextSource<'a>,
         /// The numbers that the processes begin with.
-        inputs: ListSource<'a>,
+        inputs: &'a str,
         /// The processes in the order of their steps.
-        schedule: ListSource<'a>,
+        schedule: &'a str,
         /// Whether each step is written.
         steps: bool,
         /// The form of the answer.
@@ -113,7 +104,7 @@ pub enum Command<'a> {
         /// The object, and what serves it.
         opening: OpeningWords<'a>,
         /// The events.
-        events: ListSource<'a>,
+        events: &'a str,
         /// The form of the answer.
         form: AnswerForm,
     },
@@ -122,7 +113,7 @@ pub enum Command<'a> {
         /// The object, and what serves it.
         opening: OpeningWords<'a>,
         /// The calls of each process.
-        calls: ListSource<'a>,
+        calls: &'a str,
         /// The form of the answer.
         form: AnswerForm,
     },
@@ -175,18 +166,6 @@ impl From<AllocError> for CommandFault {
     }
 }
 
-impl<'a> ListSource<'a> {
-    // The list that a word names.
-    fn of(word: &'a str) -> ListSource<'a>
-        ensures { IsList word.entry.now result }
-    {
-        match word.strip_prefix('@') {
-            Some(path) => ListSource::File(path),
-            None => ListSource::Word(word),
-        }
-    }
-}
-
 impl<'a> TextSource<'a> {
     // The text that a word names.
     pub(crate) fn of(word: &'a str) -> TextSource<'a>
@@ -207,10 +186,11 @@ pub(crate) fn word<'a>(words: &ArgMatches<'a>, id: &str) -> Option<&'a str>
     words.get_str(id)
 }
 
-pub(crate) fn list<'a>(words: &ArgMatches<'a>, id: &str) -> Option<ListSource<'a>>
-    ensures { Finds (HasList id.now (rows_in words.now)) result }
+// A list, as it was spelled.
+pub(crate) fn list<'a>(words: &ArgMatches<'a>, id: &str) -> Option<&'a str>
+    ensures { Finds (λ list. HasWord id.now (rows_in words.now) list.now) result }
 {
-    Some(ListSource::of(word(words, id)?))
+    word(words, id)
 }
 
 fn number(words: &ArgMatches<'_>, id: &str) -> Option<u8>

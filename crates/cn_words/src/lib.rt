@@ -20,7 +20,7 @@ mod replies;
 mod words;
 
 pub use commands::{
-    Command, CommandFault, Invocation, ListSource, OpeningWords, TextSource, invocation_of,
+    Command, CommandFault, Invocation, OpeningWords, TextSource, invocation_of,
 };
 pub use lives::LivesWords;
 pub use replies::{Reply, parse};

@@ -3,9 +3,7 @@ ghost use Rattle.std.specs.Prelude.{◌≡◌};
 ghost use Rattle.cn_words.specs.GivenCommands.{Finds, HasLives, HasLivesTable, is_flag_set};
 ghost use Rattle.cn_words.specs.GivenCommands.{is_of_lives, rows_in};
 
-use crate::commands::{
-    ListSource, TextSource, answer_form, list, optional_number, table_word, word,
-};
+use crate::commands::{TextSource, answer_form, list, optional_number, table_word, word};
 use clap::ArgMatches;
 use cn_json::AnswerForm;
 
@@ -13,9 +11,9 @@ use cn_json::AnswerForm;
 #[derive(Clone, Copy)]
 pub struct LivesWords<'a> {
     /// The numbers that the processes begin with.
-    pub inputs: ListSource<'a>,
+    pub inputs: &'a str,
     /// The processes in the order of their steps and crashes.
-    pub schedule: ListSource<'a>,
+    pub schedule: &'a str,
     /// How many processes there are, if a number was given.
     pub processes: Option<u8>,
     /// Whether each step and each crash is written.

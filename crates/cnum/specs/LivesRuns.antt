@@ -47,6 +47,6 @@ module _ {S D F W : Type 0} (remaining : S → Option (List ℕ)) (left : LazyFi
   abbrev pub RunsLives : S → TextSource → LivesWords → Output W → Output W
       → Result Outcome AppFault → Type 0
   RunsLives stdin source words u v r =
-      ReadsList {R = S} {C = S} remaining remaining left contents files words.inputs Inputs
-      (λ xs. ReadsList {R = S} {C = S} remaining remaining left contents files words.schedule
+      ReadsList {R = S} {C = S} remaining remaining left contents files words.inputs.now Inputs
+      (λ xs. ReadsList {R = S} {C = S} remaining remaining left contents files words.schedule.now
       Schedule (λ ps. RunsPlan stdin source xs ps (asked_by words))) u v r

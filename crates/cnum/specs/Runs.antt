@@ -4,7 +4,6 @@ use Rattle.cn_words.specs.declared.commands.Command.{Command}
 use Rattle.cn_words.specs.declared.commands.Command.TheVariants.{Find, Lint, Draw, Check}
 use Rattle.cn_words.specs.declared.commands.Command.TheVariants.{Explain, Why, Pairs, Show, Agree}
 use Rattle.cn_words.specs.declared.commands.Command.TheVariants.{Replay, Serve}
-use Rattle.cn_words.specs.declared.commands.ListSource.{ListSource}
 use Rattle.cn_words.specs.declared.commands.OpeningWords.{OpeningWords}
 use Rattle.cn_words.specs.declared.commands.TextSource.{TextSource}
 use Rattle.cn_json.specs.declared.form.AnswerForm.{AnswerForm}
@@ -37,9 +36,8 @@ use Rattle.cn_app.specs.declared.report.Report.{Report}
 use Rattle.cn_app.specs.declared.reports.agree.AskedRun.{AskedRun}
 use Rattle.cn_app.specs.declared.streams.output.Output.{Output}
 use Rattle.cn_app.specs.declared.streams.text.Text.{Text}
-use Rattle.cnum.specs.GivenLists.{GivesList, HasText}
+use Rattle.cnum.specs.GivenLists.{GivesList}
 use Rattle.cnum.specs.Texts.{IsTextFrom, IsTextOf, left_of}
-use Rattle.cnum.specs.declared.given_list.GivenList.{GivenList}
 use Rattle.cnum.specs.declared.lazy_file.LazyFile.{LazyFile}
 use Rattle.cnum.specs.declared.text_reader.TextReader.{TextReader}
 
@@ -90,19 +88,18 @@ module _ {R C L W : Type 0} (remaining : R → Option (List ℕ)) (rest : C → 
     pub order : (after ≡ given) ⊎ may_read
     pub reported : Reports contents (work after) u v r
 
-  -- a list is read from its source, and `next` takes its text; or reading it has a fault, and
-  -- nothing is written
-  abbrev pub ReadsList : ListSource → Argument
+  -- the list that a word gives is read, and `next` takes it; or reading it has a fault, and nothing
+  -- is written
+  abbrev pub ReadsList : List ℕ → Argument
       → (ListText → Output W → Output W → Result Outcome AppFault → Type 0) → Output W → Output W
       → Result Outcome AppFault → Type 0
-  ReadsList source argument next u v r =
-      ((e : AppFault) × GivesList left files source argument (Err e) × (r ≡ Err e) × IsSilent u v)
-      ⊎ ((list : GivenList) × (text : ListText) × GivesList left files source argument (Ok list)
-      × HasText list text × next text u v r)
+  ReadsList word argument next u v r =
+      ((e : AppFault) × GivesList left files word argument (Err e) × (r ≡ Err e) × IsSilent u v)
+      ⊎ ((list : ListText) × GivesList left files word argument (Ok list) × next list u v r)
 
   -- `agree` with a table, a certificate and these words: the lists are read first, from left to
   -- right
-  abbrev pub RunsAgree : Text R → Text C → ListSource → ListSource → AskedRun → Output W
+  abbrev pub RunsAgree : Text R → Text C → List ℕ → List ℕ → AskedRun → Output W
       → Output W
       → Result Outcome AppFault → Type 0
   RunsAgree table certificate inputs schedule asked u v r =
@@ -111,14 +108,14 @@ module _ {R C L W : Type 0} (remaining : R → Option (List ℕ)) (rest : C → 
       (λ t c. HasAgreeReport t c xs ps asked))) u v r
 
   -- `replay` and `serve` with a table, a certificate and these words: the list is read first
-  abbrev pub RunsReplay : Text R → Text C → OpeningWords → ListSource → AnswerForm → Output W
+  abbrev pub RunsReplay : Text R → Text C → OpeningWords → List ℕ → AnswerForm → Output W
       → Output W → Result Outcome AppFault → Type 0
   RunsReplay table certificate words events form u v r = ReadsList events argument.Events
       (λ list. ReadsOpening table certificate words (SpellEvents words.capacity.now list)
       (λ given. HasReplayReport given list form)) u v r
 
   -- the gate of each process lets every call go on
-  abbrev pub RunsServe : Text R → Text C → OpeningWords → ListSource → AnswerForm → Output W
+  abbrev pub RunsServe : Text R → Text C → OpeningWords → List ℕ → AnswerForm → Output W
       → Output W → Result Outcome AppFault → Type 0
   RunsServe table certificate words calls form u v r = ReadsList calls argument.Calls
       (λ list. ReadsOpening table certificate words (SpellCalls words.capacity.now list)
@@ -163,13 +160,13 @@ module _ {S D F W : Type 0} (remaining : S → Option (List ℕ)) (left : LazyFi
       (Unit {0}) (λ t d. HasShowReport t d form) u v r)
   RunsOn stdin table (Agree certificate inputs schedule steps form) u v r = With stdin certificate
       (λ c. RunsAgree (left_of remaining left) (left_of remaining left) left contents files table c
-      inputs schedule (record { steps = steps; form = form }) u v r)
+      inputs.now schedule.now (record { steps = steps; form = form }) u v r)
   RunsOn stdin table (Replay opening events form) u v r = With stdin opening.certificate
       (λ c. RunsReplay (left_of remaining left) (left_of remaining left) left contents files
-      table c opening events form u v r)
+      table c opening events.now form u v r)
   RunsOn stdin table (Serve opening calls form) u v r = With stdin opening.certificate
       (λ c. RunsServe (left_of remaining left) (left_of remaining left) left contents files
-      table c opening calls form u v r)
+      table c opening calls.now form u v r)
 
   -- the same for the table of this source, of which nothing was read before
   abbrev pub Runs : S → TextSource → Command → Output W → Output W

@@ -4,7 +4,7 @@ ghost use Rattle.cnum.specs.LivesRuns.{RunsLives};
 ghost use Rattle.cnum.specs.Texts.{left_in};
 
 use crate::disk::Disk;
-use crate::given_list::GivenList;
+use crate::given_list::given_list;
 use crate::runs::text_of;
 use cn_app::reports::AskedLives;
 use cn_app::{AppFault, Argument, Outcome, Output, commands};
@@ -26,14 +26,13 @@ pub fn run_lives<T: Threads + Sync + Disk, S: Read + Copy + Drop, O: Write>(
     ensures { RunsLives S.remaining (left_in T.contents T.Reader.remaining) O.contents
         (T.contents rt.now) stdin table.entry words.entry output.old output.new result }
 {
-    let input_list = GivenList::read(rt, alloc, words.inputs, Argument::Inputs)?;
-    let schedule_list = GivenList::read(rt, alloc, words.schedule, Argument::Schedule)?;
+    let inputs = given_list(rt, alloc, words.inputs, Argument::Inputs)?;
+    let schedule = given_list(rt, alloc, words.schedule, Argument::Schedule)?;
     let mut table = text_of(rt, alloc, stdin, table);
     let asked = AskedLives {
         processes: words.processes,
         steps: words.steps,
         form: words.form,
     };
-    let (inputs, schedule) = (input_list.text(), schedule_list.text());
-    commands::agree_recoverably(rt, alloc, &mut table, output, inputs, schedule, asked)
+    commands::agree_recoverably(rt, alloc, &mut table, output, &inputs, &schedule, asked)
 }

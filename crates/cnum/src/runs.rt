@@ -7,7 +7,7 @@ ghost use Rattle.cn_app.specs.Streams.Reading.{IsUnread};
 ghost use Rattle.cn_app.specs.Streams.Writing.{IsWritable};
 
 use crate::disk::Disk;
-use crate::given_list::GivenList;
+use crate::given_list::given_list;
 use crate::lazy_file::{LazyFile, file_text};
 use crate::text_reader::TextReader;
 use cn_app::commands::{self, NamedTable, Tell};
@@ -16,7 +16,7 @@ use cn_app::reports::{AskedNumbers, AskedRun};
 use cn_app::{AppFault, Argument, Known, Outcome, Output, Text};
 use cn_hall::AlwaysOn;
 use cn_json::AnswerForm;
-use cn_words::{Command, ListSource, OpeningWords, TextSource};
+use cn_words::{Command, OpeningWords, TextSource};
 use std::alloc::{AllocError, Global};
 use std::io::{Read, Write};
 use std::sync::Wait;
@@ -118,32 +118,38 @@ fn opening<'a, D: Disk, I: Read, C: Read>(
     }
 }
 
-// Notes what the text of the table says of the fault of a command.
-fn note_of_table<I>(
+// The end of a command. What the text of the table says of its fault is noted.
+fn noting_table<I>(
     alloc: Global,
     known: &mut Known<'_>,
     table: &Text<I>,
-    end: &Result<Outcome, AppFault>,
-) {
+    end: Result<Outcome, AppFault>,
+) -> Result<Outcome, AppFault>
+    ensures { result ≡ end.entry }
+{
     match end {
-        Ok(Outcome::Refused(fault)) => {
-            known.note_table(alloc, *fault, &table.bytes);
+        Ok(Outcome::Refused(fault)) | Err(fault) => {
+            known.note_table(alloc, fault, &table.bytes);
         }
         Ok(Outcome::Whole | Outcome::Cut) => {}
-        Err(fault) => known.note_table(alloc, *fault, &table.bytes),
     }
+    end
 }
 
-// Notes what the text of the certificate says of the fault of a command.
-fn note_of_certificate<C>(
+// The same of a command by a certificate, with what the text of the certificate says.
+fn noting_both<I, C>(
     alloc: Global,
     known: &mut Known<'_>,
+    table: &Text<I>,
     certificate: &Text<C>,
-    end: &Result<Outcome, AppFault>,
-) {
+    end: Result<Outcome, AppFault>,
+) -> Result<Outcome, AppFault>
+    ensures { result ≡ end.entry }
+{
     if let Err(fault) = end {
-        known.note_certificate(alloc, *fault, &certificate.bytes);
+        known.note_certificate(alloc, fault, &certificate.bytes);
     }
+    noting_table(alloc, known, table, end)
 }
 
 // Reads the lists, and runs the plan of a certificate's witness by them.
@@ -153,24 +159,20 @@ fn agree<D: Disk, I: Read, C: Read, O: Write>(
     table: &mut Text<I>,
     certificate: &mut Text<C>,
     output: &mut Output<O>,
-    lists: (ListSource<'_>, ListSource<'_>),
+    lists: (&str, &str),
     asked: AskedRun,
     known: &mut Known<'_>,
 ) -> Result<Outcome, AppFault>
     requires texts { IsUnread table.old × IsUnread certificate.old }
     requires output { IsWritable output.old }
     ensures { RunsAgree I.remaining C.remaining (left_in D.contents D.Reader.remaining) O.contents
-        (D.contents disk.now) table.old certificate.old lists.entry.0 lists.entry.1 asked
+        (D.contents disk.now) table.old certificate.old lists.0.now lists.1.now asked
         output.old output.new result }
 {
-    let (inputs, schedule) = lists;
-    let input_list = GivenList::read(disk, alloc, inputs, Argument::Inputs)?;
-    let inputs = input_list.text();
-    let schedule_list = GivenList::read(disk, alloc, schedule, Argument::Schedule)?;
-    let schedule = schedule_list.text();
-    let end = commands::agree(alloc, table, certificate, output, inputs, schedule, asked);
-    note_of_certificate(alloc, known, certificate, &end);
-    end
+    let inputs = given_list(disk, alloc, lists.0, Argument::Inputs)?;
+    let schedule = given_list(disk, alloc, lists.1, Argument::Schedule)?;
+    let end = commands::agree(alloc, table, certificate, output, &inputs, &schedule, asked);
+    noting_both(alloc, known, table, certificate, end)
 }
 
 // Reads the events, and serves an object by them.
@@ -181,18 +183,18 @@ fn replay<D: Disk, I: Read + Drop, C: Read + Drop, O: Write>(
     certificate: Text<C>,
     output: &mut Output<O>,
     words: OpeningWords<'_>,
-    events: ListSource<'_>,
+    events: &str,
     form: AnswerForm,
 ) -> Result<Outcome, AppFault>
     requires texts { IsUnread table × IsUnread certificate }
     requires output { IsWritable output.old }
     ensures { RunsReplay I.remaining C.remaining (left_in D.contents D.Reader.remaining) O.contents
-        (D.contents disk.now) table certificate words.entry events.entry form output.old output.new
+        (D.contents disk.now) table certificate words.entry events.now form output.old output.new
         result }
 {
-    let events = GivenList::read(disk, alloc, events, Argument::Events)?;
+    let events = given_list(disk, alloc, events, Argument::Events)?;
     let mut given = opening(disk, alloc, table, certificate, words);
-    commands::replay(alloc, &mut given, output, events.text(), form)
+    commands::replay(alloc, &mut given, output, &events, form)
 }
 
 // Reads the calls, and serves an object by threads that make them.
@@ -203,19 +205,18 @@ fn serve<T: Threads + Wait + Sync + Disk, I: Read + Drop, C: Read + Drop, O: Wri
     certificate: Text<C>,
     output: &mut Output<O>,
     words: OpeningWords<'_>,
-    calls: ListSource<'_>,
+    calls: &str,
     form: AnswerForm,
 ) -> Result<Outcome, AppFault>
     requires texts { IsUnread table × IsUnread certificate }
     requires output { IsWritable output.old }
     ensures { RunsServe I.remaining C.remaining (left_in T.contents T.Reader.remaining) O.contents
-        (T.contents rt.now) table certificate words.entry calls.entry form output.old output.new
+        (T.contents rt.now) table certificate words.entry calls.now form output.old output.new
         result }
 {
-    let calls = GivenList::read(rt, alloc, calls, Argument::Calls)?;
+    let calls = given_list(rt, alloc, calls, Argument::Calls)?;
     let mut given = opening(rt, alloc, table, certificate, words);
-    let calls = calls.text();
-    commands::serve(rt, alloc, &mut given, output, calls, form, |_| AlwaysOn)
+    commands::serve(rt, alloc, &mut given, output, &calls, form, |_| AlwaysOn)
 }
 
 /// Runs a command of one table, which is read from its source. What the texts say of its fault is
@@ -238,24 +239,28 @@ pub fn run<T: Threads + Wait + Sync + Disk, S: Read + Copy + Drop, O: Write>(
     match *command {
         Command::Find { limit } => {
             let end = commands::find(rt, alloc, text, output, limit);
-            note_of_table(alloc, known, text, &end);
-            end
+            noting_table(alloc, known, text, end)
         }
         Command::Lint { form } => {
             let end = commands::lint(alloc, text, output, form);
-            note_of_table(alloc, known, text, &end);
-            end
+            noting_table(alloc, known, text, end)
         }
-        Command::Draw => commands::draw(alloc, text, output),
+        Command::Draw => {
+            let end = commands::draw(alloc, text, output);
+            noting_table(alloc, known, text, end)
+        }
         Command::Why { limit, all, form } => {
             let end = commands::why(rt, alloc, text, output, limit, all, form);
-            note_of_table(alloc, known, text, &end);
-            end
+            noting_table(alloc, known, text, end)
         }
-        Command::Pairs { form } => commands::pairs(rt, alloc, text, output, form),
+        Command::Pairs { form } => {
+            let end = commands::pairs(rt, alloc, text, output, form);
+            noting_table(alloc, known, text, end)
+        }
         Command::Check { certificate, form } => {
             let certificate = &mut text_of(rt, alloc, stdin, certificate);
-            commands::check(alloc, text, certificate, output, form)
+            let end = commands::check(alloc, text, certificate, output, form);
+            noting_table(alloc, known, text, end)
         }
         Command::Explain {
             certificate,
@@ -263,11 +268,13 @@ pub fn run<T: Threads + Wait + Sync + Disk, S: Read + Copy + Drop, O: Write>(
             form,
         } => {
             let certificate = &mut text_of(rt, alloc, stdin, certificate);
-            commands::explain(alloc, text, certificate, output, all, form)
+            let end = commands::explain(alloc, text, certificate, output, all, form);
+            noting_table(alloc, known, text, end)
         }
         Command::Show { certificate, form } => {
             let certificate = &mut text_of(rt, alloc, stdin, certificate);
-            commands::show(alloc, text, certificate, output, form)
+            let end = commands::show(alloc, text, certificate, output, form);
+            noting_table(alloc, known, text, end)
         }
         Command::Agree {
             certificate,

@@ -1,6 +1,7 @@
 -- Arguments that are lists.
 use Rattle.std.specs.Prelude.{ℕ, List, length, Option, Some, None, nat_le, ◌&&◌, if◌then◌else◌}
 use Rattle.std.specs.Prelude.{option_and_then, map, [], codes, ◌==◌, ◌≡◌, ◌⊎◌, Result, Ok, Err, Vec}
+use Rattle.std.specs.Prelude.{string_bytes}
 use Rattle.std.specs.Global.{Global}
 use Rattle.std.specs.Char.{is_ascii_digit}
 use Rattle.std.specs.List.{list_all, slice_split}
@@ -41,7 +42,7 @@ list_up_to most item text = if bytes_eq text (codes "none") then Some []
 -- the text of a list, and how many items the list may have
 abbrev pub text_of : ListText → List ℕ
 text_of (Word text) = text.now
-text_of (File text) = text.now
+text_of (File text) = string_bytes text
 
 abbrev pub most_items : ListText → ℕ
 most_items (Word text) = MOST_ITEMS

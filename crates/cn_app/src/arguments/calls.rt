@@ -36,9 +36,9 @@ fn read_each<'a>(alloc: Global, pieces: &[&'a str]) -> Result<Vec<Vec<OperationW
 /// `Argument(Calls)` where the text is no such lists, or `OutOfMemory`.
 pub fn read_calls<'a>(
     alloc: Global,
-    list: ListText<'a>,
+    list: &'a ListText<'_>,
 ) -> Result<Vec<Vec<OperationWord<'a>>>, AppFault>
-    ensures { GivesCalls list.entry result }
+    ensures { GivesCalls list.now result }
 {
     let pieces = pieces_of(alloc, list.text(), '/')?;
     read_each(alloc, &pieces)

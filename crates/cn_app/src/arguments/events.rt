@@ -124,8 +124,8 @@ pub(crate) fn read_capacity(text: &str) -> Result<u16, AppFault>
 /// # Errors
 ///
 /// `Argument(Events)` where the text is no such list, or `OutOfMemory`.
-pub fn read_events<'a>(alloc: Global, list: ListText<'a>) -> Result<EventList<'a>, AppFault>
-    ensures { GivesEvents list.entry result }
+pub fn read_events<'a>(alloc: Global, list: &'a ListText<'_>) -> Result<EventList<'a>, AppFault>
+    ensures { GivesEvents list.now result }
 {
     let (text, most) = (list.text(), list.most_items());
     if let Some(events) = read_short(alloc, text, most)? {

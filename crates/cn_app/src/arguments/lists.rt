@@ -103,10 +103,10 @@ pub(crate) fn read_up_to<'a, T: Item<'a> + Drop>(
 /// Reads a list of at most as many items as it may have where it stands.
 fn read_list<'a, T: Item<'a> + Drop>(
     alloc: Global,
-    list: ListText<'a>,
+    list: &'a ListText<'_>,
     argument: Argument,
 ) -> Result<Vec<T>, AppFault>
-    ensures { GivesList argument (list_of T.item_of list.entry) result }
+    ensures { GivesList argument (list_of T.item_of list.now) result }
 {
     read_up_to(alloc, list.text(), list.most_items(), argument)
 }
@@ -120,8 +120,8 @@ fn read_list<'a, T: Item<'a> + Drop>(
 /// # Errors
 ///
 /// `Argument(Inputs)` where the text is no such list, or `OutOfMemory`.
-pub fn read_inputs(alloc: Global, list: ListText<'_>) -> Result<Vec<u64>, AppFault>
-    ensures { GivesList Inputs (inputs_of list.entry) result }
+pub fn read_inputs(alloc: Global, list: &ListText<'_>) -> Result<Vec<u64>, AppFault>
+    ensures { GivesList Inputs (inputs_of list.now) result }
 {
     read_list::<u64>(alloc, list, Argument::Inputs)
 }
@@ -133,8 +133,8 @@ pub fn read_inputs(alloc: Global, list: ListText<'_>) -> Result<Vec<u64>, AppFau
 /// # Errors
 ///
 /// `Argument(Schedule)` where the text is no such list, or `OutOfMemory`.
-pub fn read_schedule(alloc: Global, list: ListText<'_>) -> Result<Vec<u8>, AppFault>
-    ensures { GivesList Schedule (schedule_of list.entry) result }
+pub fn read_schedule(alloc: Global, list: &ListText<'_>) -> Result<Vec<u8>, AppFault>
+    ensures { GivesList Schedule (schedule_of list.now) result }
 {
     read_list::<u8>(alloc, list, Argument::Schedule)
 }
@@ -149,10 +149,10 @@ pub(crate) struct RunLists {
 /// Reads the inputs, and then the schedule.
 pub(crate) fn read_run_lists(
     alloc: Global,
-    inputs: ListText<'_>,
-    schedule: ListText<'_>,
+    inputs: &ListText<'_>,
+    schedule: &ListText<'_>,
 ) -> Result<RunLists, AppFault>
-    ensures { GivesLists inputs.entry schedule.entry result }
+    ensures { GivesLists inputs.now schedule.now result }
 {
     let inputs = read_inputs(alloc, inputs)?;
     let schedule = read_schedule(alloc, schedule)?;

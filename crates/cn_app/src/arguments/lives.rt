@@ -33,8 +33,8 @@ impl<'a> Item<'a> for Event {
 /// # Errors
 ///
 /// `Argument(Schedule)` where the text is no such list, or `OutOfMemory`.
-pub fn read_life_schedule(alloc: Global, list: ListText<'_>) -> Result<Vec<Event>, AppFault>
-    ensures { GivesList Schedule (life_schedule_of list.entry) result }
+pub fn read_life_schedule(alloc: Global, list: &ListText<'_>) -> Result<Vec<Event>, AppFault>
+    ensures { GivesList Schedule (life_schedule_of list.now) result }
 {
     read_up_to::<Event>(alloc, list.text(), list.most_items(), Argument::Schedule)
 }
@@ -49,10 +49,10 @@ pub(crate) struct LifeLists {
 /// Reads the inputs, and then the schedule.
 pub(crate) fn read_life_lists(
     alloc: Global,
-    inputs: ListText<'_>,
-    schedule: ListText<'_>,
+    inputs: &ListText<'_>,
+    schedule: &ListText<'_>,
 ) -> Result<LifeLists, AppFault>
-    ensures { GivesLifeLists inputs.entry schedule.entry result }
+    ensures { GivesLifeLists inputs.now schedule.now result }
 {
     let inputs = read_inputs(alloc, inputs)?;
     let schedule = read_life_schedule(alloc, schedule)?;

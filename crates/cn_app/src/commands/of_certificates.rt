@@ -122,8 +122,8 @@ pub fn agree<R: Read, C: Read, W: Write>(
     table: &mut Text<R>,
     certificate: &mut Text<C>,
     output: &mut Output<W>,
-    inputs: ListText<'_>,
-    schedule: ListText<'_>,
+    inputs: &ListText<'_>,
+    schedule: &ListText<'_>,
     asked: AskedRun,
 ) -> Result<Outcome, AppFault>
     requires texts { IsUnread table.old × IsUnread certificate.old }
@@ -132,9 +132,9 @@ pub fn agree<R: Read, C: Read, W: Write>(
     ensures read { HaveReadBoth R.remaining C.remaining table.old table.new
         certificate.old certificate.new }
     ensures order { AreUntouched table.old table.new certificate.old certificate.new
-        ⊎ SpellLists inputs.entry schedule.entry }
+        ⊎ SpellLists inputs.now schedule.now }
     ensures agreed { Reports W.contents
-        (HasAgreeReport table.new certificate.new inputs.entry schedule.entry asked)
+        (HasAgreeReport table.new certificate.new inputs.now schedule.now asked)
         output.old output.new result }
 {
     let lists = read_run_lists(alloc, inputs, schedule)?;

@@ -35,17 +35,17 @@ pub fn agree_recoverably<T: Threads + Sync, R: Read, W: Write>(
     alloc: Global,
     table: &mut Text<R>,
     output: &mut Output<W>,
-    inputs: ListText<'_>,
-    schedule: ListText<'_>,
+    inputs: &ListText<'_>,
+    schedule: &ListText<'_>,
     asked: AskedLives,
 ) -> Result<Outcome, AppFault>
     requires table { IsUnread table.old }
     requires output { IsWritable output.old }
 
     ensures read { HasRead Source.Table R.remaining table.old table.new }
-    ensures order { (table.new ≡ table.old) ⊎ SpellLifeLists inputs.entry schedule.entry }
+    ensures order { (table.new ≡ table.old) ⊎ SpellLifeLists inputs.now schedule.now }
     ensures agreed { Reports W.contents
-        (HasLivesReport table.new inputs.entry schedule.entry asked)
+        (HasLivesReport table.new inputs.now schedule.now asked)
         output.old output.new result }
 {
     let lists = read_life_lists(alloc, inputs, schedule)?;

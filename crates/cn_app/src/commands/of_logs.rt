@@ -73,15 +73,15 @@ pub fn replay<R: Read, C: Read, O: Read, W: Write>(
     alloc: Global,
     given: &mut OpeningArguments<'_, R, C, O>,
     output: &mut Output<W>,
-    events: ListText<'_>,
+    events: &ListText<'_>,
     form: AnswerForm,
 ) -> Result<Outcome, AppFault>
     requires given { AreArgumentsUnread given.old }
     requires output { IsWritable output.old }
 
     ensures read { HaveReadAll R.remaining C.remaining O.remaining given.old given.new }
-    ensures order { (given.new ≡ given.old) ⊎ SpellEvents given.old.capacity.now events.entry }
-    ensures served { Reports W.contents (HasReplayReport given.new events.entry form)
+    ensures order { (given.new ≡ given.old) ⊎ SpellEvents given.old.capacity.now events.now }
+    ensures served { Reports W.contents (HasReplayReport given.new events.now form)
         output.old output.new result }
 {
     let slots = read_capacity(given.capacity)?;
@@ -107,7 +107,7 @@ pub fn serve<T, R: Read, C: Read, O: Read, W: Write, G, F>(
     alloc: Global,
     given: &mut OpeningArguments<'_, R, C, O>,
     output: &mut Output<W>,
-    calls: ListText<'_>,
+    calls: &ListText<'_>,
     form: AnswerForm,
     make_gate: F,
 ) -> Result<Outcome, AppFault>
@@ -121,10 +121,10 @@ where
     requires on { (p : ℕ) (g : _) → F.post make_gate p g → G.says g ≡ On }
 
     ensures read { HaveReadAll R.remaining C.remaining O.remaining given.old given.new }
-    ensures order { (given.new ≡ given.old) ⊎ SpellCalls given.old.capacity.now calls.entry }
+    ensures order { (given.new ≡ given.old) ⊎ SpellCalls given.old.capacity.now calls.now }
     ensures served { Reports W.contents
         (HasServeReport (EachHasOneGate G.asks G.says (λ p g. F.post make_gate p g)) given.new
-        calls.entry form)
+        calls.now form)
         output.old output.new result }
 {
     let slots = read_capacity(given.capacity)?;

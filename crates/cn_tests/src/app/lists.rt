@@ -7,7 +7,7 @@ use std::process::Abort;
 fn steps_of(alloc: Global, items: usize) -> Result<usize, AppFault> {
     let text = "0,".repeat(alloc, items)?;
     match text.as_str().strip_suffix(",") {
-        Some(list) => Ok(read_schedule(alloc, ListText::Word(list))?.len()),
+        Some(list) => Ok(read_schedule(alloc, &ListText::Word(list))?.len()),
         None => Ok(0),
     }
 }

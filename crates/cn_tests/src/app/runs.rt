@@ -10,7 +10,7 @@ use cn_app::reports::{AskedNumbers, AskedRun};
 use cn_app::{AppFault, Form, ListText, Outcome, Output, Source, Text, commands};
 use cn_hall::AlwaysOn;
 use cn_json::{AnswerForm, DocumentForm};
-use cn_words::{Command, ListSource, OpeningWords, TextSource};
+use cn_words::{Command, OpeningWords, TextSource};
 use std::alloc::Global;
 use std::process::Abort;
 use std::sync::Wait;
@@ -309,13 +309,6 @@ fn given_of(alloc: Global, failing: Option<Source>) -> Given
     }
 }
 
-/// The text of a list.
-fn list_text(list: ListSource<'static>) -> ListText<'static> {
-    match list {
-        ListSource::Word(text) | ListSource::File(text) => ListText::Word(text),
-    }
-}
-
 /// Runs a command on the given texts.
 fn run_command<T: Threads + Wait + Sync>(
     rt: &T,
@@ -348,16 +341,16 @@ fn run_command<T: Threads + Wait + Sync>(
             form,
             ..
         } => {
-            let (inputs, schedule) = (list_text(inputs), list_text(schedule));
+            let (inputs, schedule) = (ListText::Word(inputs), ListText::Word(schedule));
             let asked = AskedRun { steps, form };
-            commands::agree(alloc, table, certificate, output, inputs, schedule, asked)
+            commands::agree(alloc, table, certificate, output, &inputs, &schedule, asked)
         }
         Command::Replay { events, form, .. } => {
-            commands::replay(alloc, given, output, list_text(events), form)
+            commands::replay(alloc, given, output, &ListText::Word(events), form)
         }
         Command::Serve { calls, form, .. } => {
-            let calls = list_text(calls);
-            commands::serve(rt, alloc, given, output, calls, form, |_| AlwaysOn)
+            let calls = ListText::Word(calls);
+            commands::serve(rt, alloc, given, output, &calls, form, |_| AlwaysOn)
         }
     }
 }
@@ -422,7 +415,7 @@ impl Example {
     fn of_replay(form: AnswerForm, lines: &'static str) -> Example {
         let command = Command::Replay {
             opening: opening(),
-            events: ListSource::Word(HELPED),
+            events: HELPED,
             form,
         };
         Example::new(command, lines)
@@ -432,7 +425,7 @@ impl Example {
     fn of_serve(form: AnswerForm, lines: &'static str) -> Example {
         let command = Command::Serve {
             opening: opening(),
-            calls: ListSource::Word("0,0/none"),
+            calls: "0,0/none",
             form,
         };
         Example::new(command, lines)
@@ -447,8 +440,8 @@ impl Example {
     fn of_run(steps: bool, form: AnswerForm, lines: &'static str) -> Example {
         let command = Command::Agree {
             certificate: TextSource::File("CERT"),
-            inputs: ListSource::Word("10,20"),
-            schedule: ListSource::Word("1,1,0,0,0,0"),
+            inputs: "10,20",
+            schedule: "1,1,0,0,0,0",
             steps,
             form,
         };

@@ -38,7 +38,7 @@ where
     let mut output = Output::new(alloc, Vec::new(alloc));
     let calls = ListText::Word(calls);
     let form = AnswerForm::Text;
-    let ended = commands::serve(rt, alloc, &mut given, &mut output, calls, form, make_gate);
+    let ended = commands::serve(rt, alloc, &mut given, &mut output, &calls, form, make_gate);
     (ended, output.into_writer())
 }
 

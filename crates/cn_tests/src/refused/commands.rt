@@ -29,11 +29,11 @@ fn list_ended(list: Result<bool, AppFault>) -> Ended {
 }
 
 fn are_inputs(alloc: Global) -> Result<bool, AppFault> {
-    Ok(read_inputs(alloc, ListText::Word("10,20"))?.as_slice() == [10, 20].as_slice())
+    Ok(read_inputs(alloc, &ListText::Word("10,20"))?.as_slice() == [10, 20].as_slice())
 }
 
 fn is_schedule(alloc: Global) -> Result<bool, AppFault> {
-    let schedule = read_schedule(alloc, ListText::Word("1,1,0,0"))?;
+    let schedule = read_schedule(alloc, &ListText::Word("1,1,0,0"))?;
     Ok(schedule.as_slice() == [1, 1, 0, 0].as_slice())
 }
 
@@ -43,12 +43,14 @@ fn are_events(
     text: &str,
     wanted: &[Event],
 ) -> Result<bool, AppFault> {
-    let list = read_events(alloc, ListText::Word(text))?;
+    let text = ListText::Word(text);
+    let list = read_events(alloc, &text)?;
     Ok(list.events_in(alloc, object)?.as_slice() == wanted)
 }
 
 fn are_calls(alloc: Global, object: &Table) -> Result<bool, AppFault> {
-    let lists = read_calls(alloc, ListText::Word("inc,0/none"))?;
+    let text = ListText::Word("inc,0/none");
+    let lists = read_calls(alloc, &text)?;
     let calls = calls_in(alloc, &lists, object)?;
     Ok(calls.len() == 2 && calls[0].as_slice() == [0, 0].as_slice() && calls[1].is_empty())
 }

@@ -4,15 +4,11 @@ use Rattle.cnum.proofs.lives_run.run_lives.Goals as goal
 pub returns : goal.returns
 returns g c =
     inr (
-      c.in_ok-input_list.input_list,
-      c.text.result,
-      c.in_ok-input_list.ensures,
-      c.text.ensures,
+      c.in_ok-inputs.inputs,
+      c.in_ok-inputs.ensures,
       inr (
-        c.in_ok-schedule_list.schedule_list,
-        c.text-2.result,
-        c.in_ok-schedule_list.ensures,
-        c.text-2.ensures,
+        c.in_ok-schedule.schedule,
+        c.in_ok-schedule.ensures,
         record {
           table = c.text_of-table.result;
           after = c.agree_recoverably.new.table;

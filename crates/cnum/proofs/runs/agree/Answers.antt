@@ -4,21 +4,17 @@ use Rattle.cnum.proofs.runs.agree.Goals as goal
 pub returns : goal.returns
 returns g c =
     inr (
-      c.in_ok-input_list.input_list,
-      c.text-inputs.result,
-      c.in_ok-input_list.ensures,
-      c.text-inputs.ensures,
+      c.in_ok-inputs.inputs,
+      c.in_ok-inputs.ensures,
       inr (
-        c.in_ok-schedule_list.schedule_list,
-        c.text-schedule.result,
-        c.in_ok-schedule_list.ensures,
-        c.text-schedule.ensures,
+        c.in_ok-schedule.schedule,
+        c.in_ok-schedule.ensures,
         record {
-          table_after = c.agree.new.table;
-          certificate_after = c.agree.new.certificate;
-          read = c.agree.ensures.read;
-          order = c.agree.ensures.order;
-          reported = c.agree.ensures.agreed;
+          table_after = c.agree-end.new.table;
+          certificate_after = c.agree-end.new.certificate;
+          read = c.agree-end.ensures.read;
+          order = c.agree-end.ensures.order;
+          reported = c.agree-end.ensures.agreed;
         },
       ),
     )

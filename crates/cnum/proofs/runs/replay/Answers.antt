@@ -6,15 +6,13 @@ pub returns : goal.returns
 returns g c =
     inr (
       c.in_ok-events.events,
-      c.text.result,
       c.in_ok-events.ensures,
-      c.text.ensures,
       record {
         given = c.opening-given.result;
         after = c.replay.new.given;
         arguments = c.opening-given.ensures;
         read = c.replay.ensures.read;
-        order = subst (λ word. (c.replay.new.given ≡ c.opening-given.result) ⊎ SpellEvents word.now c.text.result) c.opening-given.ensures.capacity c.replay.ensures.order;
+        order = subst (λ word. (c.replay.new.given ≡ c.opening-given.result) ⊎ SpellEvents word.now c.in_ok-events.events) c.opening-given.ensures.capacity c.replay.ensures.order;
         reported = c.replay.ensures.served;
       },
     )

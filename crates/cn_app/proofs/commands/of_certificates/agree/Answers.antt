@@ -12,5 +12,5 @@ returns-in_err-checked-clause-agreed g c =
 
 pub returns-clause-agreed : goal.returns-clause-agreed
 returns-clause-agreed g c =
-    reported g.W.Write.contents (HasAgreeReport c.read_checked.new.table c.read_checked.new.certificate c.args.inputs c.args.schedule c.args.asked) c.args.output.now c.report.new.self c.agree_report.result c.report.result
+    reported g.W.Write.contents (HasAgreeReport c.read_checked.new.table c.read_checked.new.certificate c.args.inputs.now c.args.schedule.now c.args.asked) c.args.output.now c.report.new.self c.agree_report.result c.report.result
     (inr (c.in_ok-lists.lists, c.in_ok-lists.ensures, inr (c.in_ok-checked.checked, c.in_ok-checked.ensures.checked, agreed_as c.in_ok-checked.checked _ _ _ _ c.args.asked c.agree_report.result c.deref.ensures.value c.deref-2.ensures.value c.agree_report.ensures))) c.report.ensures

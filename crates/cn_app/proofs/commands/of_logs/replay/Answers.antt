@@ -17,5 +17,5 @@ returns-in_err-opening-clause-served g c =
 
 pub returns-clause-served : goal.returns-clause-served
 returns-clause-served g c =
-    reported g.W.Write.contents (HasReplayReport c.read_opening.new.given c.args.events c.args.form) c.args.output.now c.report.new.self c.event_report.result c.report.result
+    reported g.W.Write.contents (HasReplayReport c.read_opening.new.given c.args.events.now c.args.form) c.args.output.now c.report.new.self c.event_report.result c.report.result
     (inr (c.in_ok-slots.slots, ap (λ word. capacity_of word.now) c.read_opening.ensures.read.capacity ∙ c.in_ok-slots.ensures.capacity, inr (c.in_ok-list.list, c.in_ok-list.ensures, inr (c.in_ok-opening.opening, c.in_ok-opening.ensures.opening, c.event_report.ensures)))) c.report.ensures

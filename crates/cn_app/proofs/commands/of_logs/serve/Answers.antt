@@ -24,5 +24,5 @@ returns-clause-served g c =
     let gates = EachHasOneGate g.G.Gate.asks g.G.Gate.says (λ p x. goal.F-post g c.args.make_gate p x) in
     let opening = c.in_ok-opening.opening in
     let same = ap (λ (lists : List (Vec OperationWord Global)). calls_in opening.object (map (λ list. list.items) lists)) c.deref.ensures.value in
-    reported g.W.Write.contents (HasServeReport gates c.read_opening.new.given c.args.calls c.args.form) c.args.output.now c.report.new.self c.call_report.result c.report.result
+    reported g.W.Write.contents (HasServeReport gates c.read_opening.new.given c.args.calls.now c.args.form) c.args.output.now c.report.new.self c.call_report.result c.report.result
     (inr (c.in_ok-slots.slots, ap (λ word. capacity_of word.now) c.read_opening.ensures.read.capacity ∙ c.in_ok-slots.ensures.capacity, inr (c.in_ok-lists.lists, c.in_ok-lists.ensures, inr (opening, c.in_ok-opening.ensures.opening, served_as gates c.args.form opening _ _ c.call_report.result same c.call_report.ensures)))) c.report.ensures
