@@ -101,7 +101,7 @@ pub(crate) fn read_up_to<'a, T: Item<'a> + Drop>(
 }
 
 /// Reads a list of at most as many items as it may have where it stands.
-fn read_list<'a, T: Item<'a> + Drop>(
+pub(crate) fn read_list<'a, T: Item<'a> + Drop>(
     alloc: Global,
     list: &'a ListText<'_>,
     argument: Argument,

@@ -8,7 +8,7 @@ ghost use Rattle.cn_app.specs.Arguments.Lives.{life_schedule_of};
 ghost use Rattle.cn_app.specs.declared.fault.Argument.TheVariants.{Schedule};
 
 use crate::arguments::list_text::ListText;
-use crate::arguments::lists::{Item, read_inputs, read_up_to};
+use crate::arguments::lists::{Item, read_inputs, read_list};
 use crate::fault::{AppFault, Argument};
 use cn_choice::MOST_PROCESSES;
 use cn_lives::Event;
@@ -36,7 +36,7 @@ impl<'a> Item<'a> for Event {
 pub fn read_life_schedule(alloc: Global, list: &ListText<'_>) -> Result<Vec<Event>, AppFault>
     ensures { GivesList Schedule (life_schedule_of list.now) result }
 {
-    read_up_to::<Event>(alloc, list.text(), list.most_items(), Argument::Schedule)
+    read_list::<Event>(alloc, list, Argument::Schedule)
 }
 
 /// What the processes begin with, and the order of their steps and crashes.
