@@ -18,8 +18,6 @@ mod commands;
 mod replies;
 mod words;
 
-pub use commands::{
-    Command, CommandFault, Invocation, OpeningWords, TextSource, invocation_of,
-};
+pub use commands::{Command, CommandFault, Invocation, OpeningWords, TextSource, invocation_of};
 pub use replies::{Reply, parse};
 pub use words::command;
