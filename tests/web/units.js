@@ -6,17 +6,21 @@ const { describe, it } = require('node:test');
 const vm = require('node:vm');
 
 const WEB = path.join(__dirname, '../../web');
-const PARTS = ['texts_en', 'texts_de', 'texts', 'elements', 'answers', 'link', 'table_text', 'table_edits', 'flaw_places', 'notes', 'past'];
-PARTS.push('example_search', 'comparison', 'run', 'schedules', 'space_time', 'dot', 'points', 'layout', 'explanation');
+const PARTS = ['texts_en', 'texts_de', 'texts', 'elements', 'answers', 'run', 'lives', 'link', 'table_text', 'table_edits', 'flaw_places', 'notes'];
+PARTS.push('past', 'example_search', 'comparison', 'schedules', 'space_time', 'tournament', 'dot', 'points', 'layout', 'explanation');
 
 globalThis.Cnum = {};
 for (const part of ['examples', ...PARTS.map(it => `page/${it}`)]) {
     vm.runInThisContext(fs.readFileSync(path.join(WEB, `${part}.js`), 'utf8'), part);
 }
 const { Cnum } = globalThis;
+const { run } = Cnum;
+const step = run.stepOf;
+const stop = process => ({ process, does: run.STOP });
+const crash = process => ({ process, does: run.CRASH });
 
 describe('links', () => {
-    const RUN = [{ process: 1, stops: false }, { process: 0, stops: true }];
+    const RUN = [step(1), stop(0)];
     const SHOWN = { text: 'name = "größe" # →\n', limit: 3, inputs: ['7', '18446744073709551615'], acts: RUN, view: 'run' };
 
     it('hold a table, a limit, a run and a view', async () => {
@@ -28,6 +32,15 @@ describe('links', () => {
         const link = await Cnum.linkOf({ ...SHOWN, example: 'types/idle', view: undefined });
         assert.equal(link, '#example=types/idle&limit=3&inputs=7,18446744073709551615&run=1,x0');
         assert.equal((await Cnum.linkedBy(link)).example, 'types/idle');
+    });
+
+    it('hold crashes, if processes come back', async () => {
+        const acts = [step(1), crash(1), stop(0), step(1)];
+        const link = await Cnum.linkOf({ example: 'types/idle', limit: null, comeBack: true, inputs: ['7', '8'], acts });
+        assert.equal(link, '#example=types/idle&crashes=yes&inputs=7,8&run=1,c1,x0,1');
+        assert.deepEqual(await Cnum.linkedBy(link), { example: 'types/idle', comeBack: true, inputs: ['7', '8'], acts });
+        assert.equal((await Cnum.linkedBy('#crashes=yes')).comeBack, true);
+        assert.equal((await Cnum.linkedBy('#run=0')).comeBack, undefined);
     });
 
     it('have a limit only if one was chosen', async () => {
@@ -57,6 +70,9 @@ describe('links', () => {
         ['#example=nosuch', 'there is no example “nosuch”.'],
         ['#table=%%%', 'its table is damaged. A part of the link may be missing.'],
         ['#run=0,8', 'its run has the step “8”, which no process takes.'],
+        ['#crashes=yes&run=0,cc1', 'its run has the step “cc1”, which no process takes.'],
+        ['#run=0,c1', 'its run has the crash “c1”, and it does not say “crashes=yes”.'],
+        ['#crashes=no', 'it says “crashes=no”, and the page knows only “crashes=yes”.'],
         ['#inputs=1,abc', 'a process proposes “abc” in it, and that is no number.'],
         ['#inputs=1,', 'a process proposes “” in it, and that is no number.'],
         ['#inputs=18446744073709551616', 'a process proposes “18446744073709551616” in it, and that is no number.'],
@@ -66,9 +82,6 @@ describe('links', () => {
     ];
     for (const [link, fault] of REFUSED) it(`refuses ${link}`, async () => assert.deepEqual(await Cnum.linkedBy(link), { fault }));
 });
-
-const step = process => ({ process, stops: false });
-const stop = process => ({ process, stops: true });
 
 describe('a run', () => {
     const PLAN = { nodes: 1, processes: 2, start: 'zero' };
@@ -83,7 +96,6 @@ describe('a run', () => {
         { action: 'apply', node: 0, operation: 'tas', process: 0, response: 'one' },
     ];
     const TABLE = Cnum.examples[0].types[0].text;
-    const { run } = Cnum;
     const events = run.withStates(run.eventsOf(run.withoutStopped(ACTS), STEPS), PLAN, run.movesOf(TABLE));
 
     it('has no act of a process that has decided or stopped', () => {
@@ -99,7 +111,8 @@ describe('a run', () => {
     it('tells what holds after it', () => {
         const { nodes, processes } = run.after(events, PLAN);
         assert.deepEqual([nodes[0].state, nodes[0].A, nodes[0].B], ['one', '10', '20']);
-        assert.deepEqual(processes, [{ steps: 2, decision: null, hasStopped: true }, { steps: 4, decision: '20', hasStopped: false }]);
+        const first = { steps: 2, decision: null, crashes: 0, hasStopped: true };
+        assert.deepEqual(processes, [first, { steps: 4, decision: '20', crashes: 0, hasStopped: false }]);
         assert.deepEqual(run.active(processes), []);
         assert.deepEqual(run.active(run.after(events.slice(0, 5), PLAN).processes), [0]);
     });
@@ -119,19 +132,24 @@ describe('an adversary', () => {
     // Runs of processes that take so many steps each, and decide the value that `decide` gives.
     const runOf = (counts, decide) => schedule => {
         const taken = counts.map(() => 0);
-        const events = schedule.filter(it => taken[it]++ < counts[it]).map(process => ({ process, kind: 'writes' }));
-        const last = counts.map((_, process) => events.map(it => it.process).lastIndexOf(process));
-        last.forEach((at, process) => (events[at] = { process, kind: 'decides', value: decide(events, process) }));
+        const events = [];
+        for (const act of schedule) {
+            if (act.does === run.CRASH) taken[act.process] = 0;
+            else if (taken[act.process]++ >= counts[act.process]) continue;
+            const hasDecided = act.does === run.STEP && taken[act.process] === counts[act.process];
+            const kind = act.does === run.CRASH ? 'crashes' : hasDecided ? 'decides' : 'writes';
+            events.push({ ...act, kind, ...(hasDecided && { value: decide(events, act.process) }) });
+        }
         return { events, inputs: counts.map((_, process) => String(process)) };
     };
     const always = () => '0';
-    const tried = (counts, decide) => Cnum.tryToBreak(counts.length, async schedule => runOf(counts, decide)(schedule), () => {});
+    const tried = (counts, decide, more) => Cnum.tryToBreak({ processes: counts.length, ...more }, async it => runOf(counts, decide)(it), () => {});
 
     it('tries each schedule of two processes once', async () => {
         const seen = new Set();
-        const run = runOf([4, 4], always);
-        const found = await Cnum.tryToBreak(2, async schedule => {
-            const made = run(schedule);
+        const made4 = runOf([4, 4], always);
+        const found = await Cnum.tryToBreak({ processes: 2 }, async schedule => {
+            const made = made4(schedule);
             seen.add(made.events.map(it => it.process).join(''));
             return made;
         }, () => {});
@@ -502,7 +520,7 @@ const PATTERNS = {
     'dot.js': [/\s*("(?:[^"\\]|\\.)*"|->|\w+|[^\s\w"])/y], // DOT
     'dropped_file.js': [/\.toml(\.txt)?$/i], // the name of a file
     'example_search.js': [/[-_/\s]+/g], // what the reader looks for
-    'link.js': [/\+/g, /\//g, /=+$/, /-/g, /_/g, /^[2-8]$/, /^x?[0-7]$/, /^\d{1,20}$/], // links
+    'link.js': [/\+/g, /\//g, /=+$/, /-/g, /_/g, /^[2-8]$/, /^[xc]?[0-7]$/, /^\d{1,20}$/], // links
     'page.js': [/^(.*?), proved (by .*)\n$/, /^\w+$/, / /g], // the version; a name of a type; a number for a name of a file
     'run_view.js': [/^(?:Digit|Numpad)([0-7])$/], // a key
     'table_edits.js': [/^[^\n]*\n?/], // TOML
