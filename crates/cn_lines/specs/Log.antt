@@ -1,5 +1,5 @@
 -- The lines of a log: its calls that ended, and its entries.
-use Rattle.std.specs.Prelude.{ℕ, List, [], ◌++◌, codes, ◌∷◌, All}
+use Rattle.std.specs.Prelude.{ℕ, List, [], ◌++◌, codes, ◌∷◌, ◌<◌, All, length}
 use Rattle.std.specs.Fmt.{decimal}
 use Rattle.cn_table.specs.TypeTable.{TypeTable, operation_names, transition}
 use Rattle.cn_table.specs.Names.{name_at}
@@ -7,6 +7,7 @@ use Rattle.cn_log.specs.CallEnds.{EndsWithResponse}
 use Rattle.cn_log.specs.declared.event.CallEnd.{CallEnd}
 use Rattle.cn_log.specs.declared.event.CallEnd.TheVariants.{Answered, Full}
 use Rattle.cn_log.specs.declared.entry.Entry.{Entry}
+use Rattle.cn_log.specs.declared.event.Reply.{Reply}
 
 -- the line of a call of process p that ended
 abbrev pub answer_line : TypeTable → ℕ → CallEnd → List ℕ
@@ -23,6 +24,16 @@ answer_lines object (end ∷ ends) = answer_line object end.0 end.1 ++ answer_li
 -- each response is one of the object's
 abbrev pub HaveResponses : TypeTable → List (ℕ × CallEnd) → Type 0
 HaveResponses object ends = All (λ end. EndsWithResponse object end.1) ends
+
+-- the lines of the replies to the calls of process p, in order
+abbrev pub reply_lines : TypeTable → ℕ → List Reply → List ℕ
+reply_lines object p [] = []
+reply_lines object p (reply ∷ replies) =
+    answer_line object p (Answered reply) ++ reply_lines object p replies
+
+-- the response of each reply is one of the object's
+abbrev pub RepliesHaveResponses : TypeTable → List Reply → Type 0
+RepliesHaveResponses object replies = All (λ r. r.response.0 < length object.responses) replies
 
 -- the line of an entry: its slot, process and operation, the response of the object, and the state
 -- after it

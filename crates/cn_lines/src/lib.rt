@@ -1,7 +1,8 @@
 //! The lines of the decisions of processes, and of what happened in a log.
 //!
 //! [`decision_lines`] answers a line for each process of a round, and [`step_lines`] one for each
-//! step of a schedule. [`answer_lines`] answers a line for each call that ended, [`entry_lines`]
+//! step of a schedule. [`answer_lines`] answers a line for each call that ended, [`reply_lines`] one
+//! for each reply to a process, [`entry_lines`]
 //! one for each entry of a log, and [`events_line`] the events of a log in the form in which lists
 //! of them are read. [`put_action`], [`put_answer_line`] and [`put_number`] append an action, a line
 //! or a number to a text.
@@ -21,6 +22,6 @@ mod steps;
 
 pub use decisions::decision_lines;
 pub use events::events_line;
-pub use log::{answer_lines, entry_lines, put_answer_line};
+pub use log::{answer_lines, entry_lines, put_answer_line, reply_lines};
 pub use number::put_number;
 pub use steps::{put_action, step_lines};

@@ -4,10 +4,10 @@ ghost use Rattle.cn_log.specs.CallEnds.{EndsWithResponse};
 ghost use Rattle.cn_log.specs.Linearized.{entry_slots};
 ghost use Rattle.cn_log.specs.Log.{entries};
 ghost use Rattle.cn_log.specs.Opening.{setting};
-ghost use Rattle.cn_lines.specs.Log.{answer_line, answer_lines, entry_line, entry_lines, HaveResponses};
+ghost use Rattle.cn_lines.specs.Log.{answer_line, answer_lines, entry_line, entry_lines, reply_lines, HaveResponses, RepliesHaveResponses};
 
 use crate::number::put_number;
-use cn_log::{CallEnd, Entry, LogCore};
+use cn_log::{CallEnd, Entry, LogCore, Reply};
 use cn_table::{Response, State, Table};
 use std::alloc::{AllocError, Global};
 
@@ -70,6 +70,29 @@ pub fn answer_lines(
     let mut lines = String::new(alloc);
     for end in ends {
         put_answer_line(&mut lines, object, end.0, end.1)?;
+    }
+    Ok(lines)
+}
+
+/// The lines of the replies to the calls of one process, in order, as [`put_answer_line`] appends
+/// them. Every response is one of the object's.
+///
+/// # Errors
+///
+/// Fails only for want of memory.
+pub fn reply_lines(
+    alloc: Global,
+    object: &Table,
+    process: u8,
+    replies: &[Reply],
+) -> Result<String, AllocError>
+    requires { RepliesHaveResponses object.now replies.now }
+    ensures { IfOk result (λ lines. string_bytes lines
+        ≡ reply_lines object.now process replies.now) }
+{
+    let mut lines = String::new(alloc);
+    for reply in replies {
+        put_answer_line(&mut lines, object, process, CallEnd::Answered(*reply))?;
     }
     Ok(lines)
 }

@@ -9,7 +9,8 @@ use Rattle.cn_json.specs.Log.{HasResponse, HaveResponses}
 use Rattle.cn_json.specs.declared.log.Answer.TheVariants as told
 use Rattle.cn_json.specs.declared.log.AnswerOf.{AnswerOf}
 use Rattle.cn_log.specs.declared.event.Reply.{Reply}
-use Rattle.cn_app.specs.Lines.Threads.{EachHasResponses, RepliesHaveResponses, call_answers, end_answers, history_answers, reply_answers}
+use Rattle.cn_lines.specs.Log.{RepliesHaveResponses}
+use Rattle.cn_app.specs.Lines.Threads.{EachHasResponses, call_answers, end_answers, history_answers, reply_answers}
 use Rattle.cn_app.specs.declared.threads.workers.End.{End}
 use Rattle.cn_app.specs.declared.threads.workers.End.TheVariants.{Full, Stopped, Whole}
 use Rattle.cn_app.specs.Threads.Serving.{HasServed}

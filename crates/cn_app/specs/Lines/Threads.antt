@@ -1,5 +1,5 @@
 -- The text of a service: the calls of each process, the entries of the log, and the events.
-use Rattle.std.specs.Prelude.{ℕ, ◌+◌, List, ◌++◌, codes, [], ◌∷◌, ◌<◌, All, length, map}
+use Rattle.std.specs.Prelude.{ℕ, ◌+◌, List, ◌++◌, codes, [], ◌∷◌, All, map}
 use Rattle.std.specs.Fmt.{decimal}
 use Rattle.serde_json.specs.Written.{compact_text}
 use Rattle.cn_table.specs.TypeTable.{TypeTable}
@@ -9,7 +9,7 @@ use Rattle.cn_log.specs.Opening.{Log, setting}
 use Rattle.cn_log.specs.declared.event.CallEnd.TheVariants as ended
 use Rattle.cn_log.specs.declared.event.Reply.{Reply}
 use Rattle.cn_lines.specs.Events.{events_line}
-use Rattle.cn_lines.specs.Log.{answer_line, entry_lines}
+use Rattle.cn_lines.specs.Log.{answer_line, entry_lines, reply_lines, RepliesHaveResponses}
 use Rattle.cn_json.specs.Log.{service_data}
 use Rattle.cn_json.specs.declared.form.AnswerForm.{AnswerForm}
 use Rattle.cn_json.specs.declared.log.Answer.TheVariants as told
@@ -18,12 +18,6 @@ use Rattle.cn_app.specs.Forms.{if_json}
 use Rattle.cn_app.specs.declared.threads.workers.End.{End}
 use Rattle.cn_app.specs.declared.threads.workers.End.TheVariants.{Full, Stopped, Whole}
 use Rattle.cn_app.specs.declared.threads.workers.ProcessHistory.{ProcessHistory}
-
--- the lines of the replies to the calls of a process, in order
-abbrev pub reply_lines : TypeTable → ℕ → List Reply → List ℕ
-reply_lines object p [] = []
-reply_lines object p (reply ∷ replies) =
-    answer_line object p (ended.Answered reply) ++ reply_lines object p replies
 
 -- the line of the call that has no reply, if there is one
 abbrev pub end_line : TypeTable → ℕ → End → List ℕ
@@ -78,9 +72,6 @@ abbrev pub service_text : AnswerForm → TypeTable → ℕ → List ProcessHisto
 service_text form object start worked core = if_json form
     (service_object object start worked core) (service_lines object start worked core)
 
--- the response of each reply is one of the object's
-abbrev pub RepliesHaveResponses : TypeTable → List Reply → Type 0
-RepliesHaveResponses object replies = All (λ r. r.response.0 < length object.responses) replies
-
+-- the response of each reply to each process is one of the object's
 abbrev pub EachHasResponses : TypeTable → List ProcessHistory → Type 0
 EachHasResponses object worked = All (λ w. RepliesHaveResponses object w.replies.items) worked

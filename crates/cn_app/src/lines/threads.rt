@@ -1,7 +1,8 @@
 //! The text of a service: the calls of each process, the entries of the log, and the events.
 ghost use Rattle.std.specs.Prelude.{◌≡◌, ◌≤◌, ◌<◌, ◌++◌, length, string_bytes, IfOk, OnOk};
-ghost use Rattle.cn_app.specs.Lines.Threads.{EachHasResponses, RepliesHaveResponses};
-ghost use Rattle.cn_app.specs.Lines.Threads.{call_lines, end_line, history_lines, reply_lines};
+ghost use Rattle.cn_lines.specs.Log.{RepliesHaveResponses};
+ghost use Rattle.cn_app.specs.Lines.Threads.{EachHasResponses};
+ghost use Rattle.cn_app.specs.Lines.Threads.{call_lines, end_line, history_lines};
 ghost use Rattle.cn_app.specs.Lines.Threads.{end_answers, history_answers, reply_answers};
 ghost use Rattle.cn_app.specs.Lines.Threads.{service_lines, service_object, service_text};
 
@@ -10,28 +11,11 @@ use crate::threads::serving::ServiceHistory;
 use crate::threads::workers::{End, ProcessHistory};
 use cn_hall::Reply;
 use cn_json::{Answer, AnswerForm, AnswerOf, service_json};
-use cn_lines::{entry_lines, events_line, put_answer_line, put_number};
+use cn_lines::{entry_lines, events_line, put_answer_line, put_number, reply_lines};
 use cn_log::CallEnd;
 use cn_log::laws::logs_are_linearized;
 use cn_table::{State, Table};
 use std::alloc::{AllocError, Global};
-
-fn reply_lines(
-    alloc: Global,
-    object: &Table,
-    process: u8,
-    replies: &[Reply],
-) -> Result<String, AllocError>
-    requires { RepliesHaveResponses object.now replies.now }
-    ensures { IfOk result (λ lines. string_bytes lines
-        ≡ reply_lines object.now process replies.now) }
-{
-    let mut lines = String::new(alloc);
-    for reply in replies {
-        put_answer_line(&mut lines, object, process, CallEnd::Answered(*reply))?;
-    }
-    Ok(lines)
-}
 
 /// Appends the line of the call that has no reply, if there is one.
 fn put_end_line(lines: &mut String, object: &Table, process: u8, end: End) -> Result<(), AllocError>
