@@ -128,6 +128,67 @@ describe('a run', () => {
     });
 });
 
+describe('processes that come back', () => {
+    const write = (process, node, team, value) => ({ action: 'write', node, process, team, value });
+    const look = (process, node, state) => ({ action: 'read', judged: null, node, process, state });
+    const take = (process, node, team, value) => ({ action: 'take', node, process, team, value });
+    const apply = (process, node, operation, response) => ({ action: 'apply', node, operation, process, response });
+    const read = (process, node, state, judged) => ({ action: 'read', judged, node, process, state });
+    const decide = (process, value) => ({ action: 'decide', process, value });
+    // What each of three processes does alone at a sticky bit.
+    const second = [write(1, 1, 'A', 20), look(1, 1, 'unset'), take(1, 1, 'B', null), apply(1, 1, 'put0', 'zero'), read(1, 1, 'zero', 'A'), take(1, 1, 'A', 20)];
+    const third = [write(2, 1, 'B', 30), look(2, 1, 'unset'), apply(2, 1, 'put1', 'one'), read(2, 1, 'one', 'B'), take(2, 1, 'B', 30)];
+    const atRoot = (process, value) => [write(process, 0, 'B', value), look(process, 0, 'unset'), apply(process, 0, 'put1', 'one'), read(process, 0, 'one', 'B'), decide(process, value)];
+    const first = [write(0, 0, 'A', 10), look(0, 0, 'unset'), take(0, 0, 'B', null), apply(0, 0, 'put0', 'zero'), read(0, 0, 'zero', 'A'), decide(0, 10)];
+    const PLAN = Cnum.lives.planOf([first, [...second, ...atRoot(1, 20)], [...third, ...atRoot(2, 30), { action: 'none', process: 2 }]]);
+
+    it('have the plan by which each does its steps alone', () => {
+        const roles = [{ operation: 'put0', team: 'A' }, { operation: 'put1', team: 'B' }];
+        const [a, b] = [{ team: 'A', role: 0 }, { team: 'B', role: 1 }];
+        const paths = [[{ node: 0, ...a }], [{ node: 1, ...a }, { node: 0, ...b }], [{ node: 1, ...b }, { node: 0, ...b }]];
+        assert.deepEqual(PLAN, { comeBack: true, nodes: 2, paths, processes: 3, roles, start: 'unset' });
+        assert.deepEqual([run.mostSteps(PLAN), run.mostSteps({ processes: 3 })], [12, 8]);
+    });
+
+    const ACTS = [...Array(5).fill(step(2)), step(2), crash(2), step(2), step(0), stop(0), crash(1), crash(0)];
+    const STEPS = [...third, write(2, 0, 'B', 30), { action: 'crash', process: 2 }, write(2, 1, 'B', 30), write(0, 0, 'A', 10), { action: 'crash', process: 1 }];
+    const INPUTS = ['10', '20', '30'];
+    const eventsOf = (acts, steps) => Cnum.lives.withForgotten(run.withStates(run.eventsOf(run.withoutStopped(acts), steps), PLAN, () => 'one'), INPUTS);
+    const events = eventsOf(ACTS, STEPS);
+
+    it('crash in the schedule, and stop beside it', () => {
+        assert.equal(run.scheduleOf(run.withoutStopped(ACTS)), '2,2,2,2,2,2,c2,2,0,c1');
+        assert.equal(run.scheduleOf([stop(0)]), 'none');
+        const kinds = ['writes', 'looks', 'applies', 'reads', 'takes', 'writes', 'crashes', 'writes', 'writes', 'stops', 'crashes'];
+        assert.deepEqual(events.map(it => it.kind), kinds);
+        assert.deepEqual(run.eventsOf([step(0)], [take(0, 0, 'B', null)]), [{ ...step(0), kind: 'misses', node: 0, team: 'B' }]);
+    });
+
+    it('forget their place and their value, and objects and registers keep what they have', () => {
+        assert.deepEqual(events[6].forgot, { place: 1, value: '30', last: events[5], decision: null });
+        assert.deepEqual(events[10].forgot, { place: 0, value: '20', last: null, decision: null });
+        assert.deepEqual(Cnum.lives.memoryAfter(events, 2, '30'), { place: 0, value: '30', last: events[7], decision: null });
+        assert.equal(Cnum.lives.forgottenBy(events, 2), events[6].forgot);
+        assert.equal(Cnum.lives.forgottenBy(events, 0), null);
+        const { nodes, processes } = run.after(events, PLAN);
+        assert.deepEqual(nodes.map(it => [it.state, it.A, it.B]), [['unset', '10', '30'], ['one', '', '30']]);
+        assert.deepEqual(processes.map(it => [it.steps, it.crashes, it.hasStopped]), [[1, 0, true], [0, 1, false], [1, 1, false]]);
+    });
+
+    it('forget their decision too, and go on', () => {
+        const acts = [...Array(8).fill(step(0)), crash(0), step(0)];
+        const told = eventsOf(acts, [...first, { action: 'none', process: 0 }, { action: 'none', process: 0 }, { action: 'crash', process: 0 }, first[0]]);
+        assert.deepEqual(told.slice(5).map(it => it.kind), ['decides', 'crashes', 'writes']);
+        assert.equal(told[6].forgot.decision, '10');
+        assert.deepEqual(run.active(run.after(told.slice(0, 6), PLAN).processes), [1, 2]);
+        assert.deepEqual(run.active(run.after(told, PLAN).processes), [0, 1, 2]);
+        const { marks, lines } = Cnum.placeRun(told, INPUTS, text => 8 * text.length);
+        assert.deepEqual(marks.slice(5).map(it => it.texts), [['decides 10', ''], ['crashes', 'forgets 10'], ['writes 10', 'A of node 0']]);
+        assert.ok(lines[0].to > marks[7].x);
+        assert.equal(Cnum.placeRun(events, INPUTS, text => 8 * text.length).marks[6].texts[1], 'forgets its place');
+    });
+});
+
 describe('an adversary', () => {
     // Runs of processes that take so many steps each, and decide the value that `decide` gives.
     const runOf = (counts, decide) => schedule => {
@@ -164,6 +225,52 @@ describe('an adversary', () => {
     it('tries those of three processes up to a bound', async () => {
         // 3 ** 5 first steps but one, in which a process of 4 steps would take 5. In 10 of them it has decided.
         assert.equal((await tried([4, 8, 8], always)).count, 10 * 2 + 232 * 6);
+    });
+
+    // How many words there are of so many acts of processes that take so many steps in a life, with at most so many crashes; the
+    // processes that have not decided then go on in any order.
+    function words(counts, acts, crashes, taken = counts.map(() => 0)) {
+        const going = counts.map((_, process) => process).filter(it => taken[it] < counts[it]);
+        if (!acts) return [1, 1, 2, 6][going.length];
+        const having = (process, steps) => taken.map((it, index) => (index === process ? steps : it));
+        const stepped = going.map(it => words(counts, acts - 1, crashes, having(it, taken[it] + 1)));
+        const begun = counts.map((_, process) => process).filter(it => crashes && taken[it]);
+        return [...stepped, ...begun.map(it => words(counts, acts - 1, crashes - 1, having(it, 0)))].reduce((sum, it) => sum + it, 0);
+    }
+
+    it('tries schedules of processes that come back up to a bound', async () => {
+        assert.equal(words([4, 4], 8, 0), 70);
+        assert.equal((await tried([5, 6], always, { comeBack: true })).count, words([5, 6], 7, 2));
+        assert.equal((await tried([2, 3, 5], always, { comeBack: true })).count, words([2, 3, 5], 4, 1));
+    });
+
+    it('lets processes crash at random', async () => {
+        const { count, worst, broken } = await tried([9, 9, 18, 18], always, { comeBack: true });
+        assert.deepEqual([count, broken], [500, null]);
+        assert.ok(worst.events.filter(it => it.kind === 'crashes').length > 1);
+        assert.ok((await tried([9, 9, 18, 18], always)).worst.events.every(it => it.kind !== 'crashes'));
+    });
+
+    // Two processes at a test-and-set bit: each writes, applies, and decides its own value if it was first.
+    function atBit(schedule) {
+        const [taken, won] = [[0, 0], []];
+        let isSet = false;
+        const events = schedule.flatMap(({ process, does }) => {
+            if (does === run.STEP && taken[process] === 3) return [];
+            taken[process] = does === run.CRASH ? 0 : taken[process] + 1;
+            if (taken[process] === 2) [won[process], isSet] = [!isSet, true];
+            const kind = does === run.CRASH ? 'crashes' : taken[process] === 3 ? 'decides' : 'writes';
+            return [{ process, does, kind, value: String(won[process] ? process : 1 - process) }];
+        });
+        return { events, inputs: ['0', '1'] };
+    }
+
+    it('finds the crash that breaks the agreement by a test-and-set bit', async () => {
+        const by = async plan => (await Cnum.tryToBreak(plan, async it => atBit(it), () => {})).broken;
+        assert.equal(await by({ processes: 2 }), null);
+        const { events } = await by({ processes: 2, comeBack: true });
+        assert.deepEqual(events.filter(it => it.kind === 'crashes').length, 1);
+        assert.equal(new Set(events.filter(it => it.kind === 'decides').map(it => it.value)).size, 2);
     });
 
     it('tries more processes at random', async () => assert.equal((await tried([4, 8, 12, 12], always)).count, 500));
