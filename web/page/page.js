@@ -484,6 +484,7 @@ var Cnum = globalThis.Cnum || {};
         breakOff() {
             this.search.breakOff();
             if (at('number').textContent === NO_NUMBER) at('meaning').textContent = say('search_broken_off');
+            else if (this.comeBack && this.certificate) this.refuseLives(say('search_broken_off'));
             else this.refuse(say('certificate_broken_off'));
         }
 

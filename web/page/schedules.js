@@ -27,6 +27,7 @@ var Cnum = globalThis.Cnum || {};
     }
 
     const hasDecided = life => life.some(it => it.kind === 'decides');
+    const crashesIn = events => events.filter(it => it.does === CRASH).length;
 
     // What may come at this place of a run, behind these events: the steps of those who go on, and then the crashes of those
     // who have something to forget. Beyond the bound, a process that has begun goes on alone, and none crashes.
@@ -35,7 +36,7 @@ var Cnum = globalThis.Cnum || {};
         const going = lives.map((_, process) => process).filter(it => !hasDecided(lives[it]));
         const last = events.length && events[events.length - 1].process;
         if (events.length > acts && going.includes(last)) return [stepOf(last)];
-        const mayCrash = events.length < acts && events.filter(it => it.does === CRASH).length < crashes;
+        const mayCrash = events.length < acts && crashesIn(events) < crashes;
         const begun = lives.map((_, process) => process).filter(it => mayCrash && lives[it].length);
         return [...going.map(stepOf), ...begun.map(crashOf)];
     }
@@ -90,28 +91,42 @@ var Cnum = globalThis.Cnum || {};
         }
     }
 
-    // How often the turn goes from one process to another, or a process crashes.
-    const hardness = events => events.filter((it, index) => it.does === CRASH || (index > 0 && it.process !== events[index - 1].process)).length;
+    // How often the turn goes from one process to another.
+    const turnsIn = events => events.filter((it, index) => index > 0 && it.process !== events[index - 1].process).length;
+
+    // Whether a run has more crashes than another, or as many and more turns.
+    function isHarder({ events }, other) {
+        const more = crashesIn(events) - crashesIn(other.events);
+        return more > 0 || (more === 0 && turnsIn(events) > turnsIn(other.events));
+    }
+
+    // Whether no process takes more steps without a crash than it takes at most.
+    function areShort(events, plan) {
+        const taken = Array(plan.processes).fill(0);
+        return events.every(({ process, does }) => {
+            taken[process] = does === CRASH ? 0 : taken[process] + 1;
+            return taken[process] <= mostSteps(plan);
+        });
+    }
 
     // Whether the processes of a run agree on the input of one of them, whenever they decide, and each has decided in the
-    // end, each time within its most steps.
+    // end, within its most steps.
     function isRight({ events, inputs }, plan) {
         const decisions = events.filter(it => it.kind === 'decides');
         const areSame = decisions.every(it => it.value === decisions[0].value && inputs.map(BigInt).includes(BigInt(it.value)));
         const haveDecided = inputs.every((_, process) => hasDecided(lifeOf(process, events)));
-        const ends = events.map((_, index) => index + 1);
-        return haveDecided && areSame && ends.every(it => lifeOf(events[it - 1].process, events.slice(0, it)).length <= mostSteps(plan));
+        return haveDecided && areSame && areShort(events, plan);
     }
 
     // Tries schedules of a plan. `run` gives for a schedule { events, inputs }, or null to end early. Answers how many there
-    // were, the bound if they are all up to it, the one with the most turns and crashes, and the one that is not right, if
-    // there is any.
+    // were, the bound if they are all up to it, of those with the most crashes the one with the most turns, and the one
+    // that is not right, if there is any.
     Cnum.tryToBreak = async function (plan, run, tell) {
         const found = { count: 0, bound: boundOf(plan), worst: null, broken: null };
         const judge = attempt => {
             tell(++found.count);
             if (!isRight(attempt, plan)) found.broken = attempt;
-            if (!found.worst || hardness(attempt.events) > hardness(found.worst.events)) found.worst = attempt;
+            if (!found.worst || isHarder(attempt, found.worst)) found.worst = attempt;
             return !found.broken;
         };
         await (found.bound ? all : atRandom)(plan, run, judge);

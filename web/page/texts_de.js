@@ -315,7 +315,7 @@ Cnum.languages.de.texts = {
     trial_shown: 'Der mit den meisten Wechseln ist gezeigt.',
     trial_lives_bound: 'Alle {count} Abläufe einigen sich, die mit {acts} Schritten und Abstürzen in beliebiger Reihenfolge beginnen (Abstürze: höchstens {crashes}) und in denen die Prozesse dann nacheinander weitergehen.',
     trial_lives_random: '{count} zufällig gewählte Abläufe mit Abstürzen einigen sich.',
-    trial_lives_shown: 'Der mit den meisten Wechseln und Abstürzen ist gezeigt.',
+    trial_lives_shown: 'Von denen mit den meisten Abstürzen ist der mit den meisten Wechseln gezeigt.',
     trial_broken: 'Ablauf {count} bricht es. Er ist gezeigt.',
     trial_broken_off: 'Der Versuch wurde abgebrochen.',
 

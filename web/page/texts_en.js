@@ -316,7 +316,7 @@ Cnum.languages.en.texts = {
     trial_shown: 'The one with the most turns is shown.',
     trial_lives_bound: 'All {count} schedules agree whose first {acts} acts are steps and crashes in any order (crashes: at most {crashes}), and in which the processes then go on one after another.',
     trial_lives_random: '{count} schedules with crashes, chosen at random, agree.',
-    trial_lives_shown: 'The one with the most turns and crashes is shown.',
+    trial_lives_shown: 'Of those with the most crashes, the one with the most turns is shown.',
     trial_broken: 'Schedule {count} breaks it. It is shown.',
     trial_broken_off: 'The trial was broken off.',
 
