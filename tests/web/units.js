@@ -175,6 +175,14 @@ describe('processes that come back', () => {
         assert.deepEqual(processes.map(it => [it.steps, it.crashes, it.hasStopped]), [[1, 0, true], [0, 1, false], [1, 1, false]]);
     });
 
+    it('have words for each action of the schema', () => {
+        const { oneOf } = JSON.parse(fs.readFileSync(path.join(WEB, '../docs/schema/life_course.json'), 'utf8')).definitions.step;
+        const actions = oneOf.map(it => it.properties.action.const);
+        const kinds = actions.map(action => run.eventsOf([step(0)], [{ action, process: 0, node: 0, team: 'A', value: 1 }])[0].kind);
+        assert.deepEqual(kinds.filter(it => it !== 'rests' && !(`log_${it}` in Cnum.texts)), []);
+        assert.ok(actions.includes('crash') && kinds.includes('rests'));
+    });
+
     it('forget their decision too, and go on', () => {
         const acts = [...Array(8).fill(step(0)), crash(0), step(0)];
         const told = eventsOf(acts, [...first, { action: 'none', process: 0 }, { action: 'none', process: 0 }, { action: 'crash', process: 0 }, first[0]]);

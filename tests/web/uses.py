@@ -886,14 +886,15 @@ def one_file(use):
             yield "it answers alone in a folder", use.has_number("2"), use.text("trouble")
             times.append(time.monotonic() - began)
         yield f"in less than {FIRST} s", min(times) < FIRST, times
-        use.open("#example=types/three_shot&run=0,1,x1", page=alone)
-        use.value("Cnum.page.protocol.update()")
-        names = [use.saved(room, "Cnum.page.address.savePage()")]
-        before = use.seen()
-        use.open(page=names[0])
-        yield "a saved page shows its table and its run", use.seen() == before and names[0].name == "three_shot.html", use.seen()
-        names.append(use.saved(room, "Cnum.page.address.savePage()", "again_"))
-        yield "it can be saved again, the same", names[0].read_bytes() == names[1].read_bytes(), ""
+        for run in ("run=0,1,x1", "crashes=yes&run=0,1,c1"):
+            use.open(f"#example=types/three_shot&{run}", page=alone)
+            use.value("Cnum.page.protocol.update()")
+            names = [use.saved(room, "Cnum.page.address.savePage()")]
+            before = use.seen()
+            use.open(page=names[0])
+            yield f"a saved page shows its table and {run}", use.seen() == before and names[0].name == "three_shot.html", use.seen()
+            names.append(use.saved(room, "Cnum.page.address.savePage()", "again_"))
+            yield "it can be saved again, the same", names[0].read_bytes() == names[1].read_bytes(), ""
         use.give(SLOT)
         use.open(page=use.saved(room, "Cnum.page.address.savePage()"))
         yield "a saved page with a table of one's own", use.table() == SLOT and use.has_number("1"), use.table()
