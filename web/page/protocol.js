@@ -6,7 +6,6 @@ var Cnum = globalThis.Cnum || {};
 
     const { element, run, say } = Cnum;
     const STOPS = 1 / 14; // how often, in a random run, a process stops instead of taking a step
-    const CRASHES = 1 / 14; // how often it crashes, if it may
 
     class Protocol {
         // Shows protocols in this place. `agree` runs the command with these inputs and this schedule, and
@@ -107,9 +106,10 @@ var Cnum = globalThis.Cnum || {};
             return this.set([...this.actsSoFar(), ...acts, ...rest]);
         }
 
+        // A process that may crash does so about twice in such a run, so that it also gets far.
         randomAct(mayStop) {
             if (mayStop && Math.random() < STOPS) return run.STOP;
-            return this.plan.comeBack && Math.random() < CRASHES ? run.CRASH : run.STEP;
+            return this.plan.comeBack && Math.random() < 1 / run.mostSteps(this.plan) ? run.CRASH : run.STEP;
         }
 
         // What the program says of a run: its events. It is asked only once for each.
