@@ -249,6 +249,7 @@ var Cnum = globalThis.Cnum || {};
             this.round++;
             this.search.breakOff();
             this.adversary.breakOff();
+            this.protocol.end();
         }
 
         // Runs a command on the table that is shown. The answer is null if another table has come since.
@@ -405,7 +406,7 @@ var Cnum = globalThis.Cnum || {};
             const find = await this.ask(this.search, ['find', '--limit', String(number)]);
             if (!find) return;
             const witness = { [CERTIFICATE]: find.stdout };
-            this.agreement = { words: ['agree', '--steps', '--as', 'json', CERTIFICATE], files: witness };
+            this.agreement = { words: ['agree', '--steps', '--as', 'json', CERTIFICATE], files: witness, table: this.table };
             const show = await this.ask(this.search, ['show', '--as', 'json', CERTIFICATE], witness);
             if (!show) return;
             await this.showPlan(JSON.parse(show.stdout), linked);
@@ -436,7 +437,7 @@ var Cnum = globalThis.Cnum || {};
             const processes = Math.min(most, wanted || most);
             at('come-back-said').textContent = say('come_back_said', { count: processes });
             const words = ['agree', '--recoverable', '--processes', String(processes), '--steps', '--as', 'json', '-'];
-            this.agreement = { words, files: {} };
+            this.agreement = { words, files: {}, table: this.table };
             const runs = await this.runsAlone(processes);
             if (runs) await this.showPlan(Cnum.lives.planOf(runs), linked);
         }
@@ -508,7 +509,8 @@ var Cnum = globalThis.Cnum || {};
         }
 
         agree(runner, words) {
-            return runner.run([...this.agreement.words, ...words], this.table, this.agreement.files);
+            const { words: before, table, files } = this.agreement;
+            return runner.run([...before, ...words], table, files);
         }
 
         // Checks a certificate of somebody else by this table.

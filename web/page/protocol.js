@@ -168,7 +168,12 @@ var Cnum = globalThis.Cnum || {};
             if (turn !== this.turn) return;
             const hardest = found.broken || found.worst;
             await this.set(actsOf(hardest.events));
-            this.view.showTrial(trialText(found, plan), false);
+            if (this.plan === plan) this.view.showTrial(trialText(found, plan), false);
+        }
+
+        // Shows nothing any more of what runs, as the table changes.
+        end() {
+            this.turn++;
         }
 
         // Ends a trial. What was found so far is forgotten.
