@@ -786,6 +786,10 @@ def adversaries(use):
     use.until("/^[1-9]/.test(document.querySelector('.trial').textContent)")
     use.press("Break it off")
     yield "it can be broken off", use.trial() == "The trial was broken off.", use.trial()
+    use.open("#example=types/three_shot&crashes=yes")
+    use.press("Try to break it")
+    use.choose("types/sticky_bit")
+    yield "another table ends it", (use.count(".process"), use.trial(), use.texts(".log li")) == (8, "", []), use.trial()
 
 
 def tried_lives(lives, acts, crashes):
