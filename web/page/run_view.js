@@ -149,7 +149,7 @@ var Cnum = globalThis.Cnum || {};
         listen() {
             const section = this.place.closest('section');
             section.onkeydown = event => {
-                if (event.ctrlKey || event.altKey || event.metaKey || event.target.matches('input:not([type=range])')) return;
+                if (event.ctrlKey || event.altKey || event.metaKey || event.target.matches('input:not([type=range], [type=checkbox])')) return;
                 const { isBehindC } = this;
                 this.isBehindC = event.code === 'KeyC' && Boolean(this.protocol.plan && this.plan.comeBack);
                 const digit = /^(?:Digit|Numpad)([0-7])$/.exec(event.code);
