@@ -19,9 +19,7 @@ mod lives;
 mod replies;
 mod words;
 
-pub use commands::{
-    Command, CommandFault, Invocation, OpeningWords, TextSource, invocation_of,
-};
+pub use commands::{Command, CommandFault, Invocation, OpeningWords, TextSource, invocation_of};
 pub use lives::LivesWords;
 pub use replies::{Reply, parse};
 pub use words::command;
