@@ -98,9 +98,9 @@ Wants name rows =
     (MatchBool (bytes_eq name (codes "why")) (((n : Option ℕ) × HasLimit rows n) × ((form : DocumentForm) × HasDocumentForm rows form))
     (MatchBool (bytes_eq name (codes "pairs")) ((form : DocumentForm) × HasDocumentForm rows form)
     (MatchBool (bytes_eq name (codes "show")) (((w : TextSource) × HasCertificate rows w) × ((plan : Form) × HasForm rows plan))
-    (MatchBool (bytes_eq name (codes "agree")) (((w : TextSource) × HasCertificate rows w) × ((l : Text) × HasWord (codes "INPUTS") rows l) × ((l : Text) × HasWord (codes "SCHEDULE") rows l) × ((form : AnswerForm) × HasAnswerForm rows form) × (is_of_lives rows ≡ false))
-    (MatchBool (bytes_eq name (codes "replay")) (((o : OpeningWords) × HasOpening rows o) × ((l : Text) × HasWord (codes "EVENTS") rows l) × ((form : AnswerForm) × HasAnswerForm rows form))
-    (MatchBool (bytes_eq name (codes "serve")) (((o : OpeningWords) × HasOpening rows o) × ((l : Text) × HasWord (codes "CALLS") rows l) × ((form : AnswerForm) × HasAnswerForm rows form))
+    (MatchBool (bytes_eq name (codes "agree")) (((w : TextSource) × HasCertificate rows w) × ((l : Bor Text) × HasWord (codes "INPUTS") rows l.now) × ((l : Bor Text) × HasWord (codes "SCHEDULE") rows l.now) × ((form : AnswerForm) × HasAnswerForm rows form) × (is_of_lives rows ≡ false))
+    (MatchBool (bytes_eq name (codes "replay")) (((o : OpeningWords) × HasOpening rows o) × ((l : Bor Text) × HasWord (codes "EVENTS") rows l.now) × ((form : AnswerForm) × HasAnswerForm rows form))
+    (MatchBool (bytes_eq name (codes "serve")) (((o : OpeningWords) × HasOpening rows o) × ((l : Bor Text) × HasWord (codes "CALLS") rows l.now) × ((form : AnswerForm) × HasAnswerForm rows form))
     ⊥))))))))))
 
 -- every command of this name has what it requires
@@ -114,9 +114,9 @@ wants name rows (Why limit all form) h = subst (λ n. Wants n rows) (sym h.0) ((
 wants name rows (Pairs form) h = subst (λ n. Wants n rows) (sym h.0) (form, h.1)
 wants name rows (Show certificate plan) h = subst (λ n. Wants n rows) (sym h.0) ((certificate, h.1.0), (plan, h.1.1))
 wants name rows (Agree certificate inputs schedule steps form) h =
-    subst (λ n. Wants n rows) (sym h.0) ((certificate, h.1.0), (inputs.now, h.1.1), (schedule.now, h.1.2), (form, h.1.4), h.1.5)
-wants name rows (Replay opening events form) h = subst (λ n. Wants n rows) (sym h.0) ((opening, h.1.0), (events.now, h.1.1), (form, h.1.2))
-wants name rows (Serve opening calls form) h = subst (λ n. Wants n rows) (sym h.0) ((opening, h.1.0), (calls.now, h.1.1), (form, h.1.2))
+    subst (λ n. Wants n rows) (sym h.0) ((certificate, h.1.0), (inputs, h.1.1), (schedule, h.1.2), (form, h.1.4), h.1.5)
+wants name rows (Replay opening events form) h = subst (λ n. Wants n rows) (sym h.0) ((opening, h.1.0), (events, h.1.1), (form, h.1.2))
+wants name rows (Serve opening calls form) h = subst (λ n. Wants n rows) (sym h.0) ((opening, h.1.0), (calls, h.1.1), (form, h.1.2))
 
 -- what `classify` requires of its words
 pub classify_wants : (rows : List Row) (i : Invocation) → IsInvocation (codes "classify") rows i

@@ -1,4 +1,4 @@
-use Rattle.std.proofs.Common.{codes, refl}
+use Rattle.std.proofs.Common.{◌∙◌, codes, refl, sym}
 use Rattle.clap.specs.Matches.{found_of}
 use Rattle.cn_words.specs.GivenCommands.{rows_in}
 use Rattle.cn_words.proofs.GivenLemmas.{flag_read, wants}
@@ -29,5 +29,6 @@ returns c = (
     c.in_ok-list-2.ensures,
     flag_read (found_of c.args.words.now) (codes "steps") c.get_flag.result c.get_flag.ensures.none c.get_flag.ensures.value c.get_flag.ensures.other,
     c.in_ok-answer_form.ensures,
+    sym c.is_of_lives.ensures ∙ c.if-is_of_lives.false,
   ),
 )
