@@ -148,6 +148,9 @@ describe('processes that come back', () => {
         const paths = [[{ node: 0, ...a }], [{ node: 1, ...a }, { node: 0, ...b }], [{ node: 1, ...b }, { node: 0, ...b }]];
         assert.deepEqual(PLAN, { comeBack: true, nodes: 2, paths, processes: 3, roles, start: 'unset' });
         assert.deepEqual([run.mostSteps(PLAN), run.mostSteps({ processes: 3 })], [12, 8]);
+        const ofB = [write(1, 0, 'B', 20), look(1, 0, 'unset'), apply(1, 0, 'put0', 'zero'), read(1, 0, 'zero', 'B'), decide(1, 20)];
+        const both = [{ operation: 'put0', team: 'A' }, { operation: 'put0', team: 'B' }];
+        assert.deepEqual(Cnum.lives.planOf([first, ofB]).roles, both);
     });
 
     const ACTS = [...Array(5).fill(step(2)), step(2), crash(2), step(2), step(0), stop(0), crash(1), crash(0)];
@@ -184,8 +187,12 @@ describe('processes that come back', () => {
     });
 
     it('forget their decision too, and go on', () => {
-        const acts = [...Array(8).fill(step(0)), crash(0), step(0)];
-        const told = eventsOf(acts, [...first, { action: 'none', process: 0 }, { action: 'none', process: 0 }, { action: 'crash', process: 0 }, first[0]]);
+        const acts = [...Array(8).fill(step(0)), crash(0), step(0), crash(0)];
+        const [none, crashed] = ['none', 'crash'].map(action => ({ action, process: 0 }));
+        const twice = eventsOf(acts, [...first, none, none, crashed, first[0], crashed]);
+        assert.deepEqual(twice[8].forgot, { place: 0, value: '10', last: twice[7], decision: null });
+        assert.deepEqual(Cnum.lives.memoryAfter(twice, 0, '10'), { place: 0, value: '10', last: null, decision: null });
+        const told = twice.slice(0, 8);
         assert.deepEqual(told.slice(5).map(it => it.kind), ['decides', 'crashes', 'writes']);
         assert.equal(told[6].forgot.decision, '10');
         assert.deepEqual(run.active(run.after(told.slice(0, 6), PLAN).processes), [1, 2]);
