@@ -25,21 +25,30 @@ impl<'a, R: Eprint> Faults<'a, R> {
         }
     }
 
+    // The line of a fault.
+    fn tell_line(&self, name: Option<&str>, fault: AppFault) {
+        let _ = match name {
+            Some(name) => eprintln!(self.rt; "cnum: {name}: {fault}"),
+            None => eprintln!(self.rt; "cnum: {fault}"),
+        };
+    }
+
+    // What to do about a fault, if there is something to say.
+    fn tell_hint(&self, fault: AppFault, known: &Known<'_>) {
+        if let Some(hint) = fault.hint(known) {
+            let _ = eprintln!(self.rt; "  hint: {hint}");
+        }
+    }
+
     /// Tells a fault, of the table of this name or of no one table, with a hint by what is known.
     pub fn tell_knowing(&mut self, name: Option<&str>, fault: AppFault, known: &Known<'_>) {
         if fault == AppFault::Write {
             self.has_failed = true;
             return;
         }
-        let _ = match name {
-            Some(name) => eprintln!(self.rt; "cnum: {name}: {fault}"),
-            None => eprintln!(self.rt; "cnum: {fault}"),
-        };
-        if !self.is_at_terminal {
-            return;
-        }
-        if let Some(hint) = fault.hint(known) {
-            let _ = eprintln!(self.rt; "  hint: {hint}");
+        self.tell_line(name, fault);
+        if self.is_at_terminal {
+            self.tell_hint(fault, known);
         }
     }
 

@@ -18,9 +18,11 @@ pub fn given_list<'a, D: Disk>(
     ensures { GivesList (left_in D.contents D.Reader.remaining) (D.contents disk.now)
         word.now argument result }
 {
-    let Some(path) = word.strip_prefix('@') else {
-        return Ok(ListText::Word(word));
-    };
-    let mut text = file_text(disk, alloc, path);
-    Ok(ListText::File(read_argument(alloc, &mut text, argument)?))
+    match word.strip_prefix('@') {
+        Some(path) => {
+            let mut text = file_text(disk, alloc, path);
+            Ok(ListText::File(read_argument(alloc, &mut text, argument)?))
+        }
+        None => Ok(ListText::Word(word)),
+    }
 }

@@ -133,7 +133,7 @@ fn obey<T: Threads + Wait + Sync + Disk + Eprint, I: Read + Copy + Drop, O: Writ
     stdin: I,
     first_read: &FirstRead,
     stdout: O,
-    mut faults: Faults<'_, T>,
+    is_at_terminal: bool,
     given: &Invocation<'_>,
 ) -> (ExitCode, PipeWriter<O>)
     ensures { Obeys I.remaining (left_in T.contents T.Reader.remaining) O.contents
@@ -141,6 +141,7 @@ fn obey<T: Threads + Wait + Sync + Disk + Eprint, I: Read + Copy + Drop, O: Writ
 {
     let input = AwaitedInput::new(rt, stdin, first_read);
     let mut output = Output::new(alloc, PipeWriter::new(stdout));
+    let mut faults = Faults::new(rt, is_at_terminal);
     let exit = do_command(rt, alloc, input, &mut output, &mut faults, given);
     let writer = output.into_writer();
     faults.end(!writer.is_broken);
@@ -158,7 +159,7 @@ fn obey_and_tell<
     alloc: Global,
     stdin: I,
     stdout: O,
-    faults: Faults<'_, T>,
+    is_at_terminal: bool,
     given: &Invocation<'_>,
 ) -> (ExitCode, PipeWriter<O>)
     ensures { Obeys I.remaining (left_in T.contents T.Reader.remaining) O.contents
@@ -166,7 +167,7 @@ fn obey_and_tell<
 {
     let first_read = FirstRead::new();
     if !stdin.is_terminal() {
-        return obey(rt, alloc, stdin, &first_read, stdout, faults, given);
+        return obey(rt, alloc, stdin, &first_read, stdout, is_at_terminal, given);
     }
     let (_, done) = join(
         rt,
@@ -179,7 +180,7 @@ fn obey_and_tell<
                 (T.contents rt.entry.now) stdin stdout given.entry.now
                 (exit_status result.0) result.1 }
         {
-            let done = obey(rt, alloc, stdin, &first_read, stdout, faults, given);
+            let done = obey(rt, alloc, stdin, &first_read, stdout, is_at_terminal, given);
             first_read.end(rt);
             done
         },
@@ -229,8 +230,9 @@ fn main(rt: HostRuntime) -> ExitCode {
     };
     match cn_words::parse(rt.alloc(), given.as_slice()) {
         Ok(given) => {
-            let (stdin, stdout, faults) = (rt.stdin(), rt.stdout(), faults_of(&rt));
-            let (exit, _) = obey_and_tell(&rt, rt.alloc(), stdin, stdout, faults, &given);
+            let (stdin, stdout) = (rt.stdin(), rt.stdout());
+            let told = rt.stderr().is_terminal();
+            let (exit, _) = obey_and_tell(&rt, rt.alloc(), stdin, stdout, told, &given);
             exit
         }
         Err(reply) => answer(&rt, reply),

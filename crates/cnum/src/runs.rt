@@ -125,7 +125,7 @@ fn noting_table<I>(
     table: &Text<I>,
     end: Result<Outcome, AppFault>,
 ) -> Result<Outcome, AppFault>
-    ensures { result ≡ end.entry }
+    ensures { result ≡ end }
 {
     match end {
         Ok(Outcome::Refused(fault)) | Err(fault) => {
@@ -144,7 +144,7 @@ fn noting_both<I, C>(
     certificate: &Text<C>,
     end: Result<Outcome, AppFault>,
 ) -> Result<Outcome, AppFault>
-    ensures { result ≡ end.entry }
+    ensures { result ≡ end }
 {
     if let Err(fault) = end {
         known.note_certificate(alloc, fault, &certificate.bytes);
@@ -166,7 +166,7 @@ fn agree<D: Disk, I: Read, C: Read, O: Write>(
     requires texts { IsUnread table.old × IsUnread certificate.old }
     requires output { IsWritable output.old }
     ensures { RunsAgree I.remaining C.remaining (left_in D.contents D.Reader.remaining) O.contents
-        (D.contents disk.now) table.old certificate.old lists.0.now lists.1.now asked
+        (D.contents disk.now) table.old certificate.old lists.entry.0.now lists.entry.1.now asked
         output.old output.new result }
 {
     let inputs = given_list(disk, alloc, lists.0, Argument::Inputs)?;

@@ -14,7 +14,7 @@ returns g c =
           certificate_after = c.agree-end.new.certificate;
           read = c.agree-end.ensures.read;
           order = c.agree-end.ensures.order;
-          reported = c.agree-end.ensures.agreed;
+          reported = rw c.noting_both.ensures c.agree-end.ensures.agreed;
         },
       ),
     )

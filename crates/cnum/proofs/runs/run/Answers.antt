@@ -6,9 +6,9 @@ returns-in-Find g c = (
   c.text_of-table.result,
   c.text_of-table.ensures,
   rw c.in-Find.is (record {
-    after = c.find.new.table;
-    read = c.find.ensures.read;
-    reported = c.find.ensures.found;
+    after = c.find-end.new.table;
+    read = c.find-end.ensures.read;
+    reported = rw c.noting_table.ensures c.find-end.ensures.found;
   }),
 )
 
@@ -17,9 +17,9 @@ returns-in-Lint g c = (
   c.text_of-table.result,
   c.text_of-table.ensures,
   rw c.in-Lint.is (record {
-    after = c.lint.new.table;
-    read = c.lint.ensures.read;
-    reported = c.lint.ensures.linted;
+    after = c.lint-end.new.table;
+    read = c.lint-end.ensures.read;
+    reported = rw c.noting_table-in-Lint.ensures c.lint-end.ensures.linted;
   }),
 )
 
@@ -28,9 +28,9 @@ returns-in-Draw g c = (
   c.text_of-table.result,
   c.text_of-table.ensures,
   rw c.in-Draw.is (record {
-    after = c.draw.new.table;
-    read = c.draw.ensures.read;
-    reported = c.draw.ensures.drawn;
+    after = c.draw-end.new.table;
+    read = c.draw-end.ensures.read;
+    reported = rw c.noting_table-in-Draw.ensures c.draw-end.ensures.drawn;
   }),
 )
 
@@ -39,9 +39,9 @@ returns-in-Why g c = (
   c.text_of-table.result,
   c.text_of-table.ensures,
   rw c.in-Why.is (record {
-    after = c.why.new.table;
-    read = c.why.ensures.read;
-    reported = c.why.ensures.told;
+    after = c.why-end.new.table;
+    read = c.why-end.ensures.read;
+    reported = rw c.noting_table-in-Why.ensures c.why-end.ensures.told;
   }),
 )
 
@@ -50,9 +50,9 @@ returns-in-Pairs g c = (
   c.text_of-table.result,
   c.text_of-table.ensures,
   rw c.in-Pairs.is (record {
-    after = c.pairs.new.table;
-    read = c.pairs.ensures.read;
-    reported = c.pairs.ensures.told;
+    after = c.pairs-end.new.table;
+    read = c.pairs-end.ensures.read;
+    reported = rw c.noting_table-in-Pairs.ensures c.pairs-end.ensures.told;
   }),
 )
 
@@ -64,11 +64,11 @@ returns-in-Check g c = (
     c.text_of.result,
     c.text_of.ensures,
     record {
-      table_after = c.check.new.table;
-      certificate_after = c.check.new.certificate;
-      read = c.check.ensures.read;
+      table_after = c.check-end.new.table;
+      certificate_after = c.check-end.new.certificate;
+      read = c.check-end.ensures.read;
       order = inr tt;
-      reported = c.check.ensures.checked;
+      reported = rw c.noting_table-in-Check.ensures c.check-end.ensures.checked;
     },
   ),
 )
@@ -81,11 +81,11 @@ returns-in-Explain g c = (
     c.text_of-in-Explain.result,
     c.text_of-in-Explain.ensures,
     record {
-      table_after = c.explain.new.table;
-      certificate_after = c.explain.new.certificate;
-      read = c.explain.ensures.read;
+      table_after = c.explain-end.new.table;
+      certificate_after = c.explain-end.new.certificate;
+      read = c.explain-end.ensures.read;
       order = inr tt;
-      reported = c.explain.ensures.explained;
+      reported = rw c.noting_table-in-Explain.ensures c.explain-end.ensures.explained;
     },
   ),
 )
@@ -98,11 +98,11 @@ returns-in-Show g c = (
     c.text_of-in-Show.result,
     c.text_of-in-Show.ensures,
     record {
-      table_after = c.show.new.table;
-      certificate_after = c.show.new.certificate;
-      read = c.show.ensures.read;
+      table_after = c.show-end.new.table;
+      certificate_after = c.show-end.new.certificate;
+      read = c.show-end.ensures.read;
       order = inr tt;
-      reported = c.show.ensures.shown;
+      reported = rw c.noting_table-in-Show.ensures c.show-end.ensures.shown;
     },
   ),
 )
