@@ -19,6 +19,8 @@ TABLES = {str(path.relative_to(TOP).with_suffix("")): path.read_bytes() for path
 BIT, COUNTER = TABLES["types/test_and_set"], TABLES["types/counter_3"]
 # What `serve` prints, tells and answers if no thread can be started.
 NO_THREAD = b"", b"cnum: cannot start a thread\n", 4
+# Steps and crashes of two processes.
+CRASHES = "0,1,0,1,c1,0,0,0,0,0,1,1,1,1,1,1,c0,0,0,0,c0,c1,1,1,1"
 COMMANDS = ("find", "classify", "lint", "check", "explain", "why", "pairs", "show", "draw", "agree", "replay", "serve")
 
 
@@ -79,6 +81,8 @@ class Jobs:
         for form in ("text", "json", "markdown"):
             self.run(["classify", "--recoverable", "--as", form, "-"], table)
             self.run(["why", "--as", form, "-"], table)
+        for n, inputs in (("2", "1,2"), ("3", "1,2,3")):
+            self.run(["agree", "--recoverable", "--processes", n, "--steps", "--as", "json", "-", inputs, CRASHES], table)
         self.run(["classify", "--limit", "3", "T", "-", "T"], table, T=table)
         certificate = self.run(["find", "--limit", "4"], table)
         if not 0 < len(certificate) < MOST_CERTIFICATE:

@@ -6,17 +6,21 @@ const { describe, it } = require('node:test');
 const vm = require('node:vm');
 
 const WEB = path.join(__dirname, '../../web');
-const PARTS = ['texts_en', 'texts_de', 'texts', 'elements', 'answers', 'link', 'table_text', 'table_edits', 'flaw_places', 'notes', 'past'];
-PARTS.push('example_search', 'comparison', 'run', 'schedules', 'space_time', 'dot', 'points', 'layout', 'explanation');
+const PARTS = ['texts_en', 'texts_de', 'texts', 'elements', 'answers', 'run', 'lives', 'link', 'table_text', 'table_edits', 'flaw_places', 'notes'];
+PARTS.push('past', 'example_search', 'comparison', 'schedules', 'space_time', 'tournament', 'dot', 'points', 'layout', 'explanation');
 
 globalThis.Cnum = {};
 for (const part of ['examples', ...PARTS.map(it => `page/${it}`)]) {
     vm.runInThisContext(fs.readFileSync(path.join(WEB, `${part}.js`), 'utf8'), part);
 }
 const { Cnum } = globalThis;
+const { run } = Cnum;
+const step = run.stepOf;
+const stop = process => ({ process, does: run.STOP });
+const crash = process => ({ process, does: run.CRASH });
 
 describe('links', () => {
-    const RUN = [{ process: 1, stops: false }, { process: 0, stops: true }];
+    const RUN = [step(1), stop(0)];
     const SHOWN = { text: 'name = "größe" # →\n', limit: 3, inputs: ['7', '18446744073709551615'], acts: RUN, view: 'run' };
 
     it('hold a table, a limit, a run and a view', async () => {
@@ -28,6 +32,15 @@ describe('links', () => {
         const link = await Cnum.linkOf({ ...SHOWN, example: 'types/idle', view: undefined });
         assert.equal(link, '#example=types/idle&limit=3&inputs=7,18446744073709551615&run=1,x0');
         assert.equal((await Cnum.linkedBy(link)).example, 'types/idle');
+    });
+
+    it('hold crashes, if processes come back', async () => {
+        const acts = [step(1), crash(1), stop(0), step(1)];
+        const link = await Cnum.linkOf({ example: 'types/idle', limit: null, comeBack: true, inputs: ['7', '8'], acts });
+        assert.equal(link, '#example=types/idle&crashes=yes&inputs=7,8&run=1,c1,x0,1');
+        assert.deepEqual(await Cnum.linkedBy(link), { example: 'types/idle', comeBack: true, inputs: ['7', '8'], acts });
+        assert.equal((await Cnum.linkedBy('#crashes=yes')).comeBack, true);
+        assert.equal((await Cnum.linkedBy('#run=0')).comeBack, undefined);
     });
 
     it('have a limit only if one was chosen', async () => {
@@ -57,6 +70,9 @@ describe('links', () => {
         ['#example=nosuch', 'there is no example “nosuch”.'],
         ['#table=%%%', 'its table is damaged. A part of the link may be missing.'],
         ['#run=0,8', 'its run has the step “8”, which no process takes.'],
+        ['#crashes=yes&run=0,cc1', 'its run has the step “cc1”, which no process takes.'],
+        ['#run=0,c1', 'its run has the crash “c1”, and it does not say “crashes=yes”.'],
+        ['#crashes=no', 'it says “crashes=no”, and the page knows only “crashes=yes”.'],
         ['#inputs=1,abc', 'a process proposes “abc” in it, and that is no number.'],
         ['#inputs=1,', 'a process proposes “” in it, and that is no number.'],
         ['#inputs=18446744073709551616', 'a process proposes “18446744073709551616” in it, and that is no number.'],
@@ -66,9 +82,6 @@ describe('links', () => {
     ];
     for (const [link, fault] of REFUSED) it(`refuses ${link}`, async () => assert.deepEqual(await Cnum.linkedBy(link), { fault }));
 });
-
-const step = process => ({ process, stops: false });
-const stop = process => ({ process, stops: true });
 
 describe('a run', () => {
     const PLAN = { nodes: 1, processes: 2, start: 'zero' };
@@ -83,7 +96,6 @@ describe('a run', () => {
         { action: 'apply', node: 0, operation: 'tas', process: 0, response: 'one' },
     ];
     const TABLE = Cnum.examples[0].types[0].text;
-    const { run } = Cnum;
     const events = run.withStates(run.eventsOf(run.withoutStopped(ACTS), STEPS), PLAN, run.movesOf(TABLE));
 
     it('has no act of a process that has decided or stopped', () => {
@@ -99,7 +111,8 @@ describe('a run', () => {
     it('tells what holds after it', () => {
         const { nodes, processes } = run.after(events, PLAN);
         assert.deepEqual([nodes[0].state, nodes[0].A, nodes[0].B], ['one', '10', '20']);
-        assert.deepEqual(processes, [{ steps: 2, decision: null, hasStopped: true }, { steps: 4, decision: '20', hasStopped: false }]);
+        const first = { steps: 2, decision: null, crashes: 0, hasStopped: true };
+        assert.deepEqual(processes, [first, { steps: 4, decision: '20', crashes: 0, hasStopped: false }]);
         assert.deepEqual(run.active(processes), []);
         assert.deepEqual(run.active(run.after(events.slice(0, 5), PLAN).processes), [0]);
     });
@@ -115,23 +128,104 @@ describe('a run', () => {
     });
 });
 
+describe('processes that come back', () => {
+    const write = (process, node, team, value) => ({ action: 'write', node, process, team, value });
+    const look = (process, node, state) => ({ action: 'read', judged: null, node, process, state });
+    const take = (process, node, team, value) => ({ action: 'take', node, process, team, value });
+    const apply = (process, node, operation, response) => ({ action: 'apply', node, operation, process, response });
+    const read = (process, node, state, judged) => ({ action: 'read', judged, node, process, state });
+    const decide = (process, value) => ({ action: 'decide', process, value });
+    // What each of three processes does alone at a sticky bit.
+    const second = [write(1, 1, 'A', 20), look(1, 1, 'unset'), take(1, 1, 'B', null), apply(1, 1, 'put0', 'zero'), read(1, 1, 'zero', 'A'), take(1, 1, 'A', 20)];
+    const third = [write(2, 1, 'B', 30), look(2, 1, 'unset'), apply(2, 1, 'put1', 'one'), read(2, 1, 'one', 'B'), take(2, 1, 'B', 30)];
+    const atRoot = (process, value) => [write(process, 0, 'B', value), look(process, 0, 'unset'), apply(process, 0, 'put1', 'one'), read(process, 0, 'one', 'B'), decide(process, value)];
+    const first = [write(0, 0, 'A', 10), look(0, 0, 'unset'), take(0, 0, 'B', null), apply(0, 0, 'put0', 'zero'), read(0, 0, 'zero', 'A'), decide(0, 10)];
+    const PLAN = Cnum.lives.planOf([first, [...second, ...atRoot(1, 20)], [...third, ...atRoot(2, 30), { action: 'none', process: 2 }]]);
+
+    it('have the plan by which each does its steps alone', () => {
+        const roles = [{ operation: 'put0', team: 'A' }, { operation: 'put1', team: 'B' }];
+        const [a, b] = [{ team: 'A', role: 0 }, { team: 'B', role: 1 }];
+        const paths = [[{ node: 0, ...a }], [{ node: 1, ...a }, { node: 0, ...b }], [{ node: 1, ...b }, { node: 0, ...b }]];
+        assert.deepEqual(PLAN, { comeBack: true, nodes: 2, paths, processes: 3, roles, start: 'unset' });
+        assert.deepEqual([run.mostSteps(PLAN), run.mostSteps({ processes: 3 })], [12, 8]);
+        const ofB = [write(1, 0, 'B', 20), look(1, 0, 'unset'), apply(1, 0, 'put0', 'zero'), read(1, 0, 'zero', 'B'), decide(1, 20)];
+        const both = [{ operation: 'put0', team: 'A' }, { operation: 'put0', team: 'B' }];
+        assert.deepEqual(Cnum.lives.planOf([first, ofB]).roles, both);
+    });
+
+    const ACTS = [...Array(5).fill(step(2)), step(2), crash(2), step(2), step(0), stop(0), crash(1), crash(0)];
+    const STEPS = [...third, write(2, 0, 'B', 30), { action: 'crash', process: 2 }, write(2, 1, 'B', 30), write(0, 0, 'A', 10), { action: 'crash', process: 1 }];
+    const INPUTS = ['10', '20', '30'];
+    const eventsOf = (acts, steps) => Cnum.lives.withForgotten(run.withStates(run.eventsOf(run.withoutStopped(acts), steps), PLAN, () => 'one'), INPUTS);
+    const events = eventsOf(ACTS, STEPS);
+
+    it('crash in the schedule, and stop beside it', () => {
+        assert.equal(run.scheduleOf(run.withoutStopped(ACTS)), '2,2,2,2,2,2,c2,2,0,c1');
+        assert.equal(run.scheduleOf([stop(0)]), 'none');
+        const kinds = ['writes', 'looks', 'applies', 'reads', 'takes', 'writes', 'crashes', 'writes', 'writes', 'stops', 'crashes'];
+        assert.deepEqual(events.map(it => it.kind), kinds);
+        assert.deepEqual(run.eventsOf([step(0)], [take(0, 0, 'B', null)]), [{ ...step(0), kind: 'misses', node: 0, team: 'B' }]);
+    });
+
+    it('forget their place and their value, and objects and registers keep what they have', () => {
+        assert.deepEqual(events[6].forgot, { place: 1, value: '30', last: events[5], decision: null });
+        assert.deepEqual(events[10].forgot, { place: 0, value: '20', last: null, decision: null });
+        assert.deepEqual(Cnum.lives.memoryAfter(events, 2, '30'), { place: 0, value: '30', last: events[7], decision: null });
+        assert.equal(Cnum.lives.forgottenBy(events, 2), events[6].forgot);
+        assert.equal(Cnum.lives.forgottenBy(events, 0), null);
+        const { nodes, processes } = run.after(events, PLAN);
+        assert.deepEqual(nodes.map(it => [it.state, it.A, it.B]), [['unset', '10', '30'], ['one', '', '30']]);
+        assert.deepEqual(processes.map(it => [it.steps, it.crashes, it.hasStopped]), [[1, 0, true], [0, 1, false], [1, 1, false]]);
+    });
+
+    it('have words for each action of the schema', () => {
+        const { oneOf } = JSON.parse(fs.readFileSync(path.join(WEB, '../docs/schema/life_course.json'), 'utf8')).definitions.step;
+        const actions = oneOf.map(it => it.properties.action.const);
+        const kinds = actions.map(action => run.eventsOf([step(0)], [{ action, process: 0, node: 0, team: 'A', value: 1 }])[0].kind);
+        assert.deepEqual(kinds.filter(it => it !== 'rests' && !(`log_${it}` in Cnum.texts)), []);
+        assert.ok(actions.includes('crash') && kinds.includes('rests'));
+    });
+
+    it('forget their decision too, and go on', () => {
+        const acts = [...Array(8).fill(step(0)), crash(0), step(0), crash(0)];
+        const [none, crashed] = ['none', 'crash'].map(action => ({ action, process: 0 }));
+        const twice = eventsOf(acts, [...first, none, none, crashed, first[0], crashed]);
+        assert.deepEqual(twice[8].forgot, { place: 0, value: '10', last: twice[7], decision: null });
+        assert.deepEqual(Cnum.lives.memoryAfter(twice, 0, '10'), { place: 0, value: '10', last: null, decision: null });
+        const told = twice.slice(0, 8);
+        assert.deepEqual(told.slice(5).map(it => it.kind), ['decides', 'crashes', 'writes']);
+        assert.equal(told[6].forgot.decision, '10');
+        assert.deepEqual(run.active(run.after(told.slice(0, 6), PLAN).processes), [1, 2]);
+        assert.deepEqual(run.active(run.after(told, PLAN).processes), [0, 1, 2]);
+        const { marks, lines } = Cnum.placeRun(told, INPUTS, text => 8 * text.length);
+        assert.deepEqual(marks.slice(5).map(it => it.texts), [['decides 10', ''], ['crashes', 'forgets 10'], ['writes 10', 'A of node 0']]);
+        assert.ok(lines[0].to > marks[7].x);
+        assert.equal(Cnum.placeRun(events, INPUTS, text => 8 * text.length).marks[6].texts[1], 'forgets its place');
+    });
+});
+
 describe('an adversary', () => {
     // Runs of processes that take so many steps each, and decide the value that `decide` gives.
     const runOf = (counts, decide) => schedule => {
         const taken = counts.map(() => 0);
-        const events = schedule.filter(it => taken[it]++ < counts[it]).map(process => ({ process, kind: 'writes' }));
-        const last = counts.map((_, process) => events.map(it => it.process).lastIndexOf(process));
-        last.forEach((at, process) => (events[at] = { process, kind: 'decides', value: decide(events, process) }));
+        const events = [];
+        for (const act of schedule) {
+            if (act.does === run.CRASH) taken[act.process] = 0;
+            else if (taken[act.process]++ >= counts[act.process]) continue;
+            const hasDecided = act.does === run.STEP && taken[act.process] === counts[act.process];
+            const kind = act.does === run.CRASH ? 'crashes' : hasDecided ? 'decides' : 'writes';
+            events.push({ ...act, kind, ...(hasDecided && { value: decide(events, act.process) }) });
+        }
         return { events, inputs: counts.map((_, process) => String(process)) };
     };
     const always = () => '0';
-    const tried = (counts, decide) => Cnum.tryToBreak(counts.length, async schedule => runOf(counts, decide)(schedule), () => {});
+    const tried = (counts, decide, more) => Cnum.tryToBreak({ processes: counts.length, ...more }, async it => runOf(counts, decide)(it), () => {});
 
     it('tries each schedule of two processes once', async () => {
         const seen = new Set();
-        const run = runOf([4, 4], always);
-        const found = await Cnum.tryToBreak(2, async schedule => {
-            const made = run(schedule);
+        const made4 = runOf([4, 4], always);
+        const found = await Cnum.tryToBreak({ processes: 2 }, async schedule => {
+            const made = made4(schedule);
             seen.add(made.events.map(it => it.process).join(''));
             return made;
         }, () => {});
@@ -146,6 +240,52 @@ describe('an adversary', () => {
     it('tries those of three processes up to a bound', async () => {
         // 3 ** 5 first steps but one, in which a process of 4 steps would take 5. In 10 of them it has decided.
         assert.equal((await tried([4, 8, 8], always)).count, 10 * 2 + 232 * 6);
+    });
+
+    // How many words there are of so many acts of processes that take so many steps in a life, with at most so many crashes; the
+    // processes that have not decided then go on in any order.
+    function words(counts, acts, crashes, taken = counts.map(() => 0)) {
+        const going = counts.map((_, process) => process).filter(it => taken[it] < counts[it]);
+        if (!acts) return [1, 1, 2, 6][going.length];
+        const having = (process, steps) => taken.map((it, index) => (index === process ? steps : it));
+        const stepped = going.map(it => words(counts, acts - 1, crashes, having(it, taken[it] + 1)));
+        const begun = counts.map((_, process) => process).filter(it => crashes && taken[it]);
+        return [...stepped, ...begun.map(it => words(counts, acts - 1, crashes - 1, having(it, 0)))].reduce((sum, it) => sum + it, 0);
+    }
+
+    it('tries schedules of processes that come back up to a bound', async () => {
+        assert.equal(words([4, 4], 8, 0), 70);
+        assert.equal((await tried([5, 6], always, { comeBack: true })).count, words([5, 6], 7, 2));
+        assert.equal((await tried([2, 3, 5], always, { comeBack: true })).count, words([2, 3, 5], 4, 1));
+    });
+
+    it('lets processes crash at random', async () => {
+        const { count, worst, broken } = await tried([9, 9, 18, 18], always, { comeBack: true });
+        assert.deepEqual([count, broken], [500, null]);
+        assert.ok(worst.events.filter(it => it.kind === 'crashes').length > 1);
+        assert.ok((await tried([9, 9, 18, 18], always)).worst.events.every(it => it.kind !== 'crashes'));
+    });
+
+    // Two processes at a test-and-set bit: each writes, applies, and decides its own value if it was first.
+    function atBit(schedule) {
+        const [taken, won] = [[0, 0], []];
+        let isSet = false;
+        const events = schedule.flatMap(({ process, does }) => {
+            if (does === run.STEP && taken[process] === 3) return [];
+            taken[process] = does === run.CRASH ? 0 : taken[process] + 1;
+            if (taken[process] === 2) [won[process], isSet] = [!isSet, true];
+            const kind = does === run.CRASH ? 'crashes' : taken[process] === 3 ? 'decides' : 'writes';
+            return [{ process, does, kind, value: String(won[process] ? process : 1 - process) }];
+        });
+        return { events, inputs: ['0', '1'] };
+    }
+
+    it('finds the crash that breaks the agreement by a test-and-set bit', async () => {
+        const by = async plan => (await Cnum.tryToBreak(plan, async it => atBit(it), () => {})).broken;
+        assert.equal(await by({ processes: 2 }), null);
+        const { events } = await by({ processes: 2, comeBack: true });
+        assert.deepEqual(events.filter(it => it.kind === 'crashes').length, 1);
+        assert.equal(new Set(events.filter(it => it.kind === 'decides').map(it => it.value)).size, 2);
     });
 
     it('tries more processes at random', async () => assert.equal((await tried([4, 8, 12, 12], always)).count, 500));
@@ -502,7 +642,7 @@ const PATTERNS = {
     'dot.js': [/\s*("(?:[^"\\]|\\.)*"|->|\w+|[^\s\w"])/y], // DOT
     'dropped_file.js': [/\.toml(\.txt)?$/i], // the name of a file
     'example_search.js': [/[-_/\s]+/g], // what the reader looks for
-    'link.js': [/\+/g, /\//g, /=+$/, /-/g, /_/g, /^[2-8]$/, /^x?[0-7]$/, /^\d{1,20}$/], // links
+    'link.js': [/\+/g, /\//g, /=+$/, /-/g, /_/g, /^[2-8]$/, /^[xc]?[0-7]$/, /^\d{1,20}$/], // links
     'page.js': [/^(.*?), proved (by .*)\n$/, /^\w+$/, / /g], // the version; a name of a type; a number for a name of a file
     'run_view.js': [/^(?:Digit|Numpad)([0-7])$/], // a key
     'table_edits.js': [/^[^\n]*\n?/], // TOML

@@ -6,6 +6,7 @@ import contextlib
 import functools
 import http.server
 import json
+import math
 import pathlib
 import random
 import re
@@ -17,7 +18,8 @@ import tomllib
 
 import jobs
 from calls import TOP, TYPES, called, found
-from table import table_text
+from lives import Lives, recording_witnesses, told_event
+from table import Table, table_text
 
 PAGE = (TOP / "web/index.html").as_uri()
 FIRST = 1.0  # seconds to the first number
@@ -620,6 +622,102 @@ def log_of(acts, lines, table, start):
     return told
 
 
+def lives_of(name, n):
+    """The lives of n processes at this type, of its first recording witness, as the tests have them."""
+    table = Table(TYPES[name])
+    return Lives(table, *next(recording_witnesses(table, n)))
+
+
+def acts_of_lives(source, lives):
+    """Steps and crashes at random that count, and then steps of each process until it has decided; and what is told of each."""
+    inputs = [10 * (p + 1) for p in range(lives.n)]
+    world, acts, told = lives.first_world(inputs), [], []
+    chosen = [(source.randrange(lives.n), source.random() < 0.15) for _ in range(8 * lives.n)]
+    for process, crashes in [*chosen, *((p, False) for p in range(lives.n) for _ in range(6 * lives.n))]:
+        if not crashes and len(world[2][process]) == 1:
+            continue
+        acts.append((process, crashes))
+        told.append((process, told_event(lives, world, process, crashes)[0]))
+        world = lives.crash(world, process, inputs) if crashes else lives.step(world, process)
+    return acts, told, world
+
+
+CRASH_ACTS = """(async acts => {
+    for (const [process, crashes] of acts) {
+        document.querySelectorAll('.process')[process].querySelectorAll('.buttons button')[crashes ? 2 : 0].click();
+    }
+    await Cnum.page.protocol.update();
+})(%s)"""
+LOG_WITHOUT_CHANGES = """[...document.querySelectorAll('.log li')].map(it => it.firstChild.textContent)"""
+CHANGES = """[...document.querySelectorAll('.log .change')].map(it => it.textContent.trim())"""
+CRASHED = "#example=types/sticky_bit&crashes=yes&inputs=10,20,30&run=2,2,2,2,2,2,2,c2,0,2,2,2,2,2,2,2,2,c2"
+
+
+def crashes(use):
+    """Processes that crash and come back: the page shows what the tests make of the same acts, and what a process forgot."""
+    source = random.Random(5)
+    use.open()
+    use.value("document.getElementById('come-back').click()")
+    well = use.until("/no protocol lets two agree/.test(document.getElementById('protocol').textContent)") and use.count(".process") == 0
+    yield "where the recoverable number is 1, no protocol lets two agree", well, use.text("protocol")
+    for name, n in (("sticky_bit", 2), ("sticky_bit", 3), ("three_shot", 2)):
+        use.choose(f"types/{name}")
+        use.limit(n)
+        lives = lives_of(name, n)
+        yield f"{name}: so many processes", use.count(".process") == n and f"for {n} processes" in use.text("come-back-said"), use.text("come-back-said")
+        for turn in range(6):
+            acts, told, world = acts_of_lives(source, lives)
+            use.do("await Cnum.page.protocol.set([]);")
+            use.value(CRASH_ACTS % json.dumps(acts))
+            shown, wanted = use.value(LOG_WITHOUT_CHANGES), [f"process {p}: {it}" for p, it in told]
+            yield f"{name} for {n}, run {turn}: a line for each act", shown == wanted, (shown, wanted)
+            decided = [re.search(r"decides \d+", it)[0] for it in use.texts(".decision")]
+            yield f"{name} for {n}, run {turn}: the decisions", decided == [f"decides {it[0]}" for it in world[2]], (decided, world)
+    for _ in range(5):
+        use.do("await Cnum.page.protocol.set([]);")
+        use.press("Random run")
+        decisions = use.until(DECIDED) and use.value("[...new Set(Cnum.page.protocol.events.filter(it => it.kind === 'decides').map(it => it.value))].length")
+        yield "a random run ends, and all decisions in it are one", decisions in (0, 1), decisions
+
+
+def forgotten(use):
+    """What a process forgot, in the log, at the process, in the diagram and in the tournament; undo, the slider, keys and links."""
+    use.open(CRASHED)
+    told = use.value(CHANGES)
+    yield "each crash tells what is forgotten", told[1::2] == ["(forgets: node 0, value 30, last step: reads unset)", "(forgets: decision 30)"], told
+    seen = use.texts(".memory")[2], use.texts(".forgot"), use.texts(".decision")[2]
+    wanted = "Memory: node 1, value 30", ["", "", "Forgot: decision 30"], "0 steps, undecided, crashed 2 times"
+    yield "a process knows nothing but its proposal again", seen == wanted, seen
+    yield "objects and registers keep their contents", use.texts("#protocol td")[:3] == ["unset → one, put1 answered one", "10", "30"], use.texts("#protocol td")
+    marks = use.texts(".space-time .crashes"), use.count(".space-time .bolt"), use.value(TEXTS_MEET % ".space-time")
+    yield "the diagram marks each crash", marks == (["crashes"] * 2, 2, []), marks
+    places = use.texts(".tournament .lit"), use.texts(".tournament .forgotten")
+    yield "the tournament tells where each is, and the place that is forgotten", places == (["A 0: put0", "A 1: put0", "B 2: put1"], ["B 2: put1"]), places
+    use.slide(8)
+    yield "the slider leads back", use.texts(".forgot")[2] == "Forgot: node 0, value 30, last step: reads unset", use.texts(".forgot")
+    use.press("Undo")
+    yield "a crash is undone", use.until("document.querySelectorAll('.log li').length === 7") and use.texts(".forgot")[2] == "", use.texts(".forgot")
+    yield "the link says so", use.until("location.hash.endsWith('&crashes=yes&inputs=10,20,30&run=2,2,2,2,2,2,2')", 5), use.value("location.hash")
+    use.value("document.querySelector('.process button').focus()")
+    for code, kind in (("KeyC", "looks"), ("Digit2", "crashes"), ("Digit2", "writes"), ("KeyC", "writes"), ("KeyU", "crashes"), ("Shift Digit1", "stops")):
+        use.press_code(code.split()[-1], code.startswith("Shift"))
+        use.do("await Cnum.page.protocol.update();")
+        last = use.value("Cnum.page.protocol.events.slice(0, Cnum.page.protocol.position).pop().kind")
+        yield f"key {code}", last == kind, last
+    buttons = use.value("[...document.querySelectorAll('.process')].map(it => [...it.querySelectorAll('.buttons button')].map(one => one.disabled))")
+    yield "who has stopped does not crash", buttons == [[False] * 3, [True] * 3, [False] * 3], buttons
+    use.open("#example=types/three_shot&crashes=yes")
+    yield "as many processes as the recoverable number", use.count(".process") == 2 and use.text("limit-said").startswith("Why is for 3"), use.text("limit-said")
+    use.value("document.getElementById('come-back').click()")
+    well = use.until("document.querySelectorAll('.process').length === 3") and use.text("limit-said").startswith("Why and the protocol are for 3")
+    yield "and back", well and use.until("location.hash === '#example=types/three_shot'", 5), use.value("location.hash")
+    use.open(f"{CRASHED}&lang=de")
+    yield "in German", use.texts(".log li")[7].startswith("Prozess 2: stürzt ab (vergisst: Knoten 0, Wert 30"), use.texts(".log li")
+    for wrong in ("#example=types/test_and_set&crashes=yes&run=0,1", "#example=types/three_shot&crashes=yes&inputs=1,2,3&run=0", "#example=types/idle&run=c0"):
+        use.open(wrong)
+        yield f"refused: {wrong}", use.text("trouble").startswith("This link cannot be shown: ") and use.is_hidden("content"), use.text("trouble")
+
+
 def pictured_runs(use):
     """A run as a picture: the states of objects, the space-time diagram, the slider, the keys."""
     use.open("#example=types/three_shot&run=1,1,2,2,0,x0,1")
@@ -672,10 +770,42 @@ def adversaries(use):
     use.limit(4)
     use.press("Try to break it")
     yield "schedules of four, at random", use.until(TRIED, 120) and use.trial().startswith("500 schedules, chosen at random"), use.trial()
+    for name, n, acts, crashes in (("sticky_bit", 2, 7, 2), ("sticky_bit", 3, 4, 1)):
+        use.open(f"#example=types/{name}&limit={n}&crashes=yes")
+        count = tried_lives(lives_of(name, n), acts, crashes)
+        use.press("Try to break it")
+        well = use.until(TRIED, 120) and use.trial().startswith(f"All {count} schedules agree whose first {acts} acts are steps and crashes")
+        yield f"schedules of {n} that come back", well, (count, use.trial())
+        shown = use.value("Cnum.page.protocol.events.filter(it => it.kind === 'crashes').length")
+        yield "the one that is shown has crashes", shown == crashes, shown
+    use.choose("catalogue/cas_3")
+    use.limit(4)
+    use.press("Try to break it")
+    yield "schedules of four that come back", use.until(TRIED, 120) and use.trial().startswith("500 schedules with crashes"), use.trial()
     use.press("Try to break it")
     use.until("/^[1-9]/.test(document.querySelector('.trial').textContent)")
     use.press("Break it off")
     yield "it can be broken off", use.trial() == "The trial was broken off.", use.trial()
+    use.open("#example=types/three_shot&crashes=yes")
+    use.press("Try to break it")
+    use.choose("types/sticky_bit")
+    yield "another table ends it", (use.count(".process"), use.trial(), use.texts(".log li")) == (8, "", []), use.trial()
+
+
+def tried_lives(lives, acts, crashes):
+    """How many schedules have so many first acts, of which at most so many are crashes of a process that has taken a step since its
+    last one, and after them the processes one after another, in any order, each until it decides."""
+    inputs = list(range(lives.n))
+    first = lives.first_world(inputs)[2]
+
+    def count(world, left, may):
+        going = [p for p in range(lives.n) if len(world[2][p]) > 1]
+        if not left:
+            return math.factorial(len(going))
+        crashed = [lives.crash(world, p, inputs) for p in range(lives.n) if may and world[2][p] != first[p]]
+        return sum(count(lives.step(world, p), left - 1, may) for p in going) + sum(count(it, left - 1, may - 1) for it in crashed)
+
+    return count(lives.first_world(inputs), acts, crashes)
 
 
 def keys(use):
@@ -760,14 +890,15 @@ def one_file(use):
             yield "it answers alone in a folder", use.has_number("2"), use.text("trouble")
             times.append(time.monotonic() - began)
         yield f"in less than {FIRST} s", min(times) < FIRST, times
-        use.open("#example=types/three_shot&run=0,1,x1", page=alone)
-        use.value("Cnum.page.protocol.update()")
-        names = [use.saved(room, "Cnum.page.address.savePage()")]
-        before = use.seen()
-        use.open(page=names[0])
-        yield "a saved page shows its table and its run", use.seen() == before and names[0].name == "three_shot.html", use.seen()
-        names.append(use.saved(room, "Cnum.page.address.savePage()", "again_"))
-        yield "it can be saved again, the same", names[0].read_bytes() == names[1].read_bytes(), ""
+        for run in ("run=0,1,x1", "crashes=yes&run=0,1,c1"):
+            use.open(f"#example=types/three_shot&{run}", page=alone)
+            use.value("Cnum.page.protocol.update()")
+            names = [use.saved(room, "Cnum.page.address.savePage()")]
+            before = use.seen()
+            use.open(page=names[0])
+            yield f"a saved page shows its table and {run}", use.seen() == before and names[0].name == "three_shot.html", use.seen()
+            names.append(use.saved(room, "Cnum.page.address.savePage()", "again_"))
+            yield "it can be saved again, the same", names[0].read_bytes() == names[1].read_bytes(), ""
         use.give(SLOT)
         use.open(page=use.saved(room, "Cnum.page.address.savePage()"))
         yield "a saved page with a table of one's own", use.table() == SLOT and use.has_number("1"), use.table()
@@ -1092,7 +1223,8 @@ def planted(use):
         yield "the host is as the copy wants it", text.count(PLANTED_AT) == text.count(ANSWERED) == 1, ""
         answered = ANSWERED.replace("{ status", "planted(words, { status").replace("};", "});")
         host.write_text(text.replace(PLANTED_AT, PLANTED + PLANTED_AT).replace(ANSWERED, answered))
-        for path in ("types/three_shot&run=0,1,x1,0,0,2", "types/sticky_bit&run=1,1", "types/idle", "types/wide", "catalogue/queue_2"):
+        lives = "types/three_shot&crashes=yes&run=0,1,1,1,c1,0,0,1"
+        for path in ("types/three_shot&run=0,1,x1,0,0,2", lives, "types/sticky_bit&run=1,1", "types/idle", "types/wide", "catalogue/queue_2"):
             link, shown = f"#example={path}", {}
             for name, page in pages.items():
                 use.open(link, page)
@@ -1114,11 +1246,11 @@ def planted(use):
 
 ALL = (
     first_answer, flaws, examples, meanings, pictures, picture_tools, words, grid, changes, comparisons, example_search, planted,
-    schedules, pictured_runs, adversaries, keys, phone, links, certificates, explanations, searches, one_file, without, for_all,
+    schedules, crashes, forgotten, pictured_runs, adversaries, keys, phone, links, certificates, explanations, searches, one_file, without, for_all,
     paper, slides, languages, foot, quiet, on_a_server, missing_parts,
 )
 # The parts that also run in a browser that is not driven by DevTools.
 WITHOUT_DEVTOOLS = (
-    first_answer, meanings, pictures, words, grid, changes, comparisons, example_search, planted, schedules, pictured_runs, adversaries,
-    keys, links, certificates, explanations, searches, one_file, languages, foot, on_a_server, missing_parts,
+    first_answer, meanings, pictures, words, grid, changes, comparisons, example_search, planted, schedules, crashes, forgotten,
+    pictured_runs, adversaries, keys, links, certificates, explanations, searches, one_file, languages, foot, on_a_server, missing_parts,
 )

@@ -5,7 +5,7 @@ var Cnum = globalThis.Cnum || {};
 (() => {
     'use strict';
 
-    const { say } = Cnum;
+    const { run, say } = Cnum;
     const FORM = 'deflate'; // with a checksum
     const OLD_FORM = 'deflate-raw'; // of links that older pages made
     const FIRST_BYTE = 0x78; // of a text in the form with a checksum
@@ -39,9 +39,11 @@ var Cnum = globalThis.Cnum || {};
         }
     }
 
-    // A list of processes. Each takes a step, or stops if an x stands before it.
-    const wordOf = ({ process, stops }) => (stops ? 'x' : '') + process;
-    const actOf = word => ({ process: Number(word.replace('x', '')), stops: word.startsWith('x') });
+    // A list of processes. Each takes a step, or stops if an x stands before it, or crashes if a c does.
+    const SIGNS = { x: run.STOP, c: run.CRASH };
+    const signOf = does => Object.keys(SIGNS).find(it => SIGNS[it] === does) || '';
+    const wordOf = ({ process, does }) => signOf(does) + process;
+    const actOf = word => ({ process: Number(word.slice(-1)), does: SIGNS[word[0]] || run.STEP });
 
     // How the value of each part is read.
     const READ = {
@@ -58,9 +60,10 @@ var Cnum = globalThis.Cnum || {};
         },
         run(value) {
             const words = value.split(',').filter(Boolean);
-            const wrong = words.find(it => !/^x?[0-7]$/.test(it));
+            const wrong = words.find(it => !/^[xc]?[0-7]$/.test(it));
             return wrong === undefined ? { acts: words.map(actOf) } : refuse('link_run', { step: wrong });
         },
+        crashes: value => (value === 'yes' ? { comeBack: true } : refuse('link_crashes', { value })),
         lang: lang => (lang in Cnum.languages ? { lang } : refuse('link_language', { lang })),
         view: view => (VIEWS.includes(view) ? { view } : refuse('link_view', { view })),
     };
@@ -69,10 +72,11 @@ var Cnum = globalThis.Cnum || {};
     Cnum.isInput = text => /^\d{1,20}$/.test(text) && BigInt(text) <= MOST_INPUT;
 
     // The part of the address for what the page shows: the path of an example or a text, the limit if there is one,
-    // the inputs and the acts, the part that is shown alone, and the language.
-    Cnum.linkOf = async function ({ example, text, limit, inputs, acts, view, lang }) {
+    // whether processes crash and come back, the inputs and the acts, the part that is shown alone, and the language.
+    Cnum.linkOf = async function ({ example, text, limit, comeBack, inputs, acts, view, lang }) {
         const parts = [example ? `example=${example}` : `table=${await packed(text)}`];
         if (limit) parts.push(`limit=${limit}`);
+        if (comeBack) parts.push('crashes=yes');
         if (acts.length) parts.push(`inputs=${inputs.join(',')}`, `run=${acts.map(wordOf).join(',')}`);
         if (view) parts.push(`view=${view}`);
         if (lang && lang !== Cnum.FIRST_LANGUAGE) parts.push(`lang=${lang}`);
@@ -93,6 +97,8 @@ var Cnum = globalThis.Cnum || {};
             if (!Object.keys(READ).includes(key)) refuse('link_part', { part: key });
             Object.assign(found, await READ[key](value));
         }
+        const crash = found.acts.find(it => it.does === run.CRASH);
+        if (crash && !found.comeBack) refuse('link_crash', { step: wordOf(crash) });
         return found;
     }
 

@@ -12,6 +12,7 @@ var Cnum = globalThis.Cnum || {};
     const PROVED = /^(.*?), proved (by .*)\n$/;
     const CERTIFICATE = 'certificate';
     const NO_NUMBER = '–';
+    const MOST_PROCESSES = 8; // of a protocol
 
     const at = id => document.getElementById(id);
     const examples = new Map(Cnum.examples.flatMap(group => group.types).map(it => [it.path, it]));
@@ -27,6 +28,7 @@ var Cnum = globalThis.Cnum || {};
             this.past = new Cnum.Past();
             this.certificate = '';
             this.limit = null; // what was chosen for the processes of the protocol, if fewer than the most
+            this.comeBack = false; // whether the processes of the protocol crash and come back
             this.editor = new Cnum.Editor(at('table'), at('marks'), at('flaws'));
             this.grid = new Cnum.Grid(at('grid'), text => this.edit(text));
             this.picture = new Cnum.PictureView(
@@ -85,6 +87,10 @@ var Cnum = globalThis.Cnum || {};
             at('own').addEventListener('click', () => this.edit(Cnum.FIRST_TABLE));
             at('limit').addEventListener('change', () => {
                 this.limit = at('limit').value === String(this.most) ? null : Number(at('limit').value);
+                this.refresh();
+            });
+            at('come-back').addEventListener('change', () => {
+                this.comeBack = at('come-back').checked;
                 this.refresh();
             });
             this.listenToUndo();
@@ -221,9 +227,11 @@ var Cnum = globalThis.Cnum || {};
             return values[0] && values.map(it => it.number);
         }
 
-        // Shows what a link says. If it has no limit, there are as many processes as it has inputs.
+        // Shows what a link says. If it has no limit, there are as many processes as it has inputs. Those that come back may
+        // be fewer than those of why.
         async showLinked(linked) {
-            this.limit = linked.limit || (linked.inputs.length > 1 ? linked.inputs.length : null);
+            this.comeBack = at('come-back').checked = Boolean(linked.comeBack);
+            this.limit = linked.limit || (linked.inputs.length > 1 && !linked.comeBack ? linked.inputs.length : null);
             this.text = linked.text === undefined ? examples.get(linked.example || FIRST_EXAMPLE).text : linked.text;
             await this.refresh(linked);
         }
@@ -232,7 +240,8 @@ var Cnum = globalThis.Cnum || {};
         linkContent() {
             const example = this.example();
             const { inputs } = this.protocol;
-            return { example: example && example.path, text: this.text, limit: this.limit, inputs, acts: this.protocol.actsSoFar() };
+            const { text, limit, comeBack } = this;
+            return { example: example && example.path, text, limit, comeBack, inputs, acts: this.protocol.actsSoFar() };
         }
 
         // Ends what runs, so that nothing is shown any more.
@@ -240,6 +249,7 @@ var Cnum = globalThis.Cnum || {};
             this.round++;
             this.search.breakOff();
             this.adversary.breakOff();
+            this.protocol.end();
         }
 
         // Runs a command on the table that is shown. The answer is null if another table has come since.
@@ -284,7 +294,7 @@ var Cnum = globalThis.Cnum || {};
             this.picture.clear();
             at('claim-said').textContent = '';
             at('claim-file').value = '';
-            at('recoverable').textContent = '';
+            at('recoverable').textContent = at('come-back-said').textContent = '';
             at('limit-said').textContent = '';
             at('limit-part').hidden = true;
             at('legend').hidden = true;
@@ -307,15 +317,23 @@ var Cnum = globalThis.Cnum || {};
             const classify = await this.found(['classify', '--as', 'json', '-']);
             if (!classify) return;
             this.tellNumber(JSON.parse(classify.stdout).number);
-            await this.showEvidence(linked);
-            await this.showRecoverable();
+            const hasEvidence = await this.showEvidence();
+            if (hasEvidence && !this.comeBack) await this.showProtocol(linked);
+            const recoverable = await this.showRecoverable();
+            if (recoverable && this.comeBack) await this.showLives(linked, recoverable);
         }
 
+        // Finds the recoverable number, and shows it.
         async showRecoverable() {
             const answer = await this.timed(this.ask(this.search, ['classify', '--recoverable', '--as', 'json', '-']));
-            if (!answer || answer.status !== 0) return;
+            if (!answer) return null;
+            if (answer.status !== 0) {
+                if (this.comeBack) this.refuseLives(Cnum.inWords(answer));
+                return null;
+            }
             const { recoverable } = JSON.parse(answer.stdout);
             at('recoverable').textContent = say('recoverable', { number: Cnum.numberText(recoverable) });
+            return recoverable;
         }
 
         // The answer of a search. If it is a fault, the page says so, and there is no answer.
@@ -326,19 +344,19 @@ var Cnum = globalThis.Cnum || {};
             return null;
         }
 
-        // Finds the certificate for as many processes as the program can, or as were chosen, and shows why and the
-        // protocol.
-        async showEvidence(linked) {
+        // Finds the certificate for as many processes as the program can, or as were chosen, and shows why. The answer
+        // is whether there is one.
+        async showEvidence() {
             const most = await this.found(['find']);
             const find = most && (await this.findChosen(most));
-            if (!find) return;
+            if (!find) return false;
             this.certificate = find.stdout;
             at('download').disabled = false;
             const why = await this.found(this.whyWords('--as', 'json'));
-            if (!why) return;
+            if (!why) return false;
             Cnum.showExplanation(at('why'), JSON.parse(why.stdout), { all: () => this.explainAll(), printed: () => this.printedWhy() });
             Cnum.explainWords(at('why'));
-            await this.showProtocol(linked);
+            return true;
         }
 
         // The certificate for the chosen processes, if they are fewer than those of this one.
@@ -349,7 +367,7 @@ var Cnum = globalThis.Cnum || {};
             return this.limit ? this.found(['find', '--limit', String(this.limit)]) : most;
         }
 
-        // Says for how many processes why and the protocol are, and lets one choose fewer.
+        // Says for how many processes why and the protocol are, and lets one choose fewer. Those that come back may be others.
         offerLimits() {
             const { most, limit, number } = this;
             const options = Array.from({ length: most - 1 }, (_, index) => element('option', {}, String(index + 2)));
@@ -357,7 +375,8 @@ var Cnum = globalThis.Cnum || {};
             at('limit').value = limit || most;
             at('limit-part').hidden = most < 3;
             const key = limit ? 'evidence_chosen' : most < Cnum.mostOf(number) ? 'evidence_most' : 'evidence_whole';
-            at('limit-said').textContent = most === 1 ? '' : say(key, { count: limit || most, most });
+            const parts = say(this.comeBack ? 'evidence_why' : 'evidence_parts');
+            at('limit-said').textContent = most === 1 ? '' : say(key, { parts, count: limit || most, most });
         }
 
         // The words that ask why the number is what it is, as far as was chosen.
@@ -386,13 +405,56 @@ var Cnum = globalThis.Cnum || {};
             }
             const find = await this.ask(this.search, ['find', '--limit', String(number)]);
             if (!find) return;
-            this.witness = { [CERTIFICATE]: find.stdout };
-            const show = await this.ask(this.search, ['show', '--as', 'json', CERTIFICATE], this.witness);
+            const witness = { [CERTIFICATE]: find.stdout };
+            this.agreement = { words: ['agree', '--steps', '--as', 'json', CERTIFICATE], files: witness, table: this.table };
+            const show = await this.ask(this.search, ['show', '--as', 'json', CERTIFICATE], witness);
             if (!show) return;
-            const plan = JSON.parse(show.stdout);
+            await this.showPlan(JSON.parse(show.stdout), linked);
+        }
+
+        async showPlan(plan, linked) {
             if (!this.address.fits(linked, plan.processes)) return;
             this.draw(plan);
             await this.protocol.show(plan, linked.inputs, linked.acts);
+        }
+
+        // Says why there is no protocol of processes that come back.
+        refuseLives(why) {
+            this.draw(null);
+            at('come-back-said').textContent = '';
+            this.protocol.clear(why);
+        }
+
+        // The protocol of processes that crash and come back, as many as a link has or as were chosen, if so many can agree.
+        // The program tells its plan by the steps of each process alone.
+        async showLives(linked, recoverable) {
+            const most = Math.min(MOST_PROCESSES, Cnum.leastOf(recoverable));
+            if (most < 2) {
+                if (this.address.fits(linked, 1)) this.refuseLives(say('nobody_comes_back'));
+                return;
+            }
+            const wanted = linked.inputs.length > 1 ? linked.inputs.length : this.limit;
+            const processes = Math.min(most, wanted || most);
+            at('come-back-said').textContent = say('come_back_said', { count: processes });
+            const words = ['agree', '--recoverable', '--processes', String(processes), '--steps', '--as', 'json', '-'];
+            this.agreement = { words, files: {}, table: this.table };
+            const runs = await this.runsAlone(processes);
+            if (runs) await this.showPlan(Cnum.lives.planOf(runs), linked);
+        }
+
+        // The steps of each process alone. If they do not come, the answer is null.
+        async runsAlone(processes) {
+            const { mostSteps, scheduleOf, stepOf } = Cnum.run;
+            const runs = [];
+            for (let process = 0; process < processes; process++) {
+                const acts = Array(mostSteps({ processes, comeBack: true })).fill(stepOf(process));
+                const words = [...this.agreement.words, Cnum.firstInputs(processes).join(','), scheduleOf(acts)];
+                const answer = await this.timed(this.ask(this.search, words));
+                if (answer && answer.status !== 0) this.refuseLives(Cnum.inWords(answer));
+                if (!answer || answer.status !== 0) return null;
+                runs.push(Cnum.exactValueOf(answer.stdout).steps);
+            }
+            return runs;
         }
 
         // The picture, with the start and the teams of this plan, if there is one.
@@ -423,6 +485,7 @@ var Cnum = globalThis.Cnum || {};
         breakOff() {
             this.search.breakOff();
             if (at('number').textContent === NO_NUMBER) at('meaning').textContent = say('search_broken_off');
+            else if (this.comeBack && this.certificate) this.refuseLives(say('search_broken_off'));
             else this.refuse(say('certificate_broken_off'));
         }
 
@@ -446,7 +509,8 @@ var Cnum = globalThis.Cnum || {};
         }
 
         agree(runner, words) {
-            return runner.run(['agree', '--steps', '--as', 'json', CERTIFICATE, ...words], this.table, this.witness);
+            const { words: before, table, files } = this.agreement;
+            return runner.run([...before, ...words], table, files);
         }
 
         // Checks a certificate of somebody else by this table.

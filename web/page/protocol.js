@@ -31,12 +31,12 @@ var Cnum = globalThis.Cnum || {};
             this.place.replaceChildren(element('p', { class: 'quiet' }, why));
         }
 
-        // Shows the plan of `show --as json`, after these acts with these inputs.
+        // Shows the plan of `show --as json`, or one of processes that come back, after these acts with these inputs.
         show(plan, inputs, acts) {
             this.plan = plan;
             this.answers = new Map();
             this.next = this.page.next();
-            this.inputs = inputs.length === plan.processes ? inputs : plan.paths.map((_, process) => String(10 * (process + 1)));
+            this.inputs = inputs.length === plan.processes ? inputs : Cnum.firstInputs(plan.processes);
             this.view = new Cnum.RunView(this.place, this);
             return this.set(acts);
         }
@@ -49,8 +49,8 @@ var Cnum = globalThis.Cnum || {};
         }
 
         // An act after what is shown. What came behind that is forgotten.
-        act(process, stops) {
-            return this.set([...this.actsSoFar(), { process, stops }]);
+        act(process, does) {
+            return this.set([...this.actsSoFar(), { process, does }]);
         }
 
         actsSoFar() {
@@ -78,23 +78,38 @@ var Cnum = globalThis.Cnum || {};
             return run.active(run.after(this.events.slice(0, this.position), this.plan).processes);
         }
 
-        // Lets each process that goes on take a step in turn, until all have decided.
-        runAll() {
-            const round = this.activeProcesses().map(process => ({ process, stops: false }));
-            return this.set([...this.actsSoFar(), ...Array(4 * this.plan.processes).fill(round).flat()]);
+        // The processes that go on, and of those that come back each that has not stopped.
+        processesThatMayAct() {
+            const { processes } = run.after(this.events.slice(0, this.position), this.plan);
+            const all = processes.map((_, process) => process).filter(it => !processes[it].hasStopped);
+            return this.plan.comeBack ? all : run.active(processes);
         }
 
+        // Lets each process that goes on take a step in turn, until all have decided.
+        runAll() {
+            const round = this.activeProcesses().map(run.stepOf);
+            return this.set([...this.actsSoFar(), ...Array(run.mostSteps(this.plan)).fill(round).flat()]);
+        }
+
+        // Lets processes take steps at random. Some stop on the way, and some crash, if they may. Those that go on decide
+        // in the end.
         runRandomly() {
-            let going = this.activeProcesses();
+            let going = this.processesThatMayAct();
             const acts = [];
-            for (let count = 8 * this.plan.processes ** 2; count > 0 && going.length; count--) {
+            for (let count = 2 * this.plan.processes * run.mostSteps(this.plan); count > 0 && going.length; count--) {
                 const process = going[Math.floor(Math.random() * going.length)];
-                const stops = going.length > 1 && Math.random() < STOPS;
-                acts.push({ process, stops });
-                if (stops) going = going.filter(it => it !== process);
+                const does = this.randomAct(going.length > 1);
+                acts.push({ process, does });
+                if (does === run.STOP) going = going.filter(it => it !== process);
             }
-            const rest = going.flatMap(process => Array(4 * this.plan.processes).fill({ process, stops: false }));
+            const rest = going.flatMap(process => Array(run.mostSteps(this.plan)).fill(run.stepOf(process)));
             return this.set([...this.actsSoFar(), ...acts, ...rest]);
+        }
+
+        // A process that may crash does so about twice in such a run, so that it also gets far.
+        randomAct(mayStop) {
+            if (mayStop && Math.random() < STOPS) return run.STOP;
+            return this.plan.comeBack && Math.random() < 1 / run.mostSteps(this.plan) ? run.CRASH : run.STEP;
         }
 
         // What the program says of a run: its events. It is asked only once for each.
@@ -106,13 +121,12 @@ var Cnum = globalThis.Cnum || {};
         }
 
         async ask(agree, acts) {
-            const schedule = acts.filter(it => !it.stops).map(it => it.process);
             const { plan, inputs, next } = this;
-            const answer = await agree([inputs.join(','), schedule.join(',') || 'none']);
+            const answer = await agree([inputs.join(','), run.scheduleOf(acts)]);
             if (answer.isBrokenOff) return null;
             if (answer.status !== 0) return { fault: Cnum.inWords(answer) };
             const { steps } = Cnum.exactValueOf(answer.stdout);
-            return { events: run.withStates(run.eventsOf(acts, steps), plan, next) };
+            return { events: Cnum.lives.withForgotten(run.withStates(run.eventsOf(acts, steps), plan, next), inputs) };
         }
 
         // Runs the acts, and shows what the program says of them.
@@ -125,7 +139,7 @@ var Cnum = globalThis.Cnum || {};
                 return;
             }
             this.events = told.events;
-            this.acts = told.events.map(({ process, stops }) => ({ process, stops }));
+            this.acts = actsOf(told.events);
             this.position = Math.min(this.position, this.acts.length);
             this.render();
             this.page.changed();
@@ -147,14 +161,19 @@ var Cnum = globalThis.Cnum || {};
             const { inputs, plan } = this;
             this.view.showTrial(say('trial_runs', { count: 0 }), true);
             const tryOne = async schedule => {
-                const told = await this.ask(this.page.tryOut, schedule.map(process => ({ process, stops: false })));
+                const told = await this.ask(this.page.tryOut, schedule);
                 return told && !told.fault && turn === this.turn ? { events: told.events, inputs } : null;
             };
-            const found = await Cnum.tryToBreak(plan.processes, tryOne, count => this.view.showTrial(say('trial_runs', { count }), true));
+            const found = await Cnum.tryToBreak(plan, tryOne, count => this.view.showTrial(say('trial_runs', { count }), true));
             if (turn !== this.turn) return;
             const hardest = found.broken || found.worst;
-            await this.set(hardest.events.map(({ process }) => ({ process, stops: false })));
-            this.view.showTrial(trialText(found), false);
+            await this.set(actsOf(hardest.events));
+            if (this.plan === plan) this.view.showTrial(trialText(found, plan), false);
+        }
+
+        // Shows nothing any more of what runs, as the table changes.
+        end() {
+            this.turn++;
         }
 
         // Ends a trial. What was found so far is forgotten.
@@ -165,11 +184,17 @@ var Cnum = globalThis.Cnum || {};
         }
     }
 
-    function trialText({ count, areAll, bound, isWhole, broken }) {
+    const actsOf = events => events.map(({ process, does }) => ({ process, does }));
+
+    function trialText({ count, bound, broken }, { processes, comeBack }) {
         if (broken) return say('trial_broken', { count });
-        const key = !areAll ? 'trial_random' : isWhole ? 'trial_all' : 'trial_bound';
-        return `${say(key, { count, bound })} ${say('trial_shown')}`;
+        if (comeBack) return `${say(bound ? 'trial_lives_bound' : 'trial_lives_random', { count, ...bound })} ${say('trial_lives_shown')}`;
+        const key = !bound ? 'trial_random' : processes === 2 ? 'trial_all' : 'trial_bound';
+        return `${say(key, { count, bound: bound && bound.acts })} ${say('trial_shown')}`;
     }
+
+    // What processes propose if nobody says otherwise.
+    Cnum.firstInputs = processes => Array.from({ length: processes }, (_, process) => String(10 * (process + 1)));
 
     Cnum.Protocol = Protocol;
 })();

@@ -1,38 +1,56 @@
 // A run of the protocol as data: takes the steps of `agree --steps`, and tells what holds after each of the
-// acts. An act is { process, stops }: the process takes a step, or stops for good.
+// acts. An act is { process, does }: the process takes a step, stops for good, or crashes and comes back.
 var Cnum = globalThis.Cnum || {};
 
 (() => {
     'use strict';
 
     const UNDECIDED = null;
+    const STEP = 'step';
+    const STOP = 'stop';
+    const CRASH = 'crash';
     // The kinds of events, by the actions of the steps.
-    const KINDS = { write: 'writes', apply: 'applies', read: 'reads', take: 'takes', decide: 'decides', none: 'rests' };
+    const KINDS = { write: 'writes', apply: 'applies', read: 'reads', take: 'takes', decide: 'decides', none: 'rests', crash: 'crashes' };
+
+    // The kind of a step. A process that comes back may read the start state before its operation, which tells no team, and
+    // find nothing in a register.
+    function kindOf({ action, judged, value }) {
+        if (judged === null) return 'looks';
+        return action === 'take' && value === null ? 'misses' : KINDS[action];
+    }
 
     // A step as an event. The values of processes are texts, and the team of a read is the one that it judges to have
     // come first.
-    function eventOf({ action, process, judged, value, ...rest }) {
-        return { kind: KINDS[action], ...rest, ...(judged && { team: judged }), ...(value !== undefined && { value: String(value) }) };
+    function eventOf({ action, process, judged, value = null, ...rest }) {
+        const kind = kindOf({ action, judged, value });
+        return { kind, ...rest, ...(judged && { team: judged }), ...(value !== null && { value: String(value) }) };
     }
 
     // The acts without those of a process that has stopped before.
     function withoutStopped(acts) {
         const stopped = new Set();
-        return acts.filter(({ process, stops }) => {
+        return acts.filter(({ process, does }) => {
             if (stopped.has(process)) return false;
-            if (stops) stopped.add(process);
+            if (does === STOP) stopped.add(process);
             return true;
         });
     }
 
+    // The acts as `agree` takes them: it knows no process that stops.
+    function scheduleOf(acts) {
+        const items = acts.filter(it => it.does !== STOP).map(({ process, does }) => (does === CRASH ? `c${process}` : String(process)));
+        return items.join(',') || 'none';
+    }
+
     // The acts with what the program says of each step. A process that has decided takes no step and cannot
-    // stop, so that such acts are left out.
+    // stop, so that such acts are left out. It can crash.
     function eventsOf(acts, steps) {
         const decided = new Set();
         let count = 0;
         return acts.flatMap(act => {
-            const event = act.stops ? { kind: 'stops' } : eventOf(steps[count++]);
-            if (decided.has(act.process)) return [];
+            const event = act.does === STOP ? { kind: 'stops' } : eventOf(steps[count++]);
+            if (event.kind === 'crashes') decided.delete(act.process);
+            else if (decided.has(act.process)) return [];
             if (event.kind === 'decides') decided.add(act.process);
             return [{ ...act, ...event }];
         });
@@ -51,14 +69,16 @@ var Cnum = globalThis.Cnum || {};
     }
 
     // What holds after these events: of each node the state of its object, the last operation on it and its
-    // registers; of each process its steps, its decision and whether it has stopped.
+    // registers; of each process its steps and its decision since it last crashed, its crashes, and whether it has
+    // stopped.
     function after(events, plan) {
         const nodes = Array.from({ length: plan.nodes }, () => ({ state: plan.start, last: null, A: '', B: '' }));
-        const processes = Array.from({ length: plan.processes }, () => ({ steps: 0, decision: UNDECIDED, hasStopped: false }));
+        const processes = Array.from({ length: plan.processes }, () => ({ steps: 0, decision: UNDECIDED, crashes: 0, hasStopped: false }));
         for (const event of events) {
             const process = processes[event.process];
+            if (event.does === STEP) process.steps++;
             if (event.kind === 'stops') process.hasStopped = true;
-            else process.steps++;
+            if (event.kind === 'crashes') Object.assign(process, { steps: 0, decision: UNDECIDED, crashes: process.crashes + 1 });
             if (event.kind === 'decides') process.decision = event.value;
             if (event.kind === 'writes') nodes[event.node][event.team] = event.value;
             if (event.kind === 'applies') Object.assign(nodes[event.node], { state: event.after, last: event });
@@ -72,6 +92,9 @@ var Cnum = globalThis.Cnum || {};
         return processes.map((_, process) => process).filter(it => goesOn(processes[it]));
     }
 
+    // The most steps that a process takes without a crash before it has decided.
+    const mostSteps = ({ processes, comeBack }) => (comeBack ? 6 : 4) * (processes - 1);
+
     // The function that gives the state after an operation in a state, by the text of a table.
     function movesOf(text) {
         const table = new Cnum.TableText(text);
@@ -80,5 +103,7 @@ var Cnum = globalThis.Cnum || {};
         return (operation, state) => rows.get(operation)[states.indexOf(state)];
     }
 
-    Cnum.run = { UNDECIDED, withoutStopped, eventsOf, withStates, after, active, movesOf };
+    const stepOf = process => ({ process, does: STEP });
+
+    Cnum.run = { UNDECIDED, STEP, STOP, CRASH, stepOf, withoutStopped, scheduleOf, eventsOf, withStates, after, active, mostSteps, movesOf };
 })();

@@ -5,10 +5,21 @@ var Cnum = globalThis.Cnum || {};
 (() => {
     'use strict';
 
-    const { button, element, run, say, tableOf, wide } = Cnum;
+    const { button, element, lives, run, say, tableOf, wide } = Cnum;
 
-    // The text of the change of an object.
-    const changeOf = ({ before, after }) => say('object_change', { before, after });
+    // What an event changed, as a text in brackets: the state of an object, or what a process remembers. An event that
+    // changed neither has none.
+    function changeOf({ process, before, after, forgot }, plan) {
+        if (forgot) return say('log_forgets', { memory: memoryText(forgot, plan.paths[process]) });
+        return before ? say('object_change', { before, after }) : '';
+    }
+
+    // What a process remembers, in words.
+    function memoryText({ place, value, last, decision }, path) {
+        if (decision !== run.UNDECIDED) return say('memory_decision', { value: decision });
+        const { node } = path[place];
+        return last ? say('memory_step', { node, value, step: Cnum.shortText(last) }) : say('memory_place', { node, value });
+    }
 
     class RunView {
         // Shows the run of this protocol in this place.
@@ -51,7 +62,9 @@ var Cnum = globalThis.Cnum || {};
             ];
             const label = element('label', { for: 'run-place' }, say('run_place'));
             const place = element('p', { class: 'run-place' }, label, this.slider, this.count);
-            const keys = element('p', { class: 'quiet hint keys' }, say('run_keys', { last: this.plan.processes - 1 }));
+            const last = this.plan.processes - 1;
+            const ofCrashes = this.plan.comeBack ? [' ', say('run_keys_crash')] : [];
+            const keys = element('p', { class: 'quiet hint keys' }, say('run_keys', { last }), ...ofCrashes);
             return element('div', { class: 'controls' }, element('div', { class: 'buttons' }, ...buttons), place, keys, this.trial);
         }
 
@@ -62,7 +75,8 @@ var Cnum = globalThis.Cnum || {};
         figures() {
             this.states = this.protocol.page.picture();
             const states = wide(say('states_of_run'), this.states);
-            const objects = element('div', {}, element('h3', {}, ...Cnum.marked('nodes')), this.nodes, this.object, states);
+            const kept = this.plan.comeBack ? [element('p', { class: 'quiet' }, say('objects_stay'))] : [];
+            const objects = element('div', {}, element('h3', {}, ...Cnum.marked('nodes')), this.nodes, ...kept, this.object, states);
             return [
                 element('h3', {}, say('diagram')),
                 this.diagram,
@@ -73,6 +87,7 @@ var Cnum = globalThis.Cnum || {};
 
         tournament() {
             const picture = Cnum.tournamentOf(this.plan);
+            this.meetings = picture;
             const head = element('h3', {}, say('tournament'));
             return element('div', {}, head, wide(say('tournament'), picture), this.savings('tournament', () => picture));
         }
@@ -85,23 +100,28 @@ var Cnum = globalThis.Cnum || {};
 
         column(path, process) {
             const { protocol } = this;
-            const step = button(say('step'), () => protocol.act(process, false), { 'aria-label': say('step_of', { process }) });
-            const stop = button(say('stop'), () => protocol.act(process, true), { 'aria-label': say('stop_of', { process }) });
+            const buttonOf = (does, label, about) => button(label, () => protocol.act(process, does), { 'aria-label': about });
+            const step = buttonOf(run.STEP, say('step'), say('step_of', { process }));
+            const stop = buttonOf(run.STOP, say('stop'), say('stop_of', { process }));
+            const crash = buttonOf(run.CRASH, say('crash'), say('crash_of', { process }));
             const places = path.map(({ node, team, role }) => {
                 const mark = element('span', { class: `team-${team}` }, say('team', { team }));
                 return element('li', {}, say('node_of_path', { node }), mark, `, ${this.plan.roles[role].operation}`);
             });
             const decision = element('p', { class: 'decision' });
+            const memory = element('p', { class: 'memory' });
+            const forgot = element('p', { class: 'forgot' });
             const whole = element(
                 'section',
                 { class: 'process', 'aria-labelledby': `process-${process}` },
                 element('h3', { id: `process-${process}` }, say('process', { process })),
                 ...this.proposal(process),
                 element('ul', {}, ...places),
-                element('div', { class: 'buttons' }, step, stop),
+                element('div', { class: 'buttons' }, step, stop, ...(this.plan.comeBack ? [crash] : [])),
                 decision,
+                ...(this.plan.comeBack ? [memory, forgot] : []),
             );
-            return { whole, step, stop, decision };
+            return { whole, step, stop, crash, decision, memory, forgot };
         }
 
         // The field for what a process proposes. What is no number is marked, and changes nothing.
@@ -124,17 +144,20 @@ var Cnum = globalThis.Cnum || {};
             return [element('label', { for: id }, say('proposes')), input, onPaper, wrong];
         }
 
-        // A number lets that process take a step, with Shift it stops, and u takes back what came last.
+        // A number lets that process take a step, with Shift it stops, and behind a c it crashes. The letter u takes back what
+        // came last.
         listen() {
             const section = this.place.closest('section');
             section.onkeydown = event => {
-                if (event.ctrlKey || event.altKey || event.metaKey || event.target.matches('input:not([type=range])')) return;
+                if (event.ctrlKey || event.altKey || event.metaKey || event.target.matches('input:not([type=range], [type=checkbox])')) return;
+                const { isBehindC } = this;
+                this.isBehindC = event.code === 'KeyC' && Boolean(this.protocol.plan && this.plan.comeBack);
                 const digit = /^(?:Digit|Numpad)([0-7])$/.exec(event.code);
                 const isThere = digit && Number(digit[1]) < this.plan.processes && this.protocol.plan;
-                if (!isThere && event.code !== 'KeyU') return;
+                if (isThere) this.protocol.act(Number(digit[1]), isBehindC ? run.CRASH : event.shiftKey ? run.STOP : run.STEP);
+                else if (event.code === 'KeyU') this.protocol.undo();
+                else if (!this.isBehindC) return;
                 event.preventDefault();
-                if (isThere) this.protocol.act(Number(digit[1]), event.shiftKey);
-                else this.protocol.undo();
             };
         }
 
@@ -157,6 +180,7 @@ var Cnum = globalThis.Cnum || {};
             this.slider.value = events.length;
             this.count.textContent = say('run_count', { count: events.length, whole });
             this.columns.forEach((column, process) => this.showColumn(column, now.processes[process]));
+            if (this.plan.comeBack) this.showMemories(events);
             this.showLog(events);
             this.showDiagram(events);
             this.showNodes(now.nodes);
@@ -165,21 +189,35 @@ var Cnum = globalThis.Cnum || {};
 
         // A button that had the focus and cannot be pressed any more hands it to the section, so that the keys
         // still work.
-        showColumn({ step, stop, decision, whole }, { steps, decision: value, hasStopped }) {
+        showColumn({ step, stop, crash, decision, whole }, { steps, decision: value, crashes, hasStopped }) {
             const hasDecided = value !== run.UNDECIDED;
-            const hadFocus = [step, stop].includes(document.activeElement);
+            const focused = [step, stop, crash].find(it => it === document.activeElement);
             step.disabled = stop.disabled = hasStopped || hasDecided;
-            if (hadFocus && step.disabled) this.slider.focus();
+            crash.disabled = hasStopped;
+            if (focused && focused.disabled) this.slider.focus();
             whole.classList.toggle('stopped', hasStopped);
             whole.classList.toggle('decided', hasDecided);
             const count = say(steps === 1 ? 'one_step' : 'steps', { steps });
             const parts = [count, hasDecided ? say('decides', { value }) : say('undecided'), ...(hasStopped ? [say('stopped')] : [])];
+            if (crashes) parts.push(say(crashes === 1 ? 'one_crash' : 'crashes', { crashes }));
             decision.textContent = parts.join(', ');
+        }
+
+        // What each process remembers, and what it forgot when it last crashed.
+        showMemories(events) {
+            this.columns.forEach(({ memory, forgot }, process) => {
+                const path = this.plan.paths[process];
+                const now = lives.memoryAfter(events, process, this.protocol.inputs[process]);
+                const before = lives.forgottenBy(events, process);
+                memory.textContent = say('remembers', { memory: memoryText(now, path) });
+                forgot.textContent = before ? say('forgot', { memory: memoryText(before, path) }) : '';
+                if (this.meetings) Cnum.showPlace(this.meetings, process, path[now.place].node, before && path[before.place].node);
+            });
         }
 
         showLog(events) {
             const lineOf = it => say(`log_${it.kind}`, it);
-            const changes = it => (it.before ? [element('span', { class: 'change' }, changeOf(it))] : []);
+            const changes = it => [changeOf(it, this.plan)].filter(Boolean).map(text => element('span', { class: 'change' }, text));
             this.log.replaceChildren(...events.map(it => element('li', {}, lineOf(it), ...changes(it))));
             this.log.scrollTop = this.log.scrollHeight;
             const last = events[events.length - 1];

@@ -21,6 +21,7 @@ var Cnum = globalThis.Cnum || {};
         .label .badge { fill: #fff; font-weight: bold; font-size: 11px }
         .world-line, .cross { stroke: #444; fill: none; stroke-width: 1.5 }
         .cross { stroke: #a3131a; stroke-width: 2.5 }
+        .bolt { fill: #a3131a }
         .heads rect { fill: #fff }
         .space-time .team-A { fill: #0060a8 }
         .space-time .team-B { fill: #b34700 }

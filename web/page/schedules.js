@@ -1,56 +1,72 @@
-// The schedules that an adversary tries: all of them up to a bound, or some at random. A schedule is tried by
-// one run of the program, to the end of every process.
+// The schedules that an adversary tries: all of them up to a bound, or some at random. A schedule is a list of acts. It is
+// tried by one run of the program, to the end of every process.
 var Cnum = globalThis.Cnum || {};
 
 (() => {
     'use strict';
 
-    // After so many steps, in which each process may be the next, each goes on alone until it decides. Two
-    // processes together take no more steps than that, so that no schedule is left out for them.
-    const BOUNDS = { 2: 8, 3: 5 };
+    const { CRASH, STEP, mostSteps, stepOf } = Cnum.run;
+    // The first acts are in any order, with so many crashes among them. After them each process goes on alone until it
+    // decides. Two processes together take no more than 8 steps, so that no schedule is left out for them.
+    const BOUNDS = { 2: { acts: 8, crashes: 0 }, 3: { acts: 5, crashes: 0 } };
+    const BOUNDS_OF_LIVES = { 2: { acts: 7, crashes: 2 }, 3: { acts: 4, crashes: 1 } };
     const AT_RANDOM = 500;
 
-    // The most steps that a process takes before it has decided.
-    const mostSteps = processes => 4 * (processes - 1);
+    const boundOf = ({ processes, comeBack }) => (comeBack ? BOUNDS_OF_LIVES : BOUNDS)[processes];
+    const crashOf = process => ({ process, does: CRASH });
 
     // The processes one after the other, each until it has decided.
-    const alone = processes => Array.from({ length: processes * mostSteps(processes) }, (_, index) => Math.floor(index / mostSteps(processes)));
-
-    // Who may take the step at this place of a run, in which these steps came before and these processes go
-    // on. Beyond the bound, a process that has begun goes on alone.
-    function choices(steps, going, bound) {
-        const last = steps[steps.length - 1];
-        return steps.length > bound && going.includes(last) ? [last] : going;
+    function alone(plan) {
+        return Array.from({ length: plan.processes }, (_, process) => Array(mostSteps(plan)).fill(stepOf(process))).flat();
     }
 
-    // The beginning of the next schedule after this one, or null if it was the last. `decidedAt` tells for
-    // each process at which place it decided.
-    function nextBeginning(steps, decidedAt, bound) {
-        for (let at = steps.length - 1; at >= 0; at--) {
-            const before = steps.slice(0, at);
-            const going = decidedAt.map((_, process) => process).filter(it => decidedAt[it] >= at);
-            const other = choices(before, going, bound).find(it => it > steps[at]);
-            if (other !== undefined) return [...before, other];
+    // The events of a process since it last crashed.
+    function lifeOf(process, events) {
+        const own = events.filter(it => it.process === process);
+        return own.slice(own.map(it => it.does).lastIndexOf(CRASH) + 1);
+    }
+
+    const hasDecided = life => life.some(it => it.kind === 'decides');
+    const crashesIn = events => events.filter(it => it.does === CRASH).length;
+
+    // What may come at this place of a run, behind these events: the steps of those who go on, and then the crashes of those
+    // who have something to forget. Beyond the bound, a process that has begun goes on alone, and none crashes.
+    function choices(events, processes, { acts, crashes }) {
+        const lives = Array.from({ length: processes }, (_, process) => lifeOf(process, events));
+        const going = lives.map((_, process) => process).filter(it => !hasDecided(lives[it]));
+        const last = events.length && events[events.length - 1].process;
+        if (events.length > acts && going.includes(last)) return [stepOf(last)];
+        const mayCrash = events.length < acts && crashesIn(events) < crashes;
+        const begun = lives.map((_, process) => process).filter(it => mayCrash && lives[it].length);
+        return [...going.map(stepOf), ...begun.map(crashOf)];
+    }
+
+    const isSame = (a, b) => a.process === b.process && a.does === b.does;
+
+    // The beginning of the next schedule after this run, or null if it was the last.
+    function nextBeginning(events, processes, bound) {
+        for (let at = events.length - 1; at >= 0; at--) {
+            const before = events.slice(0, at);
+            const possible = choices(before, processes, bound);
+            const other = possible[possible.findIndex(it => isSame(it, events[at])) + 1];
+            if (other) return [...before.map(({ process, does }) => ({ process, does })), other];
         }
         return null;
     }
 
     // A beginning with the processes after it, of which the first to go on is the one that begins.
-    function completion(beginning, processes, bound) {
-        const last = beginning.length > bound ? [beginning[beginning.length - 1]] : [];
-        return [...beginning, ...last.flatMap(it => Array(mostSteps(processes)).fill(it)), ...alone(processes)];
+    function completion(beginning, plan, bound) {
+        const last = beginning.length > bound.acts ? [beginning[beginning.length - 1].process] : [];
+        return [...beginning, ...last.flatMap(it => Array(mostSteps(plan)).fill(stepOf(it))), ...alone(plan)];
     }
 
-    // Goes through all schedules up to the bound. `run` gives the steps of a schedule that count, those of
-    // processes that had not decided; `judge` is told of each.
-    async function all(processes, run, judge) {
-        const bound = BOUNDS[processes];
+    // Goes through all schedules up to the bound. `run` gives the events of a schedule; `judge` is told of each.
+    async function all(plan, run, judge) {
+        const bound = boundOf(plan);
         for (let beginning = []; beginning; ) {
-            const attempt = await run(completion(beginning, processes, bound));
+            const attempt = await run(completion(beginning, plan, bound));
             if (!attempt || !judge(attempt)) return;
-            const steps = attempt.events.map(it => it.process);
-            const decidedAt = Array.from({ length: processes }, (_, process) => steps.lastIndexOf(process));
-            beginning = nextBeginning(steps, decidedAt, bound);
+            beginning = nextBeginning(attempt.events, plan.processes, bound);
         }
     }
 
@@ -62,37 +78,58 @@ var Cnum = globalThis.Cnum || {};
         }
     }
 
-    async function atRandom(processes, run, judge) {
-        const source = numbers(processes);
+    async function atRandom(plan, run, judge) {
+        const source = numbers(plan.processes);
+        const number = () => source.next().value;
+        // Each process crashes about once, so that its lives are long enough.
+        const crashes = () => plan.comeBack && number() < 1 / (2 * mostSteps(plan));
+        const act = () => ({ process: Math.floor(number() * plan.processes), does: crashes() ? CRASH : STEP });
         for (let count = 0; count < AT_RANDOM; count++) {
-            const word = Array.from({ length: 2 * processes * mostSteps(processes) }, () => Math.floor(source.next().value * processes));
-            const attempt = await run([...word, ...alone(processes)]);
+            const word = Array.from({ length: 2 * plan.processes * mostSteps(plan) }, act);
+            const attempt = await run([...word, ...alone(plan)]);
             if (!attempt || !judge(attempt)) return;
         }
     }
 
     // How often the turn goes from one process to another.
-    const turns = events => events.filter((it, index) => index > 0 && it.process !== events[index - 1].process).length;
+    const turnsIn = events => events.filter((it, index) => index > 0 && it.process !== events[index - 1].process).length;
 
-    // Whether the processes of a run agree on the input of one of them, each within its most steps.
-    function isRight({ events, inputs }) {
-        const decisions = events.filter(it => it.kind === 'decides');
-        const areSame = decisions.every(it => it.value === decisions[0].value && inputs.map(BigInt).includes(BigInt(it.value)));
-        const counts = inputs.map((_, process) => events.filter(it => it.process === process).length);
-        return decisions.length === inputs.length && areSame && counts.every(it => it <= mostSteps(inputs.length));
+    // Whether a run has more crashes than another, or as many and more turns.
+    function isHarder({ events }, other) {
+        const more = crashesIn(events) - crashesIn(other.events);
+        return more > 0 || (more === 0 && turnsIn(events) > turnsIn(other.events));
     }
 
-    // Tries schedules. `run` gives for a schedule { events, inputs }, or null to end early. Answers how many
-    // there were, the one with the most turns, and the one that is not right, if there is any.
-    Cnum.tryToBreak = async function (processes, run, tell) {
-        const found = { count: 0, areAll: processes in BOUNDS, bound: BOUNDS[processes], isWhole: processes === 2, worst: null, broken: null };
+    // Whether no process takes more steps without a crash than it takes at most.
+    function areShort(events, plan) {
+        const taken = Array(plan.processes).fill(0);
+        return events.every(({ process, does }) => {
+            taken[process] = does === CRASH ? 0 : taken[process] + 1;
+            return taken[process] <= mostSteps(plan);
+        });
+    }
+
+    // Whether the processes of a run agree on the input of one of them, whenever they decide, and each has decided in the
+    // end, within its most steps.
+    function isRight({ events, inputs }, plan) {
+        const decisions = events.filter(it => it.kind === 'decides');
+        const areSame = decisions.every(it => it.value === decisions[0].value && inputs.map(BigInt).includes(BigInt(it.value)));
+        const haveDecided = inputs.every((_, process) => hasDecided(lifeOf(process, events)));
+        return haveDecided && areSame && areShort(events, plan);
+    }
+
+    // Tries schedules of a plan. `run` gives for a schedule { events, inputs }, or null to end early. Answers how many there
+    // were, the bound if they are all up to it, of those with the most crashes the one with the most turns, and the one
+    // that is not right, if there is any.
+    Cnum.tryToBreak = async function (plan, run, tell) {
+        const found = { count: 0, bound: boundOf(plan), worst: null, broken: null };
         const judge = attempt => {
             tell(++found.count);
-            if (!isRight(attempt)) found.broken = attempt;
-            if (!found.worst || turns(attempt.events) > turns(found.worst.events)) found.worst = attempt;
+            if (!isRight(attempt, plan)) found.broken = attempt;
+            if (!found.worst || isHarder(attempt, found.worst)) found.worst = attempt;
             return !found.broken;
         };
-        await (found.areAll ? all : atRandom)(processes, run, judge);
+        await (found.bound ? all : atRandom)(plan, run, judge);
         return found;
     };
 })();

@@ -1,5 +1,5 @@
 // The run as a space-time diagram: a line for each process, from left to right a mark for each step with what
-// it did, a cross where a process stops, and its decision at the end of its line.
+// it did, a cross where a process stops, a bolt where it crashes, and its decision.
 var Cnum = globalThis.Cnum || {};
 
 (() => {
@@ -18,11 +18,22 @@ var Cnum = globalThis.Cnum || {};
     const TEXTS = {
         writes: it => [say('st_writes', it), say('st_register', it)],
         applies: it => [say('st_applies', it), say('st_node', it)],
+        looks: it => [say('st_reads', it), say('st_node', it)],
         reads: it => [say('st_reads', it), say('st_node', it)],
+        misses: it => [say('st_misses'), say('st_register', it)],
         takes: it => [say('st_takes', it), say('st_register', it)],
         decides: it => [say('st_decides', it), ''],
         stops: () => [say('st_stops'), ''],
+        crashes: it => [say('st_crashes'), forgottenText(it.forgot)],
     };
+
+    // What a process forgets: its decision, or else its place.
+    function forgottenText({ decision }) {
+        return decision === Cnum.run.UNDECIDED ? say('st_forgets_place') : say('st_forgets', { value: decision });
+    }
+
+    // What a step did, as one short text.
+    Cnum.shortText = event => TEXTS[event.kind](event)[0];
 
     // The places of a run: for each event its point and texts, and for each process its line. `widthOf` gives
     // the width of a text.
@@ -46,14 +57,20 @@ var Cnum = globalThis.Cnum || {};
 
     const square = (x, y, half, more) => svgElement('rect', { x: x - half, y: y - half, width: 2 * half, height: 2 * half, ...more });
 
+    const openCircle = ({ x, y }) => svgElement('circle', { cx: x, cy: y, r: MARK, class: 'open' });
+    const openSquare = ({ x, y }) => square(x, y, MARK - 1, { class: 'open' });
+
     // The shape of each kind of step.
     const SHAPES = {
         writes: ({ x, y }, team) => square(x, y, MARK - 1, { class: team }),
         applies: ({ x, y }, team) => svgElement('circle', { cx: x, cy: y, r: MARK + 1, class: team }),
-        reads: ({ x, y }) => svgElement('circle', { cx: x, cy: y, r: MARK, class: 'open' }),
-        takes: ({ x, y }) => square(x, y, MARK - 1, { class: 'open' }),
+        looks: openCircle,
+        reads: openCircle,
+        misses: openSquare,
+        takes: openSquare,
         decides: ({ x, y }) => svgElement('circle', { cx: x, cy: y, r: MARK + 2, class: 'end' }),
         stops: ({ x, y }) => svgElement('path', { d: `M${x - 7},${y - 7}l14,14m0,-14l-14,14`, class: 'cross' }),
+        crashes: ({ x, y }) => svgElement('path', { d: `M${x + 3},${y - 10}l-9,11h5l-3,9l9,-12h-5z`, class: 'bolt' }),
     };
 
     function mark(it, teamOf) {

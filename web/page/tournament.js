@@ -20,7 +20,7 @@ var Cnum = globalThis.Cnum || {};
         for (const { path, process, at } of comers) {
             const below = at > 0 ? `node ${path[at - 1].node}` : `process ${process}`;
             const way = ways.get(below) || { team: path[at].team, lines: [] };
-            way.lines.push(`${process}: ${plan.roles[path[at].role].operation}`);
+            way.lines.push({ process, text: `${process}: ${plan.roles[path[at].role].operation}` });
             way.child = at > 0 ? way.child || treeOf(plan, path[at - 1].node) : { process, ways: [] };
             ways.set(below, way);
         }
@@ -34,7 +34,7 @@ var Cnum = globalThis.Cnum || {};
     function place(tree, left, floor, widthOf) {
         let right = left;
         for (const way of tree.ways) {
-            way.room = 2 * Math.max(...way.lines.map(it => widthOf(`A ${it}`)), widthOf(nameOf(way.child)) / 2) + 2 * GAP;
+            way.room = 2 * Math.max(...way.lines.map(it => widthOf(`A ${it.text}`)), widthOf(nameOf(way.child)) / 2) + 2 * GAP;
             place(way.child, right, floor + 1, widthOf);
             right += Math.max(way.room, way.child.width);
         }
@@ -70,10 +70,11 @@ var Cnum = globalThis.Cnum || {};
         const [from, to] = [heightOf(child.floor) - BOX / 2, heightOf(tree.floor) + BOX / 2];
         const path = svgElement('path', { class: `way way-${team}`, d: `M${child.x},${from}L${tree.x},${to}` });
         const isLeft = child.x < tree.x;
-        const labels = lines.map((line, index) => {
+        const labels = lines.map(({ process, text }, index) => {
             const y = from - 8 - LINE * (lines.length - 1 - index);
             const x = child.x + ((tree.x - child.x) * (from - y)) / (from - to) + (isLeft ? -8 : 8);
-            return svgElement('text', { x, y, 'text-anchor': isLeft ? 'end' : 'start', class: `way-${team}` }, `${team} ${line}`);
+            const whose = { 'data-process': process, 'data-node': tree.node };
+            return svgElement('text', { x, y, 'text-anchor': isLeft ? 'end' : 'start', class: `way-${team}`, ...whose }, `${team} ${text}`);
         });
         return svgElement('g', { class: 'label' }, path, ...labels);
     }
@@ -81,6 +82,16 @@ var Cnum = globalThis.Cnum || {};
     function parts(tree, widthOf) {
         return [...tree.ways.flatMap(it => [way(tree, it), ...parts(it.child, widthOf)]), box(tree, widthOf)];
     }
+
+    // Lights up in a tournament at which node a process is, and marks the node that it forgot when it last crashed, which is
+    // null if there is none.
+    Cnum.showPlace = function (picture, process, node, forgotten) {
+        for (const it of picture.querySelectorAll(`[data-process="${process}"]`)) {
+            const isAt = place => it.dataset.node === String(place);
+            it.classList.toggle('lit', isAt(node));
+            it.classList.toggle('forgotten', isAt(forgotten) && !isAt(node));
+        }
+    };
 
     // The tournament of a plan, as an element.
     Cnum.tournamentOf = function (plan) {
