@@ -15,4 +15,4 @@ returns-in-OfTable g c = rw c.in-OfTable.is (c.run-end.result, c.run-end.ensures
 
 pub returns-in-Lives : goal.returns-in-Lives
 returns-in-Lives g c =
-    rw c.in-Lives.is (c.run_lives-end.result, c.run_lives-end.ensures, c.command_exit.ensures)
+    rw c.in-Lives.is (c.run_lives-end.result, c.run_lives-end.ensures, c.command_exit-in-Lives.ensures)
