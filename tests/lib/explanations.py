@@ -76,15 +76,22 @@ def pair(table, it):
     return {"response": table.responses[it[0]], "state": table.states[it[1]]}
 
 
+def steps(table, state, operations, order):
+    """The steps of a run."""
+    told = []
+    for process in order:
+        response, state = table.act(operations[process], state)
+        told.append(
+            {"operation": table.operations[operations[process]], "process": process, "response": table.responses[response], "state": table.states[state]}
+        )
+    return told
+
+
 def run(table, state, operations, order, process):
     """A run of a collision, and what the process sees of it."""
-    steps, got = [], None
-    for other in order:
-        response, state = table.act(operations[other], state)
-        named = {"operation": table.operations[operations[other]], "process": other, "response": table.responses[response], "state": table.states[state]}
-        steps.append(named)
-        got = response if other == process else got
-    return {"pair": pair(table, (got, state)), "steps": steps}
+    told = steps(table, state, operations, order)
+    got = next(step["response"] for step in told if step["process"] == process)
+    return {"pair": {"response": got, "state": told[-1]["state"]}, "steps": told}
 
 
 def processes(table, a, b):

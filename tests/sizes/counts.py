@@ -1,19 +1,10 @@
 """`find` near 100,000 choices; with no limit and for each limit, the types that tell from 2 to 8 times which team was first."""
-import math
 import pathlib
 import tempfile
 
 from calls import answer, called, fault
+from choices import MOST_CHOICES, count
 from tables import idle, shots
-
-MOST = 100_000
-
-
-def count(states, operations, n):
-    """The number of canonical choices for n processes."""
-    lists = lambda k: math.comb(operations + k - 1, k)
-    below = sum(lists(k) * lists(n - k) for k in range(1, (n + 1) // 2))
-    return states * (below + (lists(n // 2) * (lists(n // 2) + 1) // 2 if n % 2 == 0 else 0))
 
 
 def found(states, operations, limit):
@@ -27,7 +18,7 @@ def edges():
     near = [it for it in sizes if 90_000 <= count(*it) <= 110_000 or count(*it) > 3_000_000]
     assert {98_847, 101_472, 3_822_192} <= {count(*it) for it in near}
     for s, o, n in near:
-        wanted = answer(found(s, o, n)) if count(s, o, n) <= MOST else fault(f"find: 2 TooManyChoices {count(s, o, n)}")
+        wanted = answer(found(s, o, n)) if count(s, o, n) <= MOST_CHOICES else fault(f"find: 2 TooManyChoices {count(s, o, n)}")
         yield f"{s} states, {o} operations, limit {n}", lambda s=s, o=o, n=n: called(["find", "--limit", str(n)], idle(s, o)), wanted
 
 

@@ -13,3 +13,4 @@ pub mod Replay
 pub mod Serve
 pub mod Show
 pub mod Why
+pub mod WhyRecoverable

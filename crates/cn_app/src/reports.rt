@@ -16,6 +16,7 @@ mod replay;
 mod serve;
 mod show;
 mod why;
+mod why_recoverable;
 
 pub use agree::{AskedRun, agree_report};
 pub use check::check_report;
@@ -30,3 +31,4 @@ pub use replay::replay_report;
 pub use serve::serve_report;
 pub use show::show_report;
 pub use why::why_report;
+pub use why_recoverable::why_recoverable_report;

@@ -31,3 +31,4 @@ mod witness_table;
 pub use explanation::explanation_markdown;
 pub use numbers::{number_head, number_row};
 pub use pair_forms::{pairs_lines, pairs_table};
+pub use type_table::{push_name_rule, push_type_table};

@@ -19,7 +19,7 @@ fn push_name_rule_cells(text: &mut String, columns: usize) -> Result<(), AllocEr
 }
 
 /// The line below the head of a table of names, for so many columns.
-pub(crate) fn push_name_rule(text: &mut String, columns: usize) -> Result<(), AllocError>
+pub fn push_name_rule(text: &mut String, columns: usize) -> Result<(), AllocError>
     ensures { OnOk result (string_bytes text.new ≡ string_bytes text.old ++ name_rule columns) }
 {
     text.push_str("|")?;
@@ -113,7 +113,7 @@ fn push_operation_rows(text: &mut String, table: &Table) -> Result<(), AllocErro
 
 /// The type as a Markdown table: a row for each operation, a column for each state.
 #[tactic(auto, unfolding(crate::specs::TypeTable::type_markdown))]
-pub(crate) fn push_type_table(text: &mut String, table: &Table) -> Result<(), AllocError>
+pub fn push_type_table(text: &mut String, table: &Table) -> Result<(), AllocError>
     ensures { OnOk result (string_bytes text.new
         ≡ string_bytes text.old ++ type_markdown table.now) }
 {

@@ -10,7 +10,7 @@ mod groups;
 pub(crate) mod pairs;
 pub(crate) mod text;
 pub(crate) mod value;
-mod ways;
+pub(crate) mod ways;
 
 use crate::explained::folded::push_folded;
 use crate::explained::groups::push_witness_rows;
@@ -95,7 +95,7 @@ fn push_witness_start(
 }
 
 #[tactic(auto, unfolding(crate::specs::Explained::witness_line))]
-fn push_witness_line(
+pub fn push_witness_line(
     text: &mut String,
     table: &Table,
     number: u8,
@@ -180,7 +180,7 @@ fn push_count(text: &mut String, count: usize) -> Result<(), AllocError>
     }
 }
 
-fn push_more(text: &mut String, more: usize) -> Result<(), AllocError>
+pub fn push_more(text: &mut String, more: usize) -> Result<(), AllocError>
     ensures { OnOk result (string_bytes text.new ≡ string_bytes text.old ++ more_line more) }
 {
     if more == 0 {
@@ -206,7 +206,7 @@ fn push_entries(
 }
 
 /// The ways that a certificate of this version leaves out.
-fn push_left_out(text: &mut String, version: u8) -> Result<(), AllocError>
+pub fn push_left_out(text: &mut String, version: u8) -> Result<(), AllocError>
     ensures { OnOk result (string_bytes text.new ≡ string_bytes text.old ++ left_out version) }
 {
     if version == 1 {
@@ -219,7 +219,7 @@ fn push_left_out(text: &mut String, version: u8) -> Result<(), AllocError>
 
 /// The ways that count as one.
 #[tactic(auto, unfolding(crate::specs::Explained::same_ways))]
-fn push_same_ways(text: &mut String) -> Result<(), AllocError>
+pub fn push_same_ways(text: &mut String) -> Result<(), AllocError>
     ensures { OnOk result (string_bytes text.new ≡ string_bytes text.old ++ same_ways) }
 {
     text.push_str(
@@ -228,7 +228,7 @@ fn push_same_ways(text: &mut String) -> Result<(), AllocError>
 }
 
 #[tactic(auto, unfolding(crate::specs::Explained::theorem_line))]
-pub(crate) fn push_theorem(text: &mut String, n: u16) -> Result<(), AllocError>
+pub fn push_theorem(text: &mut String, n: u16) -> Result<(), AllocError>
     ensures { OnOk result (string_bytes text.new ≡ string_bytes text.old ++ theorem_line n) }
 {
     write!(

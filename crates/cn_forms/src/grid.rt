@@ -50,7 +50,7 @@ fn push_title(text: &mut String, table: &Table) -> Result<(), AllocError>
 /// The cells of the grid: a line with the states, and a line for each operation with its response
 /// and the next state in each state.
 #[tactic(auto, unfolding(crate::specs::Grid::cells_text))]
-pub(crate) fn push_cells(text: &mut String, table: &Table) -> Result<(), AllocError>
+pub fn push_cells(text: &mut String, table: &Table) -> Result<(), AllocError>
     ensures { OnOk result (string_bytes text.new ≡ string_bytes text.old ++ cells_text table.now) }
 {
     push_head(text, table)?;

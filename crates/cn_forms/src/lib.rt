@@ -27,11 +27,14 @@ mod plan_forms;
 mod reasons;
 
 pub use diagram::diagram_of;
+pub use explained::folded::push_folded;
 pub use explained::pairs::seen_pairs;
 pub use explained::text::explanation_of;
 pub use explained::value::{Explanation, LeftStates};
-pub use grid::grid_of;
+pub use explained::ways::{push_choice, push_members, push_way_number};
+pub use explained::{push_left_out, push_more, push_same_ways, push_theorem, push_witness_line};
+pub use grid::{grid_of, push_cells};
 pub use limits::MOST_TOLD;
 pub use numbers::TypeNumber;
 pub use plan_forms::{Form, plan_as};
-pub use reasons::push_states;
+pub use reasons::{push_each_number, push_example_line, push_no_list, push_states};

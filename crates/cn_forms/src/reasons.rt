@@ -174,7 +174,7 @@ fn is_exactly(number: ConsensusNumber, m: u8) -> bool
 }
 
 /// The number of processes of the witness, if the number is another one with no limit.
-pub(crate) fn push_example_line(
+pub fn push_example_line(
     text: &mut String,
     number: TypeNumber,
     found: Option<u8>,
@@ -200,13 +200,13 @@ fn is_below(limit: u8, number: Option<u8>) -> bool
 }
 
 #[tactic(auto, unfolding(crate::specs::Reasons::each_number_line))]
-fn push_each_number(text: &mut String) -> Result<(), AllocError>
+pub fn push_each_number(text: &mut String) -> Result<(), AllocError>
     ensures { OnOk result (string_bytes text.new ≡ string_bytes text.old ++ each_number_line) }
 {
     text.push_str("It is so for each number of processes: this is proved (docs/PROVED.md).\n")
 }
 
-fn push_no_list(text: &mut String, n: u16) -> Result<(), AllocError>
+pub fn push_no_list(text: &mut String, n: u16) -> Result<(), AllocError>
     ensures { OnOk result (string_bytes text.new ≡ string_bytes text.old ++ no_list n) }
 {
     write!(text, "Why not {n}: its ways are not listed here.\n")?;

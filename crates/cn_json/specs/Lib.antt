@@ -12,3 +12,4 @@ pub mod Verdict
 pub mod Apart
 pub mod Lasting
 pub mod Explanation
+pub mod Recoverable

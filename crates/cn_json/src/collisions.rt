@@ -81,7 +81,11 @@ fn write_process(
 }
 
 /// Writes the processes of a choice, and the end of their array.
-fn write_each_process(out: &mut JsonText, table: &Table, choice: &Choice) -> Result<(), AllocError>
+pub(crate) fn write_each_process(
+    out: &mut JsonText,
+    table: &Table,
+    choice: &Choice,
+) -> Result<(), AllocError>
     requires { FitsTable table.now choice.now }
     ensures { Appends result out.old out.new
         (list_rest (process_data table.now choice.now)
@@ -146,7 +150,7 @@ fn write_run_step(
 }
 
 /// Writes the steps of the processes of an order, and the end of their array.
-fn write_each_step(
+pub(crate) fn write_each_step(
     out: &mut JsonText,
     table: &Table,
     choice: &RawChoice,

@@ -11,7 +11,11 @@ use cn_table::{State, Table};
 use std::alloc::AllocError;
 
 /// Writes the states of the set, and the end of their array.
-fn write_each_state(out: &mut JsonText, table: &Table, set: Bits) -> Result<(), AllocError>
+pub(crate) fn write_each_state(
+    out: &mut JsonText,
+    table: &Table,
+    set: Bits,
+) -> Result<(), AllocError>
     ensures { Appends result out.old out.new
         (list_rest (state_data table.now) (states_in table.now set)) }
 {

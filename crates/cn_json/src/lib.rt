@@ -4,8 +4,8 @@
 //! [`classification_json`] writes the numbers of a type, [`verdict_json`] the verdict on a
 //! certificate, [`flaws_json`] the flaws of the text of a table, [`course_json`] the decisions and
 //! the steps of processes, [`log_json`] and [`service_json`] what happened in a log,
-//! [`explanation_json`] why a number is what it is, and [`pairs_json`] the numbers of operations
-//! and of their pairs. Each text is that of a JSON value, which is a function of the answer.
+//! [`explanation_json`] and [`recoverable_explanation_json`] why a number is what it is, and
+//! [`pairs_json`] the numbers of operations and of their pairs. Each text is that of a JSON value, which is a function of the answer.
 //!
 //! ```text
 //! println!(rt; "{}", verdict_json(alloc, check(&table, &certificate))?)?;
@@ -25,6 +25,7 @@ mod lives;
 mod log;
 mod numbers;
 mod pairs;
+mod recoverable;
 mod verdict;
 mod witness;
 
@@ -37,4 +38,5 @@ pub use lives::life_course_json;
 pub use log::{Answer, AnswerOf, log_json, service_json};
 pub use numbers::{Classification, classification_json};
 pub use pairs::pairs_json;
+pub use recoverable::recoverable_explanation_json;
 pub use verdict::{unread_json, verdict_json};

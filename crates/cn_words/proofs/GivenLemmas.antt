@@ -13,7 +13,7 @@ use Rattle.cn_json.specs.declared.form.DocumentForm.{DocumentForm}
 use Rattle.cn_forms.specs.declared.plan_forms.Form.{Form}
 use Rattle.cn_json.specs.declared.form.AnswerForm.{AnswerForm}
 use Rattle.cn_words.specs.declared.commands.Command.{Command}
-use Rattle.cn_words.specs.declared.commands.Command.TheVariants.{Find, Lint, Draw, Check, Explain, Why, Pairs, Show, Agree, Replay, Serve}
+use Rattle.cn_words.specs.declared.commands.Command.TheVariants.{Find, Lint, Draw, Check, Explain, Why, WhyRecoverable, Pairs, Show, Agree, Replay, Serve}
 use Rattle.cn_words.specs.declared.commands.Invocation.{Invocation}
 use Rattle.cn_words.specs.declared.commands.Invocation.TheVariants.{Classify, Lives, OfTable}
 use Rattle.cn_words.specs.declared.commands.OpeningWords.{OpeningWords}
@@ -64,6 +64,11 @@ no_number id rows word (Some n) none found some isnt numbers is = numbers n is
 no_number id rows None None none found some isnt numbers is = let bad : false ≡ true = some ∙ ap not isnt in cc
 no_number id rows (Some w) None none found some isnt numbers is = let bad = found ∙ no_first id rows is in cc
 
+-- a word that is not there
+pub no_word : (word : Option (Bor Text)) (first : Option Text) (some : Bool) → option_map (λ w. w.now) word ≡ first → some ≡ is_some word → some ≡ false → first ≡ None
+no_word None first some found is isnt = sym found
+no_word (Some w) first some found is isnt = let bad : true ≡ false = sym is ∙ isnt in cc
+
 -- a flag as `get_flag` reads it
 pub flag_read : (f : Found) (id : Text) (is_set : Bool) → (one_text f id ≡ None → is_set ≡ false)
     → (one_text f id ≡ Some (codes "true") → is_set ≡ true) → (one_text f id ≡ Some (codes "false") → is_set ≡ false)
@@ -95,7 +100,8 @@ Wants name rows =
     (MatchBool (bytes_eq name (codes "draw")) (Unit {0})
     (MatchBool (bytes_eq name (codes "check")) (((w : TextSource) × HasCertificate rows w) × ((form : AnswerForm) × HasAnswerForm rows form))
     (MatchBool (bytes_eq name (codes "explain")) (((w : TextSource) × HasCertificate rows w) × ((form : AnswerForm) × HasAnswerForm rows form))
-    (MatchBool (bytes_eq name (codes "why")) (((n : Option ℕ) × HasLimit rows n) × ((form : DocumentForm) × HasDocumentForm rows form))
+    (MatchBool (bytes_eq name (codes "why"))
+    (MatchBool (is_flag_set (codes "recoverable") rows) (first_of (codes "limit") rows ≡ None) ((n : Option ℕ) × HasLimit rows n) × ((form : DocumentForm) × HasDocumentForm rows form))
     (MatchBool (bytes_eq name (codes "pairs")) ((form : DocumentForm) × HasDocumentForm rows form)
     (MatchBool (bytes_eq name (codes "show")) (((w : TextSource) × HasCertificate rows w) × ((plan : Form) × HasForm rows plan))
     (MatchBool (bytes_eq name (codes "agree")) (((w : TextSource) × HasCertificate rows w) × ((l : Bor Text) × HasWord (codes "INPUTS") rows l.now) × ((l : Bor Text) × HasWord (codes "SCHEDULE") rows l.now) × ((form : AnswerForm) × HasAnswerForm rows form) × (is_of_lives rows ≡ false))
@@ -110,7 +116,10 @@ wants name rows (Lint form) h = subst (λ n. Wants n rows) (sym h.0) (form, h.1)
 wants name rows Draw h = subst (λ n. Wants n rows) (sym h.0) tt
 wants name rows (Check certificate form) h = subst (λ n. Wants n rows) (sym h.0) ((certificate, h.1.0), (form, h.1.1))
 wants name rows (Explain certificate all form) h = subst (λ n. Wants n rows) (sym h.0) ((certificate, h.1.0), (form, h.1.2))
-wants name rows (Why limit all form) h = subst (λ n. Wants n rows) (sym h.0) ((limit, h.1.0), (form, h.1.2))
+wants name rows (Why limit all form) h =
+    subst (λ n. Wants n rows) (sym h.0) (subst (λ b. MatchBool b (first_of (codes "limit") rows ≡ None) ((n : Option ℕ) × HasLimit rows n)) (sym h.1.3) (limit, h.1.0), (form, h.1.2))
+wants name rows (WhyRecoverable all form) h =
+    subst (λ n. Wants n rows) (sym h.0) (subst (λ b. MatchBool b (first_of (codes "limit") rows ≡ None) ((n : Option ℕ) × HasLimit rows n)) (sym h.1.0) h.1.1, (form, h.1.3))
 wants name rows (Pairs form) h = subst (λ n. Wants n rows) (sym h.0) (form, h.1)
 wants name rows (Show certificate plan) h = subst (λ n. Wants n rows) (sym h.0) ((certificate, h.1.0), (plan, h.1.1))
 wants name rows (Agree certificate inputs schedule steps form) h =

@@ -17,8 +17,8 @@ use Rattle.cn_json.specs.declared.form.AnswerForm.{AnswerForm}
 use Rattle.cn_json.specs.declared.form.AnswerForm.TheVariants as answer
 use Rattle.cn_words.specs.declared.commands.Command.{Command}
 use Rattle.cn_words.specs.declared.commands.Command.TheVariants.{Find, Lint, Draw, Check}
-use Rattle.cn_words.specs.declared.commands.Command.TheVariants.{Explain, Why, Pairs, Show, Agree}
-use Rattle.cn_words.specs.declared.commands.Command.TheVariants.{Replay, Serve}
+use Rattle.cn_words.specs.declared.commands.Command.TheVariants.{Explain, Why, WhyRecoverable}
+use Rattle.cn_words.specs.declared.commands.Command.TheVariants.{Pairs, Show, Agree, Replay, Serve}
 use Rattle.cn_words.specs.declared.commands.CommandFault.{CommandFault}
 use Rattle.cn_words.specs.declared.commands.CommandFault.TheVariants as fault
 use Rattle.cn_words.specs.declared.commands.Invocation.{Invocation}
@@ -167,6 +167,7 @@ name_of Draw = codes "draw"
 name_of (Check certificate form) = codes "check"
 name_of (Explain certificate all form) = codes "explain"
 name_of (Why limit all form) = codes "why"
+name_of (WhyRecoverable all form) = codes "why"
 name_of (Pairs form) = codes "pairs"
 name_of (Show certificate plan) = codes "show"
 name_of (Agree certificate inputs schedule steps form) = codes "agree"
@@ -184,6 +185,10 @@ HasArguments rows (Explain certificate all form) =
     HasCertificate rows certificate × HasFlag (codes "all") rows all × HasAnswerForm rows form
 HasArguments rows (Why limit all form) =
     HasLimit rows limit × HasFlag (codes "all") rows all × HasDocumentForm rows form
+    × (is_flag_set (codes "recoverable") rows ≡ false)
+HasArguments rows (WhyRecoverable all form) =
+    (is_flag_set (codes "recoverable") rows ≡ true) × (first_of (codes "limit") rows ≡ None)
+    × HasFlag (codes "all") rows all × HasDocumentForm rows form
 HasArguments rows (Pairs form) = HasDocumentForm rows form
 HasArguments rows (Show certificate plan) = HasCertificate rows certificate × HasForm rows plan
 HasArguments rows (Agree certificate inputs schedule steps form) =

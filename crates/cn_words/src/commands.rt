@@ -74,6 +74,13 @@ pub enum Command<'a> {
         /// The form of the answer.
         form: DocumentForm,
     },
+    /// Tells why the type has its recoverable number.
+    WhyRecoverable {
+        /// Whether all choices that are refuted are told.
+        all: bool,
+        /// The form of the answer.
+        form: DocumentForm,
+    },
     /// Writes the numbers of the operations of the type and of their pairs.
     Pairs {
         /// The form of the answer.
@@ -346,9 +353,25 @@ fn explain<'a>(words: &ArgMatches<'a>) -> Option<Command<'a>>
     })
 }
 
+// The recoverable number has no limit.
+fn why_recoverable<'a>(words: &ArgMatches<'a>) -> Option<Command<'a>>
+    requires { is_flag_set (codes "recoverable") (rows_in words.now) ≡ true }
+    ensures { Finds (IsNamed (codes "why") (rows_in words.now)) result }
+{
+    if word(words, "limit").is_some() {
+        return None;
+    }
+    let all = words.get_flag("all");
+    let form = document_form(words)?;
+    Some(Command::WhyRecoverable { all, form })
+}
+
 fn why<'a>(words: &ArgMatches<'a>) -> Option<Command<'a>>
     ensures { Finds (IsNamed (codes "why") (rows_in words.now)) result }
 {
+    if is_flag_set(words, "recoverable") {
+        return why_recoverable(words);
+    }
     let limit = optional_limit(words)?;
     let all = words.get_flag("all");
     let form = document_form(words)?;
@@ -521,8 +544,8 @@ fn command_met<'m, 'a>(matches: &'m ArgMatches<'a>) -> Option<(&'a str, &'m ArgM
 /// # Errors
 ///
 /// `Words` if there is no command, a word is missing or too many, a number is none of one byte, the
-/// form is unknown, two words say where the table is, or standard input would be both the table and
-/// the certificate; `OutOfMemory` for want of memory.
+/// form is unknown, two words say where the table is, two words exclude each other, or standard input
+/// would be both the table and the certificate; `OutOfMemory` for want of memory.
 pub fn invocation_of<'a>(
     alloc: Global,
     matches: &ArgMatches<'a>,

@@ -180,6 +180,12 @@ themselves, it says that in place of the counterexamples; with --all it writes b
 With --limit N, from 2 to 8, finds the certificate of the type up to N as find does, and writes of it
 what explain writes. A search of more than 100000 choices for N processes is refused.
 
+With --recoverable tells why the recoverable number is what it is, where any process may crash, lose
+its own memory and come back. Its witness is a start state, teams and operations with which the
+state alone tells for good which team was first: the states that runs leave which begin in team A,
+those of team B, and the start state. For one process more it writes of each choice, of at most 12
+without --all, two runs that leave one state. --limit does not stand beside it.
+
 With --as markdown writes the number, its reason, the table and the witness for a document; with
 --as json all of it is one JSON object.
 
@@ -541,10 +547,12 @@ fn explain<'a>(alloc: Global) -> Result<Command<'a>, AllocError>
 fn why<'a>(alloc: Global) -> Result<Command<'a>, AllocError>
     ensures { IfOk result (IsCommandFor document_forms why_words) }
 {
+    let recoverable = "Tells why the recoverable number is what it is, with no limit";
     let help = "The form in which the reasons are written";
     let command = bare_command(alloc, "why", WHY_ABOUT, WHY_AFTER);
     let command = with_argument(Ok(command), table_word(alloc));
     let command = with_argument(command, limit(alloc));
+    let command = with_argument(command, flag(alloc, "recoverable", recoverable));
     let command = with_argument(command, all(alloc));
     with_argument(command, form(alloc, &DOCUMENT_FORMS, help))
 }

@@ -2,8 +2,8 @@
 use Rattle.std.specs.Prelude.{◌≡◌, ◌⊎◌, ℕ, List, Option, Result, Ok, Err}
 use Rattle.cn_words.specs.declared.commands.Command.{Command}
 use Rattle.cn_words.specs.declared.commands.Command.TheVariants.{Find, Lint, Draw, Check}
-use Rattle.cn_words.specs.declared.commands.Command.TheVariants.{Explain, Why, Pairs, Show, Agree}
-use Rattle.cn_words.specs.declared.commands.Command.TheVariants.{Replay, Serve}
+use Rattle.cn_words.specs.declared.commands.Command.TheVariants.{Explain, Why, WhyRecoverable}
+use Rattle.cn_words.specs.declared.commands.Command.TheVariants.{Pairs, Show, Agree, Replay, Serve}
 use Rattle.cn_words.specs.declared.commands.OpeningWords.{OpeningWords}
 use Rattle.cn_words.specs.declared.commands.TextSource.{TextSource}
 use Rattle.cn_json.specs.declared.form.AnswerForm.{AnswerForm}
@@ -20,6 +20,7 @@ use Rattle.cn_app.specs.Commands.Replay.{HasReplayReport, SpellEvents}
 use Rattle.cn_app.specs.Commands.Serve.{HasServeReport, SpellCalls}
 use Rattle.cn_app.specs.Commands.Show.{HasShowReport}
 use Rattle.cn_app.specs.Commands.Why.{HasWhyReport}
+use Rattle.cn_app.specs.Commands.WhyRecoverable.{HasWhyRecoverableReport}
 use Rattle.cn_app.specs.Streams.Reading.{HasRead}
 use Rattle.cn_app.specs.Streams.Writing.{IsSilent, Reports}
 use Rattle.cn_app.specs.Texts.Checked.{AreUntouched, HaveReadBoth}
@@ -146,6 +147,9 @@ module _ {S D F W : Type 0} (remaining : S → Option (List ℕ)) (left : LazyFi
   RunsOn stdin table (Why limit all form) u v r =
       ReadsTable (left_of remaining left) (left_of remaining left) left contents files table
       (λ t. HasWhyReport t limit all form) u v r
+  RunsOn stdin table (WhyRecoverable all form) u v r =
+      ReadsTable (left_of remaining left) (left_of remaining left) left contents files table
+      (λ t. HasWhyRecoverableReport t all form) u v r
   RunsOn stdin table (Pairs form) u v r =
       ReadsTable (left_of remaining left) (left_of remaining left) left contents files table
       (λ t. HasPairsReport t form) u v r

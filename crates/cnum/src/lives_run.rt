@@ -5,15 +5,16 @@ ghost use Rattle.cnum.specs.Texts.{left_in};
 
 use crate::disk::Disk;
 use crate::given_list::given_list;
-use crate::runs::text_of;
+use crate::runs::{noting_table, text_of};
 use cn_app::reports::AskedLives;
-use cn_app::{AppFault, Argument, Outcome, Output, commands};
+use cn_app::{AppFault, Argument, Known, Outcome, Output, commands};
 use cn_words::{LivesWords, TextSource};
 use std::alloc::Global;
 use std::io::{Read, Write};
 use std::thread::Threads;
 
-/// Reads the lists, and runs the plan of the table's first recording witness by them.
+/// Reads the lists, and runs the plan of the table's first recording witness by them. What the text
+/// of the table says of its fault is noted.
 pub fn run_lives<T: Threads + Sync + Disk, S: Read + Copy + Drop, O: Write>(
     rt: &T,
     alloc: Global,
@@ -21,6 +22,7 @@ pub fn run_lives<T: Threads + Sync + Disk, S: Read + Copy + Drop, O: Write>(
     output: &mut Output<O>,
     table: TextSource<'_>,
     words: LivesWords<'_>,
+    known: &mut Known<'_>,
 ) -> Result<Outcome, AppFault>
     requires { IsWritable output.old }
     ensures { RunsLives S.remaining (left_in T.contents T.Reader.remaining) O.contents
@@ -34,5 +36,7 @@ pub fn run_lives<T: Threads + Sync + Disk, S: Read + Copy + Drop, O: Write>(
         steps: words.steps,
         form: words.form,
     };
-    commands::agree_recoverably(rt, alloc, &mut table, output, &inputs, &schedule, asked)
+    let text = &mut table;
+    let end = commands::agree_recoverably(rt, alloc, text, output, &inputs, &schedule, asked);
+    noting_table(alloc, known, text, end)
 }

@@ -118,8 +118,8 @@ fn do_command<T: Threads + Wait + Sync + Disk + Eprint, I: Read + Copy + Drop, O
             command_exit(faults, end, &known)
         }
         Invocation::Lives { table, words } => {
-            let known = known_of_lives(*table, *words);
-            let end = run_lives(rt, alloc, stdin, output, *table, *words);
+            let mut known = known_of_lives(*table, *words);
+            let end = run_lives(rt, alloc, stdin, output, *table, *words, &mut known);
             command_exit(faults, end, &known)
         }
     }

@@ -119,7 +119,7 @@ fn opening<'a, D: Disk, I: Read, C: Read>(
 }
 
 // The end of a command. What the text of the table says of its fault is noted.
-fn noting_table<I>(
+pub(crate) fn noting_table<I>(
     alloc: Global,
     known: &mut Known<'_>,
     table: &Text<I>,
@@ -251,6 +251,10 @@ pub fn run<T: Threads + Wait + Sync + Disk, S: Read + Copy + Drop, O: Write>(
         }
         Command::Why { limit, all, form } => {
             let end = commands::why(rt, alloc, text, output, limit, all, form);
+            noting_table(alloc, known, text, end)
+        }
+        Command::WhyRecoverable { all, form } => {
+            let end = commands::why_recoverable(rt, alloc, text, output, all, form);
             noting_table(alloc, known, text, end)
         }
         Command::Pairs { form } => {

@@ -6,6 +6,7 @@ ghost use Rattle.cn_app.specs.Commands.Find.{HasFindReport};
 ghost use Rattle.cn_app.specs.Commands.Lint.{HasLintReport};
 ghost use Rattle.cn_app.specs.Commands.Pairs.{HasPairsReport};
 ghost use Rattle.cn_app.specs.Commands.Why.{HasWhyReport};
+ghost use Rattle.cn_app.specs.Commands.WhyRecoverable.{HasWhyRecoverableReport};
 ghost use Rattle.cn_app.specs.Streams.Reading.{HasRead, IsUnread};
 ghost use Rattle.cn_app.specs.Streams.Writing.{IsWritable, Reports};
 
@@ -14,7 +15,7 @@ use crate::readers::table::read_table;
 use crate::report::{Outcome, Report};
 use crate::reports::{
     AskedNumbers, check_limit, draw_report, find_report, limit_for, lint_report, numbers_report,
-    pairs_report, why_report,
+    pairs_report, why_recoverable_report, why_report,
 };
 use crate::streams::output::Output;
 use crate::streams::text::Text;
@@ -72,6 +73,32 @@ pub fn why<T: Threads + Sync, R: Read, W: Write>(
 {
     let table = read_table(alloc, table)?;
     output.report(why_report(rt, alloc, table, limit, all, form))
+}
+
+/// Reads a type table and writes why its recoverable number is what it is, in a form
+/// ([`why_recoverable_report`]).
+///
+/// # Errors
+///
+/// The first of these: those of [`read_table`]; want of memory; the writer fails.
+pub fn why_recoverable<T: Threads + Sync, R: Read, W: Write>(
+    rt: &T,
+    alloc: Global,
+    table: &mut Text<R>,
+    output: &mut Output<W>,
+    all: bool,
+    form: DocumentForm,
+) -> Result<Outcome, AppFault>
+    requires table { IsUnread table.old }
+    requires output { IsWritable output.old }
+
+    ensures read { HasRead Source.Table R.remaining table.old table.new }
+    // promise: why-recoverable
+    ensures told { Reports W.contents (HasWhyRecoverableReport table.new all form)
+        output.old output.new result }
+{
+    let table = read_table(alloc, table)?;
+    output.report(why_recoverable_report(rt, alloc, table, all, form))
 }
 
 /// Reads a type table and writes the numbers of its operations and of their pairs in a form

@@ -109,7 +109,7 @@ fn push_member(
 
 /// This number of processes, from the first on, with words for their team and their operations.
 #[tactic(auto, unfolding(crate::specs::Explained::members))]
-fn push_members(
+pub fn push_members(
     text: &mut String,
     table: &Table,
     choice: &RawChoice,
@@ -251,7 +251,7 @@ pub(crate) fn push_both_teams(
 }
 
 #[tactic(auto, unfolding(crate::specs::Explained::choice_text))]
-fn push_choice(text: &mut String, table: &Table, choice: &Choice) -> Result<(), AllocError>
+pub fn push_choice(text: &mut String, table: &Table, choice: &Choice) -> Result<(), AllocError>
     requires { FitsTable table.now choice.now }
     ensures { OnOk result (string_bytes text.new
         ≡ string_bytes text.old ++ choice_text table.now choice.now) }
@@ -263,7 +263,7 @@ fn push_choice(text: &mut String, table: &Table, choice: &Choice) -> Result<(), 
 }
 
 #[tactic(auto, unfolding(crate::specs::Explained::way_number))]
-fn push_way_number(text: &mut String, number: usize) -> Result<(), AllocError>
+pub fn push_way_number(text: &mut String, number: usize) -> Result<(), AllocError>
     ensures { OnOk result (string_bytes text.new ≡ string_bytes text.old ++ way_number number) }
 {
     write!(text, "  {number}. ")

@@ -205,6 +205,50 @@ fn test_and_set_documented() -> &'static str {
 With two states any two operations commute, or one wipes out the other, so the number is at most 2."#
 }
 
+/// The output of `why --recoverable` for test-and-set.
+fn test_and_set_recoverable_reasons() -> &'static str {
+    r#"test_and_set: recoverable consensus number 1 (for processes that can read the whole state)
+
+         zero        one
+  tas    zero>one    one>one            (response > next state)
+
+One process alone agrees with itself, so the number is at least 1.
+
+Why not 2: 1 way to choose a start state, operations and teams; in it the state does not tell.
+  1. start zero; A: p0 does tas; B: p1 does tas        both leave one:
+       A first:  zero --p0 tas--> one
+       B first:  zero --p1 tas--> one
+  Ways that differ only in the numbers of the processes or the names of the teams count as one.
+  Ways in which an operation leaves the start state unchanged cannot work, and are left out.
+No protocol at all does it for 2: this is proved (docs/PROVED.md)."#
+}
+
+/// The same as JSON.
+fn test_and_set_recoverable_explanation() -> &'static str {
+    concat!(
+        r#"{"name":"test_and_set","number":1,"refuted":{"choices":[{"#,
+        r#""a_first":[{"operation":"tas","process":0,"response":"zero","state":"one"}],"#,
+        r#""b_first":[{"operation":"tas","process":1,"response":"zero","state":"one"}],"#,
+        r#""processes":[{"operation":"tas","team":"A"},{"operation":"tas","team":"B"}],"#,
+        r#""start":"zero","state":"one"}],"count":1},"witness":null}"#
+    )
+}
+
+/// The same in Markdown.
+fn test_and_set_recoverable_documented() -> &'static str {
+    r#"| Type | Recoverable consensus number |
+| --- | ---: |
+| test_and_set | 1 |
+
+| response > next state | zero | one |
+| --- | --- | --- |
+| tas | zero>one | one>one |
+
+One process alone agrees with itself, so the number is at least 1.
+
+2 processes: in the 1 choice of a start state, operations and teams, the state does not tell."#
+}
+
 /// The output of `pairs` for test-and-set.
 fn test_and_set_pairs() -> &'static str {
     r#"     tas
@@ -247,7 +291,7 @@ fn opening() -> OpeningWords<'static> {
 }
 
 /// The examples. `run_command` gives them their texts, whatever files they name.
-pub(crate) fn all_examples() -> [Example; 25] {
+pub(crate) fn all_examples() -> [Example; 28] {
     let (certificate, form) = (TextSource::File("CERT"), Form::Text);
     [
         Example::new(Command::Find { limit: Some(3) }, found_test_and_set_at_3()),
@@ -264,6 +308,12 @@ pub(crate) fn all_examples() -> [Example; 25] {
         Example::of_explain(AnswerForm::Json, test_and_set_explanation()),
         Example::of_why(DocumentForm::Text, test_and_set_reasons()),
         Example::of_why(DocumentForm::Markdown, test_and_set_documented()),
+        Example::of_recoverable(DocumentForm::Text, test_and_set_recoverable_reasons()),
+        Example::of_recoverable(DocumentForm::Json, test_and_set_recoverable_explanation()),
+        Example::of_recoverable(
+            DocumentForm::Markdown,
+            test_and_set_recoverable_documented(),
+        ),
         Example::of_pairs(DocumentForm::Text, test_and_set_pairs()),
         Example::of_pairs(DocumentForm::Json, test_and_set_numbers()),
         Example::new(Command::Show { certificate, form }, test_and_set_shown()),
@@ -327,6 +377,9 @@ fn run_command<T: Threads + Wait + Sync>(
         Command::Draw => commands::draw(alloc, table, output),
         Command::Why { limit, all, form } => {
             commands::why(rt, alloc, table, output, limit, all, form)
+        }
+        Command::WhyRecoverable { all, form } => {
+            commands::why_recoverable(rt, alloc, table, output, all, form)
         }
         Command::Pairs { form } => commands::pairs(rt, alloc, table, output, form),
         Command::Check { form, .. } => commands::check(alloc, table, certificate, output, form),
@@ -403,6 +456,11 @@ impl Example {
             form,
         };
         Example::new(command, lines)
+    }
+
+    /// `why --recoverable` in this form.
+    fn of_recoverable(form: DocumentForm, lines: &'static str) -> Example {
+        Example::new(Command::WhyRecoverable { all: false, form }, lines)
     }
 
     /// `check` in this form.
@@ -485,6 +543,7 @@ impl Example {
             | Command::Lint { .. }
             | Command::Draw
             | Command::Why { .. }
+            | Command::WhyRecoverable { .. }
             | Command::Pairs { .. } => source == Source::Table,
             Command::Check { .. }
             | Command::Explain { .. }

@@ -11,11 +11,11 @@ returns g c =
         c.in_ok-schedule.ensures,
         record {
           table = c.text_of-table.result;
-          after = c.agree_recoverably.new.table;
+          after = c.agree_recoverably-end.new.table;
           text = c.text_of-table.ensures;
-          read = c.agree_recoverably.ensures.read;
-          order = c.agree_recoverably.ensures.order;
-          reported = c.agree_recoverably.ensures.agreed;
+          read = c.agree_recoverably-end.ensures.read;
+          order = c.agree_recoverably-end.ensures.order;
+          reported = rw c.noting_table.ensures c.agree_recoverably-end.ensures.agreed;
         },
       ),
     )

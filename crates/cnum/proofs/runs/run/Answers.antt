@@ -45,6 +45,17 @@ returns-in-Why g c = (
   }),
 )
 
+pub returns-in-WhyRecoverable : goal.returns-in-WhyRecoverable
+returns-in-WhyRecoverable g c = (
+  c.text_of-table.result,
+  c.text_of-table.ensures,
+  rw c.in-WhyRecoverable.is (record {
+    after = c.why_recoverable-end.new.table;
+    read = c.why_recoverable-end.ensures.read;
+    reported = rw c.noting_table-in-WhyRecoverable.ensures c.why_recoverable-end.ensures.told;
+  }),
+)
+
 pub returns-in-Pairs : goal.returns-in-Pairs
 returns-in-Pairs g c = (
   c.text_of-table.result,

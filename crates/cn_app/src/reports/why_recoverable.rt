@@ -1,0 +1,52 @@
+//! The report of `why --recoverable`.
+ghost use Rattle.std.specs.Prelude.{◌≡◌, IfOk, string_bytes};
+ghost use Rattle.cn_recover_reasons.specs.Explanation.{IsRecoverableExplanation};
+ghost use Rattle.cn_app.specs.Commands.WhyRecoverable.{IsWhyRecoverableReport, recoverable_in};
+
+use crate::fault::AppFault;
+use crate::report::{Report, with_line_feed};
+use cn_json::{DocumentForm, recoverable_explanation_json};
+use cn_recover_reasons::{
+    RecoverableExplanation, recoverable_explanation_markdown, recoverable_explanation_of,
+};
+use cn_table::Table;
+use std::alloc::{AllocError, Global};
+use std::thread::Threads;
+
+/// The text of an explanation of a recoverable number in a form.
+fn recoverable_text(
+    alloc: Global,
+    explanation: &RecoverableExplanation,
+    form: DocumentForm,
+) -> Result<String, AllocError>
+    requires { IsRecoverableExplanation explanation.now }
+    ensures { IfOk result (λ text. string_bytes text ≡ recoverable_in form explanation.now) }
+{
+    match form {
+        DocumentForm::Text => recoverable_explanation_of(alloc, explanation),
+        DocumentForm::Json => with_line_feed(recoverable_explanation_json(alloc, explanation)?),
+        DocumentForm::Markdown => recoverable_explanation_markdown(alloc, explanation),
+    }
+}
+
+/// Why the recoverable number of the table is what it is, in a form: that of
+/// [`recoverable_explanation_of`], of [`recoverable_explanation_json`] or of
+/// [`recoverable_explanation_markdown`]. Without `all`, it tells the first 12 of the choices for one
+/// process more.
+///
+/// # Errors
+///
+/// `OutOfMemory`.
+pub fn why_recoverable_report<T: Threads + Sync>(
+    rt: &T,
+    alloc: Global,
+    table: Table,
+    all: bool,
+    form: DocumentForm,
+) -> Result<Report, AppFault>
+    // promise: why-recoverable
+    ensures { IsWhyRecoverableReport table all form result }
+{
+    let explanation = RecoverableExplanation::new(rt, alloc, table, all)?;
+    Ok(Report::whole(recoverable_text(alloc, &explanation, form)?))
+}

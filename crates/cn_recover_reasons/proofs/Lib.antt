@@ -1,0 +1,5 @@
+pub mod Evidence
+pub mod FirstOrders
+pub mod Fitting
+pub mod ReasonLemmas
+pub mod Told

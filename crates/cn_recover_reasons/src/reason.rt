@@ -1,0 +1,29 @@
+//! Why a choice is no recording witness.
+use arrayvec::ArrayVec;
+use cn_choice::MOST_PROCESSES;
+use cn_table::State;
+use std::marker::Model;
+
+/// Two runs that leave the object in one state. A process that comes back reads the state alone,
+/// and cannot tell which run it was.
+#[derive(Drop)]
+pub struct Reason {
+    /// The state that both runs leave.
+    pub state: State,
+    /// The order of the run that begins in team A. It is empty if this run has no step.
+    pub alpha: ArrayVec<u8, MOST_PROCESSES>,
+    /// The order of the run that begins in team B. It is empty if this run has no step.
+    pub beta: ArrayVec<u8, MOST_PROCESSES>,
+}
+
+impl Model for Reason {
+    ghost use Rattle.cn_recover_reasons.specs.NotRecording.{Reason};
+
+    ghost Value = { Reason };
+
+    ghost view = { λ r. record {
+      state = r.state.0;
+      alpha = r.alpha.items;
+      beta = r.beta.items;
+    } };
+}
