@@ -1,80 +1,124 @@
-"""What carries a promise, from the sources: above each clause that carries the promise KEY stands the line `// promise: KEY`. A row of
-docs/PROMISES.md with `<!-- KEY -->` behind its promise has the calls with these clauses, as tests/pages writes them."""
+"""What carries a promise, from the sources. Above each clause that carries the promise KEY, or above a function all of whose
+contract does, stands a mark: the line `// promise: KEY`, or with the names that the page tells of it `// promise: KEY (NAME: PART, ..)`.
+Lines that begin with `//     ` go on with a mark. In docs/PROMISES.md the cell of the promise begins with the calls that have its
+marks, behind which stands `<!--KEY-->`, as tests/pages writes them. What follows there is written by hand."""
 import collections
+import functools
 import re
 
 from built import TOP
-from contracts import NAME
 from crates import named
-from rattle import end_of, functions, masked
+from rattle import HEAD, end_of, functions, masked, name_of, tokens_of
 
-MARKER = re.compile(r"^ *// promise: ([\w-]+(?:, [\w-]+)*)\n\s*ensures\s*(\w*)\s*\{", re.M)
-ROW = re.compile(r"^\| ([^|\n]*) <!-- ([\w-]+) --> \| ([^|\n]*) \|$", re.M)
+MARKS = re.compile(r"((?:^ *// promise: .*\n(?:^ *//     .*\n)*)+) *(?:(?:ensures|requires)\b\*? *(\w*))?", re.M)
+NAME = re.compile(r"(?:\w+::)*\w*[^\W\d]\w*")
+MARK = re.compile(r"// promise: ([\w-]+)(?: \(([^()]*)\))?")
+ROW = re.compile(r"^\| [^|\n]* \| ([^|\n]*)<!--([\w-]+)-->([^|\n]*) \|$", re.M)
+
+# A function with marks of one promise: its name for callers, whether it is public, and its clauses with the names told of each.
+Call = collections.namedtuple("Call", "name is_public clauses")
 
 
-def path_of(crate, modules, head, name):
+def types_around(text):
+    """The impls and the traits of a source: where each begins and ends, and the name of its type or trait."""
+    plain = masked(text)
+    return [(it.start(), end_of(plain, it.end() - 1), name_of([word for word, _ in tokens_of(it[0])]).split()[1]) for it in HEAD.finditer(plain)]
+
+
+def path_of(crate, modules, types, function):
     """The name of a function for callers of its crate: with the first module, if that is public, and with the type of its impl."""
-    root = (TOP / "crates" / crate / "src/lib.rt").read_text()
-    public = [it for it in modules[:1] if re.search(rf"^pub mod {it};", root, re.M)]
-    owner = [re.findall(r"\w+", head)[-1]] if head else []
-    return "::".join([crate, *public, *owner, name])
+    roots = [path.read_text() for path in (TOP / "crates" / crate / "src").glob("*.rt") if path.stem in ("lib", "main")]
+    public = [it for it in modules[:1] if any(re.search(rf"^pub mod {it};", root, re.M) for root in roots)]
+    owners = [name for start, end, name in types if start < function.start < end]
+    return "::".join([crate, *public, *owners[-1:], function.name])
 
 
-def definitions(sources, function, texts):
-    """The definitions that the text of a clause names: those of its own crate, or else the relations of others."""
-    places = {name: texts.find(name) for name in NAME.findall(texts)}
-    known = [it for it in sources.defined(texts, function.imports) if it.name in places]
-    own = [it for it in known if it.module.startswith(f"Rattle.{function.crate}.")]
-    return sorted({it.name for it in own or known if own or it.name[0].isupper()}, key=places.get)
+def marks_of(text, function):
+    """The marks of a function, (key, clause or nothing, names) each. Those above its head belong to all of its contract."""
+    for place in MARKS.finditer(text):
+        if place.end(1) == function.start or function.start <= place.start() < function.end:
+            for key, names in MARK.findall(re.sub(r"\n *//     ", " ", place[1])):
+                yield key, place[2] or "", names
 
 
-def clauses_of(sources):
-    """For each key the calls in the order of crates.txt, each with its clauses."""
+def without_marks(text):
+    """A source without its marks."""
+    return MARKS.sub(lambda it: it[0][len(it[1]) :], text)
+
+
+@functools.cache
+def carried_by(sources):
+    """For each key the calls, in the order of crates.txt."""
     found = collections.defaultdict(dict)
     for crate in named():
         for path in sorted(TOP.glob(f"crates/{crate}/src/**/*.rt")):
             text, modules = path.read_text(), path.relative_to(TOP / "crates" / crate / "src").with_suffix("").parts
-            if "// promise: " not in text:
-                continue
-            impls = re.compile(r"^impl\b([^{]*)\{", re.M)
-            for it in functions(text):
-                around = [head for head in impls.finditer(text) if head.start() < it.start and head.end() + text[head.end() :].find("\n}\n") > it.start]
-                call = path_of(crate, modules, around[-1][1] if around else "", it.name)
-                function = next(f for f in sources.functions[it.name] if f.crate == crate and set(modules) <= f.places)
-                for marker in MARKER.finditer(text, it.start, it.end):
-                    clause = text[marker.end() : end_of(masked(text), marker.end() - 1)]
-                    for key in marker[1].split(", "):
-                        found[key].setdefault(call, []).append((marker[2], definitions(sources, function, clause)))
-    return found
+            types = types_around(text) if "// promise: " in text else []
+            for it in functions(text) if "// promise: " in text else []:
+                name = path_of(crate, modules, types, it)
+                places = {crate, *modules, *name.split("::")[1:-1]}
+                is_public = any(other.is_public for other in sources.functions[it.name] if places <= other.places)
+                for key, clause, names in marks_of(text, it):
+                    found[key].setdefault(name, Call(name, is_public, [])).clauses.append((clause, names))
+    return {key: [*calls.values()] for key, calls in found.items()}
 
 
-def carried(calls):
-    """The cell of a row: calls with their clauses, and in brackets the definitions that these name."""
-    told = []
-    for call, clauses in calls.items():
-        named_clauses = [name for name, _ in clauses if name]
-        words = f", clause{'s' * (len(named_clauses) > 1)} " if named_clauses else " "
-        uses = lambda names: " (" * bool(names) + ", ".join(f"`{it}`" for it in names) + ")" * bool(names)
-        told.append(f"`{call}`{words}" + ", ".join(f"`{name}`" * bool(name) + (uses(names) if name else uses(names).lstrip()) for name, names in clauses))
-    return "; ".join(told)
+@functools.cache
+def strays(text):
+    """How many marks of a source stand above no clause and no function."""
+    taken = sum(1 for it in functions(text) for _ in marks_of(text, it))
+    return text.count("// promise:") - taken
+
+
+def in_brackets(names, whose=""):
+    """The names told of a clause, as the page writes them. A number stands for a part of the promise."""
+    return f" ({whose}" * bool(names) + NAME.sub(lambda it: f"`{it[0]}`", names) + ")" * bool(names)
+
+
+def told_of(call):
+    """The clauses of a call with the names told of each, once if they are the same, and the names told of its contract as a whole."""
+    clauses = [(name, names) for name, names in call.clauses if name]
+    alike = {names for _, names in clauses} if len(clauses) > 1 else set()
+    if len(alike) == 1:
+        listed = ", ".join(f"`{name}`" for name, _ in clauses) + in_brackets(alike.pop(), "of each ")
+    else:
+        listed = ", ".join(f"`{name}`{in_brackets(names)}" for name, names in clauses)
+    whole = "".join(in_brackets(names) for name, names in call.clauses if not name)
+    return f", clause{'s' * (len(clauses) > 1)} {listed}" * bool(clauses), whole
+
+
+def cell(calls):
+    """The calls of a promise. Those with the same clauses stand together; a name has its path where that is another than before."""
+    alike, pieces, path = collections.defaultdict(list), [], None
+    for call in calls:
+        clauses, _ = told_of(call)
+        alike[call.is_public, clauses or call.name.rpartition("::")[0]].append(call)
+    for (is_public, _), group in alike.items():
+        names = []
+        for call in group:
+            owners, _, name = call.name.rpartition("::")
+            clauses, whole = told_of(call)
+            names.append(f"`{name if owners == path and is_public else call.name}`{whole}")
+            path = owners
+        pieces.append("the private " * (not is_public) + ", ".join(names) + clauses)
+    return "; ".join(pieces)
 
 
 def rows(text, sources):
-    """The rows with a key: the place of the cell, the cell, and what has to stand in it."""
-    known = clauses_of(sources)
+    """The rows with a key: the place of what the marks tell, and what has to stand there; and each key without a row."""
+    known = {**carried_by(sources)}
     for row in ROW.finditer(text):
-        yield row, carried(known.pop(row[2], {}))
+        yield row, cell(known.pop(row[2], []))
     for key in known:
         yield None, key
 
 
 def write(sources):
-    """Writes the cells of the rows with a key anew."""
+    """Writes anew what the marks tell."""
     page = TOP / "docs/PROMISES.md"
-    text, met = page.read_text(), 0
-    pieces = []
+    text, met, pieces = page.read_text(), 0, []
     for row, told in rows(text, sources):
         if row:
-            pieces += [text[met : row.start(3)], told]
-            met = row.end(3)
+            pieces += [text[met : row.start(1)], told]
+            met = row.end(1)
     page.write_text("".join(pieces) + text[met:])

@@ -30,6 +30,7 @@ impl From<AllocError> for ScheduleFault {
 impl ScheduleFault {
     /// The number of the fault, from 1.
     pub fn number(&self) -> u8
+        // promise: fault-texts
         ensures { result ≡ schedule_fault_number self.now }
     {
         match self {
@@ -41,6 +42,7 @@ impl ScheduleFault {
 
     /// The name of the fault.
     pub fn name(&self) -> &'static str
+        // promise: fault-texts
         ensures { result.now ≡ schedule_fault_name self.now }
     {
         match self {
@@ -52,6 +54,7 @@ impl ScheduleFault {
 
     /// The place in the schedule, if the fault has one.
     pub fn place(&self) -> Option<u64>
+        // promise: fault-texts
         ensures { result ≡ schedule_fault_place self.now }
     {
         match self {

@@ -22,12 +22,14 @@ use cn_proto::laws::{plan_protocols_are_sound, plans_are_sound};
 /// state, and the new content of what the action touched, depend only on the old local state and on
 /// the old content.
 pub fn atomic_steps<V>()
+    // promise: atomic-steps (IsAtomic: one_action, local, shared)
     ensures { (P : ProtocolOfRounds) (p : ℕ) → IsAtomic V P p }
 {}
 
 /// Every schedule of a plan, with any inputs, ends in consensus: agreement, validity, and
 /// wait-freedom within 4(n-1) steps of a process.
 pub fn schedules_reach_consensus<V>(plan: &Plan)
+    // promise: consensus-of-a-schedule
     ensures { (inputs : List V) (schedule : List ℕ) → length inputs ≡ processes_of plan.now
         → IsSchedule (processes_of plan.now) schedule
         → IsConsensus (protocol_of plan.now) (processes_of plan.now) inputs schedule
@@ -38,6 +40,7 @@ pub fn schedules_reach_consensus<V>(plan: &Plan)
 
 /// The same law, for each plan as data.
 pub fn plans_reach_consensus<V>()
+    // promise: consensus-of-a-schedule
     ensures { (plan : PlanOf) → IsPlan plan
         → (inputs : List V) (schedule : List ℕ) → length inputs ≡ processes_of plan
         → IsSchedule (processes_of plan) schedule
@@ -50,6 +53,7 @@ pub fn plans_reach_consensus<V>()
 /// The same law, for each sound protocol whose paths have no more places than there are nodes, one
 /// fewer than processes: for any number of processes.
 pub fn sound_protocols_reach_consensus<V>()
+    // promise: witness-is-enough
     ensures { (P : ProtocolOfRounds) (n : ℕ) (team : ℕ → TeamOf) → IsSound P n (n - 1) team
         → ((p : ℕ) → p < n → length (P.path p) ≤ n - 1)
         → (inputs : List V) (schedule : List ℕ) → length inputs ≡ n → IsSchedule n schedule
@@ -65,7 +69,9 @@ pub fn sound_protocols_reach_consensus<V>()
 /// - `fixed`: the fixed value stays.
 /// - `begun`, `stays_begun`: a process that has begun stays so, and has a value on record.
 /// - `sizes`: a round has an entry for each node and each process.
+// promise: decision-of-a-round
 pub fn rounds_keep_consensus<V>()
+    // promise: steps-of-a-process (KeepsConsensus: steps)
     ensures consensus { (P : ProtocolOfRounds) (n nodes : ℕ) (team : ℕ → TeamOf) (schedule : List ℕ)
         (w : World V) → IsSound P n nodes team → IsReached P n nodes schedule w
         → KeepsConsensus P n schedule w }
@@ -88,6 +94,7 @@ pub fn rounds_keep_consensus<V>()
 /// Every round in memory is a round of a plan, after beginnings and the steps of a schedule. So
 /// [`rounds_keep_consensus`] holds for it.
 pub fn rounds_are_of_plans<V: Copy>(round: &Round<V>)
+    // promise: rounds-are-of-plans
     ensures { IsRound round.now }
 {
     let _ = &round.first;

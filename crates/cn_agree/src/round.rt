@@ -65,8 +65,10 @@ impl<V: Copy> Round<V> {
     ///
     /// `AllocError` if memory runs out.
     pub fn new(alloc: Global, plan: &Plan) -> Result<Round<V>, AllocError>
+        // promise: steps-of-a-round
         ensures world { IfOk result (λ round. round
             ≡ first_world (protocol_of plan.now) (processes_of plan.now) (nodes_of plan.now)) }
+        // promise: steps-of-a-round
         ensures of_plan { IfOk result (IsRoundOf plan.now []) }
     {
         plans_are_sound(plan);
@@ -88,9 +90,12 @@ impl<V: Copy> Round<V> {
     pub fn begin(&mut self, p: u8, value: V)
         requires process { p < length self.old.locals }
         requires not_begun { local_at self.old p ≡ NotBegun }
+        // promise: steps-of-a-round
         ensures world { self.new ≡ after_begin p value self.old }
+        // promise: steps-of-a-round
         ensures of_plan { (plan : PlanOf) (schedule : List ℕ) → IsRoundOf plan schedule self.old
             → IsRoundOf plan schedule self.new }
+        // promise: fixed-value
         ensures fixed { fixed_value self.new ≡ fixed_value self.old }
     {
         self.locals[usize::from(p)] = Local::Active {
@@ -109,10 +114,14 @@ impl<V: Copy> Round<V> {
         requires process { p < processes_of plan.now }
         requires begun { HasBegun self.old p }
         requires undecided { decision_at self.old p ≡ None }
+        // promise: steps-of-a-round
         ensures world { self.new ≡ after_step (protocol_of plan.now) p self.old }
+        // promise: decision-of-a-round
         ensures decision { result ≡ decision_at self.new p }
+        // promise: steps-of-a-round
         ensures of_plan { (schedule : List ℕ) → IsRoundOf plan.now schedule self.old
             → IsRoundOf plan.now (schedule ++ p ∷ []) self.new }
+        // promise: fixed-value
         ensures fixed { (x : V) → fixed_value self.old ≡ Some x → fixed_value self.new ≡ Some x }
     {
         plans_are_sound(plan);
@@ -143,8 +152,11 @@ impl<V: Copy> Round<V> {
         requires of_plan { RunsBy plan.now self.now }
         requires process { p < processes_of plan.now }
         requires begun { HasBegun self.now p }
+        // promise: next-action-of-a-round (action_of)
         ensures action { result ≡ action_of plan.now self.now p }
+        // promise: next-action-of-a-round
         ensures decided { IsNone result ↔ IsSome (decision_at self.now p) }
+        // promise: next-action-of-a-round (IsOfTable)
         ensures table { IfSome result (IsOfTable plan.now.table) }
     {
         plans_are_sound(plan);
@@ -172,8 +184,11 @@ impl<V: Copy> Round<V> {
     /// The decision of process `p`, if it has one.
     pub fn decision(&self, p: u8) -> Option<V>
         requires { p < length self.now.locals }
+        // promise: decision-of-a-round
         ensures value { result ≡ decision_at self.now p }
+        // promise: decision-of-a-round
         ensures fixed { IfSome result (λ x. fixed_value self.now ≡ Some x) }
+        // promise: decision-of-a-round
         ensures in_time { (plan : PlanOf) (schedule : List ℕ) → IsRoundOf plan schedule self.now
             → IsSome result ↔ (4 * length ((protocol_of plan).path p) ≤ occurrences schedule p) }
     {
@@ -183,10 +198,13 @@ impl<V: Copy> Round<V> {
     /// The value that the round has fixed: that of the team that came first at the root. It is
     /// there from the first application at the root on.
     pub fn fixed(&self) -> Option<V>
+        // promise: fixed-value
         ensures value { result ≡ fixed_value self.now }
+        // promise: fixed-value
         ensures valid { (plan : PlanOf) (schedule : List ℕ) → IsRoundOf plan schedule self.now
             → IfSome result (λ x. (q : ℕ) × IsParticipant schedule q
             × (input_at self.now q ≡ Some x)) }
+        // promise: fixed-value
         ensures since { (plan : PlanOf) (schedule : List ℕ) → IsRoundOf plan schedule self.now
             → IsSome result ↔ IsAppliedAtRoot (protocol_of plan) (processes_of plan) self.now }
     {

@@ -198,14 +198,19 @@ pub fn run_schedule(
     inputs: &[u64],
     schedule: &[u8],
 ) -> Result<Decided, ScheduleFault>
+    // promise: decisions-of-a-schedule
     ensures decisions { IfOk result (λ d. d.decisions
         ≡ decisions_after plan.now inputs.now schedule.now) }
+    // promise: consensus-of-a-schedule
     ensures consensus { IfOk result (λ d. IsConsensus (protocol_of plan.now) (processes_of plan.now)
         inputs.now schedule.now d.decisions) }
+    // promise: decisions-of-a-schedule
     ensures run { OnOk result (schedule_fault (processes_of plan.now) inputs.now schedule.now
         ≡ None) }
+    // promise: decisions-of-a-schedule
     ensures told { (e : FaultOf)
         → schedule_fault (processes_of plan.now) inputs.now schedule.now ≡ Some e → result ≡ Err e }
+    // promise: decisions-of-a-schedule
     ensures refused { IfErr result (λ e. (e ≡ OutOfMemory)
         ⊎ (schedule_fault (processes_of plan.now) inputs.now schedule.now ≡ Some e)) }
 {
@@ -232,16 +237,23 @@ pub fn run_steps(
     inputs: &[u64],
     schedule: &[u8],
 ) -> Result<Course, ScheduleFault>
+    // promise: steps-of-a-schedule (records_of)
     ensures records { IfOk result (λ c. c.records ≡ records_of plan.now inputs.now schedule.now) }
+    // promise: steps-of-a-schedule
     ensures table { IfOk result (λ c. AreOfTable plan.now.table c.records) }
+    // promise: steps-of-a-schedule
     ensures decisions { IfOk result (λ c. c.decisions
         ≡ decisions_after plan.now inputs.now schedule.now) }
+    // promise: steps-of-a-schedule
     ensures consensus { IfOk result (λ c. IsConsensus (protocol_of plan.now) (processes_of plan.now)
         inputs.now schedule.now c.decisions) }
+    // promise: steps-of-a-schedule
     ensures run { OnOk result (schedule_fault (processes_of plan.now) inputs.now schedule.now
         ≡ None) }
+    // promise: steps-of-a-schedule
     ensures told { (e : FaultOf)
         → schedule_fault (processes_of plan.now) inputs.now schedule.now ≡ Some e → result ≡ Err e }
+    // promise: steps-of-a-schedule
     ensures refused { IfErr result (λ e. (e ≡ OutOfMemory)
         ⊎ (schedule_fault (processes_of plan.now) inputs.now schedule.now ≡ Some e)) }
 {

@@ -100,6 +100,7 @@ impl Source {
 
     /// The word for it in the text of a fault.
     pub fn name(&self) -> &'static str
+        // promise: texts-of-faults
         ensures { result.now ≡ source_text self.now }
     {
         match self {
@@ -116,6 +117,7 @@ impl Argument {
 
     /// The word for it in the text of a fault.
     pub fn name(&self) -> &'static str
+        // promise: texts-of-faults
         ensures { result.now ≡ argument_text self.now }
     {
         match self {
@@ -155,6 +157,7 @@ impl AppFault {
 
     /// The same fault; want of memory in any layer becomes `OutOfMemory`.
     pub fn plain(&self) -> AppFault
+        // promise: texts-of-faults
         ensures { result ≡ plain_of self.now }
     {
         match self {
@@ -171,6 +174,7 @@ impl AppFault {
     /// The words before the text of the fault that it carries. If it carries none, the words before
     /// the [`tail`](AppFault::tail).
     pub fn head(&self) -> &'static str
+        // promise: texts-of-faults
         ensures { result.now ≡ head_of (plain_of self.now) }
     {
         match self.plain() {
@@ -195,6 +199,7 @@ impl AppFault {
 
     /// The words behind the text of the fault that it carries, if there are any.
     pub fn tail(&self) -> &'static str
+        // promise: texts-of-faults
         ensures { result.now ≡ tail_of self.now }
     {
         match self {
@@ -213,6 +218,7 @@ impl AppFault {
     /// - 4: reading or writing failed, or a thread could not be started;
     /// - 5: want of memory.
     pub fn status(&self) -> u8
+        // promise: texts-of-faults
         ensures { result ≡ status_of self.now }
     {
         match self.plain() {

@@ -194,6 +194,7 @@ fn replay_hint(fault: ReplayFault) -> Option<Hint<'static>>
 impl AppFault {
     /// What to do about the fault, by what is known of the texts, if there is something to say.
     pub fn hint<'k>(&self, known: &'k Known<'k>) -> Option<Hint<'k>>
+        // promise: hints (hint_of)
         ensures { option_map hint_text result ≡ hint_of self.now known.now }
     {
         match self {

@@ -65,6 +65,7 @@ fn number_of(alloc: Global, bytes: &[u8]) -> Option<u8>
 impl<'a> Known<'a> {
     /// Nothing is known but the names of files.
     pub fn of_files(table: Option<&'a str>, object: Option<&'a str>) -> Known<'a>
+        // promise: hints
         ensures { result ≡ record {
           table = table.entry;
           object = object.entry;
@@ -86,6 +87,7 @@ impl<'a> Known<'a> {
 
     /// Where and why the text of the table is no TOML, if it is known.
     pub fn reason(&self) -> Option<&str>
+        // promise: hints
         ensures { option_map (λ s. s.now) result ≡ option_map string_bytes self.now.reason }
     {
         match &self.reason {
@@ -99,6 +101,7 @@ impl<'a> Known<'a> {
     pub fn note_table(&mut self, alloc: Global, fault: AppFault, bytes: &[u8])
         ensures files { (self.new.table ≡ self.old.table) × (self.new.object ≡ self.old.object)
             × (self.new.is_linted ≡ self.old.is_linted) }
+        // promise: hints (IsGreatestLimitOf)
         ensures limit { (self.new.greatest_limit ≡ self.old.greatest_limit)
             ⊎ IfSome self.new.greatest_limit (IsGreatestLimitOf bytes.now) }
         ensures processes { self.new.processes ≡ self.old.processes }
@@ -122,6 +125,7 @@ impl<'a> Known<'a> {
             × (self.new.is_linted ≡ self.old.is_linted) }
         ensures limit { self.new.greatest_limit ≡ self.old.greatest_limit }
         ensures reason { self.new.reason ≡ self.old.reason }
+        // promise: hints (IsNumberOf)
         ensures processes { (self.new.processes ≡ self.old.processes)
             ⊎ IfSome self.new.processes (IsNumberOf bytes.now) }
     {

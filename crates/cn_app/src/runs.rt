@@ -62,6 +62,7 @@ pub fn run_find<T: Threads + Sync, R: Read + Drop, W: Write>(
     writer: &mut W,
     limit: u8,
 ) -> Result<Outcome, AppFault>
+    // promise: commands-over-streams (OfBytes, WritesReport, find_of: IsFindReport)
     ensures found { OfBytes (R.remaining table) (λ t. WritesReport W.contents (find_of t limit)
         writer.old writer.new result) }
 {
@@ -85,6 +86,7 @@ pub fn run_check<T, R: Read + Drop, C: Read + Drop, W: Write>(
     certificate: C,
     writer: &mut W,
 ) -> Result<Outcome, AppFault>
+    // promise: commands-over-streams (check_of: IsCheckReport)
     ensures checked { OfBytes (R.remaining table) (λ t. OfBytes (C.remaining certificate)
         (λ c. WritesReport W.contents (check_of t c) writer.old writer.new result)) }
 {
@@ -110,6 +112,7 @@ pub fn run_show<T, R: Read + Drop, C: Read + Drop, W: Write>(
     certificate: C,
     writer: &mut W,
 ) -> Result<Outcome, AppFault>
+    // promise: commands-over-streams (show_of: IsShowReport)
     ensures shown { OfBytes (R.remaining table) (λ t. OfBytes (C.remaining certificate)
         (λ c. WritesReport W.contents (show_of t c) writer.old writer.new result)) }
 {
@@ -142,6 +145,7 @@ pub fn run_agree<T, R: Read + Drop, C: Read + Drop, W: Write>(
     inputs: &str,
     schedule: &str,
 ) -> Result<Outcome, AppFault>
+    // promise: commands-over-streams (agree_of: IsAgreeReport)
     ensures agreed { OfBytes (R.remaining table) (λ t. OfBytes (C.remaining certificate)
         (λ c. WritesReport W.contents (agree_of t c (Word inputs.entry) (Word schedule.entry))
         writer.old writer.new result)) }
@@ -192,6 +196,7 @@ pub fn run_replay<T, R: Read + Drop, C: Read + Drop, O: Read + Drop, W: Write>(
     capacity: &str,
     events: &str,
 ) -> Result<Outcome, AppFault>
+    // promise: commands-over-streams (replay_of: IsReplayReport)
     ensures served { OfBytes (R.remaining table) (λ t. OfBytes (C.remaining certificate)
         (λ c. OfBytes (O.remaining object) (λ o. WritesReport W.contents
         (replay_of t c o start.now capacity.now (Word events.entry))
@@ -246,6 +251,7 @@ where
     requires gates { F.IsAlwaysCallable make_gate }
     requires on { (p : ℕ) (g : _) → F.post make_gate p g → G.says g ≡ On }
 
+    // promise: commands-over-streams (EachHasOneGate, serve_of: IsServeReport)
     ensures served { OfBytes (R.remaining table) (λ t. OfBytes (C.remaining certificate)
         (λ c. OfBytes (O.remaining object) (λ o. WritesReport W.contents
         (serve_of (EachHasOneGate G.asks G.says (λ p g. F.post make_gate p g)) t c o start.now

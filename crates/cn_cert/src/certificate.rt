@@ -59,7 +59,9 @@ impl Certificate {
         table: &Table,
         finding: Finding,
     ) -> Result<Certificate, Finding>
+        // promise: certificate-of-a-finding
         ensures certificate { IfOk result (λ c. c ≡ certificate_of table.now.name finding) }
+        // promise: certificate-of-a-finding
         ensures handed_back { IfErr result (λ f. f ≡ finding) }
     {
         let type_name = match String::from_str(alloc, table.name()) {

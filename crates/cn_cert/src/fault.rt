@@ -48,6 +48,7 @@ impl CertFault {
 
     /// The number of the fault.
     pub fn number(&self) -> u8
+        // promise: fault-texts
         ensures { result ≡ cert_fault_number self.now }
     {
         *self as u8
@@ -55,6 +56,7 @@ impl CertFault {
 
     /// The name of the fault.
     pub fn name(&self) -> &'static str
+        // promise: fault-texts
         ensures { result.now ≡ cert_fault_name self.now }
     {
         match self {

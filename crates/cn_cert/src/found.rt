@@ -85,14 +85,18 @@ pub fn find_text<T: Threads + Sync>(
     table: &Table,
     limit: u8,
 ) -> Result<String, FindFault>
+    // promise: text-of-a-finding (IsFindingFor, certificate_of, certificate_text)
     ensures text { IfOk result (λ text. (finding : FindingOf)
         × IsFindingFor table.now limit finding
         × (string_bytes text ≡ certificate_text (certificate_of table.now.name finding))) }
+    // promise: text-of-a-finding
     ensures searched { OnOk result (find_fault (length table.now.states)
         (length table.now.operations) limit ≡ None) }
+    // promise: text-of-a-finding
     ensures told { (e : FindFault)
         → find_fault (length table.now.states) (length table.now.operations) limit ≡ Some e
         → result ≡ Err e }
+    // promise: text-of-a-finding
     ensures refused { IfErr result (λ e. (e ≡ OutOfMemory)
         ⊎ (find_fault (length table.now.states) (length table.now.operations) limit ≡ Some e)) }
 {

@@ -37,6 +37,7 @@ fn end_of_entries(text: &[u8]) -> Option<usize>
 /// The bytes are those of the written text, which can have a line feed at its end; for any other
 /// text, and if memory runs out, there is no answer.
 pub fn read_frame(alloc: Global, bytes: &[u8]) -> Option<Frame<'_>>
+    // promise: frame-of-a-certificate (IsReadWith: AreEntries)
     ensures { IfSome result (λ frame. IsReadWith bytes.now frame.certificate frame.entries.now) }
 {
     let text = without_line_feed(bytes).strip_prefix(b"{\"collisions\":[")?;

@@ -16,12 +16,14 @@ use cn_choice::laws;
 /// The text of a certificate of version 1 or 2 is read back as that certificate, if its parts are
 /// in their ranges.
 pub fn written_is_read_back()
+    // promise: text-of-a-certificate
     ensures { (c : Certificate) → is_version c.version ≡ true → is_in_range c ≡ true
         → reading (certificate_text c) ≡ Ok c }
 {}
 
 /// The parts of a finding for a table are in their ranges.
 pub fn finding_is_in_range()
+    // promise: certificate-of-a-finding
     ensures { (t : TypeTable) (limit : ℕ) (f : Finding) → IsTypeTable t → limit ≤ GREATEST_LIMIT
         → IsFindingFor t limit f → is_in_range (certificate_of t.name f) ≡ true }
 {

@@ -49,8 +49,11 @@ fn certificate_of(alloc: Global, draft: Draft) -> Result<Certificate, CertFault>
 /// that are not UTF-8 are refused before any memory is taken.
 #[tactic(auto, using(crate::proofs::Readings::reading_by_draft))]
 pub fn read_certificate(alloc: Global, bytes: &[u8]) -> Result<Certificate, CertFault>
+    // promise: certificate-of-bytes
     ensures certificate { IfOk result (λ c. reading bytes.now ≡ Ok c) }
+    // promise: certificate-of-bytes
     ensures fault { IfErr result (λ e. (e ≡ OutOfMemory) ⊎ (reading bytes.now ≡ Err e)) }
+    // promise: certificate-of-bytes
     ensures told { ¬ IsUtf8 bytes.now → result ≡ Err NotJson }
 {
     if let Some(certificate) = guessed_certificate(alloc, bytes) {

@@ -136,11 +136,14 @@ pub(crate) fn push_certificate<S: Sink>(
 ///
 /// `OutOfMemory`, and nothing else.
 pub fn write_certificate(alloc: Global, certificate: &Certificate) -> Result<String, CertFault>
+    // promise: text-of-a-certificate
     ensures text { IfOk result (λ s. string_bytes s ≡ certificate_text certificate.now) }
     // By this law the text of a certificate of version 1 or 2 is read back, if its parts are in
     // range.
+    // promise: text-of-a-certificate
     ensures read_back { IfOk result (λ s. is_version certificate.now.version ≡ true
         → is_in_range certificate.now ≡ true → reading (string_bytes s) ≡ Ok certificate.now) }
+    // promise: text-of-a-certificate
     ensures memory { IsOkUnless result CertFault.OutOfMemory }
 {
     laws::written_is_read_back();

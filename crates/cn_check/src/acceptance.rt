@@ -31,6 +31,7 @@ fn are_evidence(table: &Table, version: u8, limit: u8, number: Option<u8>, entri
 /// it once and keeps nothing. It only accepts: if it answers no, the text can still spell, in
 /// another form, entries with which [`check`](crate::check) accepts the certificate.
 pub fn accepts(table: &Table, certificate: &Certificate, entries: &[u8]) -> bool
+    // promise: acceptance-of-text (IsAcceptedWith: AreEntries, IsAccepted)
     ensures { IsTrue result → IsAcceptedWith table.now certificate.now entries.now }
 {
     let (version, limit, number) = (certificate.version, certificate.limit, certificate.number);

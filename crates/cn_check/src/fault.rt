@@ -37,6 +37,7 @@ impl CheckFault {
 
     /// The number of the fault.
     pub fn number(&self) -> u8
+        // promise: fault-texts
         ensures { result ≡ check_fault_number self.now }
     {
         match self {
@@ -53,6 +54,7 @@ impl CheckFault {
 
     /// The name of the fault.
     pub fn name(&self) -> &'static str
+        // promise: fault-texts
         ensures { result.now ≡ check_fault_name self.now }
     {
         match self {
@@ -69,6 +71,7 @@ impl CheckFault {
 
     /// The number that the fault carries: of the process whose outcome sets meet, or of the entry.
     pub fn index(&self) -> Option<u64>
+        // promise: fault-texts
         ensures { result ≡ check_fault_index self.now }
     {
         match self {

@@ -17,8 +17,10 @@ use cn_choice::laws;
 
 /// A certificate that is accepted has no fault, and any other has only one first fault.
 pub fn one_verdict()
+    // promise: one-verdict
     ensures accepted { (t : TypeTable) (c : Certificate) (e : CheckFault) → IsAccepted t c
         → ¬ HasFault t c e }
+    // promise: one-verdict
     ensures first { (t : TypeTable) (c : Certificate) (e f : CheckFault) → IsFirstFault t c e
         → IsFirstFault t c f → e ≡ f }
 {}
@@ -26,8 +28,10 @@ pub fn one_verdict()
 /// A certificate that is accepted has the number of the type up to its limit, and the certificate
 /// of each finding is accepted.
 pub fn accepted_is_right()
+    // promise: accepted-numbers
     ensures number { (t : TypeTable) (c : Certificate) → IsAccepted t c
         → IsNumberUpTo t c.limit c.number }
+    // promise: accepted-numbers
     ensures found { (t : TypeTable) (f : Finding) → IsFindingFor t f.limit f
         → find_fault (length t.states) (length t.operations) f.limit ≡ None
         → IsAccepted t (certificate_of t.name f) }
@@ -45,5 +49,6 @@ pub fn accepted_is_right()
 /// The witness of a certificate that is accepted is a choice of the table for 2 to
 /// [`MOST_PROCESSES`](cn_choice::MOST_PROCESSES) processes, as a plan needs it.
 pub fn accepted_witnesses_fit()
+    // promise: accepted-witnesses
     ensures { (t : TypeTable) (c : Certificate) → IsAccepted t c → IfSome c.witness (FitsTable t) }
 {}

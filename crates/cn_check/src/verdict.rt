@@ -111,11 +111,21 @@ fn check_evidence(
 ///
 /// The first fault of the certificate, in the order that [`CheckFault`] gives.
 pub fn check(table: &Table, certificate: &Certificate) -> Result<(), CheckFault>
+    // promise: acceptance
+    // promise: wanted-entries (IsAccepted: refuted, choices_to_refute_in)
+    // promise: pairs-by-explain (IsAccepted: witness, refuted)
     ensures accepted { OnOk result (IsAccepted table.now certificate.now) }
+    // promise: acceptance
+    // promise: wanted-entries (IsAccepted: refuted, choices_to_refute_in)
     ensures passes { IsAccepted table.now certificate.now → IsOk result }
+    // promise: acceptance (IsFirstFault)
+    // promise: wanted-entries (IsAccepted: refuted, choices_to_refute_in)
     ensures refused { IfErr result (IsFirstFault table.now certificate.now) }
+    // promise: acceptance
+    // promise: wanted-entries (IsAccepted: refuted, choices_to_refute_in)
     ensures number { OnOk result
         (IsNumberUpTo table.now certificate.now.limit certificate.now.number) }
+    // promise: accepted-numbers
     ensures found { (f : Finding) → IsFindingFor table.now f.limit f
         → find_fault (length table.now.states) (length table.now.operations) f.limit ≡ None
         → certificate.now ≡ certificate_of table.now.name f → IsOk result }

@@ -117,6 +117,7 @@ impl<'t> BlockChoices<'t> {
     pub fn new(table: &'t Table, block: &Block) -> BlockChoices<'t>
         requires some { 2 ≤ block.now.n }
         requires is_block { IsBlockOf table.now block.now }
+        // promise: live-blocks
         ensures { result ≡ live_in table.now block.now }
     {
         tables_are_valid(table);
@@ -133,6 +134,7 @@ impl<'t> BlockChoices<'t> {
 
     /// The current choice, if there is one.
     #[inline]
+    // promise: live-blocks
     pub fn current(&self) -> Option<&Choice>
         ensures none { IfNone result (self.now ≡ []) }
         ensures some { IfSome result
@@ -144,6 +146,7 @@ impl<'t> BlockChoices<'t> {
     /// Goes on to the next choice. After the last one there is none, and nothing changes.
     #[inline]
     pub fn advance(&mut self)
+        // promise: live-blocks
         ensures { self.new ≡ drop 1 self.old }
     {
         self.left = self.left && advance_live(self.table, &self.moving, &mut self.choice);

@@ -25,6 +25,7 @@ use std::alloc::{AllocError, Global};
 ///
 /// `AllocError` if memory runs out.
 pub fn as_rust(alloc: Global, plan: &Plan) -> Result<String, AllocError>
+    // promise: programs-of-a-plan (rust_text)
     ensures { IfOk result (λ text. string_bytes text ≡ rust_text plan.now) }
 {
     code_of(alloc, Language::Rust, plan)
@@ -40,6 +41,7 @@ pub fn as_rust(alloc: Global, plan: &Plan) -> Result<String, AllocError>
 ///
 /// `AllocError` if memory runs out.
 pub fn as_c(alloc: Global, plan: &Plan) -> Result<String, AllocError>
+    // promise: programs-of-a-plan (c_text)
     ensures { IfOk result (λ text. string_bytes text ≡ c_text plan.now) }
 {
     code_of(alloc, Language::C, plan)

@@ -11,6 +11,7 @@ use cn_proto::Plan;
 /// Every text that a program has from its type is a name: lower case letters, digits and
 /// underscores. So none ends the comment or the text in quotes in which it stands.
 pub fn names_are_plain(plan: &Plan)
+    // promise: programs-of-a-plan (names_in, is_name)
     ensures { IsTrue (list_all is_name (names_in plan.now.table)) }
 {
     let _known = plan.table().states();

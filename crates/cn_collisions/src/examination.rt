@@ -41,6 +41,7 @@ pub struct RecordedOrders {
 impl RecordedOrders {
     /// The collision of a choice with this process and these orders.
     pub fn into_collision(self, choice: &Choice) -> Collision
+        // promise: examination (collision_with)
         ensures { result ≡ collision_with choice.now self }
     {
         // The lists of a choice have room for no more.
@@ -143,7 +144,9 @@ pub fn recorded_orders(sets: &Sets<'_>, choice: &Choice) -> Option<RecordedOrder
     requires sets { AreSomeSets sets.now }
     requires fits { IsRawChoice (table_of sets.now) (number_of sets.now)
         (raw_choice_of choice.now) }
+    // promise: examination
     ensures none { IfNone result (IsWitness (table_of sets.now) (raw_choice_of choice.now)) }
+    // promise: examination (AreRecordedOrders)
     ensures recorded { IfSome result (AreRecordedOrders (table_of sets.now) choice.now) }
 {
     let raw = RawChoice::of(choice);
@@ -166,6 +169,7 @@ pub fn examine(sets: &Sets<'_>, choice: &Choice) -> Examined
     requires sets { AreSomeSets sets.now }
     requires fits { IsRawChoice (table_of sets.now) (number_of sets.now)
         (raw_choice_of choice.now) }
+    // promise: examination (IsExamined)
     ensures { IsExamined (table_of sets.now) choice.now result }
 {
     match recorded_orders(sets, choice) {

@@ -43,9 +43,11 @@ pub(crate) fn first_order_into(
     requires asked { IsAsked asked.now }
     requires openings { AreOpeningsOf asked.now team openings.now }
     requires empty { order.old.items ≡ [] }
+    // promise: first-order (NoneInto)
     ensures none { IfNone result (NoneInto asked.now.view.sets.now.table.now
         asked.now.view.raw.now team asked.now.view.process target.now) }
     ensures unchanged { IfNone result (order.new.items ≡ []) }
+    // promise: first-order (IsFirstInto)
     ensures first { IfSome result (IsFirstInto asked.now.view.sets.now.table.now
         asked.now.view.raw.now team asked.now.view.process target.now order.new.items) }
     ensures in_range { IfSome result (λ pair. (pair.0 < MOST_RESPONSES) × (pair.1 < MOST_STATES)) }

@@ -131,7 +131,9 @@ fn all_ends(
 /// The threads that make the pairs of this count of stocks. One thread makes the pairs of a few
 /// stocks in less time than another thread takes to start.
 fn threading_for(threading: Threading, count: usize) -> Threading
+    // promise: choice-of-threads
     ensures one { threading ≡ One → result ≡ One }
+    // promise: choice-of-threads
     ensures many { FEWEST_STOCKS ≤ count → result ≡ threading }
 {
     if count < FEWEST_STOCKS {
@@ -247,6 +249,7 @@ impl<'t> Sets<'t> {
     ) -> Result<Sets<'t>, AllocError>
         requires some { 2 ≤ n }
         requires few { n ≤ MOST_PROCESSES }
+        // promise: words-within-stocks (AreSetsFor)
         ensures { IfOk result (AreSetsFor table.now n) }
     {
         let stocks = all_stocks(alloc, table.operations(), n)?;

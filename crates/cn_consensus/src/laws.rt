@@ -19,12 +19,14 @@ use cn_choice::laws::witnesses_are_live;
 
 /// Every table is closed: no operation leads out of its states.
 pub fn tables_are_closed()
+    // promise: closed-types
     ensures { (t : TypeTable) → IsTypeTable t → IsClosed t }
 {}
 
 /// Consensus needs a witness: where some protocol solves wait-free consensus for n processes, 2 or
 /// more, from registers and readable objects of the type, the type is n-discerning (Ruppert, 2000).
 pub fn consensus_needs_a_witness<L, V>()
+    // promise: consensus-needs-a-witness (IsProtocolOf, IsConsensusProtocol, IsDiscerning)
     ensures { (t : TypeTable) (n : ℕ) (P : Protocol L V) → IsClosed t → 2 ≤ n
         → IsProtocolOf (all_of t) n P → IsConsensusProtocol (all_of t) n P → IsDiscerning t n }
 {}
@@ -32,6 +34,7 @@ pub fn consensus_needs_a_witness<L, V>()
 /// Several types together are no better: where the objects are of several types, one of these types
 /// alone is n-discerning, for n of 2 or more (Ruppert, 2000).
 pub fn one_type_of_several<L, V>()
+    // promise: one-type-of-several
     ensures { (t : ℕ → TypeTable) (n : ℕ) (P : Protocol L V) → ((i : ℕ) → IsClosed (t i)) → 2 ≤ n
         → IsProtocolOf t n P → IsConsensusProtocol t n P → (i : ℕ) × IsDiscerning (t i) n }
 {}
@@ -40,9 +43,11 @@ pub fn one_type_of_several<L, V>()
 /// the limit, and for 2 or more where the type has no number. The processes may be more than the
 /// limit.
 pub fn none_above_the_number<L, V>()
+    // promise: number-is-the-consensus-number
     ensures found { (t : TypeTable) (limit n m : ℕ) (P : Protocol L V) → IsClosed t
         → IsNumberUpTo t limit (Some n) → n < limit → n < m → IsProtocolOf (all_of t) m P
         → ¬ IsConsensusProtocol (all_of t) m P }
+    // promise: number-is-the-consensus-number
     ensures none { (t : TypeTable) (limit m : ℕ) (P : Protocol L V) → IsClosed t
         → IsNumberUpTo t limit None → 2 ≤ limit → 2 ≤ m → IsProtocolOf (all_of t) m P
         → ¬ IsConsensusProtocol (all_of t) m P }
@@ -51,6 +56,7 @@ pub fn none_above_the_number<L, V>()
 /// Registers alone do not solve consensus for 2 or more processes (Loui and Abu-Amara, 1987): where
 /// no operation of a type changes its state, no protocol over it solves consensus.
 pub fn registers_alone<L, V>()
+    // promise: registers-alone (NeverChanges)
     ensures { (t : TypeTable) (n : ℕ) (P : Protocol L V) → IsClosed t → NeverChanges t → 2 ≤ n
         → IsProtocolOf (all_of t) n P → ¬ IsConsensusProtocol (all_of t) n P }
 {
@@ -65,10 +71,13 @@ pub fn registers_alone<L, V>()
 ///   infinitely often;
 /// - `classical`: if so, there is a bound, by excluded middle.
 pub fn bound_is_wait_freedom<L, V>()
+    // promise: wait-freedom-of-a-protocol
     ensures ends { (t : ℕ → TypeTable) (n : ℕ) (P : Protocol L V)
         → EveryRunEnds t n P ↔ IsBoundedWaitFree t n P }
+    // promise: wait-freedom-of-a-protocol
     ensures infinite { (t : ℕ → TypeTable) (n : ℕ) (P : Protocol L V)
         → IsBoundedWaitFree t n P → IsWaitFree t n P }
+    // promise: wait-freedom-of-a-protocol
     ensures classical { (t : ℕ → TypeTable) (n : ℕ) (P : Protocol L V) → ExcludedMiddle t n P
         → IsWaitFree t n P → IsBoundedWaitFree t n P }
 {}

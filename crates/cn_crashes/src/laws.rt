@@ -35,6 +35,7 @@ use cn_recover::laws::{
 /// for each n from 2 on, with at most 6(n-1) own steps in each life (Delporte-Gallet, Fatourou,
 /// Fauconnier and Ruppert, 2022).
 pub fn recording_is_enough()
+    // promise: recording-is-enough
     ensures { (t : TypeTable) (n : ℕ) → 2 ≤ n → IsRecording t n → SolvesRecoverableConsensus t n }
 {
     coverage();
@@ -48,9 +49,11 @@ pub fn recording_is_enough()
 /// - `recording`: the type is n-recording (Ovens, 2024);
 /// - `discerning`: so it is n-discerning.
 pub fn recoverable_consensus_needs_recording<L, V>()
+    // promise: recoverable-consensus-needs-recording
     ensures recording { (t : TypeTable) (n : ℕ) (P : Protocol L V) → IsClosed t → 2 ≤ n
         → IsProtocolOf (all_of t) n P → IsRecoverableConsensusProtocol (all_of t) n P
         → IsRecording t n }
+    // promise: recoverable-consensus-needs-recording
     ensures discerning { (t : TypeTable) (n : ℕ) (P : Protocol L V) → IsClosed t → 2 ≤ n
         → IsProtocolOf (all_of t) n P → IsRecoverableConsensusProtocol (all_of t) n P
         → IsDiscerning t n }
@@ -61,6 +64,7 @@ pub fn recoverable_consensus_needs_recording<L, V>()
 /// Several types together are no better: where the objects are of several types, one of these types
 /// alone is n-recording, for n of 2 or more (Ovens, 2024).
 pub fn one_type_of_several<L, V>()
+    // promise: one-type-of-several-recoverably
     ensures { (t : ℕ → TypeTable) (n : ℕ) (P : Protocol L V) → ((i : ℕ) → IsClosed (t i)) → 2 ≤ n
         → IsProtocolOf t n P → IsRecoverableConsensusProtocol t n P
         → (i : ℕ) × IsRecording (t i) n }
@@ -69,6 +73,7 @@ pub fn one_type_of_several<L, V>()
 /// A type solves recoverable consensus for n processes exactly if it is n-recording, for each n
 /// from 2 on (Delporte-Gallet, Fatourou, Fauconnier and Ruppert, 2022; Ovens, 2024).
 pub fn solving_is_recording()
+    // promise: recording-is-enough (SolvesRecoverableConsensus: DecidesWithin)
     ensures { (t : TypeTable) (n : ℕ) → IsClosed t → 2 ≤ n
         → SolvesRecoverableConsensus t n ↔ IsRecording t n }
 {
@@ -79,6 +84,7 @@ pub fn solving_is_recording()
 /// recoverable consensus for n processes, 2 or more, one with the local states and the registers of
 /// recoverable rounds does, with at most 6(n-1) own steps in each life.
 pub fn recoverable_rounds_are_enough<L, V>()
+    // promise: recoverable-rounds-are-enough
     ensures { (t : TypeTable) (n : ℕ) (P : Protocol L V) → IsClosed t → 2 ≤ n
         → IsProtocolOf (all_of t) n P → IsRecoverableConsensusProtocol (all_of t) n P
         → SolvesRecoverableConsensus t n }
@@ -89,9 +95,11 @@ pub fn recoverable_rounds_are_enough<L, V>()
 /// No protocol solves recoverable consensus for more processes than the recoverable number of a
 /// type that is found below the limit, and for 2 or more where the type has none.
 pub fn none_above_the_recoverable_number<L, V>()
+    // promise: number-is-the-recoverable-consensus-number
     ensures found { (t : TypeTable) (limit n m : ℕ) (P : Protocol L V) → IsClosed t
         → IsRecoverableNumberUpTo t limit (Some n) → n < limit → n < m
         → IsProtocolOf (all_of t) m P → ¬ IsRecoverableConsensusProtocol (all_of t) m P }
+    // promise: number-is-the-recoverable-consensus-number
     ensures none { (t : TypeTable) (limit m : ℕ) (P : Protocol L V) → IsClosed t
         → IsRecoverableNumberUpTo t limit None → 2 ≤ limit → 2 ≤ m
         → IsProtocolOf (all_of t) m P → ¬ IsRecoverableConsensusProtocol (all_of t) m P }
@@ -107,11 +115,14 @@ pub fn none_above_the_recoverable_number<L, V>()
 /// - `at_least`: a type solves recoverable consensus for as many processes as its recoverable
 ///   number, also at the limit.
 pub fn number_is_the_recoverable_consensus_number<L, V>()
+    // promise: number-is-the-recoverable-consensus-number
     ensures found { (t : TypeTable) (limit n : ℕ) → IsClosed t
         → IsRecoverableNumberUpTo t limit (Some n) → n < limit
         → IsRecoverableConsensusNumber L V t n }
+    // promise: number-is-the-recoverable-consensus-number
     ensures none { (t : TypeTable) (limit : ℕ) → IsClosed t → 0 < length t.states → 2 ≤ limit
         → IsRecoverableNumberUpTo t limit None → IsRecoverableConsensusNumber L V t 1 }
+    // promise: number-is-the-recoverable-consensus-number (IsRecoverableConsensusNumber)
     ensures at_least { (t : TypeTable) (limit n : ℕ) → IsRecoverableNumberUpTo t limit (Some n)
         → SolvesRecoverableConsensus t n }
 {
@@ -121,6 +132,7 @@ pub fn number_is_the_recoverable_consensus_number<L, V>()
 
 /// A type has only one recoverable consensus number.
 pub fn unique_recoverable_consensus_number()
+    // promise: number-is-the-recoverable-consensus-number
     ensures { (t : TypeTable) (m n : ℕ)
         → IsRecoverableConsensusNumber RecoverableLocal (Option Bool) t m
         → IsRecoverableConsensusNumber RecoverableLocal (Option Bool) t n → m ≡ n }
@@ -129,6 +141,7 @@ pub fn unique_recoverable_consensus_number()
 /// What solves consensus for n processes, 4 or more, solves recoverable consensus for two fewer
 /// (Delporte-Gallet, Fatourou, Fauconnier and Ruppert, 2022).
 pub fn two_fewer_recoverably<L, V>()
+    // promise: two-fewer-recoverably
     ensures { (t : TypeTable) (n : ℕ) (P : Protocol L V) → IsClosed t → 4 ≤ n
         → IsProtocolOf (all_of t) n P → IsConsensusProtocol (all_of t) n P
         → SolvesRecoverableConsensus t (n - 2) }
@@ -141,6 +154,7 @@ pub fn two_fewer_recoverably<L, V>()
 /// Validity is strong: a decision is the input of a process that has taken a step, or of the one
 /// that has decided, for any number of processes and objects of several types.
 pub fn validity_is_strong<L, V>()
+    // promise: strong-validity
     ensures { (t : ℕ → TypeTable) (n : ℕ) (P : Protocol L V) → HasRecoverableValidity t n P
         → HasStrongRecoverableValidity t n P }
 {}
@@ -154,12 +168,16 @@ pub fn validity_is_strong<L, V>()
 /// - `consensus`: executions with no crash are schedules, so a protocol for recoverable consensus
 ///   with a bound is one for consensus.
 pub fn recoverable_wait_freedom<L, V>()
+    // promise: recoverable-wait-freedom
     ensures infinite { (t : ℕ → TypeTable) (n : ℕ) (P : Protocol L V)
         → IsRecoverablyWaitFree t n P → DecidesInInfiniteExecutions t n P }
+    // promise: recoverable-wait-freedom
     ensures classical { (t : ℕ → TypeTable) (n : ℕ) (P : Protocol L V) → ExcludedMiddle t n P
         → DecidesInInfiniteExecutions t n P → IsRecoverablyWaitFree t n P }
+    // promise: recoverable-wait-freedom
     ensures bound { (t : ℕ → TypeTable) (n : ℕ) (P : Protocol L V)
         → IsBoundedRecoverablyWaitFree t n P → IsRecoverablyWaitFree t n P }
+    // promise: recoverable-wait-freedom
     ensures consensus { (t : ℕ → TypeTable) (n : ℕ) (P : Protocol L V)
         → HasRecoverableAgreement t n P → HasRecoverableValidity t n P
         → IsBoundedRecoverablyWaitFree t n P → IsConsensusProtocol t n P }

@@ -287,6 +287,8 @@ fn push_evidence(
 #[tactic(auto, unfolding(crate::specs::Explanation::explanation_markdown))]
 pub fn explanation_markdown(alloc: Global, explanation: &Explanation) -> Result<String, AllocError>
     requires { IsExplanation explanation.now }
+    // promise: texts-of-numbers (explanation_markdown)
+    // promise: why-without-a-limit
     ensures { IfOk result (λ text. string_bytes text ≡ explanation_markdown explanation.now) }
 {
     let mut text = String::new(alloc);

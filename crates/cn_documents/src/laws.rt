@@ -12,8 +12,10 @@ ghost use Rattle.cn_documents.specs.Triangle.{cell};
 /// the cell of two operations tells the number of the type with both alone. The numbers are those
 /// that [`pairs_of`](cn_pairs::pairs_of) answers.
 pub fn cells_tell_numbers()
+    // promise: cells-tell-numbers
     ensures alone { (t : TypeTable) (p : Pairs) (i : ℕ) → AreSetNumbers t 1 p.alone.items
         → i < length t.operations → TellsNumber t (i ∷ []) (cell p i i) }
+    // promise: cells-tell-numbers (TellsNumber: HasNumber, with_operations)
     ensures pairs { (t : TypeTable) (p : Pairs) (i j : ℕ) → AreSetNumbers t 2 p.pairs.items
         → i < j → j < length t.operations → TellsNumber t (i ∷ j ∷ []) (cell p i j) }
 {}

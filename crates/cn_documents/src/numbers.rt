@@ -14,6 +14,8 @@ use std::alloc::{AllocError, Global};
 ///
 /// `AllocError` if memory runs out.
 pub fn number_head(alloc: Global, recoverable: bool) -> Result<String, AllocError>
+    // promise: texts-of-numbers (numbers_head)
+    // promise: head-by-classify
     ensures { IfOk result (λ text. string_bytes text ≡ numbers_head recoverable) }
 {
     if recoverable {
@@ -47,6 +49,8 @@ pub fn number_row(
     number: &str,
     recoverable: Option<&str>,
 ) -> Result<String, AllocError>
+    // promise: texts-of-numbers (numbers_row)
+    // promise: forms-by-classify
     ensures { IfOk result (λ text. string_bytes text
         ≡ numbers_row table.now.name number.now (option_map (λ r. r.now) recoverable.entry)) }
 {

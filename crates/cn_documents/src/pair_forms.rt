@@ -68,6 +68,7 @@ fn push_sentence_list(text: &mut String, table: &Table, pairs: &Pairs) -> Result
 ///
 /// `AllocError` if memory runs out.
 pub fn pairs_lines(alloc: Global, table: &Table, pairs: &Pairs) -> Result<String, AllocError>
+    // promise: texts-of-numbers (pairs_text)
     ensures { IfOk result (λ text. string_bytes text ≡ pairs_text table.now pairs.now) }
 {
     let mut text = String::new(alloc);
@@ -83,6 +84,7 @@ pub fn pairs_lines(alloc: Global, table: &Table, pairs: &Pairs) -> Result<String
 ///
 /// `AllocError` if memory runs out.
 pub fn pairs_table(alloc: Global, table: &Table, pairs: &Pairs) -> Result<String, AllocError>
+    // promise: texts-of-numbers (pairs_markdown)
     ensures { IfOk result (λ text. string_bytes text ≡ pairs_markdown table.now pairs.now) }
 {
     let mut text = String::new(alloc);

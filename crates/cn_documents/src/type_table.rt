@@ -20,6 +20,7 @@ fn push_name_rule_cells(text: &mut String, columns: usize) -> Result<(), AllocEr
 
 /// The line below the head of a table of names, for so many columns.
 pub fn push_name_rule(text: &mut String, columns: usize) -> Result<(), AllocError>
+    // promise: parts-of-documents (name_rule)
     ensures { OnOk result (string_bytes text.new ≡ string_bytes text.old ++ name_rule columns) }
 {
     text.push_str("|")?;
@@ -114,6 +115,7 @@ fn push_operation_rows(text: &mut String, table: &Table) -> Result<(), AllocErro
 /// The type as a Markdown table: a row for each operation, a column for each state.
 #[tactic(auto, unfolding(crate::specs::TypeTable::type_markdown))]
 pub fn push_type_table(text: &mut String, table: &Table) -> Result<(), AllocError>
+    // promise: parts-of-documents (type_markdown)
     ensures { OnOk result (string_bytes text.new
         ≡ string_bytes text.old ++ type_markdown table.now) }
 {

@@ -109,12 +109,16 @@ fn text_flaws(alloc: Global, text: &str) -> Result<Vec<Flaw>, AllocError>
 /// # Errors
 ///
 /// Fails only for want of memory.
+// promise: paths-of-flaws
 pub fn flaws(alloc: Global, bytes: &[u8]) -> Result<Vec<Flaw>, AllocError>
     requires { length bytes.now < 2 ^ 63 }
+    // promise: flaws-of-bytes (flaws_at)
     ensures flaws { IfOk result (λ v. (place : ℕ) × (place ≤ length bytes.now)
         × (flaws_view v ≡ flaws_at place bytes.now)) }
+    // promise: first-flaw
     ensures first { IfOk result (λ v. IsUtf8 bytes.now
         → first_fault (flaws_view v) ≡ fault_of bytes.now) }
+    // promise: plain-flaws (ArePlain: IsPlain)
     ensures plain { IfOk result (λ v. ArePlain (flaws_view v)) }
 {
     match str::from_utf8(bytes) {

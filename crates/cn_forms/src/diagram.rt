@@ -15,6 +15,7 @@ use std::alloc::{AllocError, Global};
 /// `AllocError` if memory runs out.
 #[tactic(auto, unfolding(crate::specs::Diagram::diagram))]
 pub fn diagram_of(alloc: Global, table: &Table) -> Result<String, AllocError>
+    // promise: grid-and-picture (diagram)
     ensures { IfOk result (λ text. string_bytes text ≡ diagram table.now) }
 {
     let mut text = String::new(alloc);

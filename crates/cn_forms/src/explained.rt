@@ -102,6 +102,7 @@ pub fn push_witness_line(
     witness: &Choice,
 ) -> Result<(), AllocError>
     requires { FitsTable table.now witness.now }
+    // promise: parts-of-explanations (witness_line)
     ensures { OnOk result (string_bytes text.new
         ≡ string_bytes text.old ++ witness_line table.now number witness.now) }
 {
@@ -181,6 +182,7 @@ fn push_count(text: &mut String, count: usize) -> Result<(), AllocError>
 }
 
 pub fn push_more(text: &mut String, more: usize) -> Result<(), AllocError>
+    // promise: parts-of-explanations (more_line)
     ensures { OnOk result (string_bytes text.new ≡ string_bytes text.old ++ more_line more) }
 {
     if more == 0 {
@@ -207,6 +209,7 @@ fn push_entries(
 
 /// The ways that a certificate of this version leaves out.
 pub fn push_left_out(text: &mut String, version: u8) -> Result<(), AllocError>
+    // promise: parts-of-explanations (left_out)
     ensures { OnOk result (string_bytes text.new ≡ string_bytes text.old ++ left_out version) }
 {
     if version == 1 {
@@ -220,6 +223,7 @@ pub fn push_left_out(text: &mut String, version: u8) -> Result<(), AllocError>
 /// The ways that count as one.
 #[tactic(auto, unfolding(crate::specs::Explained::same_ways))]
 pub fn push_same_ways(text: &mut String) -> Result<(), AllocError>
+    // promise: parts-of-explanations (same_ways)
     ensures { OnOk result (string_bytes text.new ≡ string_bytes text.old ++ same_ways) }
 {
     text.push_str(
@@ -229,6 +233,7 @@ pub fn push_same_ways(text: &mut String) -> Result<(), AllocError>
 
 #[tactic(auto, unfolding(crate::specs::Explained::theorem_line))]
 pub fn push_theorem(text: &mut String, n: u16) -> Result<(), AllocError>
+    // promise: parts-of-explanations (theorem_line)
     ensures { OnOk result (string_bytes text.new ≡ string_bytes text.old ++ theorem_line n) }
 {
     write!(

@@ -19,6 +19,7 @@ use std::alloc::{AllocError, Global};
 ///
 /// `AllocError` if memory runs out.
 pub fn grid_of(alloc: Global, table: &Table) -> Result<String, AllocError>
+    // promise: grid-and-picture (IsGrid: grid_text, cells_text)
     ensures { IfOk result (λ text. IsGrid table.now (string_bytes text)) }
 {
     let reached_states = table.reached_states();
@@ -51,6 +52,7 @@ fn push_title(text: &mut String, table: &Table) -> Result<(), AllocError>
 /// and the next state in each state.
 #[tactic(auto, unfolding(crate::specs::Grid::cells_text))]
 pub fn push_cells(text: &mut String, table: &Table) -> Result<(), AllocError>
+    // promise: parts-of-explanations (cells_text)
     ensures { OnOk result (string_bytes text.new ≡ string_bytes text.old ++ cells_text table.now) }
 {
     push_head(text, table)?;

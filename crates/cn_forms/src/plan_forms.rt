@@ -55,6 +55,8 @@ pub enum Form {
 ///
 /// `AllocError` if memory runs out.
 pub fn plan_as(alloc: Global, plan: &Plan, form: Form) -> Result<String, AllocError>
+    // promise: forms-of-a-plan (form_text: plan_text, plan_json, plan_dot, plan_promela, rust_text,
+    //     c_text)
     ensures { IfOk result (λ text. string_bytes text ≡ form_text form plan.now) }
 {
     match form {

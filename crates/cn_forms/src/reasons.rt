@@ -39,6 +39,7 @@ fn push_state_if(text: &mut String, table: &Table, set: Bits, q: u8) -> Result<(
 ///
 /// `AllocError` if memory is too little. The text may then have some of the names.
 pub fn push_states(text: &mut String, table: &Table, set: Bits) -> Result<(), AllocError>
+    // promise: parts-of-explanations (states_told)
     ensures { OnOk result (string_bytes text.new
         ≡ string_bytes text.old ++ states_told table.now set) }
 {
@@ -179,6 +180,7 @@ pub fn push_example_line(
     number: TypeNumber,
     found: Option<u8>,
 ) -> Result<(), AllocError>
+    // promise: parts-of-explanations (example_line)
     ensures { OnOk result (string_bytes text.new
         ≡ string_bytes text.old ++ example_line number found) }
 {
@@ -201,12 +203,14 @@ fn is_below(limit: u8, number: Option<u8>) -> bool
 
 #[tactic(auto, unfolding(crate::specs::Reasons::each_number_line))]
 pub fn push_each_number(text: &mut String) -> Result<(), AllocError>
+    // promise: parts-of-explanations (each_number_line)
     ensures { OnOk result (string_bytes text.new ≡ string_bytes text.old ++ each_number_line) }
 {
     text.push_str("It is so for each number of processes: this is proved (docs/PROVED.md).\n")
 }
 
 pub fn push_no_list(text: &mut String, n: u16) -> Result<(), AllocError>
+    // promise: parts-of-explanations (no_list)
     ensures { OnOk result (string_bytes text.new ≡ string_bytes text.old ++ no_list n) }
 {
     write!(text, "Why not {n}: its ways are not listed here.\n")?;

@@ -30,12 +30,16 @@ pub trait Gate {
     /// Whether the call takes its step of this number. The steps of one `call` or `resume` count
     /// from 1.
     fn before(&mut self, seat: &Seat, step: u32) -> Go
+        // promise: gate
         requires free { seat.now.held ≡ false }
+        // promise: gate
         ensures said { result ≡ says self.new }
+        // promise: gate
         ensures asked { asks self.old seat.now step self.new };
 
     /// The last answer, or `On`. A caller tells by it whether a call may begin with the gate.
     fn said(&self) -> Go
+        // promise: gate
         ensures { result ≡ says self.now };
 }
 
@@ -71,6 +75,7 @@ pub enum CallFault {
 impl CallFault {
     /// The number of the fault, from 1.
     pub fn number(&self) -> u8
+        // promise: fault-texts
         ensures { result ≡ call_fault_number self.now }
     {
         match self {
@@ -81,6 +86,7 @@ impl CallFault {
 
     /// The name of the fault.
     pub fn name(&self) -> &'static str
+        // promise: fault-texts
         ensures { result.now ≡ call_fault_name self.now }
     {
         match self {

@@ -92,18 +92,29 @@ impl Hall {
         requires of { IsSeatOf self.now seat.old }
         requires in_call { pending seat.old ≢ None }
         requires gate { G.says gate.old ≡ On }
+        // promise: calls-of-a-hall
         ensures same { IsSameSeat seat.old seat.new }
+        // promise: calls-of-a-hall (GoesOn)
         ensures events { GoesOn seat.old.process seat.old.core seat.new.core }
+        // promise: calls-of-a-hall
         ensures seen { BeginsWith (entries_seen seat.new) (entries_seen seat.old) }
+        // promise: reply-of-a-call (IsReply)
         ensures reply { IfOk result (λ r. (mine : Entry) → pending seat.old ≡ Some mine
             → IsReply mine seat.new r) }
+        // promise: full-log (EndsBy)
+        // promise: stopped-call
         ensures fault { IfErr result (λ e. (mine : Entry) → pending seat.old ≡ Some mine
             → EndsBy mine e seat.new) }
+        // promise: reply-of-a-call
         ensures own { AddsReply (own seat.old) (own seat.new) result }
+        // promise: calls-of-a-seat
         ensures calls { HasPlaced seat.new result }
+        // promise: reply-of-a-call
         ensures range { IfOk result (λ r. r.response.0
             < length seat.old.core.opening.object.responses) }
+        // promise: stopped-call
         ensures said { G.says gate.new ≡ go_after result }
+        // promise: questions-to-a-gate (IsAsked, HasTaken: steps, last, history; asked_times)
         ensures asked { (mine : Entry) → pending seat.old ≡ Some mine
             → IsAsked G.asks G.says mine seat.old seat.new.core
             (asked_times result (steps_since seat.old.process seat.old.core seat.new.core))
@@ -147,18 +158,31 @@ impl Hall {
         requires idle { pending seat.old ≡ None }
         requires operation { operation.0 < length seat.old.core.opening.object.operations }
         requires gate { G.says gate.old ≡ On }
+        // promise: calls-of-a-hall
         ensures same { IsSameSeat seat.old seat.new }
+        // promise: calls-of-a-hall
         ensures seen { BeginsWith (entries_seen seat.new) (entries_seen seat.old) }
+        // promise: calls-of-a-hall (MakesCall)
+        // promise: reply-of-a-call (IsReply)
         ensures reply { IfOk result (λ r. MakesCall seat.old.process operation.0 seat.old.core
             seat.new.core × IsReply (next_call seat.old operation.0) seat.new r) }
+        // promise: calls-of-a-hall (CallFails)
+        // promise: full-log (CallFails, EndsBy)
+        // promise: stopped-call
         ensures fault { IfErr result (λ e. CallFails operation.0 e seat.old seat.new) }
+        // promise: full-log
         ensures told { length (slots_seen seat.old) ≡ seat.old.core.opening.capacity
             → (result ≡ Err LogFull) × (seat.new ≡ seat.old) × (gate.new ≡ gate.old) }
+        // promise: reply-of-a-call
         ensures own { AddsReply (own seat.old) (own seat.new) result }
+        // promise: calls-of-a-seat
         ensures calls { HasPlaced seat.new result }
+        // promise: reply-of-a-call
         ensures range { IfOk result (λ r. r.response.0
             < length seat.old.core.opening.object.responses) }
+        // promise: stopped-call
         ensures said { G.says gate.new ≡ go_after result }
+        // promise: questions-to-a-gate (IsAsked, HasTaken: steps, last, history; asked_times)
         ensures asked { IsAsked G.asks G.says (next_call seat.old operation.0) seat.old
             seat.new.core
             (asked_times result (steps_since seat.old.process seat.old.core seat.new.core)) gate.old
@@ -178,12 +202,18 @@ impl Hall {
     /// more.
     pub fn meet<R: Wait>(&self, rt: &R, first: &mut Seat, second: &mut Seat) -> Ordering
         requires of { IsSeatOf self.now first.old × IsSeatOf self.now second.old }
+        // promise: meeting-of-seats
         ensures same { (first.new ≡ first.old) × (second.new ≡ second.old) }
+        // promise: meeting-of-seats
         ensures opening { second.old.core.opening ≡ first.old.core.opening }
+        // promise: meeting-of-seats
         ensures met { HaveMet first.old second.old }
+        // promise: meeting-of-seats
         ensures made { HasOnlyMade first.old second.old × HasOnlyMade second.old first.old }
+        // promise: meeting-of-seats
         ensures seen { BeginsWith (entries_seen second.old) (entries_seen first.old)
             ⊎ BeginsWith (entries_seen first.old) (entries_seen second.old) }
+        // promise: meeting-of-seats
         ensures order { result
             ≡ nat_cmp (length (entries_seen first.old)) (length (entries_seen second.old)) }
     {
@@ -202,17 +232,25 @@ impl Hall {
     pub fn close<R: Wait>(self, rt: &R, seats: Vec<Seat>) -> LogCore
         requires of { All (IsSeatOf self) seats.items }
         requires some { 0 < length seats.items }
+        // promise: core-of-a-closed-hall
         ensures carries { All (λ s. Carries s.process s.core result) seats.items }
+        // promise: core-of-a-closed-hall
         ensures replayed { All (λ s. caller_at result s.process ≡ caller s) seats.items }
+        // promise: core-of-a-closed-hall
         ensures linearized { IsLinearized (setting result) result.schedule }
+        // promise: core-of-a-closed-hall
         ensures bypass { IsBypassBounded (setting result) result.schedule }
+        // promise: core-of-a-closed-hall
         ensures wait_free { IsWaitFree (setting result) result.schedule }
+        // promise: core-of-a-closed-hall
         ensures slots { All
             (λ s. BeginsWith (batches (setting result) result.schedule) (slots_seen s))
             seats.items }
+        // promise: core-of-a-closed-hall
         ensures entries { All
             (λ s. BeginsWith (entries (setting result) result.schedule) (entries_seen s))
             seats.items }
+        // promise: core-of-a-closed-hall
         ensures answers { All (λ s. BeginsWith
             (replies_from (setting result) s.process [] (batches (setting result) result.schedule))
             (own s)) seats.items }

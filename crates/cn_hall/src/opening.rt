@@ -31,6 +31,7 @@ pub enum OpenFault {
 impl OpenFault {
     /// The number of the fault.
     pub fn number(&self) -> u8
+        // promise: fault-texts
         ensures { result ≡ open_fault_number self.now }
     {
         match self {
@@ -40,6 +41,7 @@ impl OpenFault {
 
     /// The name of the fault.
     pub fn name(&self) -> &'static str
+        // promise: fault-texts
         ensures { result.now ≡ open_fault_name self.now }
     {
         match self {
@@ -75,13 +77,20 @@ impl Error for OpenFault {}
 ///
 /// `OutOfMemory` if memory runs out, with the core.
 pub fn open<R: Wait>(rt: &R, alloc: Global, core: LogCore) -> Result<(Hall, Vec<Seat>), OpenFault>
+    // promise: seats-of-a-hall
     ensures count { IfOk result (λ r. length r.1.items ≡ processes_of core.opening.plan) }
+    // promise: seats-of-a-hall
     ensures seats { IfOk result (λ r. (p : ℕ) → p < processes_of core.opening.plan
         → slice_get r.1.items p ≡ Some (seat_state r.0 p core)) }
+    // promise: seats-of-a-hall
     ensures of { IfOk result (λ r. All (IsSeatOf r.0) r.1.items) }
+    // promise: seats-of-a-hall
     ensures core { IfOk result (λ r. All (λ s. s.core ≡ core) r.1.items) }
+    // promise: seats-of-a-hall
     ensures idle { IfOk result (λ r. core.schedule ≡ [] → All (λ s. pending s ≡ None) r.1.items) }
+    // promise: seats-of-a-hall
     ensures own { IfOk result (λ r. core.schedule ≡ [] → All (λ s. own s ≡ []) r.1.items) }
+    // promise: seats-of-a-hall
     ensures fault { IfErr result (λ e. e ≡ OutOfMemory core) }
 {
     let Ok(seats) = Vec::with_capacity(alloc, usize::from(core.processes())) else {

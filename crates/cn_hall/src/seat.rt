@@ -40,6 +40,7 @@ impl Model for Seat {
 impl Seat {
     /// The process of the seat.
     pub fn process(&self) -> u8
+        // promise: parts-of-a-seat
         ensures { result ≡ self.now.process }
     {
         self.process
@@ -48,7 +49,9 @@ impl Seat {
     /// Whether the process is in a call. If so, `Hall::resume` goes on with it; else `Hall::call`
     /// makes one.
     pub fn in_call(&self) -> bool
+        // promise: parts-of-a-seat
         ensures call { IsTrue result ↔ (pending self.now ≢ None) }
+        // promise: parts-of-a-seat
         ensures idle { IsFalse result ↔ (pending self.now ≡ None) }
     {
         self.standing.in_call
@@ -57,6 +60,7 @@ impl Seat {
     /// The number of entries that the seat has seen, in the slots that its process has replayed.
     /// `Hall::meet` compares this number.
     pub fn seen_len(&self) -> u16
+        // promise: parts-of-a-seat
         ensures number { result ≡ length (entries_seen self.now) }
     {
         self.standing.entries
@@ -65,7 +69,9 @@ impl Seat {
     /// The number of slots that the seat has seen, which its process has replayed. At the capacity
     /// of the log, `Hall::call` answers `LogFull` at once.
     pub fn seen_slots(&self) -> u16
+        // promise: parts-of-a-seat
         ensures number { result ≡ length (slots_seen self.now) }
+        // promise: parts-of-a-seat
         ensures range { result ≤ self.now.core.opening.capacity }
     {
         self.standing.slots

@@ -7,6 +7,7 @@ use cn_table::{Operation, State, Table};
 /// Whether the operation gives the same response in all states.
 pub fn answers_nothing(table: &Table, operation: Operation) -> bool
     requires { operation.0 < length table.now.operations }
+    // promise: interference (AnswersNothing)
     ensures { IsTrue result ↔ AnswersNothing table.now operation.0 }
 {
     let states = table.states();
@@ -22,6 +23,7 @@ pub fn answers_nothing(table: &Table, operation: Operation) -> bool
 
 /// Whether no operation answers anything: each gives the same response in all states.
 pub fn none_answers(table: &Table) -> bool
+    // promise: interference (NoneAnswers)
     ensures { IsTrue result ↔ NoneAnswers table.now }
 {
     for operation in 0..table.operations() {

@@ -11,6 +11,7 @@ pub fn interferes(table: &Table, first: Operation, second: Operation, state: Sta
     requires first { first.0 < length table.now.operations }
     requires second { second.0 < length table.now.operations }
     requires state { state.0 < length table.now.states }
+    // promise: interference (Interfere)
     ensures { IsTrue result ↔ Interfere table.now first.0 second.0 state.0 }
 {
     let (_, after_first) = table.apply(first, state);
@@ -54,6 +55,7 @@ fn is_apart(table: &Table, first: Operation) -> bool
 
 /// Whether any two operations interfere in every state.
 pub fn interfering(table: &Table) -> bool
+    // promise: interference (AllInterfere)
     ensures { IsTrue result ↔ AllInterfere table.now }
 {
     for first in 0..table.operations() {

@@ -42,6 +42,7 @@ fn push_pairs(
 ///
 /// `AllocError` if memory runs out.
 pub fn pairs_apart(alloc: Global, table: &Table) -> Result<Vec<OperationPair>, AllocError>
+    // promise: interference (ArePairsApart: listed, ascending)
     ensures { IfOk result (λ pairs. ArePairsApart table.now pairs.items) }
 {
     let mut pairs = Vec::new(alloc);

@@ -22,6 +22,7 @@ pub enum Rule {
 impl Rule {
     /// Whether the rule applies to the type.
     pub fn applies(self, table: &Table) -> bool
+        // promise: rules (Applies)
         ensures { IsTrue result ↔ Applies table.now self }
     {
         match self {
@@ -34,6 +35,7 @@ impl Rule {
 
     /// The greatest number of a type to which the rule applies.
     pub fn most(self) -> u8
+        // promise: rules (most_by)
         ensures { result ≡ most_by self }
     {
         match self {
@@ -44,6 +46,7 @@ impl Rule {
 
     /// The word for the rule.
     pub fn name(self) -> &'static str
+        // promise: rules (rule_name)
         ensures { result.now ≡ rule_name self }
     {
         match self {
@@ -57,6 +60,7 @@ impl Rule {
 
 /// The first rule that applies to the type, if any does.
 pub fn rule_of(table: &Table) -> Option<Rule>
+    // promise: rules (IsRuleOf)
     ensures { IsRuleOf table.now result }
 {
     if Rule::InterferenceWithoutAnswers.applies(table) {

@@ -11,6 +11,7 @@ pub fn tells_nothing(table: &Table, first: Operation, second: Operation, state: 
     requires first { first.0 < length table.now.operations }
     requires second { second.0 < length table.now.operations }
     requires state { state.0 < length table.now.states }
+    // promise: interference (TellsNothing)
     ensures { IsTrue result ↔ TellsNothing table.now first.0 second.0 state.0 }
 {
     let (alone, after_first) = table.apply(first, state);
@@ -61,6 +62,7 @@ fn tells_of_some(table: &Table, first: Operation) -> bool
 
 /// Whether of any two operations, in every state, one tells nothing of the other.
 pub fn hiding(table: &Table) -> bool
+    // promise: interference (AllHide)
     ensures { IsTrue result ↔ AllHide table.now }
 {
     for first in 0..table.operations() {

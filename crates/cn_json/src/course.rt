@@ -204,6 +204,8 @@ fn write_course(out: &mut JsonText, table: &Table, course: &Course) -> Result<()
 ///
 /// `AllocError` if memory runs out.
 pub fn decisions_json(alloc: Global, decisions: &[Option<u64>]) -> Result<String, AllocError>
+    // promise: answers-as-json (decisions_data: decision_data)
+    // promise: decisions-by-agree
     ensures { IfOk result (λ text. string_bytes text
         ≡ compact_text (decisions_data decisions.now)) }
 {
@@ -230,6 +232,8 @@ pub fn decisions_json(alloc: Global, decisions: &[Option<u64>]) -> Result<String
 /// `AllocError` if memory runs out.
 pub fn course_json(alloc: Global, table: &Table, course: &Course) -> Result<String, AllocError>
     requires { AreOfTable table.now course.now.records }
+    // promise: answers-as-json (course_data: step_data, action_data)
+    // promise: decisions-by-agree
     ensures { IfOk result (λ text. string_bytes text
         ≡ compact_text (course_data table.now course.now)) }
 {

@@ -140,6 +140,9 @@ fn write_explanation(
 /// `AllocError` if memory runs out.
 pub fn explanation_json(alloc: Global, explanation: &Explanation) -> Result<String, AllocError>
     requires { IsExplanation explanation.now }
+    // promise: answers-as-json (explanation_data: rule_data, apart_data, lasting_data,
+    //     witness_data, collision_data, entries_left)
+    // promise: why-without-a-limit
     ensures { IfOk result (λ text. string_bytes text
         ≡ compact_text (explanation_data explanation.now)) }
 {

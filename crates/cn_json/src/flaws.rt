@@ -108,6 +108,8 @@ fn write_flaws(out: &mut JsonText, flaws: &[Flaw]) -> Result<(), AllocError>
 ///
 /// `AllocError` if memory runs out.
 pub fn flaws_json(alloc: Global, flaws: &[Flaw]) -> Result<String, AllocError>
+    // promise: answers-as-json (flaws_data: flaw_data, placed_data, flaw_members)
+    // promise: grid-by-lint
     ensures { IfOk result (λ text. string_bytes text
         ≡ compact_text (flaws_data (map flaw_view flaws.now))) }
 {

@@ -131,6 +131,7 @@ pub fn life_course_json(
     course: &LifeCourse,
 ) -> Result<String, AllocError>
     requires { AreOfTable table.now course.now.records }
+    // promise: answers-as-json (life_course_data: life_step_data, life_action_data)
     ensures { IfOk result (λ text. string_bytes text
         ≡ compact_text (life_course_data table.now course.now)) }
 {

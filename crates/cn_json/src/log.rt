@@ -238,6 +238,8 @@ pub fn log_json(
     requires known { All (λ e. e.operation.0 < length object.now.operations)
         (entries (setting core.now) core.now.schedule) }
     requires answers { HaveResponses object.now answers.now }
+    // promise: answers-as-json (log_data: answer_data, entries_list)
+    // promise: log-by-replay
     ensures { IfOk result (λ text. string_bytes text
         ≡ compact_text (log_data object.now start.0 answers.now
         (entries (setting core.now) core.now.schedule)
@@ -266,6 +268,8 @@ pub fn service_json(
     requires known { All (λ e. e.operation.0 < length object.now.operations)
         (entries (setting core.now) core.now.schedule) }
     requires answers { HaveResponses object.now answers.now }
+    // promise: answers-as-json (service_data: event_data)
+    // promise: log-by-serve
     ensures { IfOk result (λ text. string_bytes text
         ≡ compact_text (service_data object.now start.0 answers.now
         (entries (setting core.now) core.now.schedule)

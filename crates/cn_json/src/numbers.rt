@@ -110,6 +110,8 @@ pub fn classification_json(
     alloc: Global,
     classification: Classification<'_>,
 ) -> Result<String, AllocError>
+    // promise: answers-as-json (classification_data: type_number_data, recoverable_members)
+    // promise: forms-by-classify
     ensures { IfOk result (λ text. string_bytes text
         ≡ compact_text (classification_data classification.entry)) }
 {

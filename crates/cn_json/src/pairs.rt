@@ -117,6 +117,7 @@ pub fn pairs_json(alloc: Global, table: &Table, pairs: &Pairs) -> Result<String,
     requires pairs { AreSetNumbers table.now 2 pairs.now.pairs.items }
     requires smallest { pairs.now.smallest.items ≢ []
         → AreSmallest table.now pairs.now.number (set_lists pairs.now.smallest) }
+    // promise: answers-as-json (pairs_data: set_number_data, exact_data)
     ensures { IfOk result (λ text. string_bytes text
         ≡ compact_text (pairs_data table.now pairs.now)) }
 {

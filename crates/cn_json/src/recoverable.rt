@@ -185,7 +185,8 @@ pub fn recoverable_explanation_json(
     explanation: &RecoverableExplanation,
 ) -> Result<String, AllocError>
     requires { IsRecoverableExplanation explanation.now }
-    // promise: recoverable-explanation
+    // promise: recoverable-explanation (recoverable_data)
+    // promise: answers-as-json (recoverable_data: recording_data, refuted_data, exact_data)
     ensures { IfOk result (λ text. string_bytes text
         ≡ compact_text (recoverable_data explanation.now)) }
 {

@@ -115,6 +115,8 @@ fn write_unread(out: &mut JsonText, fault: CertFault) -> Result<(), AllocError>
 ///
 /// `AllocError` if memory runs out.
 pub fn verdict_json(alloc: Global, verdict: Result<(), CheckFault>) -> Result<String, AllocError>
+    // promise: answers-as-json (verdict_data: fault_data)
+    // promise: verdict-by-check
     ensures { IfOk result (λ text. string_bytes text ≡ compact_text (verdict_data verdict)) }
 {
     let mut out = JsonText::new(alloc);
@@ -130,6 +132,8 @@ pub fn verdict_json(alloc: Global, verdict: Result<(), CheckFault>) -> Result<St
 ///
 /// `AllocError` if memory runs out.
 pub fn unread_json(alloc: Global, fault: CertFault) -> Result<String, AllocError>
+    // promise: answers-as-json (unread_data: named_fault)
+    // promise: verdict-by-check
     ensures { IfOk result (λ text. string_bytes text ≡ compact_text (unread_data fault)) }
 {
     let mut out = JsonText::new(alloc);

@@ -66,7 +66,9 @@ fn lasting_from(table: &Table, start: u8) -> Option<(u8, u8)>
 ///
 /// It takes no memory, and at most 16 times 56 closures of a set of states.
 pub fn find_lasting(table: &Table) -> Option<Lasting>
+    // promise: lasting-operations (IsLasting: Lasts)
     ensures found { IfSome result (IsLasting table.now) }
+    // promise: lasting-operations (NoneLast)
     ensures none { result ≡ None → NoneLast table.now }
 {
     for start in 0..table.states() {
@@ -83,6 +85,7 @@ pub fn find_lasting(table: &Table) -> Option<Lasting>
 
 /// Whether these are a state and two operations of the table that last from it.
 pub fn is_lasting(table: &Table, lasting: Lasting) -> bool
+    // promise: lasting-operations (IsLasting: Lasts)
     ensures { IsTrue result ↔ IsLasting table.now lasting }
 {
     let (start, many, single) = (lasting.start.0, lasting.many.0, lasting.single.0);
@@ -94,6 +97,7 @@ pub fn is_lasting(table: &Table, lasting: Lasting) -> bool
 
 /// Whether the type is n-discerning for every n from 2 on.
 pub fn is_always_discerning(table: &Table) -> bool
+    // promise: lasting-operations (IsAlwaysDiscerning)
     ensures { IsTrue result ↔ IsAlwaysDiscerning table.now }
 {
     laws::lasting_operations_decide();
@@ -103,6 +107,7 @@ pub fn is_always_discerning(table: &Table) -> bool
 /// The states that orders leave in which this operation came first.
 pub fn left_states(table: &Table, lasting: Lasting, first: First) -> Bits
     requires { IsLasting table.now lasting }
+    // promise: why-without-a-limit (Leaves)
     ensures { (q : ℕ) → IsBitSet result q ↔ Leaves table.now lasting first q }
 {
     let (start, many, single) = (lasting.start.0, lasting.many.0, lasting.single.0);

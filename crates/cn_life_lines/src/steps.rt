@@ -59,6 +59,7 @@ pub fn life_step_lines(
     events: &[LifeRecord],
 ) -> Result<String, AllocError>
     requires { AreOfTable table.now events.now }
+    // promise: life-step-lines (life_step_line, life_action_text)
     ensures { IfOk result (λ lines. string_bytes lines ≡ life_step_lines table.now events.now) }
 {
     let mut lines = String::new(alloc);

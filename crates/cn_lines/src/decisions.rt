@@ -21,6 +21,7 @@ fn decision_line(alloc: Global, process: usize, decision: Option<u64>) -> Result
 ///
 /// Fails only for want of memory.
 pub fn decision_lines(alloc: Global, decisions: &[Option<u64>]) -> Result<String, AllocError>
+    // promise: lines-of-replies (decision_line)
     ensures { IfOk result (λ lines. string_bytes lines ≡ decision_lines 0 decisions.now) }
 {
     let mut lines = String::new(alloc);

@@ -49,6 +49,7 @@ fn events_text(alloc: Global, events: &[Event]) -> Result<String, AllocError>
 ///
 /// Fails only for want of memory.
 pub fn events_line(alloc: Global, events: &[Event]) -> Result<String, AllocError>
+    // promise: lines-of-replies (events_text)
     ensures { IfOk result (λ line. string_bytes line ≡ events_line events.now) }
 {
     let text = events_text(alloc, events)?;

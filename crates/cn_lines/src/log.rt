@@ -34,6 +34,7 @@ pub fn put_answer_line(
     end: CallEnd,
 ) -> Result<(), AllocError>
     requires { EndsWithResponse object.now end }
+    // promise: lines-of-replies (answer_line)
     ensures { OnOk result (string_bytes lines.new
         ≡ string_bytes lines.old ++ answer_line object.now process end) }
 {
@@ -65,6 +66,7 @@ pub fn answer_lines(
     ends: &[(u8, CallEnd)],
 ) -> Result<String, AllocError>
     requires { HaveResponses object.now ends.now }
+    // promise: lines-of-replies
     ensures { IfOk result (λ lines. string_bytes lines ≡ answer_lines object.now ends.now) }
 {
     let mut lines = String::new(alloc);
@@ -138,6 +140,7 @@ pub fn entry_lines(
     requires start { start.0 < length object.now.states }
     requires known { All (λ e. e.operation.0 < length object.now.operations)
         (entries (setting core.now) core.now.schedule) }
+    // promise: lines-of-replies (entry_line)
     ensures { IfOk result (λ lines. string_bytes lines
         ≡ entry_lines object.now start.0 (entries (setting core.now) core.now.schedule)
         (entry_slots (setting core.now) core.now.schedule)) }

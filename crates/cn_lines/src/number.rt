@@ -10,6 +10,7 @@ use std::alloc::AllocError;
 ///
 /// Fails only for want of memory, and may then have appended a part of the number.
 pub fn put_number(text: &mut String, number: u16) -> Result<(), AllocError>
+    // promise: lines-of-replies
     ensures { OnOk result (string_bytes text.new ≡ string_bytes text.old ++ decimal number) }
 {
     if number >= 10 {

@@ -15,6 +15,7 @@ use std::alloc::{AllocError, Global};
 /// Fails only for want of memory, and may then have appended a part of the words.
 pub fn put_action(lines: &mut String, table: &Table, action: Action<u64>) -> Result<(), AllocError>
     requires { IsOfTable table.now action }
+    // promise: life-step-lines (action_text)
     ensures { OnOk result (string_bytes lines.new
         ≡ string_bytes lines.old ++ action_text table.now action) }
 {
@@ -94,6 +95,7 @@ pub fn step_lines(
     steps: &[StepRecord<u64>],
 ) -> Result<String, AllocError>
     requires { AreOfTable table.now steps.now }
+    // promise: decisions-by-agree
     ensures { IfOk result (λ lines. string_bytes lines ≡ step_lines table.now steps.now) }
 {
     let mut lines = String::new(alloc);

@@ -94,17 +94,24 @@ pub fn run_life_steps(
     inputs: &[u64],
     schedule: &[Event],
 ) -> Result<LifeCourse, ScheduleFault>
+    // promise: steps-of-lives (records_of)
     ensures records { IfOk result (λ c. c.records ≡ records_of plan.now inputs.now schedule.now) }
+    // promise: steps-of-lives (AreOfTable)
     ensures table { IfOk result (λ c. AreOfTable plan.now.plan.table c.records) }
+    // promise: steps-of-lives
     ensures decisions { IfOk result (λ c. c.decisions
         ≡ decisions_after plan.now inputs.now schedule.now) }
+    // promise: steps-of-lives
     ensures consensus { OnOk result (IsRecoverableConsensus plan.now inputs.now
         (execution_of schedule.now)) }
+    // promise: refusals-of-lives
     ensures run { OnOk result (schedule_fault (processes_of plan.now.plan) inputs.now
         (named schedule.now) ≡ None) }
+    // promise: refusals-of-lives
     ensures told { (e : FaultOf)
         → schedule_fault (processes_of plan.now.plan) inputs.now (named schedule.now) ≡ Some e
         → result ≡ Err e }
+    // promise: refusals-of-lives (schedule_fault)
     ensures refused { IfErr result (λ e. (e ≡ OutOfMemory)
         ⊎ (schedule_fault (processes_of plan.now.plan) inputs.now (named schedule.now)
         ≡ Some e)) }

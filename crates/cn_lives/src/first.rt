@@ -32,6 +32,7 @@ pub fn first_plan<T: Threads + Sync>(
 ) -> Result<Option<RecordingPlan>, AllocError>
     requires some { 2 ≤ n }
     requires few { n ≤ MOST_PROCESSES }
+    // promise: first-recording-plan (IsFirstPlan)
     ensures { IfOk result (IsFirstPlan table.now n) }
 {
     live_list();

@@ -24,11 +24,15 @@ use cn_proto::laws::{plans_are_sound, tournaments_are_sound};
 /// - `short`: no path has more places than there are nodes;
 /// - `reachable`: an object never leaves the states of the table.
 pub fn recording_plans_are_sound(plan: &RecordingPlan)
+    // promise: sound-recording-plans (IsRecordingPlan: left, home)
     ensures plan { IsRecordingPlan plan.now }
+    // promise: sound-recording-plans (IsSound)
     ensures sound { IsSound (protocol_of plan.now.plan) (processes_of plan.now.plan)
         (nodes_of plan.now.plan) (team_of (length plan.now.plan.choice.a)) }
+    // promise: sound-recording-plans
     ensures short { (p : ℕ) → p < processes_of plan.now.plan
         → length ((protocol_of plan.now.plan).path p) ≤ nodes_of plan.now.plan }
+    // promise: sound-recording-plans
     ensures reachable { (order : List ℕ)
         → after (protocol_of plan.now.plan).act (protocol_of plan.now.plan).start order
         < length plan.now.plan.table.states }
@@ -40,8 +44,10 @@ pub fn recording_plans_are_sound(plan: &RecordingPlan)
 /// The protocol of every plan solves recoverable consensus, with at most 6(n-1) own steps in each
 /// life, for n processes.
 pub fn recording_plans_are_protocols(plan: &RecordingPlan)
+    // promise: recording-plans-in-the-model (IsRecoverableConsensusProtocol)
     ensures consensus { IsRecoverableConsensusProtocol (all_of plan.now.plan.table)
         (processes_of plan.now.plan) (lives_protocol plan.now) }
+    // promise: recording-plans-in-the-model (DecidesWithin)
     ensures bound { (inputs : ℕ → Bool) → DecidesWithin (all_of plan.now.plan.table)
         (processes_of plan.now.plan) (lives_protocol plan.now) inputs
         (6 * (processes_of plan.now.plan - 1)) }
@@ -54,6 +60,7 @@ pub fn recording_plans_are_protocols(plan: &RecordingPlan)
 /// of the protocol has the local states, the objects and the registers of the lives, with any
 /// meaning f of the values as the two values of the protocol.
 pub fn lives_go_as_the_protocol(plan: &RecordingPlan)
+    // promise: step-of-lives (Mirrors, configuration_after)
     ensures { (f : ℕ → Bool) (inputs : List ℕ) (events : List Event)
         → length inputs ≡ processes_of plan.now.plan
         → IsExecution (processes_of plan.now.plan) events
@@ -67,6 +74,7 @@ pub fn lives_go_as_the_protocol(plan: &RecordingPlan)
 /// Every execution of a plan, with any inputs, is consensus: agreement of all decisions that are
 /// ever made, validity, and wait-freedom within 6(n-1) own steps in each life.
 pub fn lives_reach_consensus(plan: &RecordingPlan)
+    // promise: consensus-of-lives (IsRecoverableConsensus)
     ensures { (inputs : List ℕ) (events : List Event)
         → length inputs ≡ processes_of plan.now.plan
         → IsExecution (processes_of plan.now.plan) events

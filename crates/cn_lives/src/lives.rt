@@ -52,7 +52,9 @@ impl Lives {
     /// `AllocError` if memory runs out.
     pub fn new(alloc: Global, plan: &RecordingPlan, inputs: &[u64]) -> Result<Lives, AllocError>
         requires { length inputs.now ≡ processes_of plan.now.plan }
+        // promise: first-world-of-lives (first_world)
         ensures world { IfOk result (λ lives. world_of lives ≡ first_world plan.now inputs.now) }
+        // promise: first-world-of-lives (AreLivesOf)
         ensures of_plan { IfOk result (λ lives. AreLivesOf plan.now [] (world_of lives)) }
     {
         let nodes = usize::from(plan.plan().nodes());
@@ -94,7 +96,9 @@ impl Lives {
     pub fn next_action(&self, plan: &RecordingPlan, p: u8) -> LifeAction
         requires of_plan { LiveBy plan.now (world_of self.now) }
         requires process { p < processes_of plan.now.plan }
+        // promise: next-action-of-lives (action_of)
         ensures action { result ≡ action_of (recoverable_plan plan.now) (world_of self.now) p }
+        // promise: next-action-of-lives (IsOfTable)
         ensures table { IsOfTable plan.now.plan.table result }
     {
         recording_plans_are_sound(plan);
@@ -108,10 +112,13 @@ impl Lives {
     pub fn step(&mut self, plan: &RecordingPlan, p: u8)
         requires of_plan { LiveBy plan.now (world_of self.old) }
         requires process { p < processes_of plan.now.plan }
+        // promise: step-of-lives (after_step)
         ensures world { world_of self.new
             ≡ after_step (recoverable_plan plan.now) p (world_of self.old) }
+        // promise: step-of-lives (AreLivesOf)
         ensures of_plan { (events : List Event) → AreLivesOf plan.now events (world_of self.old)
             → AreLivesOf plan.now (events ++ Step p ∷ []) (world_of self.new) }
+        // promise: step-of-lives (Mirrors)
         ensures protocol { (f : ℕ → Bool) (c : Configuration RecoverableLocal (Option Bool))
             → Mirrors plan.now f (world_of self.old) c
             → Mirrors plan.now f (world_of self.new)
@@ -131,9 +138,12 @@ impl Lives {
     pub fn crash(&mut self, plan: &RecordingPlan, p: u8)
         requires of_plan { LiveBy plan.now (world_of self.old) }
         requires process { p < processes_of plan.now.plan }
+        // promise: step-of-lives (after_crash)
         ensures world { world_of self.new ≡ after_crash p (world_of self.old) }
+        // promise: step-of-lives (AreLivesOf)
         ensures of_plan { (events : List Event) → AreLivesOf plan.now events (world_of self.old)
             → AreLivesOf plan.now (events ++ Crash p ∷ []) (world_of self.new) }
+        // promise: step-of-lives (Mirrors)
         ensures protocol { (f : ℕ → Bool) (c : Configuration RecoverableLocal (Option Bool))
             → Mirrors plan.now f (world_of self.old) c
             → Mirrors plan.now f (world_of self.new) (crash_of_protocol (lives_protocol plan.now)
@@ -146,6 +156,7 @@ impl Lives {
     /// The local state of process `p`.
     pub fn local(&self, p: u8) -> Local
         requires { p < length (world_of self.now).locals }
+        // promise: world-of-lives
         ensures { result ≡ local_at (world_of self.now) p }
     {
         self.locals[usize::from(p)]
@@ -154,6 +165,7 @@ impl Lives {
     /// The state of the object of a node.
     pub fn object(&self, node: u8) -> State
         requires { node < length (world_of self.now).objects }
+        // promise: world-of-lives
         ensures { result.0 ≡ state_at (world_of self.now).objects node }
     {
         self.objects[usize::from(node)]
@@ -162,6 +174,7 @@ impl Lives {
     /// The value in the register of a team at a node, if it holds one.
     pub fn register(&self, node: u8, team: Team) -> Option<u64>
         requires { register_number node team < length (world_of self.now).registers }
+        // promise: world-of-lives
         ensures { result ≡ held_at (world_of self.now).registers node team }
     {
         self.registers[register_of(node, team)]
@@ -171,6 +184,7 @@ impl Lives {
     /// the same value again.
     pub fn decision(&self, p: u8) -> Option<u64>
         requires { p < length (world_of self.now).locals }
+        // promise: world-of-lives
         ensures { result ≡ decision_at (world_of self.now) p }
     {
         match self.locals[usize::from(p)] {

@@ -53,6 +53,7 @@ impl RecordingPlan {
         choice: &Choice,
     ) -> Result<RecordingPlan, RecordingFault>
         requires { FitsTable table.now choice.now }
+        // promise: recording-plan (IsRecordingPlanned: IsHomeForm)
         ensures { IsRecordingPlanned table.now choice.now result }
     {
         renumbering();
@@ -68,6 +69,7 @@ impl RecordingPlan {
 
     /// The plan of the witness: its table, and the paths and operations of its processes.
     pub fn plan(&self) -> &Plan
+        // promise: parts-of-a-recording-plan
         ensures { result.now ≡ self.now.plan }
     {
         &self.plan
@@ -76,6 +78,7 @@ impl RecordingPlan {
     /// The team that came first at a node, by the state of its object.
     pub fn judge(&self, state: State) -> Team
         requires { state.0 < length self.now.plan.table.states }
+        // promise: parts-of-a-recording-plan
         ensures { result ≡ (recoverable_plan self.now).judge state.0 }
     {
         self.first_teams[usize::from(state.0)]
@@ -83,6 +86,7 @@ impl RecordingPlan {
 
     /// Whether team A is one process alone.
     pub fn is_lone(&self) -> bool
+        // promise: parts-of-a-recording-plan
         ensures { result ≡ (recoverable_plan self.now).lone }
     {
         plans_are_sound(&self.plan);

@@ -30,6 +30,7 @@ pub enum Event {
 impl Event {
     /// The process of the event.
     pub fn process(self) -> u8
+        // promise: refusals-of-lives
         ensures { result ≡ process_of self }
     {
         match self {
@@ -152,15 +153,20 @@ pub fn run_lives(
     inputs: &[u64],
     schedule: &[Event],
 ) -> Result<Decided, ScheduleFault>
+    // promise: decisions-of-lives (decisions_after)
     ensures decisions { IfOk result (λ d. d.decisions
         ≡ decisions_after plan.now inputs.now schedule.now) }
+    // promise: consensus-of-lives (IsRecoverableConsensus: agreement, validity, wait_free)
     ensures consensus { OnOk result (IsRecoverableConsensus plan.now inputs.now
         (execution_of schedule.now)) }
+    // promise: refusals-of-lives
     ensures run { OnOk result (schedule_fault (processes_of plan.now.plan) inputs.now
         (named schedule.now) ≡ None) }
+    // promise: refusals-of-lives
     ensures told { (e : FaultOf)
         → schedule_fault (processes_of plan.now.plan) inputs.now (named schedule.now) ≡ Some e
         → result ≡ Err e }
+    // promise: refusals-of-lives (schedule_fault)
     ensures refused { IfErr result (λ e. (e ≡ OutOfMemory)
         ⊎ (schedule_fault (processes_of plan.now.plan) inputs.now (named schedule.now)
         ≡ Some e)) }

@@ -36,19 +36,28 @@ pub fn replay(
     requires start { start.0 < length object.now.states }
     requires some { 1 ≤ capacity }
     requires few { capacity ≤ MOST_SLOTS }
+    // promise: replay
     ensures opening { IfOk result (λ core. core.opening
         ≡ opening_of plan.now object.now start.0 capacity) }
+    // promise: replay
     ensures schedule { IfOk result (λ core. core.schedule ≡ events.now) }
+    // promise: replay (IsReplayFault)
     ensures fault { IfErr result (λ fault. IsReplayFault
         (setting_of (opening_of plan.now object.now start.0 capacity)) events.now fault) }
 
     // Without a fault, these events can come, and the log is well-formed.
+    // promise: replay
     ensures events { IfOk result (λ core. IsEventList (setting core) core.schedule) }
+    // promise: linearized-logs (1)
     ensures linearized { IfOk result (λ core. IsLinearized (setting core) core.schedule) }
+    // promise: linearized-logs
     ensures grows { IfOk result (λ core. (before after : List EventOf)
         → core.schedule ≡ before ++ after → Grows (setting core) before after) }
+    // promise: linearized-logs (2)
     ensures in_turn { IfOk result (λ core. BeginsInTurn (setting core) core.schedule) }
+    // promise: linearized-logs (3)
     ensures bypass { IfOk result (λ core. IsBypassBounded (setting core) core.schedule) }
+    // promise: linearized-logs (4)
     ensures wait_free { IfOk result (λ core. IsWaitFree (setting core) core.schedule) }
 {
     let core = LogCore::new(alloc, plan, object, start, capacity)?;
@@ -64,18 +73,27 @@ pub fn replay(
 /// faults, the answer is the one with the least number.
 pub fn replay_on(core: LogCore, events: &[Event]) -> Result<LogCore, EventFault>
     requires empty { core.schedule ≡ [] }
+    // promise: replay
     ensures opening { IfOk result (λ r. r.opening ≡ core.opening) }
+    // promise: replay
     ensures schedule { IfOk result (λ r. r.schedule ≡ events.now) }
+    // promise: replay (IsFirstEventFault)
     ensures fault { IfErr result
         (λ fault. IsFirstEventFault (setting core) events.now fault) }
 
     // Without a fault, these events can come, and the log is well-formed.
+    // promise: replay
     ensures events { IfOk result (λ r. IsEventList (setting r) r.schedule) }
+    // promise: linearized-logs (1)
     ensures linearized { IfOk result (λ r. IsLinearized (setting r) r.schedule) }
+    // promise: linearized-logs
     ensures grows { IfOk result (λ r. (before after : List EventOf)
         → r.schedule ≡ before ++ after → Grows (setting r) before after) }
+    // promise: linearized-logs (2)
     ensures in_turn { IfOk result (λ r. BeginsInTurn (setting r) r.schedule) }
+    // promise: linearized-logs (3)
     ensures bypass { IfOk result (λ r. IsBypassBounded (setting r) r.schedule) }
+    // promise: linearized-logs (4)
     ensures wait_free { IfOk result (λ r. IsWaitFree (setting r) r.schedule) }
 {
     let mut core = core;

@@ -27,6 +27,7 @@ pub enum EventFault {
 impl EventFault {
     /// The number of the fault, from 1.
     pub fn number(&self) -> u8
+        // promise: fault-texts
         ensures { result ≡ replay_fault_number (replay_fault self.now) }
     {
         ReplayFault::from(*self).number()
@@ -34,6 +35,7 @@ impl EventFault {
 
     /// The name of the fault.
     pub fn name(&self) -> &'static str
+        // promise: fault-texts
         ensures { result.now ≡ replay_fault_name (replay_fault self.now) }
     {
         ReplayFault::from(*self).name()
@@ -41,6 +43,7 @@ impl EventFault {
 
     /// The place of the event in the list.
     pub fn place(&self) -> u64
+        // promise: fault-texts
         ensures { Some result ≡ replay_fault_place (replay_fault self.now) }
     {
         match self {
@@ -120,6 +123,7 @@ impl From<AllocError> for ReplayFault {
 impl ReplayFault {
     /// The number of the fault, from 1.
     pub fn number(&self) -> u8
+        // promise: fault-texts
         ensures { result ≡ replay_fault_number self.now }
     {
         match self {
@@ -134,6 +138,7 @@ impl ReplayFault {
 
     /// The name of the fault.
     pub fn name(&self) -> &'static str
+        // promise: fault-texts
         ensures { result.now ≡ replay_fault_name self.now }
     {
         match self {
@@ -148,6 +153,7 @@ impl ReplayFault {
 
     /// The place in the list, if the fault has one.
     pub fn place(&self) -> Option<u64>
+        // promise: fault-texts
         ensures { result ≡ replay_fault_place self.now }
     {
         match self {

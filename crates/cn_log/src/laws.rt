@@ -68,16 +68,22 @@ pub(crate) fn openings_are_valid(opening: &Opening)
 /// - `wait_free`: a call is over within a bounded number of steps of its process;
 /// - `room`: there are fewer events than a log has room for.
 pub fn event_lists_are_linearized()
+    // promise: linearized-logs (1)
     ensures linearized { (o : OpeningOf) (events : List EventOf) → IsOpening o
         → IsEventList (setting_of o) events → IsLinearized (setting_of o) events }
+    // promise: linearized-logs
     ensures grows { (o : OpeningOf) (before after : List EventOf) → IsOpening o
         → IsEventList (setting_of o) (before ++ after) → Grows (setting_of o) before after }
+    // promise: linearized-logs (2)
     ensures in_turn { (o : OpeningOf) (events : List EventOf) → IsOpening o
         → IsEventList (setting_of o) events → BeginsInTurn (setting_of o) events }
+    // promise: linearized-logs (3)
     ensures bypass { (o : OpeningOf) (events : List EventOf) → IsOpening o
         → IsEventList (setting_of o) events → IsBypassBounded (setting_of o) events }
+    // promise: linearized-logs (4)
     ensures wait_free { (o : OpeningOf) (events : List EventOf) → IsOpening o
         → IsEventList (setting_of o) events → IsWaitFree (setting_of o) events }
+    // promise: room-of-a-log
     ensures room { (o : OpeningOf) (events : List EventOf) → IsOpening o
         → IsEventList (setting_of o) events
         → length events < event_room (processes_of o.plan) o.capacity }
@@ -91,14 +97,22 @@ pub fn event_lists_are_linearized()
 ///   [`MOST_SLOTS`](crate::MOST_SLOTS) slots;
 /// - `events`: each event of the schedule could come at its place;
 /// - all others: the clauses of [`event_lists_are_linearized`], except `room`, for the schedule.
+// promise: core-of-a-closed-hall
 pub fn logs_are_linearized(core: &LogCore)
+    // promise: opening (IsOpening)
     ensures opening { IsOpening core.now.opening }
     ensures events { IsEventList (setting core.now) core.now.schedule }
+    // promise: parts-of-a-log (IsLinearized: by_slot, by_process, one_each, slots)
+    // promise: linearized-logs (1)
     ensures linearized { IsLinearized (setting core.now) core.now.schedule }
+    // promise: linearized-logs
     ensures grows { (before after : List EventOf) → core.now.schedule ≡ before ++ after
         → Grows (setting core.now) before after }
+    // promise: linearized-logs (2)
     ensures in_turn { BeginsInTurn (setting core.now) core.now.schedule }
+    // promise: linearized-logs (3)
     ensures bypass { IsBypassBounded (setting core.now) core.now.schedule }
+    // promise: linearized-logs (4)
     ensures wait_free { IsWaitFree (setting core.now) core.now.schedule }
 {
     openings_are_valid(&core.opening);
@@ -107,6 +121,7 @@ pub fn logs_are_linearized(core: &LogCore)
 
 /// The law of faults: after any list of events, an event has a fault exactly if it cannot come.
 pub fn faults_decide()
+    // promise: events-of-a-core
     ensures { (o : OpeningOf) (events : List EventOf) (place : ℕ) (event : EventOf)
         → (event_fault (setting_of o) (state_of (setting_of o) events) place event ≡ None)
         ↔ MayCome (setting_of o) (state_of (setting_of o) events) event }
@@ -124,8 +139,10 @@ pub fn faults_decide()
 pub fn callers_change_by_own_events()
     ensures front { (o : OpeningOf) (before rest : List EventOf)
         → IsEventList (setting_of o) (before ++ rest) → IsEventList (setting_of o) before }
+    // promise: knowledge-of-a-process
     ensures stays { (o : OpeningOf) (before rest : List EventOf) (p : ℕ) → HasNoEventOf p rest
         → caller_of (setting_of o) (before ++ rest) p ≡ caller_of (setting_of o) before p }
+    // promise: knowledge-of-a-process
     ensures invoked { (o : OpeningOf) (events : List EventOf) (p operation : ℕ)
         → let here = caller_of (setting_of o) events p in
         caller_of (setting_of o) (events ++ Invoke p operation ∷ []) p
@@ -134,15 +151,18 @@ pub fn callers_change_by_own_events()
           calls = here.calls + 1;
           phase = first_look (call_of p operation here.calls);
         } }
+    // promise: knowledge-of-a-process
     ensures pending { (o : OpeningOf) (events : List EventOf) (p : ℕ) (mine : EntryOf) → IsOpening o
         → IsEventList (setting_of o) events
         → pending_in (caller_of (setting_of o) events p).phase ≡ Some mine
         → IsPendingCall (setting_of o) events p mine }
+    // promise: knowledge-of-a-process
     ensures stepped { (o : OpeningOf) (events : List EventOf) (p : ℕ) (mine : EntryOf) → IsOpening o
         → IsEventList (setting_of o) (events ++ Step p ∷ [])
         → pending_in (caller_of (setting_of o) events p).phase ≡ Some mine
         → IsStepped (setting_of o) p (caller_of (setting_of o) events p) mine
         (caller_of (setting_of o) (events ++ Step p ∷ []) p) (answer (setting_of o) events p) }
+    // promise: knowledge-of-a-process
     ensures replayed { (o : OpeningOf) (events : List EventOf) (p : ℕ) → IsOpening o
         → IsEventList (setting_of o) events
         → BeginsWith (batches (setting_of o) events) (caller_of (setting_of o) events p).seen }
@@ -160,23 +180,30 @@ pub fn callers_change_by_own_events()
 /// - `made`, `seen_made`: the entries of the process in the log, and among those that any process
 ///   has replayed, are the first of its calls, in order.
 pub fn calls_are_in_order()
+    // promise: order-of-calls
     ensures grow { (before rest : List EventOf) (p : ℕ)
         → BeginsWith (calls_by p (before ++ rest)) (calls_by p before) }
+    // promise: order-of-calls
     ensures stay { (before rest : List EventOf) (p : ℕ) → HasNoEventOf p rest
         → calls_by p (before ++ rest) ≡ calls_by p before }
+    // promise: order-of-calls
     ensures called { (o : OpeningOf) (events : List EventOf) (p operation : ℕ)
         → calls_by p (events ++ Invoke p operation ∷ [])
         ≡ calls_by p events ++ call_of p operation (caller_of (setting_of o) events p).calls ∷ [] }
+    // promise: order-of-calls
     ensures own { (o : OpeningOf) (events : List EventOf) (p : ℕ) → IsOpening o
         → IsEventList (setting_of o) events → HasReplayedItsOwn (setting_of o) events p }
+    // promise: order-of-calls
     ensures own_stepped { (o : OpeningOf) (events : List EventOf) (p : ℕ) (mine : EntryOf)
         → IsOpening o → IsEventList (setting_of o) (events ++ Step p ∷ [])
         → pending_in (caller_of (setting_of o) events p).phase ≡ Some mine
         → HasReplayedBy (setting_of o) (events ++ Step p ∷ []) p mine
         (answer (setting_of o) events p) }
+    // promise: order-of-calls
     ensures made { (o : OpeningOf) (events : List EventOf) (p : ℕ) → IsOpening o
         → IsEventList (setting_of o) events
         → BeginsWith (calls_by p events) (entries_by p (entries (setting_of o) events)) }
+    // promise: order-of-calls
     ensures seen_made { (o : OpeningOf) (events : List EventOf) (p q : ℕ) → IsOpening o
         → IsEventList (setting_of o) events
         → BeginsWith (calls_by p events) (entries_by p (seen_of (setting_of o) events q)) }
@@ -194,6 +221,7 @@ pub fn calls_are_in_order()
 /// The new knowledge of the process, the answer of the event, and the new content of what it
 /// touched depend only on the local state of the process and on the old content.
 pub fn atomic_events()
+    // promise: atomic-events (IsAtomicEvent)
     ensures { (o : OpeningOf) (events : List EventOf) (event : EventOf) → IsOpening o
         → IsEventList (setting_of o) (events ++ event ∷ []) → IsAtomicEvent o events event }
 {

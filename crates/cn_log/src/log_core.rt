@@ -75,8 +75,10 @@ impl LogCore {
         requires start { start.0 < length object.now.states }
         requires some { 1 ≤ capacity }
         requires few { capacity ≤ MOST_SLOTS }
+        // promise: new-log
         ensures opening { IfOk result (λ core. core.opening
             ≡ opening_of plan.now object.now start.0 capacity) }
+        // promise: new-log
         ensures empty { IfOk result (λ core. core.schedule ≡ []) }
     {
         let (plan, object) = (plan.copy(alloc)?, object.copy(alloc)?);
@@ -89,7 +91,9 @@ impl LogCore {
     ///
     /// `AllocError` if memory runs out.
     pub fn open(alloc: Global, opening: Opening) -> Result<LogCore, AllocError>
+        // promise: new-log
         ensures opening { IfOk result (λ core. core.opening ≡ opening) }
+        // promise: new-log
         ensures empty { IfOk result (λ core. core.schedule ≡ []) }
     {
         let state = LogState::new(alloc, &opening)?;
@@ -106,6 +110,7 @@ impl LogCore {
     pub fn invoke(&mut self, p: u8, operation: Operation)
         requires { MayCome (setting self.old) (state_of (setting self.old) self.old.schedule)
             (Invoke p operation.0) }
+        // promise: new-log
         ensures { self.new
             ≡ record self.old { schedule = self.old.schedule ++ Invoke p operation.0 ∷ [] } }
     {
@@ -121,8 +126,11 @@ impl LogCore {
     pub fn step(&mut self, p: u8) -> StepAnswer
         requires { MayCome (setting self.old) (state_of (setting self.old) self.old.schedule)
             (Step p) }
+        // promise: new-log
         ensures core { self.new ≡ record self.old { schedule = self.old.schedule ++ Step p ∷ [] } }
+        // promise: step-of-a-log
         ensures answer { result ≡ answer (setting self.old) self.old.schedule p }
+        // promise: step-of-a-log
         ensures range { HasResponse self.old.opening.object result }
     {
         put_event(&mut self.schedule, &self.opening, Event::Step(p));
@@ -136,18 +144,25 @@ impl LogCore {
     /// The fault of the event, with the number of events so far as its place. If it has several
     /// faults, the answer is the one with the least number. The core stays unchanged.
     pub fn take(&mut self, event: Event) -> Result<Option<CallEnd>, EventFault>
+        // promise: events-of-a-core
         ensures came { OnOk result
             (MayCome (setting self.old) (state_of (setting self.old) self.old.schedule) event) }
+        // promise: events-of-a-core
         ensures core { OnOk result (self.new
             ≡ record self.old { schedule = self.old.schedule ++ event ∷ [] }) }
+        // promise: events-of-a-core (call_end)
         ensures end { IfOk result (λ end. end
             ≡ call_end (setting self.old) self.old.schedule event) }
+        // promise: events-of-a-core (EndsWithResponse)
         ensures range { IfOk result (λ end. IfSome end (EndsWithResponse self.old.opening.object)) }
+        // promise: events-of-a-core
         ensures fault { IfErr result (λ fault. event_fault (setting self.old)
             (state_of (setting self.old) self.old.schedule) (length self.old.schedule) event
             ≡ Some fault) }
+        // promise: events-of-a-core
         ensures first { IfErr result (λ fault. (rest : List EventOf)
             → IsFirstEventFault (setting self.old) (self.old.schedule ++ event ∷ rest) fault) }
+        // promise: events-of-a-core
         ensures same { OnErr result (self.new ≡ self.old) }
     {
         laws::logs_are_linearized(self);
@@ -160,6 +175,8 @@ impl LogCore {
 
     /// The entries of the fixed slots, by slot, then by process.
     pub fn entries(&self) -> &[Entry]
+        // promise: new-log
+        // promise: parts-of-a-log
         ensures { result.now ≡ entries (setting self.now) self.now.schedule }
     {
         self.state.entries.as_slice()
@@ -167,6 +184,8 @@ impl LogCore {
 
     /// The number of fixed slots, whether or not a process has replayed them.
     pub fn fixed_slots(&self) -> u16
+        // promise: new-log
+        // promise: parts-of-a-log
         ensures { result ≡ length (batches (setting self.now) self.now.schedule) }
     {
         self.state.fixed
@@ -175,6 +194,8 @@ impl LogCore {
     /// The slot of entry `i` of the log.
     pub fn slot_at(&self, i: usize) -> u16
         requires { i < length (entries (setting self.now) self.now.schedule) }
+        // promise: new-log
+        // promise: parts-of-a-log
         ensures { Some result ≡ slice_get (entry_slots (setting self.now) self.now.schedule) i }
     {
         self.state.slots[i]
@@ -182,6 +203,7 @@ impl LogCore {
 
     /// All events so far.
     pub fn schedule(&self) -> &[Event]
+        // promise: new-log
         ensures { result.now ≡ self.now.schedule }
     {
         self.schedule.as_slice()
@@ -189,6 +211,7 @@ impl LogCore {
 
     /// The opening of the log.
     pub fn opening(&self) -> &Opening
+        // promise: new-log
         ensures { result.now ≡ self.now.opening }
     {
         &self.opening
@@ -196,7 +219,9 @@ impl LogCore {
 
     /// The number of processes: 2 to 8.
     pub fn processes(&self) -> u8
+        // promise: new-log
         ensures number { result ≡ processes_of self.now.opening.plan }
+        // promise: new-log
         ensures range { (2 ≤ result) × (result ≤ MOST_PROCESSES) }
     {
         self.opening.plan.processes()
@@ -204,7 +229,9 @@ impl LogCore {
 
     /// The number of slots: 1 to [`MOST_SLOTS`](crate::MOST_SLOTS).
     pub fn capacity(&self) -> u16
+        // promise: new-log
         ensures number { result ≡ self.now.opening.capacity }
+        // promise: new-log
         ensures range { (1 ≤ result) × (result ≤ MOST_SLOTS) }
     {
         self.opening.capacity
@@ -212,16 +239,20 @@ impl LogCore {
 
     /// The number of operations of the object.
     pub fn operations(&self) -> u8
+        // promise: new-log
         ensures { result ≡ length self.now.opening.object.operations }
     {
         self.opening.object.operations()
     }
 
     /// The number of slots that process `p` has replayed.
+    // promise: parts-of-a-log
     pub fn replayed(&self, p: u8) -> u16
         requires { p < processes_of self.now.opening.plan }
+        // promise: new-log
         ensures number { result
             ≡ length ((state_of (setting self.now) self.now.schedule).caller p).seen }
+        // promise: new-log
         ensures range { result ≤ self.now.opening.capacity }
     {
         laws::openings_are_valid(&self.opening);
@@ -231,6 +262,8 @@ impl LogCore {
     /// The number of entries in the slots that process `p` has replayed.
     pub fn replayed_entries(&self, p: u8) -> u16
         requires { p < processes_of self.now.opening.plan }
+        // promise: new-log
+        // promise: parts-of-a-log
         ensures { result ≡ length (seen_of (setting self.now) self.now.schedule p) }
     {
         self.state.callers[usize::from(p)].replayed_entries
@@ -239,6 +272,7 @@ impl LogCore {
     /// Whether process `p` is in no call.
     pub fn is_idle(&self, p: u8) -> bool
         requires { p < processes_of self.now.opening.plan }
+        // promise: new-log
         ensures { IsTrue result
             ↔ (((state_of (setting self.now) self.now.schedule).caller p).phase ≡ Idle) }
     {
@@ -248,9 +282,11 @@ impl LogCore {
     /// Whether process `p` has replayed every slot. Otherwise it has replayed fewer.
     pub fn at_end(&self, p: u8) -> bool
         requires { p < processes_of self.now.opening.plan }
+        // promise: new-log
         ensures end { IsTrue result
             ↔ (length ((state_of (setting self.now) self.now.schedule).caller p).seen
             ≡ self.now.opening.capacity) }
+        // promise: new-log
         ensures before { IsFalse result
             ↔ (length ((state_of (setting self.now) self.now.schedule).caller p).seen
             < self.now.opening.capacity) }

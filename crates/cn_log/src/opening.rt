@@ -37,6 +37,7 @@ impl Opening {
         requires start { start.0 < length object.states }
         requires some { 1 ≤ capacity }
         requires few { capacity ≤ MOST_SLOTS }
+        // promise: opening
         ensures { result ≡ opening_of plan object start.0 capacity }
     {
         Opening {
@@ -49,6 +50,7 @@ impl Opening {
 
     /// The plan of the rounds.
     pub fn plan(&self) -> &Plan
+        // promise: opening
         ensures { result.now ≡ self.now.plan }
     {
         &self.plan
@@ -56,12 +58,14 @@ impl Opening {
 
     /// The object that the log serves.
     pub fn object(&self) -> &Table
+        // promise: opening
         ensures { result.now ≡ self.now.object }
     {
         &self.object
     }
 
     /// The start state of the object, one of its states.
+    // promise: opening
     pub fn start(&self) -> State
         ensures number { result.0 ≡ self.now.start }
         ensures range { result.0 < length self.now.object.states }

@@ -28,6 +28,7 @@ impl Bits {
     ghost use Rattle.cn_outcomes.specs.declared.limits.TheConstants.{WIDTH};
 
     /// The empty set.
+    // promise: left-states
     pub fn new() -> Bits
         ensures number { result ≡ 0 }
         ensures none { (q : ℕ) → ¬ IsBitSet result q }
@@ -38,6 +39,7 @@ impl Bits {
     /// Whether the number is in the set.
     pub fn has(self, number: u8) -> bool
         requires { number < WIDTH }
+        // promise: left-states
         ensures { IsTrue result ↔ IsBitSet self number }
     {
         self.0 & (1 << number) != 0
@@ -74,6 +76,7 @@ impl Bits {
     /// Puts the number into the set.
     pub fn insert(&mut self, number: u8)
         requires { number < WIDTH }
+        // promise: left-states
         ensures { (q : ℕ) → IsBitSet self.new q ↔ (IsBitSet self.old q ⊎ (q ≡ number)) }
     {
         self.0 |= 1 << number;
@@ -103,6 +106,7 @@ impl Bits {
 
     /// Whether the sets have a common number.
     pub fn meets(self, other: Bits) -> bool
+        // promise: left-states
         ensures { IsTrue result ↔ ((q : ℕ) × IsBitSet self q × IsBitSet other q) }
     {
         self.0 & other.0 != 0
@@ -130,6 +134,7 @@ impl Bits {
     }
 
     /// The members, ascending.
+    // promise: left-states
     pub fn iter(self) -> Members
         ensures list { result ≡ members self }
         ensures same { (q : ℕ) → Contains result q ↔ IsBitSet self q }

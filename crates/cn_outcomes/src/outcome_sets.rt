@@ -141,7 +141,9 @@ impl OutcomeSet {
 
     /// Whether the pair is in the set. No set has a response or a state that no table has.
     pub fn has(&self, response: Response, state: State) -> bool
+        // promise: outcome-sets
         ensures found { IsTrue result ↔ Has self.now response.0 state.0 }
+        // promise: outcome-sets
         ensures in_range { IsTrue result → (response.0 < MOST_RESPONSES) × (state.0 < MOST_STATES) }
     {
         let row = self.row;
@@ -153,6 +155,7 @@ impl OutcomeSet {
 
     /// Whether some pair is in both sets.
     pub fn meets(&self, other: &OutcomeSet) -> bool
+        // promise: outcome-sets
         ensures { IsTrue result ↔ HaveCommonPair self.now other.now }
     {
         for q in 0..MOST_STATES {
@@ -172,6 +175,7 @@ impl OutcomeSet {
 pub fn outcomes(table: &Table, choice: &Choice, team: Team, process: u8) -> OutcomeSet
     requires fits { FitsTable table.now choice.now }
     requires process { process < length choice.now.a + length choice.now.b }
+    // promise: outcome-sets
     ensures { (r q : ℕ) → Has result r q
         ↔ InOutcomeSet table.now (raw_choice_of choice.now) team process (r, q) }
 {
@@ -237,6 +241,7 @@ fn raw_is_witness(table: &Table, choice: &RawChoice) -> bool
 /// The choice is one of the table, for 2 to [`MOST_PROCESSES`](crate::MOST_PROCESSES) processes.
 pub fn is_witness(table: &Table, choice: &Choice) -> bool
     requires { FitsTable table.now choice.now }
+    // promise: what-a-process-sees
     ensures { IsTrue result ↔ IsWitness table.now (raw_choice_of choice.now) }
 {
     raw_is_witness(table, &RawChoice::of(choice))

@@ -39,6 +39,7 @@ fn states_of_rows(setting: &RowSetting<'_>, rows: &[Bits; SUBSETS]) -> Bits
 pub fn left_states(table: &Table, choice: &RawChoice, team: Team) -> Bits
     requires few { length choice.now.operations ≤ MOST_PROCESSES }
     requires fits { IsRawChoice table.now (length choice.now.operations) choice.now }
+    // promise: left-states (LeavesIn)
     ensures { (q : ℕ) → IsBitSet result q ↔ LeavesIn table.now choice.now team q }
 {
     let setting = RowSetting {

@@ -12,6 +12,7 @@ ghost use Rattle.cn_pairs.specs.Smallest.{IsExact, IsWithin, NoneHas, same_numbe
 
 /// A type has only one number that is no range.
 pub fn one_number()
+    // promise: one-exact-number (IsExact, HasNumber)
     ensures { (t : TypeTable) (a b : ConsensusNumber) → IsExact a → IsExact b → HasNumber t a
         → HasNumber t b → same_number a b ≡ true }
 {}
@@ -19,6 +20,7 @@ pub fn one_number()
 /// Some set of operations is told the number of the type, the set of all of them, unless the number
 /// is told as a range too.
 pub fn whole_type_has_its_number()
+    // promise: one-exact-number (NoneHas, HasNumber)
     ensures { (t : TypeTable) (number : ConsensusNumber) → IsExact number → HasNumber t number
         → NoneHas t (length t.operations) number
         → (least : ℕ) × (most : ℕ) × HasNumber t (Between least most) }
@@ -27,6 +29,7 @@ pub fn whole_type_has_its_number()
 /// A type with more operations has no lesser number: with a larger set of operations it is
 /// n-discerning for each n for which it is with the set alone.
 pub fn more_operations()
+    // promise: more-operations (IsWithin, with_operations, IsDiscerning)
     ensures { (t : TypeTable) (set larger : List ℕ) → IsWithin set larger → (n : ℕ)
         → IsDiscerning (with_operations t set) n → IsDiscerning (with_operations t larger) n }
 {}

@@ -37,11 +37,16 @@ pub fn pairs_of<T: Threads + Sync>(
     alloc: Global,
     table: &Table,
 ) -> Result<Pairs, AllocError>
+    // promise: numbers-of-some-operations (HasNumber)
     ensures number { IfOk result (λ p. HasNumber table.now p.number) }
+    // promise: numbers-of-some-operations
     ensures alone { IfOk result (λ p. AreSetNumbers table.now 1 p.alone.items) }
+    // promise: numbers-of-some-operations (AreSetNumbers)
     ensures pairs { IfOk result (λ p. AreSetNumbers table.now 2 p.pairs.items) }
+    // promise: numbers-of-some-operations (AreSmallest)
     ensures smallest { IfOk result (λ p. p.smallest.items ≢ []
         → AreSmallest table.now p.number (set_lists p.smallest)) }
+    // promise: numbers-of-some-operations (NoneHas)
     ensures none { IfOk result (λ p. p.smallest.items ≡ [] → (size : ℕ) → 1 ≤ size
         → size ≤ length table.now.operations → NoneHas table.now size p.number) }
 {

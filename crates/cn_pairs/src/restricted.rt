@@ -31,6 +31,7 @@ pub fn number_with<T: Threads + Sync>(
     operations: &[Operation],
 ) -> Result<ConsensusNumber, AllocError>
     requires { AreOperations table.now (numbers operations.now) }
+    // promise: numbers-of-some-operations (HasNumber, with_operations)
     ensures { IfOk result (HasNumber (with_operations table.now (numbers operations.now))) }
 {
     let restricted = table.with_operations(alloc, operations)?;
@@ -71,6 +72,7 @@ pub fn set_numbers<T: Threads + Sync>(
     size: u8,
 ) -> Result<Vec<SetNumber>, AllocError>
     requires { 1 ≤ size }
+    // promise: numbers-of-some-operations (AreSetNumbers)
     ensures { IfOk result (λ sets. AreSetNumbers table.now size sets.items) }
 {
     let sets = sets_of_size(alloc, table, size)?;

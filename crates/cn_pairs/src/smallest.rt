@@ -160,8 +160,10 @@ pub fn smallest_sets<T: Threads + Sync>(
     table: &Table,
     number: ConsensusNumber,
 ) -> Result<Vec<Vec<Operation>>, AllocError>
+    // promise: numbers-of-some-operations (AreSmallest)
     ensures found { IfOk result (λ sets. sets.items ≢ []
         → AreSmallest table.now number (set_lists sets)) }
+    // promise: numbers-of-some-operations (NoneHas)
     ensures none { IfOk result (λ sets. sets.items ≡ [] → (size : ℕ) → 1 ≤ size
         → size ≤ length table.now.operations → NoneHas table.now size number) }
 {

@@ -41,6 +41,7 @@ pub fn first_recording_witness<T: Threads + Sync>(
 ) -> Result<Option<Choice>, AllocError>
     requires some { 2 ≤ n }
     requires few { n ≤ MOST_PROCESSES }
+    // promise: recording-witness (IsFirstAmong)
     ensures { IfOk result
         (IsFirstAmong (IsRecordingWitness table.now) (live_choices table.now n)) }
 {

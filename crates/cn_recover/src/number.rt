@@ -75,9 +75,13 @@ pub fn recoverable_number<T: Threads + Sync>(
     table: &Table,
     limit: u8,
 ) -> Result<Option<u8>, FindFault>
+    // promise: recoverable-number (IsRecoverableNumberUpTo)
     ensures number { IfOk result (IsRecoverableNumberUpTo table.now limit) }
+    // promise: recoverable-number
     ensures searched { OnOk result (number_fault limit ≡ None) }
+    // promise: recoverable-number
     ensures told { (e : FindFault) → number_fault limit ≡ Some e → result ≡ Err e }
+    // promise: recoverable-number
     ensures refused { IfErr result (λ e. (e ≡ OutOfMemory) ⊎ (number_fault limit ≡ Some e)) }
 {
     if let Some(fault) = FindFault::of_limit(limit) {
@@ -172,8 +176,11 @@ pub fn both_numbers<T: Threads + Sync>(
     alloc: Global,
     table: &Table,
 ) -> Result<BothNumbers, AllocError>
+    // promise: numbers-of-both-kinds (HasNumber: IsNumberOf)
     ensures number { IfOk result (λ both. HasNumber table.now both.number) }
+    // promise: numbers-of-both-kinds (HasRecoverableNumber: IsNumberOf)
     ensures recoverable { IfOk result (λ both. HasRecoverableNumber table.now both.recoverable) }
+    // promise: numbers-of-both-kinds (IsExact)
     ensures exact { IfOk result (λ both. IsExact both.recoverable) }
 {
     let number = consensus_number(rt, alloc, table)?;
@@ -194,7 +201,9 @@ pub fn recoverable_consensus_number<T: Threads + Sync>(
     alloc: Global,
     table: &Table,
 ) -> Result<ConsensusNumber, AllocError>
+    // promise: numbers-of-both-kinds (HasRecoverableNumber: IsNumberOf)
     ensures number { IfOk result (HasRecoverableNumber table.now) }
+    // promise: numbers-of-both-kinds
     ensures exact { IfOk result IsExact }
 {
     let both = both_numbers(rt, alloc, table)?;

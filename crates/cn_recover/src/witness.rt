@@ -94,6 +94,7 @@ fn raw_is_recording_witness(table: &Table, choice: &Choice, raw: &RawChoice) -> 
 /// processes.
 pub fn is_recording_witness(table: &Table, choice: &Choice) -> bool
     requires { FitsTable table.now choice.now }
+    // promise: recording-witness (IsRecordingWitness)
     ensures { IsTrue result ↔ IsRecordingWitness table.now (raw_choice_of choice.now) }
 {
     raw_is_recording_witness(table, choice, &RawChoice::of(choice))

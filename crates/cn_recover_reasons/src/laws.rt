@@ -8,7 +8,7 @@ ghost use Rattle.cn_recover_reasons.specs.NotRecording.{IsReason, Reason};
 
 /// A choice with a reason is no recording witness.
 pub fn reasons_refute()
-    // promise: recording-reason
+    // promise: recording-reason (Reason, IsReason)
     ensures { (t : TypeTable) (c : RawChoice) (r : Reason) → IsReason t c r
         → ¬ IsRecordingWitness t c }
 {}

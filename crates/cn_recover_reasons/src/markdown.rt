@@ -267,7 +267,7 @@ pub fn recoverable_explanation_markdown(
     explanation: &RecoverableExplanation,
 ) -> Result<String, AllocError>
     requires { IsRecoverableExplanation explanation.now }
-    // promise: recoverable-explanation
+    // promise: recoverable-explanation (recoverable_markdown)
     ensures { IfOk result (λ text. string_bytes text ≡ recoverable_markdown explanation.now) }
 {
     let mut text = String::new(alloc);

@@ -171,10 +171,10 @@ pub fn reason_of(
     choice: &Choice,
 ) -> Result<Option<Reason>, AllocError>
     requires { FitsTable table.now choice.now }
-    // promise: recording-reason
+    // promise: recording-reason (IsRecordingWitness)
     ensures none { IfOk result (λ reason. IfNone reason
         (IsRecordingWitness table.now (raw_choice_of choice.now))) }
-    // promise: recording-reason
+    // promise: recording-reason (IsReason)
     ensures reason { IfOk result (λ reason. IfSome reason
         (IsReason table.now (raw_choice_of choice.now))) }
 {

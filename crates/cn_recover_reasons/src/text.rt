@@ -287,7 +287,7 @@ pub fn recoverable_explanation_of(
     explanation: &RecoverableExplanation,
 ) -> Result<String, AllocError>
     requires { IsRecoverableExplanation explanation.now }
-    // promise: recoverable-explanation
+    // promise: recoverable-explanation (recoverable_text)
     ensures { IfOk result (λ text. string_bytes text ≡ recoverable_text explanation.now) }
 {
     let mut text = String::new(alloc);

@@ -174,7 +174,7 @@ impl RecoverableExplanation {
         table: Table,
         all: bool,
     ) -> Result<RecoverableExplanation, AllocError>
-        // promise: recoverable-explanation
+        // promise: recoverable-explanation (ExplainsRecoverable)
         ensures { IfOk result (ExplainsRecoverable table all) }
     {
         monotonicity();

@@ -108,6 +108,7 @@ fn finite_number<T: Threads + Sync>(
 /// # Errors
 ///
 /// `AllocError` if memory is too little for one thread.
+// promise: number-without-limit (HasNumber: IsNumberOf)
 pub fn consensus_number<T: Threads + Sync>(
     rt: &T,
     alloc: Global,

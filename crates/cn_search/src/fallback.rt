@@ -15,6 +15,7 @@ const ENOUGH_BYTES: usize = 64 * 1024 * 1024;
 /// one thread has room once it is dropped.
 fn reserve(alloc: Global) -> Result<Vec<u8>, AllocError>
     ensures empty { IfOk result (λ room. room.items ≡ []) }
+    // promise: held-memory
     ensures enough { IfOk result (λ room. ENOUGH_BYTES ≤ vec_capacity room) }
 {
     Vec::with_capacity(alloc, ENOUGH_BYTES)
@@ -42,6 +43,7 @@ pub fn with_fallback<R, F: Fn(Threading) -> Result<R, AllocError>>(
     work: F,
 ) -> Result<R, AllocError>
     requires { F.IsAlwaysCallable work }
+    // promise: fallback
     ensures { (threading : ThreadingOf) × F.post work threading result }
 {
     if let Ok(answer) = in_threads(alloc, &work) {

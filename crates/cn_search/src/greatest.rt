@@ -9,6 +9,7 @@ use cn_table::Table;
 /// The greatest limit that [`find`](crate::find) does not refuse for this table: each table has
 /// one, since the choices for two processes are few.
 pub fn greatest_limit(table: &Table) -> u8
+    // promise: limit-by-default (IsGreatestLimit: taken, greatest)
     ensures { IsGreatestLimit (length table.now.states) (length table.now.operations) result }
 {
     laws::choices_by_formula();

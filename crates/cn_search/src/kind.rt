@@ -52,7 +52,9 @@ const MOST_IN_ONE_THREAD: u8 = 3;
 
 /// In which threads the choices for n processes are searched.
 fn threading_for(threading: Threading, n: u8) -> Threading
+    // promise: choice-of-threads
     ensures one { n ≤ MOST_IN_ONE_THREAD → result ≡ One }
+    // promise: choice-of-threads
     ensures as_asked { MOST_IN_ONE_THREAD < n → result ≡ threading }
 {
     if n <= MOST_IN_ONE_THREAD {
@@ -71,6 +73,7 @@ fn threading_for(threading: Threading, n: u8) -> Threading
 pub(crate) fn blocks_for(alloc: Global, table: &Table, n: u8) -> Result<Vec<Block>, AllocError>
     requires some { 2 ≤ n }
     requires few { n ≤ MOST_PROCESSES }
+    // promise: first-of-kind (live_blocks)
     ensures { IfOk result (λ blocks. blocks.items ≡ live_blocks table.now n) }
 {
     let mut blocks = Vec::new(alloc);
@@ -223,6 +226,7 @@ pub(crate) fn first_within<K: Kind + Send + Sync, T: Threads + Sync>(
 /// # Errors
 ///
 /// `AllocError` if memory is too little for one thread.
+// promise: first-of-kind (IsFirstAmong)
 pub fn first_of_kind<K: Kind + Send + Sync, T: Threads + Sync>(
     rt: &T,
     alloc: Global,

@@ -111,8 +111,10 @@ pub(crate) fn decide<T: Threads + Sync>(
 ) -> Result<Decision, AllocError>
     requires some { 2 ≤ n }
     requires few { n ≤ MOST_PROCESSES }
+    // promise: greatest-discerning (IsDiscerning)
     ensures decided { IfOk result (λ decision. IsTrue decision.is_discerning
         ↔ IsDiscerning table.now n) }
+    // promise: greatest-discerning (IsKnownAt)
     ensures witness { IfOk result (λ decision. IsTrue decision.is_discerning
         → IsKnownAt table.now n decision.witness) }
 {
@@ -141,7 +143,9 @@ pub(crate) fn greatest_number<T: Threads + Sync>(
 ) -> Result<Greatest, AllocError>
     requires some { LEAST_LIMIT ≤ limit }
     requires few { limit ≤ GREATEST_LIMIT }
+    // promise: greatest-discerning (IsNumberUpTo)
     ensures number { IfOk result (λ found. IsNumberUpTo table.now limit found.number) }
+    // promise: greatest-discerning (IsKnownAt)
     ensures witness { IfOk result (λ found. MatchOption found.number (found.witness ≡ None)
         (λ n. IsKnownAt table.now n found.witness)) }
 {
@@ -177,9 +181,13 @@ pub fn number<T: Threads + Sync>(
     table: &Table,
     limit: u8,
 ) -> Result<Option<u8>, FindFault>
+    // promise: number-of-a-finding (IsNumberUpTo)
     ensures number { IfOk result (IsNumberUpTo table.now limit) }
+    // promise: number-of-a-finding
     ensures searched { OnOk result (number_fault limit ≡ None) }
+    // promise: number-of-a-finding
     ensures told { (e : FindFault) → number_fault limit ≡ Some e → result ≡ Err e }
+    // promise: number-of-a-finding
     ensures refused { IfErr result (λ e. (e ≡ OutOfMemory) ⊎ (number_fault limit ≡ Some e)) }
 {
     if let Some(fault) = FindFault::of_limit(limit) {

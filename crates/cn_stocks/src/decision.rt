@@ -59,6 +59,7 @@ pub fn greatest_split<T: Threads + Sync>(
 ) -> Result<GreatestSplit, AllocError>
     requires some { 3 ≤ most }
     requires few { most ≤ MOST_SIZE }
+    // promise: greatest-split (IsGreatestSplit: NoneFrom, count_of_stocks)
     ensures { IfOk result (IsGreatestSplit table.now most) }
 {
     let operations = table.operations();
@@ -100,6 +101,7 @@ pub fn is_discerning<T: Threads + Sync>(
 ) -> Result<bool, AllocError>
     requires some { 3 ≤ n }
     requires few { n ≤ MOST_PROCESSES }
+    // promise: stocks (IsDiscerning)
     ensures { IfOk result (λ yes. IsTrue yes ↔ IsDiscerning table.now n) }
 {
     laws::splits_decide();
@@ -122,6 +124,7 @@ pub fn splitting_starts<T: Threads + Sync>(
     threading: Threading,
 ) -> Result<u16, AllocError>
     requires few { n ≤ MOST_SIZE }
+    // promise: stocks (AreSplittingStarts)
     ensures { IfOk result (AreSplittingStarts table.now n) }
 {
     let mut search = Search::new(rt, alloc, Question::Splitting, table, threading)?;
@@ -148,6 +151,7 @@ pub fn greatest_record<T: Threads + Sync>(
 ) -> Result<Option<u8>, AllocError>
     requires some { 2 ≤ most }
     requires few { most ≤ MOST_SIZE }
+    // promise: stocks (IsGreatestRecord)
     ensures { IfOk result (IsGreatestRecord table.now most) }
 {
     let none = Search::new(rt, alloc, Question::Recording, table, threading)?;

@@ -17,7 +17,9 @@ pub enum Threading {
 impl Threading {
     /// The least number of items of a list for which one thread more is started.
     pub fn least_piece(self) -> usize
+        // promise: least-piece
         ensures one { self ≡ One → result ≡ 2 ^ 64 - 1 }
+        // promise: least-piece
         ensures many { self ≡ Many → result ≡ 1 }
     {
         match self {
@@ -29,7 +31,9 @@ impl Threading {
     /// In which threads a list of so many stocks is gone over. A short list is done sooner than a
     /// thread starts.
     pub(crate) fn for_stocks(self, count: usize) -> Threading
+        // promise: choice-of-threads
         ensures one { self ≡ One → result ≡ One }
+        // promise: choice-of-threads
         ensures many { FEWEST_STOCKS ≤ count → result ≡ self }
     {
         if count < FEWEST_STOCKS {

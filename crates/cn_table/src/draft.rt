@@ -119,6 +119,7 @@ fn rows_at(alloc: Global, table: &Table, key: &str) -> Result<Vec<DraftRow>, Tab
 /// `WrongKind` if a value is missing or not of its kind, or `OutOfMemory`.
 #[tactic(auto, unfolding(crate::specs::Draft::draft_of))]
 pub fn draft_from(alloc: Global, document: &Table) -> Result<Draft, TableFault>
+    // promise: draft-of-a-document (Reads, draft_of)
     ensures { Reads TableFault.WrongKind draft_view result (draft_of (table_view document.now)) }
 {
     let name = owned_text_at(alloc, document, "name")?;

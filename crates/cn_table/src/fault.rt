@@ -60,6 +60,7 @@ impl TableFault {
 
     /// The number of the fault.
     pub fn number(&self) -> u8
+        // promise: fault-texts
         ensures { result ≡ table_fault_number self.now }
     {
         *self as u8
@@ -67,6 +68,7 @@ impl TableFault {
 
     /// The name of the fault.
     pub fn name(&self) -> &'static str
+        // promise: fault-texts
         ensures { result.now ≡ table_fault_name self.now }
     {
         match self {

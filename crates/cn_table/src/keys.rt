@@ -23,6 +23,7 @@ pub const OPERATION_KEYS: [&str; 3] = ["name", "response", "next"];
 
 /// The value at a key, if there is one.
 pub fn value_at<'a>(table: &'a Table, key: &str) -> Option<&'a Value>
+    // promise: keys-of-a-document
     ensures { option_map (λ v. view v.now) result ≡ get_member key.now (table_view table.now) }
 {
     table.get(key)
@@ -30,6 +31,7 @@ pub fn value_at<'a>(table: &'a Table, key: &str) -> Option<&'a Value>
 
 /// The text at a key, if the value there is a text.
 pub fn text_at<'a>(table: &'a Table, key: &str) -> Option<&'a str>
+    // promise: keys-of-a-document
     ensures { option_map (λ s. s.now) result ≡ text_at key.now (table_view table.now) }
 {
     value_at(table, key)?.as_str()
@@ -37,6 +39,7 @@ pub fn text_at<'a>(table: &'a Table, key: &str) -> Option<&'a str>
 
 /// The items of a value, if it is an array.
 pub fn items_of(value: &Value) -> Option<&[Value]>
+    // promise: keys-of-a-document
     ensures { option_map (λ s. map view s.now) result
         ≡ option_map list_of (as_array (view value.now)) }
 {
@@ -46,6 +49,7 @@ pub fn items_of(value: &Value) -> Option<&[Value]>
 
 /// The items of the array at a key, if the value there is an array.
 pub fn array_at<'a>(table: &'a Table, key: &str) -> Option<&'a [Value]>
+    // promise: keys-of-a-document
     ensures { option_map (λ s. map view s.now) result ≡ array_at key.now (table_view table.now) }
 {
     items_of(value_at(table, key)?)
@@ -53,6 +57,7 @@ pub fn array_at<'a>(table: &'a Table, key: &str) -> Option<&'a [Value]>
 
 /// Whether a key is one of these.
 pub fn is_one_of(keys: &[&str], key: &str) -> bool
+    // promise: keys-of-a-document
     ensures { result ≡ list_any (λ k. bytes_eq k.now key.now) keys.now }
 {
     keys.iter().any(|k| *k == key)

@@ -21,6 +21,7 @@ fn has_name_bytes(text: &str) -> bool
 /// Whether a text is a name: 1 to [`LONGEST_NAME`](crate::LONGEST_NAME) small letters, digits and
 /// underscores.
 pub fn is_name(text: &str) -> bool
+    // promise: names
     ensures { result ≡ is_name text.now }
 {
     text.len() >= 1 && text.len() <= LONGEST_NAME && has_name_bytes(text)
@@ -51,6 +52,7 @@ fn all_go_by_names<T: HasName>(things: &[T]) -> bool
 
 /// Whether the text of each thing is a name.
 pub fn have_names<T: HasName>(things: &[T]) -> bool
+    // promise: names
     ensures { result ≡ list_all is_name (map T.name_of things.now) }
 {
     all_go_by_names(things)
@@ -58,6 +60,7 @@ pub fn have_names<T: HasName>(things: &[T]) -> bool
 
 /// Whether one of the things has this name.
 pub fn has_namesake<T: HasName>(things: &[T], name: &str) -> bool
+    // promise: names
     ensures { result ≡ list_any (λ x. bytes_eq (T.name_of x) name.now) things.now }
 {
     things.iter().any(|thing| thing.name() == name)
@@ -82,6 +85,7 @@ fn position_of<T: HasName>(things: &[T], name: &str) -> Option<usize>
 }
 
 /// The number of the thing with this name, if there is one: its place among the things.
+// promise: names
 pub fn number_of<T: HasName>(things: &[T], name: &str) -> Option<usize>
     ensures number { result ≡ number_of (map T.name_of things.now) name.now }
     ensures range { IfSome result (λ i. i < length things.now) }

@@ -66,6 +66,7 @@ impl Table {
 
     /// For each state, by its number, whether operations lead to it from the first state.
     pub fn reached_states(&self) -> [bool; MOST_STATES]
+        // promise: reached-states
         ensures { AreReached self.now result }
     {
         let mut marked = [false; MOST_STATES];
@@ -82,6 +83,7 @@ impl Table {
     /// Whether an operation leads from each state to itself.
     pub fn changes_nothing(&self, operation: Operation) -> bool
         requires { operation.0 < length self.now.operations }
+        // promise: reached-states
         ensures { result ≡ changes_nothing self.now operation.0 }
     {
         is_in_place(self.operations[operation.0 as usize].next.as_slice())

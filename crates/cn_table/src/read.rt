@@ -70,8 +70,13 @@ fn table_of_document(alloc: Global, document: &toml::Table) -> Result<Table, Tab
 /// refuses bytes that are not UTF-8 before it takes memory.
 #[tactic(auto, using(crate::proofs::KindLemmas::reading_by_document))]
 pub fn read_table(alloc: Global, bytes: &[u8]) -> Result<Table, TableFault>
+    // promise: table-of-bytes
+    // promise: first-flaw
     ensures table { IfOk result (λ t. reading bytes.now ≡ Ok t) }
+    // promise: table-of-bytes
+    // promise: first-flaw
     ensures fault { IfErr result (λ e. (e ≡ OutOfMemory) ⊎ (reading bytes.now ≡ Err e)) }
+    // promise: table-of-bytes
     ensures told { ¬ IsUtf8 bytes.now → result ≡ Err NotToml }
 {
     let document = read_document(alloc, bytes)?;

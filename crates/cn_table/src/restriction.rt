@@ -49,6 +49,7 @@ impl Table {
         operations: &[Operation],
     ) -> Result<Table, AllocError>
         requires { AreOperations self.now (map (λ o. o.0) operations.now) }
+        // promise: parts-of-a-table (with_operations)
         ensures { IfOk result (λ table. table
             ≡ with_operations self.now (map (λ o. o.0) operations.now)) }
     {
@@ -61,6 +62,7 @@ impl Table {
 
 /// The restriction of a type table to some of its operations is a type table.
 pub fn restriction_is_a_table()
+    // promise: parts-of-a-table
     ensures { (t : TypeTable) (operations : List ℕ) → IsTypeTable t → AreOperations t operations
         → IsTypeTable (with_operations t operations) }
 {}

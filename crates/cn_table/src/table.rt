@@ -58,7 +58,9 @@ impl Model for Table {
 impl Table {
     /// The name of the type.
     pub fn name(&self) -> &str
+        // promise: parts-of-a-table
         ensures value { result.now ≡ self.now.name }
+        // promise: parts-of-a-table
         ensures named { IsTrue (is_name result.now) }
     {
         self.name.as_str()
@@ -66,8 +68,11 @@ impl Table {
 
     /// How many states there are, from 1 to [`MOST_STATES`](crate::MOST_STATES).
     pub fn states(&self) -> u8
+        // promise: parts-of-a-table
         ensures number { result ≡ length self.now.states }
+        // promise: parts-of-a-table
         ensures range { (1 ≤ result) × (result ≤ MOST_STATES) }
+        // promise: valid-tables
         ensures table { IsTypeTable self.now }
     {
         self.states.len() as u8
@@ -75,7 +80,9 @@ impl Table {
 
     /// How many operations there are, from 1 to [`MOST_OPERATIONS`](crate::MOST_OPERATIONS).
     pub fn operations(&self) -> u8
+        // promise: parts-of-a-table
         ensures number { result ≡ length self.now.operations }
+        // promise: parts-of-a-table
         ensures range { (1 ≤ result) × (result ≤ MOST_OPERATIONS) }
     {
         self.operations.len() as u8
@@ -83,7 +90,9 @@ impl Table {
 
     /// How many responses there are, from 1 to [`MOST_RESPONSES`](crate::MOST_RESPONSES).
     pub fn responses(&self) -> u8
+        // promise: parts-of-a-table
         ensures number { result ≡ length self.now.responses }
+        // promise: parts-of-a-table
         ensures range { (1 ≤ result) × (result ≤ MOST_RESPONSES) }
     {
         self.responses.len() as u8
@@ -93,8 +102,11 @@ impl Table {
     pub fn apply(&self, operation: Operation, state: State) -> (Response, State)
         requires operation { operation.0 < length self.now.operations }
         requires state { state.0 < length self.now.states }
+        // promise: parts-of-a-table
         ensures value { (result.0.0, result.1.0) ≡ transition self.now operation.0 state.0 }
+        // promise: parts-of-a-table
         ensures response { result.0.0 < length self.now.responses }
+        // promise: parts-of-a-table
         ensures next { result.1.0 < length self.now.states }
     {
         let row = &self.operations[operation.0 as usize];
@@ -107,6 +119,7 @@ impl Table {
     /// The name of a state.
     pub fn state_name(&self, state: State) -> &str
         requires { state.0 < length self.now.states }
+        // promise: parts-of-a-table
         ensures { slice_get self.now.states state.0 ≡ Some result.now }
     {
         self.states[state.0 as usize].as_str()
@@ -115,6 +128,7 @@ impl Table {
     /// The name of an operation.
     pub fn operation_name(&self, operation: Operation) -> &str
         requires { operation.0 < length self.now.operations }
+        // promise: parts-of-a-table
         ensures { slice_get (operation_names self.now) operation.0 ≡ Some result.now }
     {
         self.operations[operation.0 as usize].name.as_str()
@@ -123,6 +137,7 @@ impl Table {
     /// The name of a response.
     pub fn response_name(&self, response: Response) -> &str
         requires { response.0 < length self.now.responses }
+        // promise: parts-of-a-table
         ensures { slice_get self.now.responses response.0 ≡ Some result.now }
     {
         self.responses[response.0 as usize].as_str()
@@ -130,7 +145,9 @@ impl Table {
 
     /// The state with this name, if there is one.
     pub fn find_state(&self, name: &str) -> Option<State>
+        // promise: parts-of-a-table
         ensures number { option_map (λ q. q.0) result ≡ number_of self.now.states name.now }
+        // promise: parts-of-a-table
         ensures range { IfSome result (λ q. q.0 < length self.now.states) }
     {
         let number = number_of(&self.states, name)?;
@@ -140,8 +157,10 @@ impl Table {
     /// The operation with this name, if there is one.
     #[tactic(auto, using(crate::proofs::ListLemmas::map_twice))]
     pub fn find_operation(&self, name: &str) -> Option<Operation>
+        // promise: parts-of-a-table
         ensures number { option_map (λ o. o.0) result
             ≡ number_of (operation_names self.now) name.now }
+        // promise: parts-of-a-table
         ensures range { IfSome result (λ o. o.0 < length self.now.operations) }
     {
         let number = number_of(&self.operations, name)?;
@@ -150,7 +169,9 @@ impl Table {
 
     /// The response with this name, if there is one.
     pub fn find_response(&self, name: &str) -> Option<Response>
+        // promise: parts-of-a-table
         ensures number { option_map (λ r. r.0) result ≡ number_of self.now.responses name.now }
+        // promise: parts-of-a-table
         ensures range { IfSome result (λ r. r.0 < length self.now.responses) }
     {
         let number = number_of(&self.responses, name)?;
@@ -163,6 +184,7 @@ impl Table {
     ///
     /// `AllocError` if memory runs out.
     pub fn copy(&self, alloc: Global) -> Result<Table, AllocError>
+        // promise: parts-of-a-table
         ensures { IfOk result (λ table. table ≡ self.now) }
     {
         Ok(Table {

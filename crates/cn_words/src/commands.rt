@@ -550,6 +550,8 @@ pub fn invocation_of<'a>(
     alloc: Global,
     matches: &ArgMatches<'a>,
 ) -> Result<Invocation<'a>, CommandFault>
+    // promise: command-of-words (IsInvocationOf: IsInvocation, HasLives, HasLivesTable, IsOfTable:
+    //     arguments, source, once, input; RefusesCommand)
     ensures { MatchResult result (IsInvocationOf matches.now)
         (RefusesCommand (IsInvocationOf matches.now)) }
 {

@@ -50,6 +50,7 @@ fn reply_to(alloc: Global, error: &Error) -> Reply
 /// The text of the help or the version if the words ask for it, or the text of the error in the
 /// words; `OutOfMemory` for want of memory.
 pub fn parse<'a>(alloc: Global, words: &'a [String]) -> Result<Invocation<'a>, Reply>
+    // promise: command-line (GivesCommand, GivesReply)
     ensures { MatchResult result (GivesCommand (map string_bytes words.entry.now))
         (GivesReply (map string_bytes words.entry.now)) }
 {

@@ -653,6 +653,7 @@ fn program<'a>(alloc: Global) -> Command<'a>
 
 /// The grammar of the program: its commands in this order, each with its arguments.
 pub fn command<'a>(alloc: Global) -> Result<Command<'a>, AllocError>
+    // promise: commands (HasCommandsFor)
     ensures { IfOk result (HasCommandsFor commands) }
 {
     let to_find = with_command(Ok(program(alloc)), find(alloc));

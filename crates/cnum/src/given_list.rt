@@ -15,6 +15,7 @@ pub fn given_list<'a, D: Disk>(
     word: &'a str,
     argument: Argument,
 ) -> Result<ListText<'a>, AppFault>
+    // promise: list-of-an-argument (GivesList: NamesFile, IsRead)
     ensures { GivesList (left_in D.contents D.Reader.remaining) (D.contents disk.now)
         word.now argument result }
 {

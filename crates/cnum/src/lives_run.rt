@@ -25,6 +25,7 @@ pub fn run_lives<T: Threads + Sync + Disk, S: Read + Copy + Drop, O: Write>(
     known: &mut Known<'_>,
 ) -> Result<Outcome, AppFault>
     requires { IsWritable output.old }
+    // promise: lives-of-the-program (RunsLives: ReadsList, RunsPlan, asked_by)
     ensures { RunsLives S.remaining (left_in T.contents T.Reader.remaining) O.contents
         (T.contents rt.now) stdin table.entry words.entry output.old output.new result }
 {

@@ -40,6 +40,7 @@ use std::time::Clock;
 
 // How the program ends after a fault, which it tells.
 fn fault_exit<R: Eprint>(faults: &mut Faults<'_, R>, fault: AppFault, known: &Known<'_>) -> ExitCode
+    // promise: exit-status (status_of)
     ensures { exit_status result ≡ status_of fault }
 {
     faults.tell_knowing(None, fault, known);
@@ -60,6 +61,7 @@ fn command_exit<R: Eprint>(
     end: Result<Outcome, AppFault>,
     known: &Known<'_>,
 ) -> ExitCode
+    // promise: exit-status (command_status)
     ensures { exit_status result ≡ command_status end }
 {
     match end {
@@ -75,6 +77,7 @@ fn classify_exit<R: Eprint>(
     faults: &mut Faults<'_, R>,
     first: Result<Option<AppFault>, AppFault>,
 ) -> ExitCode
+    // promise: exit-status (classify_status)
     ensures { exit_status result ≡ classify_status first }
 {
     match first {
@@ -136,6 +139,7 @@ fn obey<T: Threads + Wait + Sync + Disk + Eprint, I: Read + Copy + Drop, O: Writ
     is_at_terminal: bool,
     given: &Invocation<'_>,
 ) -> (ExitCode, PipeWriter<O>)
+    // promise: obedience (Obeys: Runs, ClassifiesSources, command_status, classify_status)
     ensures { Obeys I.remaining (left_in T.contents T.Reader.remaining) O.contents
         (T.contents rt.now) stdin stdout given.now (exit_status result.0) result.1 }
 {
@@ -150,6 +154,7 @@ fn obey<T: Threads + Wait + Sync + Disk + Eprint, I: Read + Copy + Drop, O: Writ
 
 // The same; where standard input is a terminal, another thread tells of a first read that is late.
 // Where none can be started, nothing is told.
+// promise: obedience (Obeys)
 fn obey_and_tell<
     T: Threads + Wait + Clock + Sync + Disk + Eprint,
     I: Read + IsTerminal + Copy + Drop,

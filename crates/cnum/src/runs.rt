@@ -89,6 +89,7 @@ pub fn classify<T: Threads + Sync + Disk, S: Read + Copy, O: Write, F: Tell>(
     sources: &[TextSource<'_>],
 ) -> Result<Option<AppFault>, AppFault>
     requires { IsWritable output.old }
+    // promise: command-of-the-program (ClassifiesSources: AreNamed)
     ensures { ClassifiesSources (left_of S.remaining (left_in T.contents T.Reader.remaining))
         O.contents F.tells F.notes (bytes_of (S.remaining stdin) (T.contents rt.now)) sources.now asked
         output.old faults.old output.new faults.new result }
@@ -231,6 +232,7 @@ pub fn run<T: Threads + Wait + Sync + Disk, S: Read + Copy + Drop, O: Write>(
     known: &mut Known<'_>,
 ) -> Result<Outcome, AppFault>
     requires { IsWritable output.old }
+    // promise: command-of-the-program (Runs: RunsOn, IsTextFrom)
     ensures { Runs S.remaining (left_in T.contents T.Reader.remaining) O.contents
         (T.contents rt.now) stdin table.entry command.now output.old output.new result }
 {

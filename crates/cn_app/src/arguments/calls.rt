@@ -38,6 +38,7 @@ pub fn read_calls<'a>(
     alloc: Global,
     list: &'a ListText<'_>,
 ) -> Result<Vec<Vec<OperationWord<'a>>>, AppFault>
+    // promise: list-of-an-argument
     ensures { GivesCalls list.now result }
 {
     let pieces = pieces_of(alloc, list.text(), '/')?;
@@ -55,6 +56,7 @@ pub fn calls_in(
     lists: &[Vec<OperationWord<'_>>],
     object: &Table,
 ) -> Result<Vec<Vec<u8>>, AllocError>
+    // promise: operations-of-lists
     ensures { IfOk result (λ calls. map (λ list. list.items) calls.items
         ≡ calls_in object.now (map (λ list. list.items) lists.now)) }
 {

@@ -71,6 +71,7 @@ impl<'a> EventList<'a> {
     ///
     /// Fails only for want of memory.
     pub fn events_in(self, alloc: Global, object: &Table) -> Result<Vec<Event>, AllocError>
+        // promise: operations-of-lists
         ensures { IfOk result (λ events. events.items
             ≡ events_in object.now (words_of self.entry)) }
     {
@@ -125,6 +126,7 @@ pub(crate) fn read_capacity(text: &str) -> Result<u16, AppFault>
 ///
 /// `Argument(Events)` where the text is no such list, or `OutOfMemory`.
 pub fn read_events<'a>(alloc: Global, list: &'a ListText<'_>) -> Result<EventList<'a>, AppFault>
+    // promise: list-of-an-argument (list_of, most_items)
     ensures { GivesEvents list.now result }
 {
     let (text, most) = (list.text(), list.most_items());

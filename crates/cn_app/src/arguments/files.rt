@@ -32,7 +32,9 @@ pub fn read_argument<R: Read>(
     argument: Argument,
 ) -> Result<String, AppFault>
     requires { IsUnread text.old }
+    // promise: text-of-an-argument
     ensures read { HasRead (Source.Argument argument) R.remaining text.old text.new }
+    // promise: text-of-an-argument (GivesArgument)
     ensures text { GivesArgument argument text.new result }
 {
     text.fill(Source::Argument(argument))?;

@@ -121,6 +121,7 @@ pub(crate) fn read_list<'a, T: Item<'a> + Drop>(
 ///
 /// `Argument(Inputs)` where the text is no such list, or `OutOfMemory`.
 pub fn read_inputs(alloc: Global, list: &ListText<'_>) -> Result<Vec<u64>, AppFault>
+    // promise: list-of-an-argument (list_of, most_items)
     ensures { GivesList Inputs (inputs_of list.now) result }
 {
     read_list::<u64>(alloc, list, Argument::Inputs)
@@ -134,6 +135,7 @@ pub fn read_inputs(alloc: Global, list: &ListText<'_>) -> Result<Vec<u64>, AppFa
 ///
 /// `Argument(Schedule)` where the text is no such list, or `OutOfMemory`.
 pub fn read_schedule(alloc: Global, list: &ListText<'_>) -> Result<Vec<u8>, AppFault>
+    // promise: list-of-an-argument (list_of, most_items)
     ensures { GivesList Schedule (schedule_of list.now) result }
 {
     read_list::<u8>(alloc, list, Argument::Schedule)

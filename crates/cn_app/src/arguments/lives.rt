@@ -34,6 +34,7 @@ impl<'a> Item<'a> for Event {
 ///
 /// `Argument(Schedule)` where the text is no such list, or `OutOfMemory`.
 pub fn read_life_schedule(alloc: Global, list: &ListText<'_>) -> Result<Vec<Event>, AppFault>
+    // promise: list-of-an-argument (life_schedule_of)
     ensures { GivesList Schedule (life_schedule_of list.now) result }
 {
     read_list::<Event>(alloc, list, Argument::Schedule)

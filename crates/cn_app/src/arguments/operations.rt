@@ -34,6 +34,7 @@ impl<'a> OperationWord<'a> {
     /// The number that the operation has in this object; where the object has no operation of the
     /// name, how many operations there are, which is the number of none.
     pub fn operation_in(&self, object: &Table) -> u8
+        // promise: operations-of-lists
         ensures { result ≡ operation_in object.now self.now }
     {
         match self {

@@ -43,8 +43,12 @@ pub fn check<R: Read, C: Read, W: Write>(
     requires texts { IsUnread table.old × IsUnread certificate.old }
     requires output { IsWritable output.old }
 
+    // promise: order-of-checks (HaveReadBoth: order)
     ensures read { HaveReadBoth R.remaining C.remaining table.old table.new
         certificate.old certificate.new }
+    // promise: ok-by-check (HasCheckReport: HasVerdictReport: GivesCheck, HasItsNumber)
+    // promise: verdict-by-check (HasVerdictReport: IsCheckReport, IsFaultReport: fault_told,
+    //     IsRefusal)
     ensures checked { Reports W.contents (HasCheckReport table.new certificate.new form)
         output.old output.new result }
 {
@@ -70,8 +74,11 @@ pub fn explain<R: Read, C: Read, W: Write>(
     requires texts { IsUnread table.old × IsUnread certificate.old }
     requires output { IsWritable output.old }
 
+    // promise: order-of-checks (HaveReadBoth: order)
     ensures read { HaveReadBoth R.remaining C.remaining table.old table.new
         certificate.old certificate.new }
+    // promise: explanation-by-explain (HasExplainReport: GivesChecked, ExplainsChecked,
+    //     explanation_in, HasItsNumber)
     ensures explained { Reports W.contents (HasExplainReport table.new certificate.new all form)
         output.old output.new result }
 {
@@ -95,8 +102,11 @@ pub fn show<R: Read, C: Read, W: Write>(
     requires texts { IsUnread table.old × IsUnread certificate.old }
     requires output { IsWritable output.old }
 
+    // promise: order-of-checks (HaveReadBoth: order)
     ensures read { HaveReadBoth R.remaining C.remaining table.old table.new
         certificate.old certificate.new }
+    // promise: plan-by-show (HasShowReport: GivesChecked, IsPlanOf; form_text: plan_text,
+    //     plan_json, plan_dot, plan_promela, rust_text, c_text)
     ensures shown { Reports W.contents (HasShowReport table.new certificate.new form)
         output.old output.new result }
 {
@@ -129,10 +139,15 @@ pub fn agree<R: Read, C: Read, W: Write>(
     requires texts { IsUnread table.old × IsUnread certificate.old }
     requires output { IsWritable output.old }
 
+    // promise: order-of-checks (HaveReadBoth: order)
     ensures read { HaveReadBoth R.remaining C.remaining table.old table.new
         certificate.old certificate.new }
+    // promise: order-of-checks
     ensures order { AreUntouched table.old table.new certificate.old certificate.new
         ⊎ SpellLists inputs.now schedule.now }
+    // promise: decisions-by-agree (HasAgreeReport: IsAgreed: written, lines_of_steps, step_lines,
+    //     records_of, run_text, run_data)
+    // promise: list-of-an-argument
     ensures agreed { Reports W.contents
         (HasAgreeReport table.new certificate.new inputs.now schedule.now asked)
         output.old output.new result }

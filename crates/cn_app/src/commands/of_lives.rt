@@ -43,7 +43,10 @@ pub fn agree_recoverably<T: Threads + Sync, R: Read, W: Write>(
     requires output { IsWritable output.old }
 
     ensures read { HasRead Source.Table R.remaining table.old table.new }
+    // promise: order-of-checks
     ensures order { (table.new ≡ table.old) ⊎ SpellLifeLists inputs.now schedule.now }
+    // promise: lives-by-agree (HasLivesReport: GivesLivesPlan, IsLived: consensus, written,
+    //     lives_text, life_step_lines, life_course_data)
     ensures agreed { Reports W.contents
         (HasLivesReport table.new inputs.now schedule.now asked)
         output.old output.new result }

@@ -79,8 +79,16 @@ pub fn replay<R: Read, C: Read, O: Read, W: Write>(
     requires given { AreArgumentsUnread given.old }
     requires output { IsWritable output.old }
 
+    // promise: order-of-checks (HaveReadAll: certificate_order, object_order)
     ensures read { HaveReadAll R.remaining C.remaining O.remaining given.old given.new }
+    // promise: order-of-checks
     ensures order { (given.new ≡ given.old) ⊎ SpellEvents given.old.capacity.now events.now }
+    // promise: log-by-replay (HasReplayReport: IsServed: may_come, linearized, written, log_lines,
+    //     log_text, log_object, ended)
+    // promise: refusals-of-lists (IsEventFault, GivesStart)
+    // promise: operations-of-lists (HasReplayReport: events_in, event_in, operation_in)
+    // promise: list-of-an-argument
+    // promise: slots-of-an-argument (GivesCapacity: capacity_of)
     ensures served { Reports W.contents (HasReplayReport given.new events.now form)
         output.old output.new result }
 {
@@ -120,8 +128,18 @@ where
     requires gates { F.IsAlwaysCallable make_gate }
     requires on { (p : ℕ) (g : _) → F.post make_gate p g → G.says g ≡ On }
 
+    // promise: order-of-checks (HaveReadAll: certificate_order, object_order)
     ensures read { HaveReadAll R.remaining C.remaining O.remaining given.old given.new }
+    // promise: order-of-checks
     ensures order { (given.new ≡ given.old) ⊎ SpellCalls given.old.capacity.now calls.now }
+    // promise: refusals-of-lists (IsServeReport: calls_fit)
+    // promise: log-by-serve (HasServeReport: IsServedByThreads: linearized, bypass, wait_free,
+    //     served, written, service_text, service_object; HasServed: made, replied, range)
+    // promise: answers-by-serve (HasServed: made, ended; IsServedByThreads: ended)
+    // promise: gates-by-serve (IsServedByThreads: gated, written; HasOneGate: made_for, first,
+    //     carried, asked, IsCallWithGate; go_at)
+    // promise: operations-of-lists (HasServeReport: calls_in, operation_in)
+    // promise: slots-of-an-argument (GivesCapacity: capacity_of)
     ensures served { Reports W.contents
         (HasServeReport (EachHasOneGate G.asks G.says (λ p g. F.post make_gate p g)) given.new
         calls.now form)

@@ -211,6 +211,8 @@ pub fn classify_each<T: Threads + Sync, R: Read, W: Write, F: Tell>(
 ) -> Option<AppFault>
     requires tables { AreUnread tables.old }
     requires output { IsWritable output.old }
+    // promise: head-by-classify (AreClassifiedIn: AreRows, IsHeadReport)
+    // promise: lines-by-classify (AreClassifiedIn: AreClassified: IsNoted)
     ensures { AreClassifiedIn asked.form R.remaining W.contents F.tells F.notes asked tables.old
         tables.new output.old faults.old result output.new faults.new }
 {

@@ -41,6 +41,7 @@ pub fn find<T: Threads + Sync, R: Read, W: Write>(
     requires output { IsWritable output.old }
 
     ensures read { HasRead Source.Table R.remaining table.old table.new }
+    // promise: certificate-by-find (HasFindReport: IsFound)
     ensures found { Reports W.contents (HasFindReport table.new limit)
         output.old output.new result }
 {
@@ -68,6 +69,8 @@ pub fn why<T: Threads + Sync, R: Read, W: Write>(
     requires output { IsWritable output.old }
 
     ensures read { HasRead Source.Table R.remaining table.old table.new }
+    // promise: why-with-a-limit (HasWhyReport: IsLimitedReport, GivesFound, IsExplainReport)
+    // promise: why-without-a-limit (HasWhyReport: IsReasonsReport, HasReasonsFor)
     ensures told { Reports W.contents (HasWhyReport table.new limit all form)
         output.old output.new result }
 {
@@ -93,7 +96,7 @@ pub fn why_recoverable<T: Threads + Sync, R: Read, W: Write>(
     requires output { IsWritable output.old }
 
     ensures read { HasRead Source.Table R.remaining table.old table.new }
-    // promise: why-recoverable
+    // promise: why-recoverable (Reports, HasWhyRecoverableReport)
     ensures told { Reports W.contents (HasWhyRecoverableReport table.new all form)
         output.old output.new result }
 {
@@ -118,6 +121,7 @@ pub fn pairs<T: Threads + Sync, R: Read, W: Write>(
     requires output { IsWritable output.old }
 
     ensures read { HasRead Source.Table R.remaining table.old table.new }
+    // promise: numbers-by-pairs (HasPairsReport: IsPairsReport, ArePairs, pairs_in)
     ensures told { Reports W.contents (HasPairsReport table.new form)
         output.old output.new result }
 {
@@ -166,7 +170,13 @@ pub fn classify<T: Threads + Sync, R: Read, W: Write>(
     requires output { IsWritable output.old }
 
     ensures read { HasRead Source.Table R.remaining table.old table.new }
+    // promise: order-of-checks
+    // promise: line-by-classify
     ensures order { (table.new ≡ table.old) ⊎ (given_limit_fault asked.limit ≡ None) }
+    // promise: line-by-classify (HasClassReport: GivesLimit, IsNumbersReport: IsClassificationOf,
+    //     classification_in)
+    // promise: recoverable-line-by-classify (IsNumbersReport: IsClassificationOf: recoverable)
+    // promise: forms-by-classify (IsNumbersReport: classification_in)
     ensures classified { Reports W.contents (HasClassReport table.new asked)
         output.old output.new result }
 {
@@ -191,6 +201,8 @@ pub fn lint<R: Read, W: Write>(
     requires output { IsWritable output.old }
 
     ensures read { HasRead Source.Table R.remaining table.old table.new }
+    // promise: grid-by-lint (HasLintReport: EndsText, Tells, IsLinted: IsTableText, HasFlawText,
+    //     flaw_json)
     ensures linted { Reports W.contents (HasLintReport table.new form)
         output.old output.new result }
 {
@@ -212,6 +224,7 @@ pub fn draw<R: Read, W: Write>(
     requires output { IsWritable output.old }
 
     ensures read { HasRead Source.Table R.remaining table.old table.new }
+    // promise: picture-by-draw (HasDrawReport: diagram)
     ensures drawn { Reports W.contents (HasDrawReport table.new) output.old output.new result }
 {
     let table = read_table(alloc, table)?;

@@ -43,6 +43,7 @@ pub(crate) fn check_certificate<C: Read>(
 ) -> Result<(), AppFault>
     requires { IsUnread text.old }
     ensures read { HasRead Source.Certificate C.remaining text.old text.new }
+    // promise: check-of-entries (EndsCheck)
     ensures checked { EndsCheck table.now text.new result }
 {
     text.fill(Source::Certificate)?;

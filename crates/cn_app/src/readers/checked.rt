@@ -67,8 +67,10 @@ pub fn read_checked<R: Read, C: Read>(
     certificate: &mut Text<C>,
 ) -> Result<Checked, AppFault>
     requires texts { IsUnread table.old × IsUnread certificate.old }
+    // promise: parts-of-commands
     ensures read { HaveReadBoth R.remaining C.remaining table.old table.new
         certificate.old certificate.new }
+    // promise: parts-of-commands
     ensures checked { GivesChecked table.new certificate.new result }
 {
     let table = read_table(alloc, table)?;

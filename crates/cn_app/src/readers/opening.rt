@@ -75,7 +75,9 @@ pub fn read_opening<R: Read, C: Read, O: Read>(
     requires given { AreArgumentsUnread given.old }
     requires some { 1 ≤ slots }
     requires few { slots ≤ MOST_SLOTS }
+    // promise: parts-of-commands
     ensures read { HaveReadAll R.remaining C.remaining O.remaining given.old given.new }
+    // promise: parts-of-commands
     ensures opening { GivesOpening given.new slots result }
 {
     let table = read_table(alloc, &mut given.table)?;

@@ -17,7 +17,9 @@ use std::io::Read;
 /// stand in place of any answer.
 pub fn read_table<R: Read>(alloc: Global, text: &mut Text<R>) -> Result<Table, AppFault>
     requires { IsUnread text.old }
+    // promise: parts-of-commands
     ensures read { HasRead Source.Table R.remaining text.old text.new }
+    // promise: parts-of-commands
     ensures table { GivesTable text.new result }
 {
     text.fill(Source::Table)?;
@@ -45,7 +47,9 @@ pub(crate) fn spelled_certificate<R>(alloc: Global, text: &Text<R>) -> Result<Ce
 /// stand in place of any answer.
 pub fn read_certificate<R: Read>(alloc: Global, text: &mut Text<R>) -> Result<Certificate, AppFault>
     requires { IsUnread text.old }
+    // promise: parts-of-commands
     ensures read { HasRead Source.Certificate R.remaining text.old text.new }
+    // promise: parts-of-commands
     ensures certificate { GivesCertificate text.new result }
 {
     text.fill(Source::Certificate)?;
@@ -59,7 +63,9 @@ pub fn read_certificate<R: Read>(alloc: Global, text: &mut Text<R>) -> Result<Ce
 /// Those of [`read_table`], as faults of the object.
 pub fn read_object<R: Read>(alloc: Global, text: &mut Text<R>) -> Result<Table, AppFault>
     requires { IsUnread text.old }
+    // promise: parts-of-commands
     ensures read { HasRead Source.Object R.remaining text.old text.new }
+    // promise: parts-of-commands
     ensures object { GivesObject text.new result }
 {
     text.fill(Source::Object)?;

@@ -11,6 +11,7 @@ use std::thread::Threads;
 
 /// The given limit, or else the greatest that [`find_report`] accepts for this table.
 pub fn limit_for(table: &Table, given: Option<u8>) -> u8
+    // promise: limit-by-default (IsLimitFor)
     ensures { IsLimitFor table.now given result }
 {
     match given {
@@ -49,6 +50,7 @@ pub fn find_report<T: Threads + Sync>(
     table: &Table,
     limit: u8,
 ) -> Result<Report, AppFault>
+    // promise: parts-of-commands (IsFindReport)
     ensures { IsFindReport table.now limit result }
 {
     let mut text = find_text(rt, alloc, table, limit)?;

@@ -44,7 +44,7 @@ pub fn why_recoverable_report<T: Threads + Sync>(
     all: bool,
     form: DocumentForm,
 ) -> Result<Report, AppFault>
-    // promise: why-recoverable
+    // promise: why-recoverable (IsWhyRecoverableReport)
     ensures { IsWhyRecoverableReport table all form result }
 {
     let explanation = RecoverableExplanation::new(rt, alloc, table, all)?;

@@ -22,7 +22,9 @@ pub struct Output<W> {
 impl<W: Write> Output<W> {
     /// A writer that was handed nothing yet.
     pub fn new(alloc: Global, writer: W) -> Output<W>
+        // promise: new-streams
         ensures writer { result.writer ≡ writer }
+        // promise: new-streams
         ensures unwritten { IsUnwritten result }
     {
         Output {
@@ -35,6 +37,7 @@ impl<W: Write> Output<W> {
     /// How far the output is written: `Open` until bytes are handed over, `Done` once the writer
     /// took them all.
     pub fn progress(&self) -> Progress
+        // promise: new-streams
         ensures { result ≡ self.now.progress }
     {
         self.progress
@@ -42,6 +45,7 @@ impl<W: Write> Output<W> {
 
     /// The writer, with the bytes that it took.
     pub fn into_writer(self) -> W
+        // promise: new-streams
         ensures { result ≡ self.writer }
     {
         self.writer
@@ -55,6 +59,7 @@ impl<W: Write> Output<W> {
     /// `OutOfMemory`, and nothing is handed over, or `Write` if the writer failed.
     pub fn write(&mut self, report: &Report) -> Result<Outcome, AppFault>
         requires { IsWritable self.old }
+        // promise: parts-of-commands (HandsOver)
         ensures { HandsOver W.contents report.now self.old self.new result }
     {
         let text = report.text.as_bytes();

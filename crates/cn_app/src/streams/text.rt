@@ -25,7 +25,9 @@ pub struct Text<R> {
 impl<R: Read> Text<R> {
     /// A reader that has given nothing yet.
     pub fn new(alloc: Global, reader: R) -> Text<R>
+        // promise: new-streams
         ensures reader { result.reader ≡ reader }
+        // promise: new-streams
         ensures unread { IsUnread result }
     {
         Text {
@@ -37,6 +39,7 @@ impl<R: Read> Text<R> {
 
     /// How far the reader is read: `Done` once it said that there is no more.
     pub fn progress(&self) -> Progress
+        // promise: new-streams
         ensures { result ≡ self.now.progress }
     {
         self.progress
@@ -44,6 +47,7 @@ impl<R: Read> Text<R> {
 
     /// The reader, with what it has left.
     pub fn into_reader(self) -> R
+        // promise: new-streams
         ensures { result ≡ self.reader }
     {
         self.reader
@@ -52,10 +56,12 @@ impl<R: Read> Text<R> {
     // Reads at most `most` bytes, once, and appends them.
     fn read_some(&mut self, source: Source, most: usize) -> Result<(), AppFault>
         requires some { 0 < most }
+        // promise: no-read-past-the-end
         requires unfinished { self.old.progress ≡ Progress.Open }
         ensures given { (bytes : List ℕ) × (self.new.bytes.items ≡ self.old.bytes.items ++ bytes)
             × (length bytes ≤ most) × Consumes (R.remaining self.old.reader)
             (R.remaining self.new.reader) bytes }
+        // promise: no-read-past-the-end
         ensures some { OnOk result (((self.new.progress ≡ Progress.Open)
             × (length self.old.bytes.items < length self.new.bytes.items))
             ⊎ ((self.new.progress ≡ Progress.Done) × (self.new.bytes.items ≡ self.old.bytes.items)

@@ -18,7 +18,9 @@ use std::alloc::{AllocError, Global};
 pub fn raw_pair(table: &Table, choice: &RawChoice, order: &[u8], process: u8) -> Option<(u8, u8)>
     requires fits { IsRawChoice table.now (length choice.now.operations) choice.now }
     requires known { All (λ p. p < length choice.now.operations) order.now }
+    // promise: what-a-process-sees
     ensures pair { result ≡ pair_of table.now choice.now order.now process }
+    // promise: what-a-process-sees
     ensures range { IfSome result (λ pair. (pair.0 < length table.now.responses)
         × (pair.1 < length table.now.states)) }
 {
@@ -144,6 +146,7 @@ fn any_collide(table: &Table, choice: &RawChoice, orders: &[ArrayVec<u8, MOST_PR
 /// `AllocError` if memory runs out.
 pub fn raw_splits(alloc: Global, table: &Table, choice: &RawChoice) -> Result<bool, AllocError>
     requires fits { IsRawChoice table.now (length choice.now.operations) choice.now }
+    // promise: what-a-process-sees
     ensures { IfOk result (λ yes. IsTrue yes ↔ IsWitness table.now choice.now) }
 {
     let orders = plain_orders(alloc, choice.operations.len() as u8)?;

@@ -135,6 +135,7 @@ fn push_lines(text: &mut String, lines: &[&str]) -> Result<(), AllocError>
 /// Appends the lines of a text, each in as many lines as it needs.
 #[tactic(auto, unfolding(crate::specs::Folded::folded))]
 pub fn push_folded(alloc: Global, text: &mut String, wide: &str) -> Result<(), AllocError>
+    // promise: parts-of-explanations (folded)
     ensures { OnOk result (string_bytes text.new ≡ string_bytes text.old ++ folded wide.now) }
 {
     let lines = lines_of(alloc, wide)?;

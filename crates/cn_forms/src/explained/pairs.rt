@@ -46,8 +46,10 @@ pub fn seen_pairs(
 ) -> Result<Vec<(u8, u8)>, AllocError>
     requires fits { FitsTable table.now choice.now }
     requires process { process < length choice.now.a + length choice.now.b }
+    // promise: seen-pairs (seen_pairs)
     ensures seen { IfOk result (λ pairs. pairs.items
         ≡ seen_pairs table.now choice.now team process) }
+    // promise: seen-pairs (IsPairOf)
     ensures known { IfOk result (λ pairs. All (IsPairOf table.now) pairs.items) }
 {
     told_pairs();

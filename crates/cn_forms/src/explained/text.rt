@@ -83,6 +83,8 @@ fn push_end(alloc: Global, text: &mut String, explanation: &Explanation) -> Resu
 #[tactic(auto, unfolding(crate::specs::Reasons::explanation_text))]
 pub fn explanation_of(alloc: Global, explanation: &Explanation) -> Result<String, AllocError>
     requires { IsExplanation explanation.now }
+    // promise: explanation (explanation_text)
+    // promise: why-without-a-limit
     ensures { IfOk result (λ text. string_bytes text ≡ explanation_text explanation.now) }
 {
     let mut text = String::new(alloc);

@@ -80,6 +80,7 @@ impl Explanation {
     ) -> Result<Explanation, AllocError>
         requires accepted { IsAccepted table certificate }
         requires lasting { IfSome lasting (IsLasting table) }
+        // promise: explanation (Explains, IsExplanation)
         ensures { IfOk result (Explains table certificate number lasting all) }
     {
         let left = states_left(&table, lasting);

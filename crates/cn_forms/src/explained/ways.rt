@@ -120,6 +120,7 @@ pub fn push_members(
     requires fits { IsRawChoice table.now (length choice.now.operations) choice.now }
     requires within { first + count ≤ length choice.now.operations }
     requires few { length choice.now.operations ≤ 8 }
+    // promise: parts-of-explanations (members)
     ensures { OnOk result (string_bytes text.new
         ≡ string_bytes text.old ++ members table.now choice.now team.now first count) }
 {
@@ -253,6 +254,7 @@ pub(crate) fn push_both_teams(
 #[tactic(auto, unfolding(crate::specs::Explained::choice_text))]
 pub fn push_choice(text: &mut String, table: &Table, choice: &Choice) -> Result<(), AllocError>
     requires { FitsTable table.now choice.now }
+    // promise: parts-of-explanations (choice_text)
     ensures { OnOk result (string_bytes text.new
         ≡ string_bytes text.old ++ choice_text table.now choice.now) }
 {
@@ -264,6 +266,7 @@ pub fn push_choice(text: &mut String, table: &Table, choice: &Choice) -> Result<
 
 #[tactic(auto, unfolding(crate::specs::Explained::way_number))]
 pub fn push_way_number(text: &mut String, number: usize) -> Result<(), AllocError>
+    // promise: parts-of-explanations (way_number)
     ensures { OnOk result (string_bytes text.new ≡ string_bytes text.old ++ way_number number) }
 {
     write!(text, "  {number}. ")
