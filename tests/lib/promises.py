@@ -76,11 +76,11 @@ def in_brackets(names, whose=""):
 
 
 def told_of(call):
-    """The clauses of a call with the names told of each, once if they are the same, and the names told of its contract as a whole."""
+    """The clauses of a call with the names told of each, the same names once, and the names told of its contract as a whole."""
     clauses = [(name, names) for name, names in call.clauses if name]
     alike = {names for _, names in clauses} if len(clauses) > 1 else set()
     if len(alike) == 1:
-        listed = ", ".join(f"`{name}`" for name, _ in clauses) + in_brackets(alike.pop(), "of each ")
+        listed = ", ".join(f"`{name}`" for name, _ in clauses) + in_brackets(alike.pop(), "among them ")
     else:
         listed = ", ".join(f"`{name}`{in_brackets(names)}" for name, names in clauses)
     whole = "".join(in_brackets(names) for name, names in call.clauses if not name)
