@@ -119,10 +119,8 @@ pub fn check(table: &Table, certificate: &Certificate) -> Result<(), CheckFault>
     // promise: wanted-entries (IsAccepted: refuted, choices_to_refute_in)
     ensures passes { IsAccepted table.now certificate.now → IsOk result }
     // promise: acceptance (IsFirstFault)
-    // promise: wanted-entries (IsAccepted: refuted, choices_to_refute_in)
     ensures refused { IfErr result (IsFirstFault table.now certificate.now) }
     // promise: acceptance
-    // promise: wanted-entries (IsAccepted: refuted, choices_to_refute_in)
     ensures number { OnOk result
         (IsNumberUpTo table.now certificate.now.limit certificate.now.number) }
     // promise: accepted-numbers

@@ -109,10 +109,10 @@ fn text_flaws(alloc: Global, text: &str) -> Result<Vec<Flaw>, AllocError>
 /// # Errors
 ///
 /// Fails only for want of memory.
-// promise: paths-of-flaws
 pub fn flaws(alloc: Global, bytes: &[u8]) -> Result<Vec<Flaw>, AllocError>
     requires { length bytes.now < 2 ^ 63 }
     // promise: flaws-of-bytes (flaws_at)
+    // promise: paths-of-flaws
     ensures flaws { IfOk result (λ v. (place : ℕ) × (place ≤ length bytes.now)
         × (flaws_view v ≡ flaws_at place bytes.now)) }
     // promise: first-flaw

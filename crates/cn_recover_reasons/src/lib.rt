@@ -18,8 +18,6 @@ mod markdown;
 mod reason;
 mod refuted;
 mod search;
-#[cfg(test)]
-mod tests;
 mod text;
 mod value;
 mod ways;

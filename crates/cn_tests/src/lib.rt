@@ -39,6 +39,8 @@ mod many;
 #[cfg(test)]
 mod proto;
 #[cfg(test)]
+mod reasons;
+#[cfg(test)]
 mod recover;
 #[cfg(test)]
 mod refused;
