@@ -218,13 +218,17 @@ fn push_next(
     Ok(())
 }
 
+// A separate program found how many worlds there are.
 #[test]
-fn every_world_keeps_consensus(rt: HostRuntime) -> Result<(), Fail> {
-    // A separate program found these counts.
-    let alloc = rt.alloc();
-    let two = plan_for_two(&rt, alloc)?;
-    assert!(rt; judge_worlds(&rt, alloc, &two, &[10, 20], &[1, 1])? == 34);
-    let three = plan_of(&rt, alloc, sticky_bit(), &[0], &[1, 1])?;
-    assert!(rt; judge_worlds(&rt, alloc, &three, &[5, 6, 7], &[1, 2, 2])? == 884);
+fn every_world_of_two_processes_keeps_consensus(rt: HostRuntime) -> Result<(), Fail> {
+    let plan = plan_for_two(&rt, rt.alloc())?;
+    assert!(rt; judge_worlds(&rt, rt.alloc(), &plan, &[10, 20], &[1, 1])? == 34);
+    Ok(())
+}
+
+#[test]
+fn every_world_of_three_processes_keeps_consensus(rt: HostRuntime) -> Result<(), Fail> {
+    let plan = plan_of(&rt, rt.alloc(), sticky_bit(), &[0], &[1, 1])?;
+    assert!(rt; judge_worlds(&rt, rt.alloc(), &plan, &[5, 6, 7], &[1, 2, 2])? == 884);
     Ok(())
 }

@@ -1,9 +1,9 @@
 //! Lists and plans that the tests of several crates start from.
-ghost use Rattle.std.specs.Prelude.{◌≡◌, ◌<◌, ◌≤◌, ◌+◌, ◌↔◌, length, All, IsTrue};
+ghost use Rattle.std.specs.Prelude.{◌≡◌, ◌<◌, ◌≤◌, ◌+◌, ◌↔◌, length, All, IfOk, IsTrue};
 ghost use Rattle.std.specs.List.Sorted.{IsNonDecreasing};
 ghost use Rattle.cn_choice.specs.Canonical.{FitsTable};
 
-use crate::types::test_and_set;
+use crate::types::{counter_3, test_and_set};
 use arrayvec::ArrayVec;
 use cn_choice::Choice;
 use cn_log::Event;
@@ -40,6 +40,15 @@ pub(super) fn never_falls(numbers: &[u8]) -> bool
 /// The table that a text spells.
 pub(super) fn table_of(alloc: Global, text: &str) -> Result<Table, TableFault> {
     read_table(alloc, text.as_bytes())
+}
+
+/// The counter. It begins in its first state.
+pub(super) fn counter(rt: &impl Abort, alloc: Global) -> Result<Table, Fail>
+    ensures { IfOk result (λ table. 0 < length table.states) }
+{
+    let table = table_of(alloc, counter_3())?;
+    assert!(rt; table.states() >= 1);
+    Ok(table)
 }
 
 /// A list of events, each with the number of times that it comes.

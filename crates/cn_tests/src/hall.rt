@@ -5,11 +5,11 @@ ghost use Rattle.std.specs.Vec.{vec_capacity};
 ghost use Rattle.cn_hall.specs.Seats.{IsSeatOf};
 ghost use Rattle.cn_hall.specs.declared.call.Go.TheVariants.{On};
 
-use crate::fixtures::{events_of, plan_for_two, table_of};
+use crate::fixtures::{counter, events_of, plan_for_two};
 use crate::gates::{Holds, StopsAt, WritesDown, comes_to};
-use crate::types::*;
 use cn_hall::{AlwaysOn, CallFault, Gate, Go, Hall, Reply, Seat, open};
 use cn_log::{Event, LogCore, replay};
+use cn_proto::Plan;
 use cn_table::{Operation, Response, State};
 use std::alloc::{AllocError, Global};
 use std::cmp::Ordering as Order;
@@ -18,6 +18,26 @@ use std::sync::Wait;
 use std::sync::atomic::{AtomicU32, Ordering};
 use std::test::Fail;
 use std::thread::{Threads, join};
+
+/// A core for the processes of the plan after these events. The counter starts at 0.
+pub(super) fn core_of(
+    rt: &impl Abort,
+    alloc: Global,
+    plan: &Plan,
+    capacity: u16,
+    events: &[Event],
+) -> Result<LogCore, Fail>
+    requires some { 1 ≤ capacity }
+    requires few { capacity ≤ 1024 }
+    ensures processes { IfOk result (λ core. processes_of core.opening.plan
+        ≡ processes_of plan.now) }
+    ensures operation { IfOk result (λ core. 0 < length core.opening.object.operations) }
+{
+    let object = counter(rt, alloc)?;
+    let core = replay(alloc, plan, &object, State(0), capacity, events)?;
+    assert!(rt; core.processes() == plan.processes() && core.operations() == 1);
+    Ok(core)
+}
 
 /// A core for two processes after these events. The counter starts at 0.
 pub(super) fn core_after(
@@ -32,11 +52,8 @@ pub(super) fn core_after(
     ensures operation { IfOk result (λ core. 0 < length core.opening.object.operations) }
 {
     let plan = plan_for_two(rt, alloc)?;
-    let object = table_of(alloc, counter_3())?;
-    assert!(rt; object.states() >= 1);
-    let core = replay(alloc, &plan, &object, State(0), capacity, events)?;
-    assert!(rt; core.processes() == 2 && core.operations() == 1);
-    Ok(core)
+    assert!(rt; plan.processes() == 2);
+    core_of(rt, alloc, &plan, capacity, events)
 }
 
 /// A hall over a core for two processes after these events, its seats 0 and 1, and the vector that

@@ -1,8 +1,8 @@
 //! Cores by hand.
 ghost use Rattle.std.specs.Prelude.{◌≤◌};
 
-use crate::fixtures::{events_of, plan_for_two, table_of};
-use crate::types::*;
+use crate::fixtures::{counter, events_of, plan_for_two};
+use crate::hall::core_after;
 use cn_log::{
     CallEnd, Entry, Event, EventFault, LogCore, Opening, ReplayFault, Reply, StepAnswer, replay,
     replay_on,
@@ -23,8 +23,7 @@ fn opened(rt: &impl Abort, alloc: Global, capacity: u16) -> Result<LogCore, Fail
     requires few { capacity ≤ 1024 }
 {
     let plan = plan_for_two(rt, alloc)?;
-    let object = table_of(alloc, counter_3())?;
-    assert!(rt; object.states() >= 1);
+    let object = counter(rt, alloc)?;
     let core = LogCore::open(alloc, Opening::new(plan, object, State(0), capacity))?;
     assert!(rt; is_opening(core.opening()));
     Ok(core)
@@ -163,11 +162,8 @@ fn replayed(
     requires some { 1 ≤ capacity }
     requires few { capacity ≤ 1024 }
 {
-    let plan = plan_for_two(rt, alloc)?;
-    let object = table_of(alloc, counter_3())?;
-    assert!(rt; object.states() >= 1);
     let events = events_of(alloc, parts)?;
-    let core = replay(alloc, &plan, &object, State(0), capacity, &events)?;
+    let core = core_after(rt, alloc, capacity, &events)?;
     assert!(rt; core.schedule() == events.as_slice() && core.capacity() == capacity);
     Ok(core)
 }
@@ -184,23 +180,25 @@ fn lists_of_events_are_replayed(rt: HostRuntime) -> Result<(), Fail> {
     Ok(())
 }
 
-/// The fault of these events, each this many times, in a new log of one slot. A core without events
-/// has the same.
+/// The fault of these events in a new log of one slot.
+fn refusal(rt: &impl Abort, alloc: Global, events: &[Event]) -> Result<Option<ReplayFault>, Fail> {
+    let plan = plan_for_two(rt, alloc)?;
+    let object = counter(rt, alloc)?;
+    Ok(replay(alloc, &plan, &object, State(0), 1, events).err())
+}
+
+/// Asserts the fault of these events, each this many times, in a new log of one slot and in a core
+/// without events.
 fn assert_refused(
     rt: &impl Abort,
     alloc: Global,
     parts: &[(Event, u8)],
     expected: EventFault,
 ) -> Result<(), Fail> {
-    let plan = plan_for_two(rt, alloc)?;
-    let object = table_of(alloc, counter_3())?;
-    assert!(rt; object.states() >= 1);
     let events = events_of(alloc, parts)?;
-    let core = LogCore::new(alloc, &plan, &object, State(0), 1)?;
+    let core = opened(rt, alloc, 1)?;
     assert!(rt; matches!(replay_on(core, &events), Err(fault) if fault == expected));
-    let expected = ReplayFault::from(expected);
-    let found = replay(alloc, &plan, &object, State(0), 1, &events);
-    assert!(rt; matches!(found, Err(fault) if fault == expected));
+    assert!(rt; refusal(rt, alloc, &events)? == Some(ReplayFault::from(expected)));
     Ok(())
 }
 

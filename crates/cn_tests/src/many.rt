@@ -3,13 +3,12 @@ ghost use Rattle.std.specs.Prelude.{◌≤◌, ◌<◌, length, IfOk};
 ghost use Rattle.cn_proto.specs.Plan.{processes_of};
 ghost use Rattle.cn_hall.specs.Seats.{IsSeatOf};
 
-use crate::fixtures::{events_of, plan_of, table_of};
+use crate::fixtures::{events_of, plan_of};
 use crate::gates::StopsAt;
-use crate::hall::{call, one_within_another, reply, resume};
+use crate::hall::{call, core_of, one_within_another, reply, resume};
 use crate::types::*;
 use cn_hall::{AlwaysOn, CallFault, Go, Hall, Seat, open};
 use cn_log::LogCore;
-use cn_table::State;
 use std::alloc::Global;
 use std::cmp::Ordering as Order;
 use std::process::Abort;
@@ -25,11 +24,8 @@ fn core_for(rt: &impl Abort, alloc: Global, n: u8) -> Result<LogCore, Fail>
 {
     let others = [1u8; 7];
     let plan = plan_of(rt, alloc, sticky_bit(), &[0], &others[..usize::from(n) - 1])?;
-    let object = table_of(alloc, counter_3())?;
-    assert!(rt; object.states() >= 1);
-    let core = LogCore::new(alloc, &plan, &object, State(0), 4)?;
-    assert!(rt; core.processes() == n && core.operations() == 1);
-    Ok(core)
+    assert!(rt; plan.processes() == n);
+    core_of(rt, alloc, &plan, 4, &[])
 }
 
 /// A hall for n processes, and the seats of the last two.

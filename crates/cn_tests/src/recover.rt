@@ -1,10 +1,14 @@
 //! The recoverable numbers and the first recording witnesses of worked types.
+ghost use Rattle.std.specs.Prelude.{◌≤◌};
+
 use crate::fixtures::table_of;
 use crate::types::*;
 use cn_choice::Choice;
 use cn_recover::{first_recording_witness, recoverable_number};
 use cn_table::State;
+use std::alloc::Global;
 use std::test::Fail;
+use std::thread::Threads;
 
 #[test]
 fn worked_types_have_these_recoverable_numbers(rt: HostRuntime) -> Result<(), Fail> {
@@ -30,14 +34,24 @@ fn is_choice(found: Option<Choice>, a: &[u8], b: &[u8]) -> bool {
     }
 }
 
+fn witness_of<T: Threads + Sync>(
+    rt: &T,
+    alloc: Global,
+    text: &str,
+    n: u8,
+) -> Result<Option<Choice>, Fail>
+    requires some { 2 ≤ n }
+    requires few { n ≤ 8 }
+{
+    let table = table_of(alloc, text)?;
+    Ok(first_recording_witness(rt, alloc, &table, n)?)
+}
+
 #[test]
 fn worked_types_have_these_first_recording_witnesses(rt: HostRuntime) -> Result<(), Fail> {
-    let sticky = table_of(rt.alloc(), sticky_bit())?;
-    let found = first_recording_witness(&rt, rt.alloc(), &sticky, 3)?;
-    assert!(rt; is_choice(found, &[0], &[1, 1]));
-    let shots = table_of(rt.alloc(), three_shot())?;
-    let found = first_recording_witness(&rt, rt.alloc(), &shots, 2)?;
-    assert!(rt; is_choice(found, &[0], &[1]));
-    assert!(rt; first_recording_witness(&rt, rt.alloc(), &shots, 3)?.is_none());
+    let alloc = rt.alloc();
+    assert!(rt; is_choice(witness_of(&rt, alloc, sticky_bit(), 3)?, &[0], &[1, 1]));
+    assert!(rt; is_choice(witness_of(&rt, alloc, three_shot(), 2)?, &[0], &[1]));
+    assert!(rt; witness_of(&rt, alloc, three_shot(), 3)?.is_none());
     Ok(())
 }

@@ -74,6 +74,20 @@ impl Refusing {
         }
     }
 
+    /// The refusals of a turn: of the first allocation, then of the first and all later ones, then
+    /// of the second, and so on.
+    fn in_turn(alloc: Global, turn: usize) -> Refusing
+        requires { turn < 1998 }
+    {
+        let number = turn / 2 + 1;
+        let word = if turn % 2 == 0 {
+            REFUSE_ONE
+        } else {
+            REFUSE_ALL
+        };
+        Refusing::new(alloc, word + number)
+    }
+
     /// Whether something was refused. Ends the refusals.
     fn is_met(self) -> bool {
         self.is_heard && is_refused(self.alloc, REFUSE_NONE)
@@ -85,17 +99,9 @@ fn is_refused(alloc: Global, size: usize) -> bool {
     Vec::<u8>::with_capacity(alloc, size).is_err()
 }
 
-/// The word of a turn. The turns refuse the first allocation, then the first and all later ones,
-/// then the second, and so on.
-fn word_of(turn: usize) -> usize
-    requires { turn < 1998 }
-{
-    let number = turn / 2 + 1;
-    if turn % 2 == 0 {
-        REFUSE_ONE + number
-    } else {
-        REFUSE_ALL + number
-    }
+/// Asserts that the last call of a sweep met no refusal.
+fn assert_no_refusal(rt: &impl Abort, was_met: bool) {
+    assert!(rt; !was_met);
 }
 
 /// Makes a call with its first allocation refused, then with its first and all later ones, then
@@ -105,7 +111,7 @@ macro_rules! sweep {
     ($rt:expr, $alloc:expr, $answer:ident = $call:expr, $ended:expr) => {{
         let mut was_met = true;
         for turn in 0..MANY_TURNS {
-            let refusing = Refusing::new($alloc, word_of(turn));
+            let refusing = Refusing::in_turn($alloc, turn);
             let $answer = $call;
             let is_met = refusing.is_met();
             $ended.judge($rt, is_met);
@@ -114,7 +120,7 @@ macro_rules! sweep {
             }
             was_met = is_met;
         }
-        assert!($rt; !was_met);
+        assert_no_refusal($rt, was_met);
     }};
 }
 

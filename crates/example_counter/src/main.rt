@@ -24,17 +24,22 @@ use std::alloc::Global;
 use std::sync::Wait;
 use std::thread::{Threads, map_vec};
 
-/// A log of eight slots for a counter, with nothing in it. Its plan comes from the certificate.
-fn counter_log(alloc: Global) -> Result<LogCore>
-    ensures new { IfOk result (λ core. core.schedule ≡ []) }
-    ensures operation { IfOk result (λ core. 0 < length core.opening.object.operations) }
-{
+/// The plan of the witness in the certificate, which is checked first.
+fn certified_plan(alloc: Global) -> Result<Plan> {
     let table = read_table(alloc, STICKY_BIT.as_bytes())?;
     let certificate = read_certificate(alloc, CERTIFICATE.as_bytes())?;
     accepted_witnesses_fit();
     check(&table, &certificate)?;
     let witness = certificate.witness.as_ref().context("no witness")?;
-    let plan = Plan::from_witness(alloc, &table, witness)?;
+    Ok(Plan::from_witness(alloc, &table, witness)?)
+}
+
+/// A log of eight slots for a counter, with nothing in it. Its plan comes from the certificate.
+fn counter_log(alloc: Global) -> Result<LogCore>
+    ensures new { IfOk result (λ core. core.schedule ≡ []) }
+    ensures operation { IfOk result (λ core. 0 < length core.opening.object.operations) }
+{
+    let plan = certified_plan(alloc)?;
     let counter = read_table(alloc, COUNTER.as_bytes())?;
     let zero = counter.find_state("0").context("no state 0")?;
     counter.find_operation("inc").context("no operation inc")?;

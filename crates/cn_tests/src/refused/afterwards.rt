@@ -2,13 +2,11 @@
 //! is asked for.
 use super::protocol::{helped, is_helped};
 use super::*;
-use crate::fixtures::{events_of, plan_for_two, table_of};
+use crate::fixtures::events_of;
 use crate::gates::StopsAt;
-use crate::hall::{call, one_within_another, opened, reply, resume};
-use crate::types::*;
+use crate::hall::{call, core_after, one_within_another, opened, reply, resume};
 use cn_hall::{AlwaysOn, CallFault, Go};
 use cn_log::{Event, LogCore};
-use cn_table::State;
 use std::cmp::Ordering;
 
 /// Whether the core takes each of the events.
@@ -21,19 +19,11 @@ fn takes_all(core: &mut LogCore, events: &[Event]) -> bool {
     true
 }
 
-/// A new log of two processes.
-fn new_core(rt: &impl Abort, alloc: Global) -> Result<LogCore, Fail> {
-    let plan = plan_for_two(rt, alloc)?;
-    let object = table_of(alloc, counter_3())?;
-    assert!(rt; object.states() >= 1);
-    Ok(LogCore::new(alloc, &plan, &object, State(0), 4)?)
-}
-
 #[test]
 fn events_of_a_log(rt: HostRuntime) -> Result<(), Fail> {
     let alloc = rt.alloc();
     let events = helped(alloc)?;
-    let mut core = new_core(&rt, alloc)?;
+    let mut core = core_after(&rt, alloc, 4, &[])?;
     let refusing = Refusing::new(alloc, REFUSE_ALL + 1);
     let is_whole = takes_all(&mut core, &events) && is_helped(&core, &events);
     let is_met = refusing.is_met();

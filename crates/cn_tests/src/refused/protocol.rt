@@ -2,7 +2,7 @@
 use super::*;
 use crate::agree;
 use crate::app::runs::test_and_set_shown;
-use crate::fixtures::{choice_of, events_of, plan_for_two, table_of};
+use crate::fixtures::{choice_of, counter, events_of, plan_for_two, table_of};
 use crate::hall::core_after;
 use crate::types::*;
 use cn_agree::{Course, Decided, ScheduleFault, run_schedule, run_steps};
@@ -177,8 +177,7 @@ fn new_log_ended(made: Result<LogCore, AllocError>) -> Ended {
 fn new_logs(rt: HostRuntime) -> Result<(), Fail> {
     let alloc = rt.alloc();
     let plan = plan_for_two(&rt, alloc)?;
-    let object = table_of(alloc, counter_3())?;
-    assert!(rt; object.states() >= 1);
+    let object = counter(&rt, alloc)?;
     sweep!(
         &rt,
         alloc,
@@ -199,8 +198,7 @@ fn replay_ended(events: &[Event], made: Result<LogCore, ReplayFault>) -> Ended {
 fn replays(rt: HostRuntime) -> Result<(), Fail> {
     let alloc = rt.alloc();
     let plan = plan_for_two(&rt, alloc)?;
-    let object = table_of(alloc, counter_3())?;
-    assert!(rt; object.states() >= 1);
+    let object = counter(&rt, alloc)?;
     let events = helped(alloc)?;
     sweep!(
         &rt,
