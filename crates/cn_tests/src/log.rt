@@ -1,5 +1,5 @@
 //! Cores by hand.
-ghost use Rattle.std.specs.Prelude.{◌≤◌};
+ghost use Rattle.std.specs.Prelude.{◌≡◌, ◌≤◌, [], IfOk};
 
 use crate::fixtures::{counter, events_of, plan_for_two};
 use crate::hall::core_after;
@@ -21,6 +21,7 @@ fn is_opening(opening: &Opening) -> bool {
 fn opened(rt: &impl Abort, alloc: Global, capacity: u16) -> Result<LogCore, Fail>
     requires some { 1 ≤ capacity }
     requires few { capacity ≤ 1024 }
+    ensures { IfOk result (λ core. core.schedule ≡ []) }
 {
     let plan = plan_for_two(rt, alloc)?;
     let object = counter(rt, alloc)?;
