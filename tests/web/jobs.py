@@ -1,16 +1,19 @@
 """Runs of the native program, to compare with the page's: every command, on all tables at hand, on hostile tables and
-certificates, and on words that are refused.
+certificates, and on words that are refused; and each row of tests/rows.
 
 A job is [words, number of standard input, {file: number of its content}, status, digest of standard output, digest of
 standard error, the beginning of standard error]; the numbers are those of a list of texts.
 """
+import contextlib
 import hashlib
 import json
 import pathlib
+import re
 import subprocess
 import tempfile
 
 from calls import PROGRAM, TOP
+from rows import rows
 
 LONGEST = 60
 MOST_CERTIFICATE = 2_000_000
@@ -44,6 +47,11 @@ def files(*folders):
     return [path.read_bytes() for folder in folders for path in sorted((TOP / folder).glob("*")) if path.is_file()]
 
 
+def names_path(row):
+    """Whether a row names a file by a path of the system, which a page lacks."""
+    return any(re.match(rb"@?\.?/", word) for word in row.words())
+
+
 class Jobs:
     """The runs, each made natively."""
 
@@ -59,6 +67,7 @@ class Jobs:
             for words in (["check", "C"], ["explain", "C"], ["show", "C"], *as_forms, ["agree", "C", "1,2", "0,1,0,1"]):
                 self.run(words, BIT, C=certificate)
         self.of_words()
+        self.of_rows()
 
     def number(self, text):
         return self.texts.setdefault(text, len(self.texts))
@@ -67,6 +76,8 @@ class Jobs:
         for name, content in files.items():
             (self.room / name).write_bytes(content)
         ran = subprocess.run([PROGRAM, *words], input=stdin, capture_output=True, cwd=self.room, timeout=LONGEST)
+        for name in files:
+            (self.room / name).unlink()
         digests = [hashlib.sha256(it).hexdigest() for it in (ran.stdout, ran.stderr)]
         numbers = {name: self.number(content) for name, content in files.items()}
         self.jobs.append([words, self.number(stdin), numbers, ran.returncode, *digests, ran.stderr[:200].decode("latin1")])
@@ -107,6 +118,14 @@ class Jobs:
         refused += [["check", "missing"], ["check", "constructor"], ["show", "--as", "x", "C"], ["lint", "\xe4"], ["why", "--recoverable", "--limit", "3", "-"]]
         for words in [*refused, ["--help"], ["-h"], ["--version"], ["help"], *([it, "--help"] for it in COMMANDS)]:
             self.run(words, BIT)
+
+    def of_rows(self):
+        """The rows that a page can run: its standard input is open, its memory has no other bound, and its words are in UTF-8."""
+        for row in rows():
+            stdin, files = row.given()
+            if stdin is not None and not row.table.get("memory") and not names_path(row):
+                with contextlib.suppress(UnicodeDecodeError):
+                    self.run([word.decode() for word in row.words()], stdin, **files)
 
 
 def made():

@@ -5,7 +5,7 @@ import subprocess
 import time
 
 from calls import TOP, TYPES, path_of
-from jobs import NO_THREAD
+from jobs import NO_THREAD, names_path
 from rows import rows
 
 NODE = str(TOP / "web/node.js")
@@ -14,12 +14,14 @@ SLOW = 0.3  # seconds until a writer begins
 
 
 def rows_in_node():
-    """Each row of tests/rows in Node, as (about, run, wanted). `serve` starts no thread there. Node opens standard input if it is closed,
-    and needs more memory than a row permits."""
+    """The first row of each table of tests/rows in Node, and the rows that no page can run for the files that they name, as (about, run,
+    wanted). The comparison (jobs.py) has the others: a start of Node takes a hundred times as long as one of the program. `serve`
+    starts no thread there. Node opens standard input if it is closed, and needs more memory than a row permits."""
     for row in rows():
         wanted = row.wanted()
         reads_closed = row.table.get("closed") and b"cannot read" in wanted[1]
-        if not reads_closed and not row.table.get("memory"):
+        is_chosen = row.number == 0 or row.table.get("output") or names_path(row)
+        if is_chosen and not reads_closed and not row.table.get("memory"):
             yield f"Node: {row.about}", lambda row=row: row.found(NODE), NO_THREAD if starts_threads(row) else wanted
 
 
