@@ -120,12 +120,13 @@ class Jobs:
             self.run(words, BIT)
 
     def of_rows(self):
-        """The rows that a page can run: its standard input is open, its memory has no other bound, and its words are in UTF-8."""
+        """The rows that a page can run: its memory has no other bound, and its words are in UTF-8. Standard input that a row closes is
+        empty here."""
         for row in rows():
             stdin, files = row.given()
-            if stdin is not None and not row.table.get("memory") and not names_path(row):
+            if not row.table.get("memory") and not names_path(row):
                 with contextlib.suppress(UnicodeDecodeError):
-                    self.run([word.decode() for word in row.words()], stdin, **files)
+                    self.run([word.decode() for word in row.words()], stdin or b"", **files)
 
 
 def made():
