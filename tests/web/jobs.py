@@ -1,5 +1,5 @@
 """Runs of the native program, to compare with the page's: every command, on all tables at hand, on hostile tables and
-certificates, and on words that are refused; and each row of tests/rows.
+certificates, and on words that are refused; and the rows of tests/rows that a page can run.
 
 A job is [words, number of standard input, {file: number of its content}, status, digest of standard output, digest of
 standard error, the beginning of standard error]; the numbers are those of a list of texts.
