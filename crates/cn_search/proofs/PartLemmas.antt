@@ -1,5 +1,5 @@
 -- The parts of the evidence.
-use Rattle.std.proofs.Common.{◌≡◌, ℕ, ◌+◌, ◌<◌, List, [], ◌∷◌, All, Option, Some, None, inl, inr, ap, arith, drop, get_or, get_or-set_same, length, length-set, refl, subst, sym, ◌∙◌}
+use Rattle.std.proofs.Common.{◌≡◌, ℕ, ◌+◌, ◌<◌, List, [], ◌∷◌, ◌++◌, suc, zero, All, Option, Some, None, inl, inr, ap, arith, drop, get_or, get_or-set_same, length, length-set, refl, subst, sym, ◌∙◌}
 use Rattle.std.proofs.Math.ListN.{set}
 use Rattle.std.specs.Prelude.{IfSome}
 use Rattle.std.specs.List.{AllByRecursion, AllZip}
@@ -39,6 +39,13 @@ first_of_left {X = X} xs rest place x e =
     let within : place < length xs = omega (arith, ap (λ (l : List X). length l) e, length-drop place xs) in
     let both = cons_parts x (get_or xs place x) rest (drop (place + 1) xs) (e ∙ drop_more xs place x within) in
     (within, (sym both.0, both.1))
+
+-- one more empty slot behind empty ones
+pub one_more_empty : {E : Type 0} (slots : List (Option E)) → ((place : ℕ) → get_or slots place None ≡ None) → (place : ℕ) → get_or (slots ++ None ∷ []) place None ≡ None
+one_more_empty [] h zero = refl
+one_more_empty [] h (suc place) = refl
+one_more_empty (slot ∷ slots) h zero = h zero
+one_more_empty (slot ∷ slots) h (suc place) = one_more_empty slots (λ k. h (suc k)) place
 
 module _ {E : Type 0} (keeps : E → List Collision → Type 0) (t : TypeTable) (blocks : List Block) where
   -- a slot is filled with the evidence of its block

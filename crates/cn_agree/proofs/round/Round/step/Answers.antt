@@ -78,3 +78,17 @@ returns-clause-decision g c =
 
 pub returns-clause-fixed : goal.returns-clause-fixed
 returns-clause-fixed g c = λ x e. ap fixed_value (after g c) ∙ fixed_goes_on c.args.plan.now c.args.self.now c.requires.of_plan c.args.p c.requires.process x e
+
+pub index-requires : goal.index-requires
+index-requires g c =
+    let runs = c.requires.of_plan in
+    let within = process_within c.args.plan.now runs.0 c.args.self.now runs.1 c.args.p c.requires.process in
+    let same = ap (λ (w : World g.row.V.Denot). length w.locals) c.self.view_is in
+    omega (arith, within, same, c.from.ensures, c.self.inside.locals.ok)
+
+pub index_mut-local-requires : goal.index_mut-local-requires
+index_mut-local-requires g c =
+    let runs = c.requires.of_plan in
+    let within = process_within c.args.plan.now runs.0 c.args.self.now runs.1 c.args.p c.requires.process in
+    let same = ap (λ (w : World g.row.V.Denot). length w.locals) c.self.view_is in
+    omega (arith, within, same, c.from-in-Active-2.ensures, c.self.inside.locals.ok)
