@@ -37,7 +37,8 @@ changes_both P w first p mine v node lv lp = record {
 }
 
 -- a read leaves the nodes
-read_world : {V : Type 0} (P : ProtocolOfRounds) (w : World V) (v : ℕ) (locals : List (Local V)) → record w { nodes = slice_set w.nodes v (node_at P w v); locals = locals; first = w.first } ≡ record w { locals = locals }
+read_world : {V : Type 0} (P : ProtocolOfRounds) (w : World V) (v : ℕ) (locals : List (Local V))
+    → record w { nodes = slice_set w.nodes v (node_at P w v); locals = locals; first = w.first } ≡ record w { locals = locals }
 read_world P w v locals = λ d. record { nodes = set-get_or w.nodes v (fresh_node P.start) d; locals = locals; inputs = w.inputs; first = w.first }
 
 -- a write of one local state
@@ -86,7 +87,8 @@ state_kept node A x = refl
 state_kept node B x = refl
 
 -- if equal values come in, a second write of a register keeps its value
-register_kept : {V : Type 0} (node : Node V) (mine side : Team) (x y : V) → ((z : V) → register node mine ≡ Some z → z ≡ x) → register node side ≡ Some y → register (with_register node mine x) side ≡ Some y
+register_kept : {V : Type 0} (node : Node V) (mine side : Team) (x y : V) → ((z : V) → register node mine ≡ Some z → z ≡ x) → register node side ≡ Some y
+    → register (with_register node mine x) side ≡ Some y
 register_kept node A A x y same h = ap Some (sym (same y h))
 register_kept node A B x y same h = h
 register_kept node B A x y same h = h
@@ -161,7 +163,8 @@ module _ {V : Type 0} (P : ProtocolOfRounds) (n nodes : ℕ) (team : ℕ → Tea
           brings_same P team w order b.by b.at p i z x (sound.fed b.by b.at p i b.place at b.node b.team_is) b.brings brings
 
   -- a second write of a register keeps its value
-  pub registers_write : local_at w p ≡ Active i x Write → (v : ℕ) (side : Team) (y : V) → register (node_at P w v) side ≡ Some y → register (node_at P (after_action P p w i x Write (place_of P p i)) v) side ≡ Some y
+  pub registers_write : local_at w p ≡ Active i x Write → (v : ℕ) (side : Team) (y : V) → register (node_at P w v) side ≡ Some y
+      → register (node_at P (after_action P p w i x Write (place_of P p i)) v) side ≡ Some y
   registers_write e v side y h =
       let mine = rw e at (holds.local_holds p lt) in
       let here : Place = place_of P p i in
@@ -175,7 +178,8 @@ module _ {V : Type 0} (P : ProtocolOfRounds) (n nodes : ℕ) (team : ℕ → Tea
       same_value at brings z b =
           brings_same P team w order b.by b.at p i z x (sound.fed b.by b.at p i b.place at b.node b.team_is) b.brings brings
 
-  pub registers_apply : local_at w p ≡ Active i x Apply → (v : ℕ) (side : Team) (y : V) → register (node_at P w v) side ≡ Some y → register (node_at P (after_action P p w i x Apply (place_of P p i)) v) side ≡ Some y
+  pub registers_apply : local_at w p ≡ Active i x Apply → (v : ℕ) (side : Team) (y : V) → register (node_at P w v) side ≡ Some y
+      → register (node_at P (after_action P p w i x Apply (place_of P p i)) v) side ≡ Some y
   registers_apply e v side y h =
       let mine = rw e at (holds.local_holds p lt) in
       let here : Place = place_of P p i in
@@ -184,7 +188,8 @@ module _ {V : Type 0} (P : ProtocolOfRounds) (n nodes : ℕ) (team : ℕ → Tea
       let next : Local V = Active i x (Read (record { 0 = (P.act here.role old.state.0).0 })) in
       let changes : Changes P w (after_action P p w i x Apply here) p next here.node node =
       changes_both P w (first_recorded w.first here.node here.team) p next here.node node (rw holds.nodes_are (sound.nodes_below p i mine.0)) (rw holds.locals_are lt) in
-      (changes_grow P n nodes team w (after_action P p w i x Apply here) order order holds p next here.node node [] changes (extends_none order here.node) (λ side y h. rw register_moved h)).registers v side y h
+      (changes_grow P n nodes team w (after_action P p w i x Apply here) order order holds p next here.node node [] changes (extends_none order here.node)
+      (λ side y h. rw register_moved h)).registers v side y h
 
   holder_new : local_at w p ≡ Active i x Apply → IsPlace P n p i → (k : ℕ) → slice_get (order (place_of P p i).node) k ≢ Some (place_of P p i).role
   holder_new e at k h =
@@ -322,7 +327,8 @@ module _ {V : Type 0} (P : ProtocolOfRounds) (n nodes : ℕ) (team : ℕ → Tea
       let r = holds.written v head rest is in
       (r.0, rw judges_right r.1, rw is r.1)
 
-  keeps_onward : (y : V) → IsPlace P n p i → fixed_at P team w order (place_of P p i).node ≡ Some y → (more : Bool) → nat_lt (i + 1) (length (P.path p)) ≡ more → LocalHolds P n team w order p (onward (length (P.path p)) i y)
+  keeps_onward : (y : V) → IsPlace P n p i → fixed_at P team w order (place_of P p i).node ≡ Some y → (more : Bool) → nat_lt (i + 1) (length (P.path p)) ≡ more
+      → LocalHolds P n team w order p (onward (length (P.path p)) i y)
   keeps_onward y at h true is = let less : i + 1 < length (P.path p) = grind (arith, nat_tests) in
       let suc_is : i + 1 ≡ suc i = omega arith in
       rw is (rw suc_is ((at.0, omega arith), h, tt))

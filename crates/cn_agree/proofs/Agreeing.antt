@@ -40,14 +40,16 @@ inputs_schedule P (p ∷ schedule) w = inputs_schedule P schedule (after_step P 
 
 module _ {V : Type 0} (P : ProtocolOfRounds) (n nodes : ℕ) (team : ℕ → Team) (sound : IsSound P n nodes team) where
   -- a round in which all have begun reaches the world after any schedule
-  pub reached_after : (before schedule : List ℕ) (w : World V) → IsReached P n nodes before w → ((p : ℕ) → p < n → HasBegun w p) → IsSchedule n schedule → IsReached P n nodes (before ++ schedule) (after_schedule P schedule w)
+  pub reached_after : (before schedule : List ℕ) (w : World V) → IsReached P n nodes before w → ((p : ℕ) → p < n → HasBegun w p) → IsSchedule n schedule
+      → IsReached P n nodes (before ++ schedule) (after_schedule P schedule w)
   reached_after before [] w r begun all = let T : List ℕ → Type 0 = λ s. IsReached P n nodes s w in subst T (sym (append-nil before)) r
   reached_after before (p ∷ schedule) w r begun all =
       let T : List ℕ → Type 0 = λ s. IsReached P n nodes s (after_schedule P schedule (after_step P p w)) in
       subst T (append_assoc before (p ∷ []) schedule)
       (reached_after (before ++ p ∷ []) schedule (after_step P p w) (Steps p all.0 (begun p all.0) r) (λ q lq. begun_stays P n nodes team sound r p q all.0 (begun q lq)) all.1)
 
-  consensus_of : (inputs : List V) (schedule : List ℕ) (w : World V) → IsReached P n nodes schedule w → w.inputs ≡ map (λ x. Some x) inputs → ((p : ℕ) → p < n → length (P.path p) ≤ nodes) → nodes ≡ n - 1
+  consensus_of : (inputs : List V) (schedule : List ℕ) (w : World V) → IsReached P n nodes schedule w → w.inputs ≡ map (λ x. Some x) inputs
+      → ((p : ℕ) → p < n → length (P.path p) ≤ nodes) → nodes ≡ n - 1
       → IsConsensus P n inputs schedule (decisions_of w)
   consensus_of inputs schedule w r given_inputs short one_fewer =
       let keeps = keeps_consensus P n nodes team sound r in

@@ -30,14 +30,16 @@ apply_leaves node state Object ne = absurd (ne refl)
 apply_leaves node state (Register A) ne = refl
 apply_leaves node state (Register B) ne = refl
 
-leaves : {V : Type 0} (P : ProtocolOfRounds) (here : Place) (x : V) (stage : Stage) (node : Node V) (part : SharedPart) → part ≢ part_touched P here stage → content (node_after P here x stage node) part ≡ content node part
+leaves : {V : Type 0} (P : ProtocolOfRounds) (here : Place) (x : V) (stage : Stage) (node : Node V) (part : SharedPart) → part ≢ part_touched P here stage
+    → content (node_after P here x stage node) part ≡ content node part
 leaves P here x Write node part ne = write_leaves node here.team x part ne
 leaves P here x Apply node part ne = apply_leaves node (record { 0 = (P.act here.role node.state.0).1 }) part ne
 leaves P here x (Read response) node part ne = refl
 leaves P here x (Take response state) node part ne = refl
 
 -- two nodes with the same content of the part touched lead to the same local state
-reads_alike : {V : Type 0} (P : ProtocolOfRounds) (places i : ℕ) (here : Place) (x : V) (stage : Stage) (node other : Node V) → content node (part_touched P here stage) ≡ content other (part_touched P here stage)
+reads_alike : {V : Type 0} (P : ProtocolOfRounds) (places i : ℕ) (here : Place) (x : V) (stage : Stage) (node other : Node V)
+    → content node (part_touched P here stage) ≡ content other (part_touched P here stage)
     → local_after P places i here x stage node ≡ local_after P places i here x stage other
 reads_alike P places i here x Write node other e = refl
 reads_alike P places i here x Apply node other e =
@@ -77,7 +79,8 @@ module _ {V : Type 0} (P : ProtocolOfRounds) (p : ℕ) where
   step_is : (w : World V) (i : ℕ) (x : V) (stage : Stage) → local_at w p ≡ Active i x stage → after_step P p w ≡ after_action P p w i x stage (place_of P p i)
   step_is w i x stage e = ap (after_step_from P p w) e
 
-  first_is : (w : World V) (here : Place) (stage : Stage) → (first_after w.first here stage ≡ w.first) ⊎ ((w.first ≡ None) × (first_after w.first here stage ≡ Some here.team) × (here.node ≡ 0) × (stage ≡ Apply))
+  first_is : (w : World V) (here : Place) (stage : Stage)
+      → (first_after w.first here stage ≡ w.first) ⊎ ((w.first ≡ None) × (first_after w.first here stage ≡ Some here.team) × (here.node ≡ 0) × (stage ≡ Apply))
   first_is w here Write = inl refl
   first_is w here Apply = go w.first here.node refl refl
     where
@@ -100,18 +103,22 @@ module _ {V : Type 0} (P : ProtocolOfRounds) (p : ℕ) where
         recorded = first_is w here stage;
       }
 
-  next_is : (w : World V) (i : ℕ) (x : V) (stage : Stage) → local_at w p ≡ Active i x stage → local_at (after_step P p w) p ≡ local_after P (length (P.path p)) i (place_of P p i) x stage (node_at P w (place_of P p i).node)
+  next_is : (w : World V) (i : ℕ) (x : V) (stage : Stage) → local_at w p ≡ Active i x stage
+      → local_at (after_step P p w) p ≡ local_after P (length (P.path p)) i (place_of P p i) x stage (node_at P w (place_of P p i).node)
   next_is w i x stage e =
-      ap (λ (u : World V). local_at u p) (step_is w i x stage e) ∙ get_or-set_same w.locals p (local_after P (length (P.path p)) i (place_of P p i) x stage (node_at P w (place_of P p i).node)) NotBegun (active_within w.locals p i x stage e)
+      ap (λ (u : World V). local_at u p) (step_is w i x stage e)
+      ∙ get_or-set_same w.locals p (local_after P (length (P.path p)) i (place_of P p i) x stage (node_at P w (place_of P p i).node)) NotBegun (active_within w.locals p i x stage e)
 
   -- the node of the process's place after its step
   node_is : (w : World V) (i : ℕ) (x : V) (stage : Stage) → local_at w p ≡ Active i x stage → (place_of P p i).node < length w.nodes
       → node_at P (after_step P p w) (place_of P p i).node ≡ node_after P (place_of P p i) x stage (node_at P w (place_of P p i).node)
   node_is w i x stage e there =
-      ap (λ (u : World V). node_at P u (place_of P p i).node) (step_is w i x stage e) ∙ get_or-set_same w.nodes (place_of P p i).node (node_after P (place_of P p i) x stage (node_at P w (place_of P p i).node)) (fresh_node P.start) there
+      ap (λ (u : World V). node_at P u (place_of P p i).node) (step_is w i x stage e)
+      ∙ get_or-set_same w.nodes (place_of P p i).node (node_after P (place_of P p i) x stage (node_at P w (place_of P p i).node)) (fresh_node P.start) there
 
   shared_alike : (w u : World V) (i : ℕ) (x : V) (stage : Stage) → HasPlace P p i w u → LooksAlike P p i x stage w u
-      → content (node_at P (after_step P p w) (place_of P p i).node) (part_touched P (place_of P p i) stage) ≡ content (node_at P (after_step P p u) (place_of P p i).node) (part_touched P (place_of P p i) stage)
+      → content (node_at P (after_step P p w) (place_of P p i).node) (part_touched P (place_of P p i) stage) ≡ content (node_at P (after_step P p u) (place_of P p i).node)
+      (part_touched P (place_of P p i) stage)
   shared_alike w u i x stage place alike =
       let here : Place = place_of P p i in
       ap (λ (n : Node V). content n (part_touched P here stage)) (node_is w i x stage alike.here place.here)

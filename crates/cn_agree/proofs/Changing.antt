@@ -96,7 +96,8 @@ module _ {V : Type 0} (P : ProtocolOfRounds) (n nodes : ℕ) (team : ℕ → Tea
     ];
     local_holds = λ q lt. elim (cases_eq q p) [
       | inl e ↦ rw (e, changes.local_mine) mine_holds
-      | inr ne ↦ rw (changes.local_other q ne) (local_grows P n team w order w' order' changes_grow q (local_at w q) (λ e. ap (λ (is : List (Option V)). slice_index_or is q None) changes.inputs_same) (holds.local_holds q lt))
+      | inr ne ↦ rw (changes.local_other q ne)
+          (local_grows P n team w order w' order' changes_grow q (local_at w q) (λ e. ap (λ (is : List (Option V)). slice_index_or is q None) changes.inputs_same) (holds.local_holds q lt))
     ];
   }
     where

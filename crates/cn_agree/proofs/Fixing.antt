@@ -33,7 +33,8 @@ root_same {V = V} P w team = go w.nodes team
     go (node ∷ nodes) team = refl
 
 module _ {V : Type 0} (P : ProtocolOfRounds) (n nodes : ℕ) (team : ℕ → Team) (sound : IsSound P n nodes team) where
-  registers_step : (w : World V) → Kept P n nodes team w → (p : ℕ) → p < n → (v : ℕ) (side : Team) (y : V) → register (node_at P w v) side ≡ Some y → register (node_at P (after_step P p w) v) side ≡ Some y
+  registers_step : (w : World V) → Kept P n nodes team w → (p : ℕ) → p < n → (v : ℕ) (side : Team) (y : V) → register (node_at P w v) side ≡ Some y
+      → register (node_at P (after_step P p w) v) side ≡ Some y
   registers_step w kept p lt v side y h = go (local_at w p) refl
     where
       read : (u : ℕ) (locals : List (Local V)) → register (node_at P (record w { nodes = slice_set w.nodes u (node_at P w u); locals = locals; first = w.first }) v) side ≡ Some y
@@ -112,7 +113,8 @@ module _ {V : Type 0} (P : ProtocolOfRounds) (n nodes : ℕ) (team : ℕ → Tea
       let schedule' : List ℕ = schedule ++ p ∷ [] in
       let are : AreOf P (IsInput schedule' old) (IsOwn old) old =
       are_more P (IsInput schedule old) (IsInput schedule' old) (IsOwn old) (IsOwn old) old (λ y i. (i.0, i.1, Contains-append_left schedule (p ∷ []) i.0 i.2, i.3)) (λ q y o. o) (values_are r) in
-      let T : List (Option V) → Type 0 = λ inputs. AreOf P (λ y. (q : ℕ) × (q < n) × IsParticipant schedule' q × (slice_index_or inputs q None ≡ Some y)) (λ q y. slice_index_or inputs q None ≡ Some y) (after_step P p old) in
+      let T : List (Option V) → Type 0 = λ inputs. AreOf P (λ y. (q : ℕ) × (q < n) × IsParticipant schedule' q × (slice_index_or inputs q None ≡ Some y))
+      (λ q y. slice_index_or inputs q None ≡ Some y) (after_step P p old) in
       subst T (sym (inputs_step P p old)) (step_of P (IsInput schedule' old) (IsOwn old) old are p (λ y o. (p, lt, Contains-append_right schedule (p ∷ []) p (0, omega arith, refl), o)))
 
   -- the fixed value is the input of a participant
@@ -127,7 +129,8 @@ module _ {V : Type 0} (P : ProtocolOfRounds) (n nodes : ℕ) (team : ℕ → Tea
   abbrev AppliesFirst : World V → ℕ → ℕ → Type 0
   AppliesFirst w p i = IsPlace P n p i → (place_of P p i).node ≡ 0 → 4 * i + 2 ≤ steps_taken P p (local_at w p) → (side : Team) × (w.first ≡ Some side)
 
-  applied_first : {schedule : List ℕ} {w : World V} → IsReached P n nodes schedule w → (q i : ℕ) → IsPlace P n q i → (place_of P q i).node ≡ 0 → 4 * i + 2 ≤ steps_taken P q (local_at w q) → (side : Team) × (w.first ≡ Some side)
+  applied_first : {schedule : List ℕ} {w : World V} → IsReached P n nodes schedule w → (q i : ℕ) → IsPlace P n q i → (place_of P q i).node ≡ 0
+      → 4 * i + 2 ≤ steps_taken P q (local_at w q) → (side : Team) × (w.first ≡ Some side)
   applied_first Opens q i at root le = absurd (let le' : 4 * i + 2 ≤ 0 = rw (same_anywhere {A = Local V} n NotBegun q) at le in omega arith)
   applied_first (Begins {w = old} p x lt e r) q i at root le = elim (cases_eq q p) [
     | inl same ↦ absurd (fresh q same le)
@@ -159,13 +162,15 @@ module _ {V : Type 0} (P : ProtocolOfRounds) (n nodes : ℕ) (team : ℕ → Tea
       staged j x (Read response) e at root le before = before at root (rw e (omega arith))
       staged j x (Take response state) e at root le before = before at root (rw e (omega arith))
 
-      went : (here : Local V) → local_at old p ≡ here → IsOneMore P n nodes team sound p here (local_at (after_step P p old) p) → IsPlace P n p i → (place_of P p i).node ≡ 0 → 4 * i + 2 ≤ steps_taken P p (local_at (after_step P p old) p)
+      went : (here : Local V) → local_at old p ≡ here → IsOneMore P n nodes team sound p here (local_at (after_step P p old) p) → IsPlace P n p i → (place_of P p i).node ≡ 0
+          → 4 * i + 2 ≤ steps_taken P p (local_at (after_step P p old) p)
           → AppliesFirst old p i → (side : Team) × ((after_step_from P p old here).first ≡ Some side)
       went NotBegun e one at root le before = absurd (b e)
       went (Active j x stage) e one at root le before = staged j x stage e at root (let count = one.0 in omega arith) before
       went (Decided y) e one at root le before = before at root (rw e (rw one at le))
 
-      mine : (q : ℕ) → q ≡ p → IsPlace P n q i → (place_of P q i).node ≡ 0 → 4 * i + 2 ≤ steps_taken P q (local_at (after_step P p old) q) → AppliesFirst old p i → (side : Team) × ((after_step P p old).first ≡ Some side)
+      mine : (q : ℕ) → q ≡ p → IsPlace P n q i → (place_of P q i).node ≡ 0 → 4 * i + 2 ≤ steps_taken P q (local_at (after_step P p old) q) → AppliesFirst old p i
+          → (side : Team) × ((after_step P p old).first ≡ Some side)
       mine q same at root le before =
           went (local_at old p) refl (one_more P n nodes team sound old (reached_kept P n nodes team sound r) p lt) (rw same at at) (rw same at root) (rw same at le) before
 
@@ -178,7 +183,8 @@ module _ {V : Type 0} (P : ProtocolOfRounds) (n nodes : ℕ) (team : ℕ → Tea
       some : (found : Option V) (y : V) → found ≡ Some y → IsSome found
       some found y e = rw e refl
 
-      go : (roles all : List ℕ) → all ≡ roles → (side : Team) → w.first ≡ Some side → w.first ≡ first_team team all → ((head : ℕ) (rest : List ℕ) → all ≡ head ∷ rest → (y : V) × (register (node_at P w 0) (team head) ≡ Some y))
+      go : (roles all : List ℕ) → all ≡ roles → (side : Team) → w.first ≡ Some side → w.first ≡ first_team team all
+          → ((head : ℕ) (rest : List ℕ) → all ≡ head ∷ rest → (y : V) × (register (node_at P w 0) (team head) ≡ Some y))
           → IsSome (fixed_value w)
       go [] all e side f is written = absurd (let none : w.first ≡ None = rw e at is in cc)
       go (head ∷ rest) all e side f is written =
@@ -211,7 +217,8 @@ module _ {V : Type 0} (P : ProtocolOfRounds) (n nodes : ℕ) (team : ℕ → Tea
       stages (Read response) = omega arith
       stages (Take response state) = omega arith
 
-      go : (here : Local V) → LocalHolds P n team w (reached_kept P n nodes team sound r).0 p here → steps_taken P p here ≡ min (occurrences schedule p) (4 * length (P.path p)) → IsSome (decision_of here)
+      go : (here : Local V) → LocalHolds P n team w (reached_kept P n nodes team sound r).0 p here → steps_taken P p here ≡ min (occurrences schedule p) (4 * length (P.path p))
+          → IsSome (decision_of here)
           ↔ (4 * length (P.path p) ≤ occurrences schedule p)
       go NotBegun h e = (λ s. absurd (true≢false (sym s)), λ le. absurd (let some = sound.starts p lt in omega arith))
       go (Active i y stage) h e = (λ s. absurd (true≢false (sym s)), λ le. absurd (let l = h.0.1 in let s = stages stage in omega arith))

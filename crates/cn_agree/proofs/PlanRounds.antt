@@ -106,7 +106,8 @@ pub local_read : {V : Type 0} {w self : World V} {p q : ℕ} {found : Local V} �
 local_read {V = V} {w = w} {self = self} {p = p} {found = found} is e within read =
     read ∙ ap (λ k. slice_index_or w.locals k found) e ∙ ap (λ (u : World V). slice_index_or u.locals p found) is ∙ sym (get_or_default self.locals p NotBegun found within)
 
-pub node_read : {V : Type 0} (P : ProtocolOfRounds) {w self : World V} {v u : ℕ} {node : Node V} → w ≡ self → u ≡ v → v < length self.nodes → node ≡ slice_index_or w.nodes u node → node ≡ node_at P self v
+pub node_read : {V : Type 0} (P : ProtocolOfRounds) {w self : World V} {v u : ℕ} {node : Node V} → w ≡ self → u ≡ v → v < length self.nodes → node ≡ slice_index_or w.nodes u node
+    → node ≡ node_at P self v
 node_read {V = V} P {w = w} {self = self} {v = v} {node = node} is e there read =
     read ∙ ap (λ k. slice_index_or w.nodes k node) e ∙ ap (λ (z : World V). slice_index_or z.nodes v node) is ∙ sym (get_or_default self.nodes v (fresh_node P.start) node there)
 
@@ -114,19 +115,23 @@ pub node_within : {V : Type 0} {w self : World V} {v u : ℕ} → w ≡ self →
 node_within is e there = rw (is, e) there
 
 -- the turn of a process whose local state was read
-pub turn_read : {V : Type 0} (plan : Plan) {self : World V} (runs : RunsBy plan self) {p : ℕ} → p < processes_of plan → ((order : List ℕ) → after (protocol_of plan).act (protocol_of plan).start order < length plan.table.states)
-    → {w : World V} {q i : ℕ} {x : V} {stage : Stage} {found : Local V} {path : List Place} → w ≡ self → q ≡ p → found ≡ slice_index_or w.locals q found → found ≡ Active i x stage → path ≡ (protocol_of plan).path p
+pub turn_read : {V : Type 0} (plan : Plan) {self : World V} (runs : RunsBy plan self) {p : ℕ} → p < processes_of plan
+    → ((order : List ℕ) → after (protocol_of plan).act (protocol_of plan).start order < length plan.table.states)
+    → {w : World V} {q i : ℕ} {x : V} {stage : Stage} {found : Local V} {path : List Place} → w ≡ self → q ≡ p → found ≡ slice_index_or w.locals q found → found ≡ Active i x stage
+    → path ≡ (protocol_of plan).path p
     → IsTurn plan self p x (record { here = slice_index_or path i nowhere; place = i; places = length path; stage = stage })
 turn_read plan {self = self} runs {p = p} lt reachable {i = i} {x = x} {stage = stage} {path = path} is e read f g =
     turn_at plan runs.0 self runs.1 p lt reachable i x stage (sym (local_read is e (process_within plan runs.0 self runs.1 p lt) read) ∙ f) path g
 
 -- the fields after a step
-pub steps_is : {V : Type 0} (plan : Plan) {w self : World V} {p : ℕ} {turn : Turn} {x : V} (t : IsTurn plan self p x turn) {q v : ℕ} {node node' : Node V} {next : Local V} {first : Option Team} → w ≡ self → q ≡ p → v ≡ turn.here.node
+pub steps_is : {V : Type 0} (plan : Plan) {w self : World V} {p : ℕ} {turn : Turn} {x : V}
+    (t : IsTurn plan self p x turn) {q v : ℕ} {node node' : Node V} {next : Local V} {first : Option Team} → w ≡ self → q ≡ p → v ≡ turn.here.node
     → node ≡ slice_index_or w.nodes v node → node' ≡ node_after (protocol_of plan) turn.here x turn.stage node
     → next ≡ local_after (protocol_of plan) turn.places turn.place turn.here x turn.stage node → first ≡ first_after w.first turn.here turn.stage
     → record w { nodes = slice_set w.nodes v node'; locals = slice_set w.locals q next; first = first } ≡ after_step (protocol_of plan) p self
 steps_is {V = V} plan {w = w} {self = self} {p = p} {turn = turn} {x = x} t {q = q} {v = v} {node' = node'} {next = next} {first = first} is e g n n' l o =
-    let acted : record w { nodes = slice_set w.nodes v node'; locals = slice_set w.locals q next; first = first } ≡ after_action (protocol_of plan) p self turn.place x turn.stage (place_of (protocol_of plan) p turn.place) =
+    let acted : record w { nodes = slice_set w.nodes v node'; locals = slice_set w.locals q next; first = first } ≡ after_action (protocol_of plan) p self turn.place x turn.stage
+    (place_of (protocol_of plan) p turn.place) =
     rw (o, n', l, node_read (protocol_of plan) is g t.node n, e, g, is, t.places, t.here) refl in
     acted ∙ sym (ap (after_step_from (protocol_of plan) p self) t.local)
 
@@ -148,7 +153,8 @@ decision_in_time self p within found e plan schedule r =
 pub fixed_none : {V : Type 0} {w self : World V} → w ≡ self → w.first ≡ None → None ≡ fixed_value self
 fixed_none {w = w} is none = sym (ap (value_of_team w) none) ∙ ap fixed_value is
 
-pub fixed_some : {V : Type 0} {w self : World V} {team : Team} {root : Node V} → w ≡ self → 0 < length w.nodes → w.first ≡ Some team → root ≡ slice_index_or w.nodes 0 root → register root team ≡ fixed_value self
+pub fixed_some : {V : Type 0} {w self : World V} {team : Team} {root : Node V} → w ≡ self → 0 < length w.nodes → w.first ≡ Some team → root ≡ slice_index_or w.nodes 0 root
+    → register root team ≡ fixed_value self
 fixed_some {V = V} {w = w} {team = team} {root = root} is some first read =
     ap (λ (node : Node V). register node team) (read ∙ sym (get_or_default w.nodes 0 (fresh_node 0) root some)) ∙ sym (ap (value_of_team w) first) ∙ ap fixed_value is
 
@@ -157,14 +163,17 @@ pub fixed_valid_of : {V : Type 0} (self : World V) (found : Option V) → found 
 fixed_valid_of self None e plan schedule r = tt
 fixed_valid_of self (Some x) e plan schedule r = let v = (keeps plan schedule self r).valid x (sym e) in (v.0, v.2, v.3)
 
-pub fixed_since : {V : Type 0} (self : World V) (found : Option V) → found ≡ fixed_value self → (plan : Plan) (schedule : List ℕ) → IsRoundOf plan schedule self → IsSome found ↔ IsAppliedAtRoot (protocol_of plan) (processes_of plan) self
+pub fixed_since : {V : Type 0} (self : World V) (found : Option V) → found ≡ fixed_value self → (plan : Plan) (schedule : List ℕ) → IsRoundOf plan schedule self
+    → IsSome found ↔ IsAppliedAtRoot (protocol_of plan) (processes_of plan) self
 fixed_since self found e plan schedule r = rw e (keeps plan schedule self r).since
 
 -- the decision in the local state written
-pub next_decides : {V : Type 0} {w self : World V} {p q : ℕ} (next : Local V) → w ≡ self → q ≡ p → p < length self.locals → decision_of next ≡ decision_of (slice_index_or (slice_set w.locals q next) p NotBegun)
+pub next_decides : {V : Type 0} {w self : World V} {p q : ℕ} (next : Local V) → w ≡ self → q ≡ p → p < length self.locals
+    → decision_of next ≡ decision_of (slice_index_or (slice_set w.locals q next) p NotBegun)
 next_decides {self = self} {p = p} next is e within = rw (is, e, get_or-set_same self.locals p next NotBegun within) refl
 
-pub fixed_goes_on : {V : Type 0} (plan : Plan) (self : World V) → RunsBy plan self → (p : ℕ) → p < processes_of plan → (x : V) → fixed_value self ≡ Some x → fixed_value (after_step (protocol_of plan) p self) ≡ Some x
+pub fixed_goes_on : {V : Type 0} (plan : Plan) (self : World V) → RunsBy plan self → (p : ℕ) → p < processes_of plan → (x : V) → fixed_value self ≡ Some x
+    → fixed_value (after_step (protocol_of plan) p self) ≡ Some x
 fixed_goes_on plan self runs p lt x e =
     let r = runs.1 in
     fixed_stays (protocol_of plan) (processes_of plan) (nodes_of plan) (team_of (length plan.choice.a)) r.sound r.reached p lt x e

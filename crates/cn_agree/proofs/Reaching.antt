@@ -57,7 +57,8 @@ module _ {V : Type 0} (P : ProtocolOfRounds) (n nodes : ℕ) (team : ℕ → Tea
       brings = brings_grows P n team w order (after_begin p x w) order grows b.by b.at y b.brings;
     });
     local_holds = λ q lq. elim (cases_eq q p) [
-      | inl same ↦ rw (same, get_or-set_same w.locals p (Active 0 x Write) NotBegun (rw holds.locals_are lt)) ((lt, sound.starts p lt), get_or-set_same w.inputs p (Some x) None (rw holds.inputs_are lt), tt)
+      | inl same ↦ rw (same, get_or-set_same w.locals p (Active 0 x Write) NotBegun (rw holds.locals_are lt))
+          ((lt, sound.starts p lt), get_or-set_same w.inputs p (Some x) None (rw holds.inputs_are lt), tt)
       | inr ne ↦ rw (other q ne) (local_grows P n team w order (after_begin p x w) order grows q (local_at w q) (λ f. get_or-set_other w.inputs p q (Some x) None ne) (holds.local_holds q lq))
     ];
   }
@@ -107,7 +108,8 @@ module _ {V : Type 0} (P : ProtocolOfRounds) (n nodes : ℕ) (team : ℕ → Tea
   inputs_are r = (reached_kept r).1.inputs_are
 
   -- the state of a node comes from the roles applied there; any bound on the states that roles lead to bounds it
-  pub state_below : {schedule : List ℕ} {w : World V} → IsReached P n nodes schedule w → (bound : ℕ) → ((order : List ℕ) → after P.act P.start order < bound) → (v : ℕ) → (node_at P w v).state.0 < bound
+  pub state_below : {schedule : List ℕ} {w : World V} → IsReached P n nodes schedule w → (bound : ℕ) → ((order : List ℕ) → after P.act P.start order < bound) → (v : ℕ)
+      → (node_at P w v).state.0 < bound
   state_below r bound all v = let k = reached_kept r in rw (k.1.moved v) (all (k.0 v))
 
   pub begun_stays : {schedule : List ℕ} {w : World V} → IsReached P n nodes schedule w → (p q : ℕ) → p < n → HasBegun w q → HasBegun (after_step P p w) q

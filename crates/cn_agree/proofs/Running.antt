@@ -23,7 +23,8 @@ use Rattle.cn_agree.proofs.Reaching.{begun_stays}
 use Rattle.cn_agree.proofs.Beginning.{next_begins, all_is, begun_all}
 use Rattle.cn_agree.proofs.PlanRounds.{processes_are, round_steps}
 
-pub one_more_begun : {V : Type 0} (plan : Plan) (inputs : List V) (i p : ℕ) (x : V) (w w' : World V) → length inputs ≡ processes_of plan → i < processes_of plan → HaveBegun plan inputs i w → p ≡ i → x ≡ get_or inputs i x → w' ≡ after_begin p x w
+pub one_more_begun : {V : Type 0} (plan : Plan) (inputs : List V) (i p : ℕ) (x : V) (w w' : World V) → length inputs ≡ processes_of plan → i < processes_of plan
+    → HaveBegun plan inputs i w → p ≡ i → x ≡ get_or inputs i x → w' ≡ after_begin p x w
     → IsRoundOf plan [] w'
     → HaveBegun plan inputs (i + 1) w'
 one_more_begun plan inputs i p x w w' many lt h e read is r = record {
@@ -58,18 +59,21 @@ stays_decided {V = V} plan p w found e f = go (local_at w p) (ap is_some (sym f)
     go (Decided z) h = refl
 
 -- the turn of a process of the plan
-pub turn_runs : {V : Type 0} (plan : Plan) (p : ℕ) (w w' : World V) → RunsBy plan w → AllHaveBegun (processes_of plan) w → p < processes_of plan → w' ≡ after_step (protocol_of plan) p w → RunsBy plan w'
+pub turn_runs : {V : Type 0} (plan : Plan) (p : ℕ) (w w' : World V) → RunsBy plan w → AllHaveBegun (processes_of plan) w → p < processes_of plan
+    → w' ≡ after_step (protocol_of plan) p w → RunsBy plan w'
 turn_runs {V = V} plan p w w' runs begun lt e =
     let T : World V → Type 0 = IsRoundOf plan (runs.0 ++ p ∷ []) in
     (runs.0 ++ p ∷ [], subst T (sym e) (round_steps plan runs.0 w runs.1 p lt (begun p lt)))
 
-pub turn_begun : {V : Type 0} (plan : Plan) (p : ℕ) (w w' : World V) → RunsBy plan w → AllHaveBegun (processes_of plan) w → p < processes_of plan → w' ≡ after_step (protocol_of plan) p w → AllHaveBegun (processes_of plan) w'
+pub turn_begun : {V : Type 0} (plan : Plan) (p : ℕ) (w w' : World V) → RunsBy plan w → AllHaveBegun (processes_of plan) w → p < processes_of plan
+    → w' ≡ after_step (protocol_of plan) p w → AllHaveBegun (processes_of plan) w'
 turn_begun {V = V} plan p w w' runs begun lt e =
     let r = runs.1 in
     let B : World V → Type 0 = AllHaveBegun (processes_of plan) in
     subst B (sym e) (λ q lq. begun_stays (protocol_of plan) (processes_of plan) (nodes_of plan) (team_of (length plan.choice.a)) r.sound r.reached p q lt (begun q lq))
 
-pub one_more_run : {V : Type 0} (plan : Plan) (from : World V) (schedule : List ℕ) (k p : ℕ) (w w' : World V) → k < length schedule → IsSchedule (processes_of plan) schedule → p ≡ get_or schedule k 0 → HasRun plan from schedule k w
+pub one_more_run : {V : Type 0} (plan : Plan) (from : World V) (schedule : List ℕ) (k p : ℕ) (w w' : World V) → k < length schedule → IsSchedule (processes_of plan) schedule
+    → p ≡ get_or schedule k 0 → HasRun plan from schedule k w
     → w' ≡ after_step (protocol_of plan) p w → HasRun plan from schedule (k + 1) w'
 one_more_run plan from schedule k p w w' less all read h e =
     let lt : p < processes_of plan = rw read (All-from_recursion (λ q. q < processes_of plan) schedule all k 0 less) in
@@ -82,12 +86,15 @@ one_more_run plan from schedule k p w w' less all read h e =
     }
 
 -- the world of the full vectors is the first world
-pub first_is : {V : Type 0} (plan : Plan) (nodes : List (Node V)) (locals : List (Local V)) (inputs : List (Option V)) (start : State) (k n : ℕ) → start.0 ≡ (protocol_of plan).start → k ≡ nodes_of plan → n ≡ processes_of plan
+pub first_is : {V : Type 0} (plan : Plan) (nodes : List (Node V)) (locals : List (Local V)) (inputs : List (Option V)) (start : State) (k n : ℕ)
+    → start.0 ≡ (protocol_of plan).start → k ≡ nodes_of plan → n ≡ processes_of plan
     → nodes ≡ replicate k (record { state = start; register_a = None; register_b = None }) → locals ≡ replicate n NotBegun → inputs ≡ replicate n None
     → record { nodes = nodes; locals = locals; inputs = inputs; first = None } ≡ first_world (protocol_of plan) (processes_of plan) (nodes_of plan)
 first_is plan nodes locals inputs start k n s e f a b c =
-    let fresh_is : record { state = start; register_a = None; register_b = None } ≡ fresh_node (protocol_of plan).start = (λ d. record { state = record { 0 = s d }; register_a = None; register_b = None }) in
-    let nodes_are : nodes ≡ replicate (nodes_of plan) (fresh_node (protocol_of plan).start) = a ∙ ap (λ m. replicate m (record { state = start; register_a = None; register_b = None })) e ∙ ap (replicate (nodes_of plan)) fresh_is in
+    let fresh_is : record { state = start; register_a = None; register_b = None } ≡ fresh_node (protocol_of plan).start =
+    (λ d. record { state = record { 0 = s d }; register_a = None; register_b = None }) in
+    let nodes_are : nodes ≡ replicate (nodes_of plan) (fresh_node (protocol_of plan).start) = a
+    ∙ ap (λ m. replicate m (record { state = start; register_a = None; register_b = None })) e ∙ ap (replicate (nodes_of plan)) fresh_is in
     let locals_are : locals ≡ replicate (processes_of plan) NotBegun = b ∙ ap (λ m. replicate m NotBegun) f in
     let inputs_are : inputs ≡ replicate (processes_of plan) None = c ∙ ap (λ m. replicate m None) f in
     λ d. record { nodes = nodes_are d; locals = locals_are d; inputs = inputs_are d; first = None }
@@ -101,7 +108,8 @@ no_stranger_from : (n i : ℕ) (schedule : List ℕ) → position_from (λ p. na
 no_stranger_from n i [] h = tt
 no_stranger_from n i (p ∷ schedule) h = by_test (nat_le n p) refl h (no_stranger_from n (i + 1) schedule)
   where
-    by_test : (b : Bool) → nat_le n p ≡ b → cond b (Some i) (position_from (λ p. nat_le n p) (i + 1) schedule) ≡ None → (position_from (λ p. nat_le n p) (i + 1) schedule ≡ None → IsSchedule n schedule) → (p < n) × IsSchedule n schedule
+    by_test : (b : Bool) → nat_le n p ≡ b → cond b (Some i) (position_from (λ p. nat_le n p) (i + 1) schedule) ≡ None
+        → (position_from (λ p. nat_le n p) (i + 1) schedule ≡ None → IsSchedule n schedule) → (p < n) × IsSchedule n schedule
     by_test true is h rest = absurd cc
     by_test false is h rest = ((let lt : p < n = grind (arith, nat_tests) in lt), rest h)
 
@@ -129,14 +137,17 @@ locals_schedule {V = V} plan (p ∷ schedule) w = locals_schedule plan schedule 
     go (Active i x stage) = length-set w.locals p _
     go (Decided y) = refl
 
-pub many_are : {V : Type 0} (plan : Plan) (inputs : List V) (schedule : List ℕ) (w w' : World V) → HaveBegun plan inputs (processes_of plan) w → w' ≡ after_schedule (protocol_of plan) schedule w → length w'.locals ≡ processes_of plan
+pub many_are : {V : Type 0} (plan : Plan) (inputs : List V) (schedule : List ℕ) (w w' : World V) → HaveBegun plan inputs (processes_of plan) w
+    → w' ≡ after_schedule (protocol_of plan) schedule w → length w'.locals ≡ processes_of plan
 many_are {V = V} plan inputs schedule w w' h e =
     ap (λ (u : World V). length u.locals) e ∙ locals_schedule plan schedule w ∙ processes_are plan [] w h.round
 
-pub begun_is : {V : Type 0} (plan : Plan) (inputs : List V) (w : World V) → length inputs ≡ processes_of plan → HaveBegun plan inputs (processes_of plan) w → w ≡ all_begun (protocol_of plan) (nodes_of plan) inputs
+pub begun_is : {V : Type 0} (plan : Plan) (inputs : List V) (w : World V) → length inputs ≡ processes_of plan → HaveBegun plan inputs (processes_of plan) w
+    → w ≡ all_begun (protocol_of plan) (nodes_of plan) inputs
 begun_is plan inputs w many h = h.is ∙ all_is (protocol_of plan) (processes_of plan) (nodes_of plan) inputs many
 
-pub world_is : {V : Type 0} (plan : Plan) (inputs : List V) (schedule : List ℕ) (w w' : World V) → length inputs ≡ processes_of plan → HaveBegun plan inputs (processes_of plan) w → w' ≡ after_schedule (protocol_of plan) schedule w
+pub world_is : {V : Type 0} (plan : Plan) (inputs : List V) (schedule : List ℕ) (w w' : World V) → length inputs ≡ processes_of plan → HaveBegun plan inputs (processes_of plan) w
+    → w' ≡ after_schedule (protocol_of plan) schedule w
     → w' ≡ after_schedule (protocol_of plan) schedule (all_begun (protocol_of plan) (nodes_of plan) inputs)
 world_is plan inputs schedule w w' many h e =
     e ∙ ap (after_schedule (protocol_of plan) schedule) (begun_is plan inputs w many h)

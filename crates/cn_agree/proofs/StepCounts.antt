@@ -131,7 +131,8 @@ module _ {V : Type 0} (P : ProtocolOfRounds) (n nodes : ℕ) (team : ℕ → Tea
       le : steps_taken P p (local_at (after_step P p w) p) ≤ 4 * length (P.path p)
       le = within (after_step P p w) (keeps_step w kept p lt) p lt
 
-      go : (here there : Local V) → local_at w p ≡ here → local_at (after_step P p w) p ≡ there → IsOneMore p here there → (there ≢ NotBegun) × (steps_taken P p there ≡ min (steps_taken P p here + 1) (4 * length (P.path p)))
+      go : (here there : Local V) → local_at w p ≡ here → local_at (after_step P p w) p ≡ there → IsOneMore p here there
+          → (there ≢ NotBegun) × (steps_taken P p there ≡ min (steps_taken P p here + 1) (4 * length (P.path p)))
       go NotBegun there e f h = absurd (begun e)
       go (Active i x stage) there e f h = let le' : steps_taken P p there ≤ 4 * length (P.path p) = rw f at le in let g = h.0 in (h.1, omega arith)
       go (Decided y) there e f h = (λ g. let d : Decided y ≡ NotBegun = sym h ∙ g in cc, ap (steps_taken P p) h ∙ omega arith)

@@ -23,7 +23,8 @@ use Rattle.cn_agree.proofs.PlanRounds.{IsTurn}
 use Rattle.cn_agree.proofs.Reaching.{reached_kept}
 
 -- the action at a turn is that of the next step
-pub action_is : {V : Type 0} (plan : Plan) {self : World V} {p : ℕ} {x : V} {turn : Turn} (t : IsTurn plan self p x turn) {node : Node V} {told : Option (Action V)} → node ≡ node_at (protocol_of plan) self turn.here.node
+pub action_is : {V : Type 0} (plan : Plan) {self : World V} {p : ℕ} {x : V} {turn : Turn} (t : IsTurn plan self p x turn) {node : Node V} {told : Option (Action V)}
+    → node ≡ node_at (protocol_of plan) self turn.here.node
     → told ≡ action_at plan turn.places turn.place turn.here x turn.stage node → told ≡ action_of plan self p
 action_is plan {self = self} {p = p} {x = x} {turn = turn} t {told = told} n a =
     let acts : told ≡ action_from plan self p (Active turn.place x turn.stage) = rw (a, n, t.places, t.here) refl in
@@ -62,7 +63,8 @@ drop_records plan (q ∷ schedule) zero d less w = refl
 drop_records plan (q ∷ schedule) (suc k) d less w = drop_records plan schedule k d (omega arith) w
 
 -- one record more
-pub one_more_record : {V : Type 0} (plan : Plan) (schedule : List ℕ) (k p : ℕ) (done done' all : List (StepRecord V)) (told : Option (Action V)) (w w' : World V) → k < length schedule → p ≡ get_or schedule k 0
+pub one_more_record : {V : Type 0} (plan : Plan) (schedule : List ℕ) (k p : ℕ) (done done' all : List (StepRecord V)) (told : Option (Action V)) (w w' : World V)
+    → k < length schedule → p ≡ get_or schedule k 0
     → done ++ records_from plan (drop k schedule) w ≡ all → told ≡ action_of plan w p → done' ≡ done ++ record { process = p; action = told } ∷ [] → w' ≡ after_step (protocol_of plan) p w
     → done' ++ records_from plan (drop (k + 1) schedule) w' ≡ all
 one_more_record {V = V} plan schedule k p done done' all told w w' less read h a more next =
@@ -71,6 +73,7 @@ one_more_record {V = V} plan schedule k p done done' all told w w' less read h a
     let suc_is : k + 1 ≡ suc k = omega arith in
     let tail : records_from plan (drop (k + 1) schedule) w' ≡ rest = rw (suc_is, next) refl in
     let head : one ∷ rest ≡ records_from plan (drop k schedule) w =
-    ap (λ t. record { process = p; action = t } ∷ rest) a ∙ ap (λ q. record { process = q; action = action_of plan w q } ∷ records_from plan (drop (suc k) schedule) (after_step (protocol_of plan) q w)) read
+    ap (λ t. record { process = p; action = t } ∷ rest) a
+    ∙ ap (λ q. record { process = q; action = action_of plan w q } ∷ records_from plan (drop (suc k) schedule) (after_step (protocol_of plan) q w)) read
     ∙ sym (drop_records plan schedule k 0 less w) in
     ap (λ l. l ++ records_from plan (drop (k + 1) schedule) w') more ∙ ap (λ l. (done ++ one ∷ []) ++ l) tail ∙ append_assoc done (one ∷ []) rest ∙ ap (λ l. done ++ l) head ∙ h

@@ -31,13 +31,15 @@ pub record AreOf {V : Type 0} (P : ProtocolOfRounds) (Q : V → Type 0) (own : �
   pub registers : (v : ℕ) (team : Team) (y : V) → register (node_at P w v) team ≡ Some y → Q y
   pub locals : (p : ℕ) → IsOfLocal Q own p (local_at w p)
 
-written_of : {V : Type 0} (Q : V → Type 0) (node : Node V) (mine team : Team) (x y : V) → ((team : Team) (y : V) → register node team ≡ Some y → Q y) → Q x → register (with_register node mine x) team ≡ Some y → Q y
+written_of : {V : Type 0} (Q : V → Type 0) (node : Node V) (mine team : Team) (x y : V) → ((team : Team) (y : V) → register node team ≡ Some y → Q y) → Q x
+    → register (with_register node mine x) team ≡ Some y → Q y
 written_of Q node A A x y old new h = let e : x ≡ y = cc in rw (← e) new
 written_of Q node A B x y old new h = old B y h
 written_of Q node B A x y old new h = old A y h
 written_of Q node B B x y old new h = let e : x ≡ y = cc in rw (← e) new
 
-moved_of : {V : Type 0} (Q : V → Type 0) (node : Node V) (state : State) (team : Team) (y : V) → ((team : Team) (y : V) → register node team ≡ Some y → Q y) → register (record node { state = state }) team ≡ Some y → Q y
+moved_of : {V : Type 0} (Q : V → Type 0) (node : Node V) (state : State) (team : Team) (y : V) → ((team : Team) (y : V) → register node team ≡ Some y → Q y)
+    → register (record node { state = state }) team ≡ Some y → Q y
 moved_of Q node state A y old h = old A y h
 moved_of Q node state B y old h = old B y h
 
@@ -52,7 +54,8 @@ module _ {V : Type 0} (P : ProtocolOfRounds) (Q : V → Type 0) (own : ℕ → V
       → register (slice_index_or (slice_set w.nodes v node) u (fresh_node P.start)) team ≡ Some y → Q y
   nodes_of v node old u team y h = elim (set_cases w.nodes v node u (fresh_node P.start)) [ inl e ↦ old team y (rw e.0 at h) | inr e ↦ are.registers u team y (rw e at h) ]
 
-  changed_of : (here : Place) (x : V) (stage : Stage) (node : Node V) → Q x → ((team : Team) (y : V) → register node team ≡ Some y → Q y) → (team : Team) (y : V) → register (node_after P here x stage node) team ≡ Some y → Q y
+  changed_of : (here : Place) (x : V) (stage : Stage) (node : Node V) → Q x → ((team : Team) (y : V) → register node team ≡ Some y → Q y) → (team : Team) (y : V)
+      → register (node_after P here x stage node) team ≡ Some y → Q y
   changed_of here x Write node q old team y h = written_of Q node here.team team x y old q h
   changed_of here x Apply node q old team y h = moved_of Q node (record { 0 = (P.act here.role node.state.0).1 }) team y old h
   changed_of here x (Read response) node q old team y h = old team y h
@@ -62,11 +65,13 @@ module _ {V : Type 0} (P : ProtocolOfRounds) (Q : V → Type 0) (own : ℕ → V
   onward_of y i h true is = rw is (inr h)
   onward_of y i h false is = rw is h
 
-  taken_of : (i : ℕ) (x : V) (response : Response) (state : State) (found : Option V) → ((y : V) → found ≡ Some y → Q y) → Q x → IsOfLocal Q own p (onward_if_found (length (P.path p)) i (Active i x (Take response state)) found)
+  taken_of : (i : ℕ) (x : V) (response : Response) (state : State) (found : Option V) → ((y : V) → found ≡ Some y → Q y) → Q x
+      → IsOfLocal Q own p (onward_if_found (length (P.path p)) i (Active i x (Take response state)) found)
   taken_of i x response state None h q = inr q
   taken_of i x response state (Some y) h q = onward_of y i (h y refl) (nat_lt (i + 1) (length (P.path p))) refl
 
-  next_of : (i : ℕ) (here : Place) (x : V) (stage : Stage) (node : Node V) → Q x → ((team : Team) (y : V) → register node team ≡ Some y → Q y) → IsOfLocal Q own p (local_after P (length (P.path p)) i here x stage node)
+  next_of : (i : ℕ) (here : Place) (x : V) (stage : Stage) (node : Node V) → Q x → ((team : Team) (y : V) → register node team ≡ Some y → Q y)
+      → IsOfLocal Q own p (local_after P (length (P.path p)) i here x stage node)
   next_of i here x Write node q old = inr q
   next_of i here x Apply node q old = inr q
   next_of i here x (Read response) node q old = inr q
@@ -91,7 +96,8 @@ module _ {V : Type 0} (P : ProtocolOfRounds) (Q : V → Type 0) (own : ℕ → V
       go (Decided y) e = are
 
 -- the same for larger Q and larger sets of own values
-pub are_more : {V : Type 0} (P : ProtocolOfRounds) (Q Q' : V → Type 0) (own own' : ℕ → V → Type 0) (w : World V) → ((y : V) → Q y → Q' y) → ((q : ℕ) (y : V) → own q y → own' q y) → AreOf P Q own w → AreOf P Q' own' w
+pub are_more : {V : Type 0} (P : ProtocolOfRounds) (Q Q' : V → Type 0) (own own' : ℕ → V → Type 0) (w : World V) → ((y : V) → Q y → Q' y) → ((q : ℕ) (y : V) → own q y → own' q y)
+    → AreOf P Q own w → AreOf P Q' own' w
 are_more {V = V} P Q Q' own own' w more more_own are = record {
   registers = λ v team y h. more y (are.registers v team y h);
   locals = λ q. local_more q (local_at w q) (are.locals q);

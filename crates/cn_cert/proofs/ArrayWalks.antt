@@ -164,7 +164,8 @@ module _ {X : Type 0} (kind : Data → Option X) (depth : ℕ) where
     list_next r x going e = item_step kind depth ts going (λ ds. with_front front (all_items kind ds)) (λ ds. with_front (front ++ x ∷ []) (all_items kind ds)) r (Some x) e
         (λ d ds is. ap (λ o. with_front front (o >>= (λ y. all_items kind ds >>= (λ ys. Some (y ∷ ys))))) is ∙ front_one front x (all_items kind ds))
 
-    pub list_stops : (s r : List Token) → after_end_array ts ≡ None → with_value kind (data_at depth ts) ≡ Some (None, s) → with_value nothing (items_at depth s) ≡ Some (tt, r) → behind front ts ≡ Some (None, r)
+    pub list_stops : (s r : List Token) → after_end_array ts ≡ None → with_value kind (data_at depth ts) ≡ Some (None, s) → with_value nothing (items_at depth s) ≡ Some (tt, r)
+        → behind front ts ≡ Some (None, r)
     list_stops s r going e rest = item_step kind depth ts going (λ ds. with_front front (all_items kind ds)) (λ ds. None) s None e
         (λ d ds is. ap (λ o. with_front front (o >>= (λ y. all_items kind ds >>= (λ ys. Some (y ∷ ys))))) is) ∙ const_told None (items_at depth s) r rest
 
@@ -255,7 +256,8 @@ pub then_more : {A C : Type 0} (K : Items → A × Items) (G : A → Items → C
 then_more K G a there next e =
     sym (told_twice K (λ p. G p.0 p.1) (λ ds. G (K ds).0 (K ds).1) (λ _. refl) there) ∙ ap (with_value (λ p. G p.0 p.1)) e ∙ told_twice (λ ds. (a, ds)) (λ p. G p.0 p.1) (G a) (λ _. refl) next
 
-module _ {R X : Type 0} (kind : Data → Option X) (depth : ℕ) (f : Option R → Option X) (was now : Bool) (ts front s : List Token) (opened : was ≡ true) (same : front ≡ ts) (going : after_end_array ts ≡ None) where
+module _ {R X : Type 0} (kind : Data → Option X) (depth : ℕ) (f : Option R → Option X) (was now : Bool) (ts front s : List Token) (opened : was ≡ true) (same : front ≡ ts)
+    (going : after_end_array ts ≡ None) where
   pub next_ok : (r : Result (Option R) CertFault) → now ≡ true → IfOk r (λ o. with_value kind (data_at depth front) ≡ Some (f o, s))
       → IfOk r (λ o. with_value (next_item kind) (rest_at was depth ts) ≡ with_value (λ ds. (f o, ds)) (rest_at now depth s))
   next_ok (Ok o) still e =
@@ -266,7 +268,8 @@ module _ {R X : Type 0} (kind : Data → Option X) (depth : ℕ) (f : Option R �
   pub next_err : (r : Result (Option R) CertFault) → IfErr r (λ e. Refuses e (with_value kind (data_at depth front))) → IfErr r (λ e. Refuses e (with_value (next_item kind) (rest_at was depth ts)))
   next_err (Ok o) u = u
   next_err (Err e) refused = refuse_more e _ _
-      (λ none. ap (λ b. with_value (next_item kind) (rest_at b depth ts)) opened ∙ item_none kind depth ts going (next_item kind) (ap (λ x. with_value kind (data_at depth x)) (sym same) ∙ none)) refused
+      (λ none. ap (λ b. with_value (next_item kind) (rest_at b depth ts)) opened
+      ∙ item_none kind depth ts going (next_item kind) (ap (λ x. with_value kind (data_at depth x)) (sym same) ∙ none)) refused
 
 -- an array whose end is not next has an item
 pub not_over : (depth : ℕ) (ts r : List Token) → after_end_array ts ≡ None → with_value nothing (items_at depth ts) ≡ Some (tt, r) → with_value is_over (items_at depth ts) ≡ Some (false, r)
@@ -282,7 +285,8 @@ not_over depth ts r going e = from (data_at depth ts) refl
 
 -- a state, and two lists, one after another
 pub choice_steps : (there one two three : Option (Items × List Token)) (s : Option ℕ) (a b : Option (List ℕ)) → with_value (next_item natural_of) there ≡ with_value (λ ds. (s, ds)) one
-    → with_value (next_item naturals_of) one ≡ with_value (λ ds. (a, ds)) two → with_value (next_item naturals_of) two ≡ with_value (λ ds. (b, ds)) three → with_value next_choice there ≡ with_value (λ ds. (choice_parts s a b, ds)) three
+    → with_value (next_item naturals_of) one ≡ with_value (λ ds. (a, ds)) two → with_value (next_item naturals_of) two ≡ with_value (λ ds. (b, ds)) three
+    → with_value next_choice there ≡ with_value (λ ds. (choice_parts s a b, ds)) three
 choice_steps there one two three s a b e f g =
     then_more (next_item natural_of) (λ x ds. (choice_parts x (first_item naturals_of ds) (first_item naturals_of (later_items ds)), later_items (later_items ds))) s there one e
     ∙ then_more (next_item naturals_of) (λ x ds. (choice_parts s x (first_item naturals_of ds), later_items ds)) a one two f

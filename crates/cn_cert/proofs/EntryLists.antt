@@ -24,7 +24,8 @@ listed_between x (y ∷ ys) =
 items_between : (x : Collision) (xs : List Collision) → items_text true (items_of (map collision_data (x ∷ xs))) ≡ 44 ∷ (between x xs ++ codes "]")
 unfolding between
 items_between x [] = refl
-items_between x (y ∷ ys) = ap (λ (v : List ℕ). 44 ∷ (compact_text (collision_data x) ++ v)) (items_between y ys) ∙ ap (λ (v : List ℕ). 44 ∷ v) (sym (append_assoc (compact_text (collision_data x)) (44 ∷ between y ys) (codes "]")))
+items_between x (y ∷ ys) = ap (λ (v : List ℕ). 44 ∷ (compact_text (collision_data x) ++ v)) (items_between y ys)
+    ∙ ap (λ (v : List ℕ). 44 ∷ v) (sym (append_assoc (compact_text (collision_data x)) (44 ∷ between y ys) (codes "]")))
 
 -- the texts of entries with a comma between two are the text of their array without the brackets
 are_between : (bytes : List ℕ) (x : Collision) (xs : List Collision) → bytes ≡ between x xs → AreEntries bytes (x ∷ xs)
@@ -51,7 +52,8 @@ nothing_left [] e = refl
 nothing_left (b ∷ bs) e = absurd (omega (arith, e))
 
 -- the texts of entries without the last comma, if there is one
-pub without_comma : (text body : List ℕ) → length body ≤ length text → (0 < length text → slice_index text (length text - 1) < 128 → body ≡ take (length text - 1) text) → (xs : List Collision) → text ≡ listed_text xs → AreEntries body xs
+pub without_comma : (text body : List ℕ) → length body ≤ length text → (0 < length text → slice_index text (length text - 1) < 128 → body ≡ take (length text - 1) text)
+    → (xs : List Collision) → text ≡ listed_text xs → AreEntries body xs
 without_comma text body short cut [] e = subst (λ (b : List ℕ). AreEntries b []) (sym (nothing_left body (omega (arith, short, ap (λ (t : List ℕ). length t) e)))) refl
 without_comma text body short cut (x ∷ xs) e =
     let v = between x xs in
@@ -65,4 +67,5 @@ without_comma text body short cut (x ∷ xs) e =
 -- the texts of the entries of two lists
 pub listed_append : (xs ys : List Collision) → listed_text (xs ++ ys) ≡ listed_text xs ++ listed_text ys
 listed_append [] ys = refl
-listed_append (x ∷ xs) ys = ap (λ (v : List ℕ). (compact_text (collision_data x) ++ codes ",") ++ v) (listed_append xs ys) ∙ sym (append_assoc (compact_text (collision_data x) ++ codes ",") (listed_text xs) (listed_text ys))
+listed_append (x ∷ xs) ys = ap (λ (v : List ℕ). (compact_text (collision_data x) ++ codes ",") ++ v) (listed_append xs ys)
+    ∙ sym (append_assoc (compact_text (collision_data x) ++ codes ",") (listed_text xs) (listed_text ys))

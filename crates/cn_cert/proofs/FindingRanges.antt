@@ -74,7 +74,8 @@ module _ (few_moves : AreShort) (of_processes : AreOfProcesses) (t : TypeTable) 
       rw (recorded.0, choice_in_range c is, le-leb x.process (MOST_PROCESSES - 1) (omega (arith, process, is.one_operation_each, few)))
       (rw (order_short _ x.alpha is.one_operation_each found.alpha_order, order_short _ x.beta is.one_operation_each found.beta_order))
 
-  collisions_in_range : (cs : List Choice) (xs : List Collision) → AllByRecursion (λ c. IsRawChoice t n (raw_choice_of c)) cs → AllZip (IsRecordedFor t) cs xs → list_all is_collision_in_range xs ≡ true
+  collisions_in_range : (cs : List Choice) (xs : List Collision) → AllByRecursion (λ c. IsRawChoice t n (raw_choice_of c)) cs → AllZip (IsRecordedFor t) cs xs
+      → list_all is_collision_in_range xs ≡ true
   collisions_in_range [] [] raw each = refl
   collisions_in_range [] (x ∷ xs) raw each = absurd each
   collisions_in_range (c ∷ cs) [] raw each = refl
@@ -84,7 +85,8 @@ module _ (few_moves : AreShort) (of_processes : AreOfProcesses) (t : TypeTable) 
 
 module _ (few_moves : AreShort) (of_processes : AreOfProcesses) (listed : AreListed) where
   all_raw : (t : TypeTable) (n : ℕ) → AllByRecursion (λ c. IsRawChoice t n (raw_choice_of c)) (live_choices t n)
-  all_raw t n = recursion_from_All _ (live_choices t n) (All-weaker (Contains (live_choices t n)) _ (λ c in_list. ((listed t n c).0 in_list).1) (live_choices t n) (All-contains_itself (live_choices t n)))
+  all_raw t n = recursion_from_All _ (live_choices t n)
+      (All-weaker (Contains (live_choices t n)) _ (λ c in_list. ((listed t n c).0 in_list).1) (live_choices t n) (All-contains_itself (live_choices t n)))
 
   witness_in_range : (t : TypeTable) → IsTypeTable t → (n : ℕ) → n ≤ MOST_PROCESSES → (w : Option Choice) → IsSomeAnd w (IsFirstWitness t (live_choices t n)) → is_witness_in_range w ≡ true
   witness_in_range t table n few None is = absurd is
@@ -93,7 +95,8 @@ module _ (few_moves : AreShort) (of_processes : AreOfProcesses) (listed : AreLis
   evidence_in_range : (t : TypeTable) → IsTypeTable t → (limit : ℕ) → limit ≤ MOST_PROCESSES → (number : Option ℕ) (w : Option Choice) (xs : List Collision) → IsNumberUpTo t limit number
       → MatchOption number (w ≡ None) (λ n. IsSomeAnd w (IsFirstWitness t (live_choices t n))) → AllZip (IsRecordedFor t) (choices_to_refute t limit number) xs
       → (is_number_in_range number ≡ true) × (is_witness_in_range w ≡ true) × (list_all is_collision_in_range xs ≡ true)
-  evidence_in_range t table limit few None w xs number nothing each = (refl, rw nothing refl, collisions_in_range few_moves of_processes t table 2 (omega arith) (live_choices t 2) xs (all_raw t 2) each)
+  evidence_in_range t table limit few None w xs number nothing each =
+      (refl, rw nothing refl, collisions_in_range few_moves of_processes t table 2 (omega arith) (live_choices t 2) xs (all_raw t 2) each)
   evidence_in_range t table limit few (Some n) w xs number first each = (
     le-leb n 255 (omega (arith, number.1, few)),
     witness_in_range t table n (omega (arith, number.1, few)) w first,
@@ -101,7 +104,8 @@ module _ (few_moves : AreShort) (of_processes : AreOfProcesses) (listed : AreLis
   )
     where
       refuted : (more : Bool) → nat_lt n limit ≡ more → list_all is_collision_in_range xs ≡ true
-      refuted true less = let below : n < limit = ltb-true n limit less in collisions_in_range few_moves of_processes t table (n + 1) (omega (arith, below, few)) (live_choices t (n + 1)) xs (all_raw t (n + 1)) (rw less at each)
+      refuted true less = let below : n < limit = ltb-true n limit less in collisions_in_range few_moves of_processes t table (n + 1) (omega (arith, below, few))
+          (live_choices t (n + 1)) xs (all_raw t (n + 1)) (rw less at each)
       refuted false whole = collisions_in_range few_moves of_processes t table n (omega (arith, number.1, few)) [] xs tt (rw whole at each)
 
   pub finding_in_range : (t : TypeTable) (limit : ℕ) (f : Finding) → IsTypeTable t → limit ≤ MOST_PROCESSES → IsFindingFor t limit f → is_in_range (certificate_of t.name f) ≡ true

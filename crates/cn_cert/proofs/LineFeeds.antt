@@ -35,8 +35,10 @@ same_behind end_array r s h ended e = ap (λ l. token end_array ∷ l) e
 same_behind (key k) r s h ended e = key_lexed k r ∙ ap (λ l. token (string k) ∷ colon ∷ l) e ∙ sym (key_lexed k s)
 same_behind (string k) r s h ended e = quoted_lexed k r ∙ ap (λ l. token (string k) ∷ l) e ∙ sym (quoted_lexed k s)
 same_behind (number n) r s h ended e = lex-number n r h (ended refl).0 ∙ ap (λ l. token (number n) ∷ l) e ∙ sym (lex-number n s h (ended refl).1)
-same_behind (boolean true) r s h ended e = ap₂ (λ b l. token (cond b (boolean true) bad) ∷ l) ((ended refl).0 ∙ sym (ended refl).1) (in_word-ended r (ended refl).0 ∙ e ∙ sym (in_word-ended s (ended refl).1))
-same_behind (boolean false) r s h ended e = ap₂ (λ b l. token (cond b (boolean false) bad) ∷ l) ((ended refl).0 ∙ sym (ended refl).1) (in_word-ended r (ended refl).0 ∙ e ∙ sym (in_word-ended s (ended refl).1))
+same_behind (boolean true) r s h ended e = ap₂ (λ b l. token (cond b (boolean true) bad) ∷ l) ((ended refl).0 ∙ sym (ended refl).1)
+    (in_word-ended r (ended refl).0 ∙ e ∙ sym (in_word-ended s (ended refl).1))
+same_behind (boolean false) r s h ended e = ap₂ (λ b l. token (cond b (boolean false) bad) ∷ l) ((ended refl).0 ∙ sym (ended refl).1)
+    (in_word-ended r (ended refl).0 ∙ e ∙ sym (in_word-ended s (ended refl).1))
 same_behind null r s h ended e = ap₂ (λ b l. token (cond b null bad) ∷ l) ((ended refl).0 ∙ sym (ended refl).1) (in_word-ended r (ended refl).0 ∙ e ∙ sym (in_word-ended s (ended refl).1))
 same_behind bad r s h ended e = absurd h
 

@@ -76,7 +76,8 @@ keys_chosen Greater a b c = refl
 
 pub keys_put : (k : List ℕ) (d : Data) (ms : Members) → keys_of (put k d ms) ≡ put k null (keys_of ms)
 keys_put k d no_members = refl
-keys_put k d (member l e ms) = keys_chosen (slice_cmp nat_cmp k l) _ _ _ ∙ ap (λ rest. match_ordering (slice_cmp nat_cmp k l) (member k null (member l null (keys_of ms))) (member l null (keys_of ms)) (member l null rest)) (keys_put k d ms)
+keys_put k d (member l e ms) = keys_chosen (slice_cmp nat_cmp k l) _ _ _
+    ∙ ap (λ rest. match_ordering (slice_cmp nat_cmp k l) (member k null (member l null (keys_of ms))) (member l null (keys_of ms)) (member l null rest)) (keys_put k d ms)
 
 pub keys_len : (ms : Members) → members_len (keys_of ms) ≡ members_len ms
 keys_len no_members = refl
@@ -85,4 +86,5 @@ keys_len (member k d ms) = ap (λ n. n + 1) (keys_len ms)
 -- the draft of an object, by its slots and how many keys it has
 pub draft_is : (ms : Members) (six : Bool) (s : MemberSlots) → (members_len (keys_of ms) == 6) ≡ six → slots_of ms ≡ s → draft_of (object ms) ≡ (if six then draft_parts s else None)
 unfolding draft_from
-draft_is ms six s e f = ap (λ n. if n == 6 then draft_from ms else None) (sym (keys_len ms)) ∙ ap (λ b. if b then draft_parts (slots_of ms) else None) e ∙ ap (λ x. if six then draft_parts x else None) f
+draft_is ms six s e f = ap (λ n. if n == 6 then draft_from ms else None) (sym (keys_len ms)) ∙ ap (λ b. if b then draft_parts (slots_of ms) else None) e
+    ∙ ap (λ x. if six then draft_parts x else None) f

@@ -81,7 +81,8 @@ one_more most d ds one rest = record {
 }
 
 -- a list of things that pass a test, each of which is read back
-pub list_back : {X : Type 0} (most : ℕ) (test : X → Bool) (f : X → Data) → ((x : X) → test x ≡ true → IsReadBack most (f x)) → (xs : List X) → list_all test xs ≡ true → AreReadBack most (items_of (map f xs))
+pub list_back : {X : Type 0} (most : ℕ) (test : X → Bool) (f : X → Data) → ((x : X) → test x ≡ true → IsReadBack most (f x)) → (xs : List X) → list_all test xs ≡ true
+    → AreReadBack most (items_of (map f xs))
 list_back most test f each [] pass = no_more most
 list_back most test f each (x ∷ xs) pass = let p = and_parts _ _ pass in one_more most _ _ (each x p.0) (list_back most test f each xs p.1)
 

@@ -50,7 +50,8 @@ same_turn : {B C : Type 0} (f : Json → B → C) (a b : Parse B) (o : Option (J
 same_turn f a b None h = refl
 same_turn f a b (Some q) h = ap (parse_map (f q.0)) (h q refl)
 
-items_turn : (p : Parse Json) (a b : Parse json.Items) (ts : List Token) (o : Option (List Token)) → ((q : Json × List Token) → p ts ≡ Some q → a q.1 ≡ b q.1) → items_step p a ts o ≡ items_step p b ts o
+items_turn : (p : Parse Json) (a b : Parse json.Items) (ts : List Token) (o : Option (List Token)) → ((q : Json × List Token) → p ts ≡ Some q → a q.1 ≡ b q.1)
+    → items_step p a ts o ≡ items_step p b ts o
 items_turn p a b ts (Some r) h = refl
 items_turn p a b ts None h = same_turn json.item a b (p ts) h
 
@@ -114,7 +115,8 @@ items_done H depth ts r e = ap (with_value H) (items_over (value depth) (length 
 
 module _ {A B : Type 0} (K : Data → A) (H : Members → B) (depth : ℕ) (found : Members) (k : List ℕ) (ts s : List Token) (named : read_key ts ≡ Some (Some k, s)) where
   -- a member of which this is told, and those behind it
-  pub member_step : (r : List Token) (a : A) → with_value K (data_at depth s) ≡ Some (a, r) → (d : Data) × (K d ≡ a) × (with_value H (members_at depth found ts) ≡ with_value H (members_at depth (put k d found) r))
+  pub member_step : (r : List Token) (a : A) → with_value K (data_at depth s) ≡ Some (a, r)
+      → (d : Data) × (K d ≡ a) × (with_value H (members_at depth found ts) ≡ with_value H (members_at depth (put k d found) r))
   member_step r a e =
       let d = told_of K (data_at depth s) a r e in
       let less = data-shorter depth s r d.0 d.1 in
@@ -138,11 +140,15 @@ module _ {B : Type 0} (H : Members → B) (depth : ℕ) (found : Members) (ts : 
 pub array_at : (depth : ℕ) (ts : List Token) → 0 < depth → data_at depth (Token.begin_array ∷ ts) ≡ with_value array (items_at (depth - 1) ts)
 array_at depth ts some = ap (converted of_json) (value-begin_array depth ts some) ∙ converted-array (items (value (depth - 1)) (length ts) ts)
 
-pub array_told : {A : Type 0} (K : Data → A) (depth : ℕ) (ts : List Token) → 0 < depth → with_value K (data_at depth (Token.begin_array ∷ ts)) ≡ with_value (λ ds. K (array ds)) (items_at (depth - 1) ts)
-array_told K depth ts some = ap (with_value K) (ap (converted of_json) (value-begin_array depth ts some) ∙ converted-array (items (value (depth - 1)) (length ts) ts)) ∙ told_twice array K (λ ds. K (array ds)) (λ _. refl) _
+pub array_told : {A : Type 0} (K : Data → A) (depth : ℕ) (ts : List Token) → 0 < depth
+    → with_value K (data_at depth (Token.begin_array ∷ ts)) ≡ with_value (λ ds. K (array ds)) (items_at (depth - 1) ts)
+array_told K depth ts some = ap (with_value K) (ap (converted of_json) (value-begin_array depth ts some) ∙ converted-array (items (value (depth - 1)) (length ts) ts))
+    ∙ told_twice array K (λ ds. K (array ds)) (λ _. refl) _
 
-pub object_told : {A : Type 0} (K : Data → A) (depth : ℕ) (ts : List Token) → 0 < depth → with_value K (data_at depth (Token.begin_object ∷ ts)) ≡ with_value (λ ms. K (object ms)) (members_at (depth - 1) no_members ts)
-object_told K depth ts some = ap (with_value K) (ap (converted of_json) (value-begin_object depth ts some) ∙ converted-object (members (value (depth - 1)) (length ts) ts)) ∙ told_twice object K (λ ms. K (object ms)) (λ _. refl) _
+pub object_told : {A : Type 0} (K : Data → A) (depth : ℕ) (ts : List Token) → 0 < depth
+    → with_value K (data_at depth (Token.begin_object ∷ ts)) ≡ with_value (λ ms. K (object ms)) (members_at (depth - 1) no_members ts)
+object_told K depth ts some = ap (with_value K) (ap (converted of_json) (value-begin_object depth ts some) ∙ converted-object (members (value (depth - 1)) (length ts) ts))
+    ∙ told_twice object K (λ ms. K (object ms)) (λ _. refl) _
 
 pub array_too_deep : {A : Type 0} (K : Data → A) (ts : List Token) → with_value K (data_at 0 (Token.begin_array ∷ ts)) ≡ None
 unfolding value
@@ -169,7 +175,8 @@ number_is : {A : Type 0} (K : Data → A) (ts : List Token) (n : Option Num) →
 number_is K ts None = refl
 number_is K ts (Some x) = refl
 
-pub number_told : {A : Type 0} (K : Data → A) (depth : ℕ) (text : List ℕ) (ts : List Token) → with_value K (data_at depth (Token.number text ∷ ts)) ≡ option_map (λ x. (K (number x), ts)) (number_of text)
+pub number_told : {A : Type 0} (K : Data → A) (depth : ℕ) (text : List ℕ) (ts : List Token)
+    → with_value K (data_at depth (Token.number text ∷ ts)) ≡ option_map (λ x. (K (number x), ts)) (number_of text)
 number_told K depth text ts = ap (λ o. with_value K (converted of_json o)) (value_is depth (Token.number text ∷ ts)) ∙ number_is K ts (number_of text)
 
 pub empty_told : {A : Type 0} (K : Data → A) (depth : ℕ) → with_value K (data_at depth []) ≡ None

@@ -11,7 +11,8 @@ use Rattle.cn_check.specs.Refutations.{AreRefuted, IsOfChoice}
 pub some_at : {X : Type 0} (P : X → Type 0) (o : Option X) (x : X) → o ≡ Some x → P x → IsSomeAnd o P
 some_at P o x e p = subst (λ u. IsSomeAnd u P) (sym e) p
 
-module _ (t : TypeTable) (choices : List Choice) (entries : List Collision) (place : ℕ) (choice : Choice) (entry : Collision) (here : slice_get choices place ≡ Some choice) (at : slice_get entries place ≡ Some entry) where
+module _ (t : TypeTable) (choices : List Choice) (entries : List Collision) (place : ℕ) (choice : Choice) (entry : Collision) (here : slice_get choices place ≡ Some choice)
+    (at : slice_get entries place ≡ Some entry) where
   pub of_other_choice : entry.choice ≢ choice → IsSomeAnd (slice_get entries place) (λ e. ¬ IsOfChoice choices place e)
   of_other_choice other = some_at (λ e. ¬ IsOfChoice choices place e) (slice_get entries place) entry at (λ same. other (sym (same_Some choice entry.choice (sym here ∙ same))))
 
@@ -26,7 +27,8 @@ module _ (t : TypeTable) (choices : List Choice) (entries : List Collision) (pla
       (some_at (λ e. IsOfChoice choices place e × HoldsCollision t e) (slice_get entries place) entry at (of_choice same, holds))
 
 -- an entry past the choices is of none of them
-pub past_end : (choices : List Choice) (entries : List Collision) (place : ℕ) → place ≡ length choices → place < length entries → IsSomeAnd (slice_get entries place) (λ e. ¬ IsOfChoice choices place e)
+pub past_end : (choices : List Choice) (entries : List Collision) (place : ℕ) → place ≡ length choices → place < length entries
+    → IsSomeAnd (slice_get entries place) (λ e. ¬ IsOfChoice choices place e)
 past_end choices entries place end l =
     let none : Collision = record { choice = record { state = 0; a = []; b = [] }; process = 0; alpha = []; beta = [] } in
     some_at (λ e. ¬ IsOfChoice choices place e) (slice_get entries place) (get_or entries place none) (slice_get-get_or entries place none l)

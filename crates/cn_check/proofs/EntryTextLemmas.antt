@@ -34,7 +34,8 @@ evidence_spelled x bytes after_process second after_alpha third after_beta rest 
     let alpha : List ℕ = compact_text (numbers_data x.alpha) in
     let beta : List ℕ = compact_text (numbers_data x.beta) in
     let regroup : decimal x.process ++ 44 ∷ (alpha ++ 44 ∷ (beta ++ 93 ∷ rest)) ≡ evidence_text x ++ rest = three_parts (decimal x.process) alpha beta rest in
-    e ∙ (ap (λ (v : List ℕ). decimal x.process ++ v) (f ∙ ap (λ (v : List ℕ). 44 ∷ v) (g ∙ ap (λ (v : List ℕ). alpha ++ v) (h ∙ ap (λ (v : List ℕ). 44 ∷ v) (i ∙ ap (λ (v : List ℕ). beta ++ v) j)))) ∙ regroup)
+    e ∙ (ap (λ (v : List ℕ). decimal x.process ++ v)
+    (f ∙ ap (λ (v : List ℕ). 44 ∷ v) (g ∙ ap (λ (v : List ℕ). alpha ++ v) (h ∙ ap (λ (v : List ℕ). 44 ∷ v) (i ∙ ap (λ (v : List ℕ). beta ++ v) j)))) ∙ regroup)
 
 -- a list of small numbers that is not too long
 pub short_of : (ns : List ℕ) → length ns ≤ MOST_PROCESSES → list_all (λ n. nat_le n (MOST_PROCESSES - 1)) ns ≡ true → is_short ns ≡ true
@@ -51,7 +52,8 @@ one_spelled t c text bytes left middle behind rest greatest state a b is e f g h
     entry_parts x ∙ (ap (λ (d : Choice). head_text d.state d.a ++ (compact_text (numbers_data d.b) ++ 44 ∷ evidence_text x)) is.of_choice
     ∙ ap (λ (v : List ℕ). head_text c.state c.a ++ (compact_text (numbers_data c.b) ++ 44 ∷ v)) (sym is.spelled)) in
     let begun : bytes ≡ own ++ behind =
-    e ∙ (ap (λ (v : List ℕ). head_text c.state c.a ++ v) (f ∙ (ap (λ (v : List ℕ). compact_text (numbers_data c.b) ++ 44 ∷ v) g ∙ sym (append_assoc (compact_text (numbers_data c.b)) (44 ∷ text) behind)))
+    e ∙ (ap (λ (v : List ℕ). head_text c.state c.a ++ v)
+    (f ∙ (ap (λ (v : List ℕ). compact_text (numbers_data c.b) ++ 44 ∷ v) g ∙ sym (append_assoc (compact_text (numbers_data c.b)) (44 ∷ text) behind)))
     ∙ (sym (append_assoc (head_text c.state c.a) (compact_text (numbers_data c.b) ++ 44 ∷ text) behind) ∙ ap (λ (v : List ℕ). v ++ behind) (sym whole))) in
     let comma : with_comma bytes ≡ bytes ++ codes "," = ap with_comma begun ∙ ap (λ (v : List ℕ). v ++ codes ",") (sym begun) in
     let fits : is_choice_in_range c ≡ true = rw (le-leb c.state (MOST_STATES - 1) (omega (arith, state)), a, b) refl in

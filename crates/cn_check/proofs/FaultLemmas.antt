@@ -79,7 +79,8 @@ module _ (t : TypeTable) (c : Certificate) (named : c.type_name ≡ t.name) (in_
 
     refuted_fits : (place : ℕ) → AreRefuted t (choices_to_refute_in c.version t c.limit c.number) c.collisions place → (k : ℕ) → k < place → ¬ HasFault t c (NotNext k)
     refuted_fits place h k l g =
-        not_some (λ e. IsOfChoice (choices_to_refute_in c.version t c.limit c.number) k e × HoldsCollision t e) (λ e. ¬ IsOfChoice (choices_to_refute_in c.version t c.limit c.number) k e) (slice_get c.collisions k) (λ e p q. q p.0)
+        not_some (λ e. IsOfChoice (choices_to_refute_in c.version t c.limit c.number) k e × HoldsCollision t e)
+        (λ e. ¬ IsOfChoice (choices_to_refute_in c.version t c.limit c.number) k e) (slice_get c.collisions k) (λ e p q. q p.0)
         (h k l) g
 
     refuted_holds : (place : ℕ) → AreRefuted t (choices_to_refute_in c.version t c.limit c.number) c.collisions place → (k : ℕ) → k < place → ¬ HasFault t c (NotACollision k)
@@ -121,7 +122,8 @@ module _ (t : TypeTable) (c : Certificate) (named : c.type_name ≡ t.name) (in_
 
         here : (k : ℕ) → ((k ≡ i) ⊎ ((k < i) ⊎ (i < k))) → k < i + 1 → ¬ HasFault t c (NotNext k)
         here k (inl same) l g =
-            not_some (λ e. IsOfChoice (choices_to_refute_in c.version t c.limit c.number) i e × ¬ HoldsCollision t e) (λ e. ¬ IsOfChoice (choices_to_refute_in c.version t c.limit c.number) i e) (slice_get c.collisions i)
+            not_some (λ e. IsOfChoice (choices_to_refute_in c.version t c.limit c.number) i e × ¬ HoldsCollision t e)
+            (λ e. ¬ IsOfChoice (choices_to_refute_in c.version t c.limit c.number) i e) (slice_get c.collisions i)
             (λ e p q. q p.0) h.1.1
             (subst (λ (j : ℕ). HasFault t c (NotNext j)) same g)
         here k (inr (inl sooner)) l g = refuted_fits i h.1.0 k sooner g

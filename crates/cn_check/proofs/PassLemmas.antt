@@ -25,7 +25,8 @@ zip_append R (c ∷ cs) ds (x ∷ xs) ys h k = (h.0, zip_append R cs ds xs ys h.
 
 listed_append : (xs ys : List Collision) → listed_text (xs ++ ys) ≡ listed_text xs ++ listed_text ys
 listed_append [] ys = refl
-listed_append (x ∷ xs) ys = ap (λ (v : List ℕ). (compact_text (collision_data x) ++ 44 ∷ []) ++ v) (listed_append xs ys) ∙ sym (append_assoc (compact_text (collision_data x) ++ 44 ∷ []) (listed_text xs) (listed_text ys))
+listed_append (x ∷ xs) ys = ap (λ (v : List ℕ). (compact_text (collision_data x) ++ 44 ∷ []) ++ v) (listed_append xs ys)
+    ∙ sym (append_assoc (compact_text (collision_data x) ++ 44 ∷ []) (listed_text xs) (listed_text ys))
 
 module _ (t : TypeTable) where
   spelled_none : (bytes : List ℕ) → AreSpelled t [] bytes bytes
@@ -36,7 +37,8 @@ module _ (t : TypeTable) where
     h.0 ++ k.0,
     zip_append (Refutes t) choices others h.0 k.0 h.1 k.1,
     rw (list_all-append is_collision_in_range h.0 k.0, h.2, k.2) refl,
-    h.3 ∙ (ap (λ (v : List ℕ). listed_text h.0 ++ v) k.3 ∙ (sym (append_assoc (listed_text h.0) (listed_text k.0) (with_comma rest)) ∙ ap (λ (v : List ℕ). v ++ with_comma rest) (sym (listed_append h.0 k.0)))),
+    h.3 ∙ (ap (λ (v : List ℕ). listed_text h.0 ++ v) k.3
+        ∙ (sym (append_assoc (listed_text h.0) (listed_text k.0) (with_comma rest)) ∙ ap (λ (v : List ℕ). v ++ with_comma rest) (sym (listed_append h.0 k.0)))),
   )
 
   module _ (all : List Choice) (start : List ℕ) where
@@ -82,5 +84,6 @@ pub fits_table : ((t : TypeTable) (n : ℕ) (c : Choice) → IsRawChoice t n (ra
     → FitsTable t (record { state = state; a = a; b = b })
 fits_table by_teams t n state a b known a_known b_known some half all few =
     let c : Choice = record { state = state; a = a; b = b } in
-    let is : IsChoiceFor t (length a + length b) c = record { known_state = known; a_known = a_known; b_known = b_known; someone_in_a = some; someone_in_b = omega (arith, some, half, all); all = refl } in
+    let is : IsChoiceFor t (length a + length b) c =
+    record { known_state = known; a_known = a_known; b_known = b_known; someone_in_a = some; someone_in_b = omega (arith, some, half, all); all = refl } in
     record { fits = (by_teams t (length a + length b) c).1 is; some = omega (arith, some, half, all); few = omega (arith, all, few) }

@@ -29,7 +29,8 @@ numbers ns = items_of (map number_data ns)
 
 -- ---- a piece at the front
 
-pub piece_is : (s p : List ℕ) (r : Option (Bor (List ℕ))) → MatchOption r (pointwise nat_eq (take (length p) s) p ≡ false) (λ x. (pointwise nat_eq (take (length p) s) p ≡ true) × (x.now ≡ drop (length p) s) × (length x.now + length p ≡ length s))
+pub piece_is : (s p : List ℕ) (r : Option (Bor (List ℕ)))
+    → MatchOption r (pointwise nat_eq (take (length p) s) p ≡ false) (λ x. (pointwise nat_eq (take (length p) s) p ≡ true) × (x.now ≡ drop (length p) s) × (length x.now + length p ≡ length s))
     → IfSome r (λ x. s ≡ p ++ x.now)
 piece_is s p r h = by_option r (strip_prefix_is Decides-eqb s p r h)
   where
@@ -65,7 +66,8 @@ pub two_digits : (n : ℕ) → 10 ≤ n → n < 16 → decimal n ≡ 49 ∷ (48 
 two_digits n low high =
     let one : n / 10 ≡ 1 = omega (arith, low, high) in
     let rest : n % 10 ≡ n - 10 = omega (arith, low, high) in
-    decimal_step n low (omega (arith, high)) ∙ (ap (λ (q : ℕ). decimal q ++ (48 + n % 10) ∷ []) one ∙ (ap (λ (ds : List ℕ). ds ++ (48 + n % 10) ∷ []) (decimal_digit 1 (omega arith)) ∙ ap (λ (d : ℕ). 49 ∷ (48 + d) ∷ []) rest))
+    decimal_step n low (omega (arith, high))
+    ∙ (ap (λ (q : ℕ). decimal q ++ (48 + n % 10) ∷ []) one ∙ (ap (λ (ds : List ℕ). ds ++ (48 + n % 10) ∷ []) (decimal_digit 1 (omega arith)) ∙ ap (λ (d : ℕ). 49 ∷ (48 + d) ∷ []) rest))
 
 -- ---- numbers that are known
 
@@ -81,7 +83,8 @@ number_past later list i left behind rest inside e f =
     ∙ (sym (append_assoc (comma_if later) (decimal n ++ after) rest) ∙ ap (λ (ns : List ℕ). items_text later (numbers ns) ++ rest) (sym here))))
 
 -- each of the first numbers is small, and one more
-pub small_past : (limit : ℕ) (list : List ℕ) (i : ℕ) → i < length list → get_or list i 0 ≤ limit → list_all (λ n. nat_le n limit) (take i list) ≡ true → list_all (λ n. nat_le n limit) (take (i + 1) list) ≡ true
+pub small_past : (limit : ℕ) (list : List ℕ) (i : ℕ) → i < length list → get_or list i 0 ≤ limit → list_all (λ n. nat_le n limit) (take i list) ≡ true
+    → list_all (λ n. nat_le n limit) (take (i + 1) list) ≡ true
 small_past limit list i inside low so_far =
     let n : ℕ = get_or list i 0 in
     let small : list_all (λ n. nat_le n limit) (n ∷ []) ≡ true = rw (le-leb n limit low) refl in
@@ -113,7 +116,8 @@ greatest_past list i before after inside low own all =
 
 -- ---- numbers one by one
 
-module _ (bytes out left : List ℕ) (text : (n : ℕ) (ns rest : List ℕ) → left ≡ decimal n ++ (items_text true (items_of (map number_data ns)) ++ rest) → bytes ≡ compact_text (numbers_data (out ++ n ∷ ns)) ++ rest) where
+module _ (bytes out left : List ℕ)
+    (text : (n : ℕ) (ns rest : List ℕ) → left ≡ decimal n ++ (items_text true (items_of (map number_data ns)) ++ rest) → bytes ≡ compact_text (numbers_data (out ++ n ∷ ns)) ++ rest) where
   pub read_end : (p : ℕ) (after rest : List ℕ) → left ≡ decimal p ++ after → after ≡ 93 ∷ rest → bytes ≡ compact_text (numbers_data (out ++ p ∷ [])) ++ rest
   read_end p after rest e f = text p [] rest (e ∙ ap (λ (v : List ℕ). decimal p ++ v) f)
 
@@ -121,4 +125,5 @@ module _ (bytes out left : List ℕ) (text : (n : ℕ) (ns rest : List ℕ) → 
       → (n : ℕ) (ns rest : List ℕ) → behind ≡ decimal n ++ (items_text true (items_of (map number_data ns)) ++ rest) → bytes ≡ compact_text (numbers_data ((out ++ p ∷ []) ++ n ∷ ns)) ++ rest
   read_more p after behind e f n ns rest g =
       let later : behind ≡ (decimal n ++ items_text true (numbers ns)) ++ rest = g ∙ sym (append_assoc (decimal n) (items_text true (numbers ns)) rest) in
-      text p (n ∷ ns) rest (e ∙ ap (λ (v : List ℕ). decimal p ++ v) (f ∙ ap (λ (v : List ℕ). 44 ∷ v) later)) ∙ ap (λ (xs : List ℕ). compact_text (numbers_data xs) ++ rest) (sym (append_assoc out (p ∷ []) (n ∷ ns)))
+      text p (n ∷ ns) rest (e ∙ ap (λ (v : List ℕ). decimal p ++ v) (f ∙ ap (λ (v : List ℕ). 44 ∷ v) later))
+      ∙ ap (λ (xs : List ℕ). compact_text (numbers_data xs) ++ rest) (sym (append_assoc out (p ∷ []) (n ∷ ns)))

@@ -77,7 +77,8 @@ module _ (version : ℕ) (t : TypeTable) (state : ℕ) (a : List ℕ) where
   abbrev pub beside : List (List ℕ) → List Choice
   beside bs = map (λ b. record { state = state; a = a; b = b }) bs
 
-  pub one_counts : (b : List ℕ) (bs : List (List ℕ)) → all_count version t state a ≡ true → all_count version t state b ≡ true → counting version t (beside (b ∷ bs)) ≡ record { state = state; a = a; b = b } ∷ counting version t (beside bs)
+  pub one_counts : (b : List ℕ) (bs : List (List ℕ)) → all_count version t state a ≡ true → all_count version t state b ≡ true
+      → counting version t (beside (b ∷ bs)) ≡ record { state = state; a = a; b = b } ∷ counting version t (beside bs)
   one_counts b bs e f = rw (e, f) refl
 
   pub one_does_not : (b : List ℕ) (bs : List (List ℕ)) → all_count version t state b ≡ false → counting version t (beside (b ∷ bs)) ≡ counting version t (beside bs)
@@ -121,7 +122,8 @@ listed_fits canonical live version t n place c some few e =
 
 module _ (choices : List Choice) (start : ℕ) (all : List Choice) (version : ℕ) (t : TypeTable) (state : ℕ) (a : List ℕ) (place : ℕ) (b : List ℕ) (bs : List (List ℕ))
     (come : HasComeTo choices start all place (counting version t (beside version t state a (b ∷ bs)))) where
-  here : all_count version t state a ≡ true → all_count version t state b ≡ true → HasComeTo choices start all place (record { state = state; a = a; b = b } ∷ counting version t (beside version t state a bs))
+  here : all_count version t state a ≡ true → all_count version t state b ≡ true
+      → HasComeTo choices start all place (record { state = state; a = a; b = b } ∷ counting version t (beside version t state a bs))
   here e f = come_as choices start all place _ _ (one_counts version t state a b bs e f) come
 
   pub team_next : ComeNext choices start all → all_count version t state a ≡ true → all_count version t state b ≡ true → slice_get choices place ≡ Some (record { state = state; a = a; b = b })
@@ -139,7 +141,8 @@ pub all_counting : (version : ℕ) (t : TypeTable) (n : ℕ) → choices_in_vers
 unfolding canonical_choices
 all_counting version t n = counting_is version t n
 
-not_past : (t : TypeTable) (choices : List Choice) (entries : List Collision) → ¬ IsSomeAnd (slice_get entries (length choices)) (λ entry. IsOfChoice choices (length choices) entry × HoldsCollision t entry)
+not_past : (t : TypeTable) (choices : List Choice) (entries : List Collision)
+    → ¬ IsSomeAnd (slice_get entries (length choices)) (λ entry. IsOfChoice choices (length choices) entry × HoldsCollision t entry)
 not_past t choices entries h = by_entry (slice_get entries (length choices)) h
   where
     by_entry : (o : Option Collision) → ¬ IsSomeAnd o (λ entry. IsOfChoice choices (length choices) entry × HoldsCollision t entry)
@@ -156,7 +159,8 @@ come_to_end t choices entries place come refuted =
     ]
 
 -- where each choice is refuted in its place, and there is no further entry, they refute the choices one by one
-pub all_refuted : (t : TypeTable) (choices : List Choice) (entries : List Collision) → AreRefuted t choices entries (length choices) → length entries ≤ length choices → AllZip (Refutes t) choices entries
+pub all_refuted : (t : TypeTable) (choices : List Choice) (entries : List Collision) → AreRefuted t choices entries (length choices) → length entries ≤ length choices
+    → AllZip (Refutes t) choices entries
 all_refuted t [] [] h l = tt
 all_refuted t [] (e ∷ entries) h l = absurd (omega (arith, l))
 all_refuted t (c ∷ choices) [] h l = absurd (h 0 (omega arith))

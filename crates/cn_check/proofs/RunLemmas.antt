@@ -99,7 +99,8 @@ order_is_moves n order = (
     all_new (p ∷ moves) = (none_in_0 p, all_new moves)
 
 -- moves from a place of a list on, by the process at the place
-pub moves_at : (n used : ℕ) (list : List ℕ) (i : ℕ) → i < length list → AreMoves n used (drop i list) ↔ ((get_or list i 0 < n) × (¬ IsIn used (get_or list i 0)) × AreMoves n (with_mover used (get_or list i 0)) (drop (i + 1) list))
+pub moves_at : (n used : ℕ) (list : List ℕ) (i : ℕ) → i < length list
+    → AreMoves n used (drop i list) ↔ ((get_or list i 0 < n) × (¬ IsIn used (get_or list i 0)) × AreMoves n (with_mover used (get_or list i 0)) (drop (i + 1) list))
 moves_at n used list i l =
     let p : ℕ = get_or list i 0 in
     let split : drop i list ≡ p ∷ drop (i + 1) list = rw (add-one, drop-cons list i 0) refl in (
@@ -145,14 +146,16 @@ module _ (t : TypeTable) (c : RawChoice) (used state : ℕ) where
       → state_after t (move_of t c p state).1 (operations_of c moves) ≡ q → ShowsBy t c used state p j r q
   shown_first p j r q moves are e left = by_test (p == j) refl e
     where
-      by_test : (b : Bool) → (p == j) ≡ b → cond b (Some (move_of t c p state).0) (response_of j moves (responses_along t (move_of t c p state).1 (operations_of c moves))) ≡ Some r → ShowsBy t c used state p j r q
+      by_test : (b : Bool) → (p == j) ≡ b → cond b (Some (move_of t c p state).0) (response_of j moves (responses_along t (move_of t c p state).1 (operations_of c moves))) ≡ Some r
+          → ShowsBy t c used state p j r q
       by_test true same f = inr (sym (eqb-true p j same), sym (same_Some _ _ f), (moves, are, left))
       by_test false other f = inl (moves, are, f, left)
 
   -- the moves with process p first, and what they show
   abbrev pub ShowsAfter : ℕ → ℕ → ℕ → ℕ → Type 0
   ShowsAfter p j r q =
-      (moves : List ℕ) × AreMoves (length c.operations) used (p ∷ moves) × (response_of j (p ∷ moves) (responses_along t state (operations_of c (p ∷ moves))) ≡ Some r) × (state_after t state (operations_of c (p ∷ moves)) ≡ q)
+      (moves : List ℕ) × AreMoves (length c.operations) used (p ∷ moves) × (response_of j (p ∷ moves) (responses_along t state (operations_of c (p ∷ moves))) ≡ Some r)
+      × (state_after t state (operations_of c (p ∷ moves)) ≡ q)
 
   -- and the other way round
   first_shown : (p j r q : ℕ) → p < length c.operations → ¬ IsIn used p → ShowsBy t c used state p j r q → ShowsAfter p j r q
@@ -171,7 +174,8 @@ module _ (t : TypeTable) (c : RawChoice) (used state : ℕ) where
   pub shows_by_first : (n j r q : ℕ) → n ≡ length c.operations → ShowsFrom t c used state j r q ↔ Below (ShowsNext j r q) n
   shows_by_first n j r q all = (λ h. from_moves h.0 h.1 h.2 h.3, λ b. let f = first_shown b.0 j r q (omega (arith, b.1, all)) b.2.0 b.2.1 in (b.0 ∷ f.0, f.1, f.2, f.3))
     where
-      from_moves : (moves : List ℕ) → AreMoves (length c.operations) used moves → response_of j moves (responses_along t state (operations_of c moves)) ≡ Some r → state_after t state (operations_of c moves) ≡ q → Below (ShowsNext j r q) n
+      from_moves : (moves : List ℕ) → AreMoves (length c.operations) used moves → response_of j moves (responses_along t state (operations_of c moves)) ≡ Some r
+          → state_after t state (operations_of c moves) ≡ q → Below (ShowsNext j r q) n
       from_moves [] are e left = absurd (none-some r e)
       from_moves (p ∷ moves) are e left = (p, omega (arith, are.known.0, all), (are.fresh.0, shown_first p j r q moves (later_moves (length c.operations) used p moves are) e left))
 
@@ -196,7 +200,10 @@ module _ (t : TypeTable) (c : RawChoice) (team : Team) (j r q : ℕ) where
       cases (p ∷ moves) are begins shown = (
         p,
         omega (arith, are.known.0, all),
-        (subst (λ (x : ℕ). slice_get c.marks x ≡ Some team) (sym (same_Some p begins.0 begins.1)) begins.2, shown_first t c 0 c.state p j r q moves (later_moves (length c.operations) 0 p moves are) shown.0 shown.1),
+        (
+          subst (λ (x : ℕ). slice_get c.marks x ≡ Some team) (sym (same_Some p begins.0 begins.1)) begins.2,
+          shown_first t c 0 c.state p j r q moves (later_moves (length c.operations) 0 p moves are) shown.0 shown.1,
+        ),
       )
 
   to_order : IsSeenAlong → (p : ℕ) → slice_get c.marks p ≡ Some team → ShowsAfter t c 0 c.state p j r q → InOutcomeSet t c team j (r, q)
@@ -215,7 +222,8 @@ module _ (t : TypeTable) (c : RawChoice) (team : Team) (j r q : ℕ) where
 
 -- ---- one move and a walk from where it leads
 
-module _ (t : TypeTable) (c : RawChoice) (used state p response after u later : ℕ) (move : (response, after) ≡ move_of t c p state) (with : u ≡ with_mover used p) (ends : (q : ℕ) → IsIn later q ↔ EndsIn t c u after q) where
+module _ (t : TypeTable) (c : RawChoice) (used state p response after u later : ℕ) (move : (response, after) ≡ move_of t c p state) (with : u ≡ with_mover used p)
+    (ends : (q : ℕ) → IsIn later q ↔ EndsIn t c u after q) where
   pub ends_by : (q : ℕ) → EndsIn t c (with_mover used p) (move_of t c p state).1 q ↔ IsIn later q
   ends_by q =
       let same : after ≡ (move_of t c p state).1 = ap (λ (m : ℕ × ℕ). m.1) move in (

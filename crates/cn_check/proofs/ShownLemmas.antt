@@ -47,7 +47,8 @@ module _ (t : TypeTable) (state greatest : ℕ) (operations others : List ℕ) (
       ap (λ (os : List ℕ). let ran = run t state os in option_map (λ place. (slice_index ran.0 place, ran.1)) (position (λ process. process == j) order))
       (same_operations order (recursion_from_All (λ p. p ≤ greatest) order up_to))
 
-  collides_again : (j : ℕ) (alpha beta : List ℕ) → length operations ≡ length others → All (λ p. p ≤ greatest) alpha → All (λ p. p ≤ greatest) beta → IsCollision t one j alpha beta → IsCollision t other j alpha beta
+  collides_again : (j : ℕ) (alpha beta : List ℕ) → length operations ≡ length others → All (λ p. p ≤ greatest) alpha → All (λ p. p ≤ greatest) beta → IsCollision t one j alpha beta
+      → IsCollision t other j alpha beta
   collides_again j alpha beta long a b is =
       let e = same_pair alpha j a in
       let f = same_pair beta j b in

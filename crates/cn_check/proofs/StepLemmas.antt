@@ -72,4 +72,5 @@ taken_twice place xs behind fits =
 -- a list that is written over with one of its length is that one
 pub written_over : (xs ys : List ℕ) → length ys ≡ length xs → refill (length xs) xs ys ≡ ys
 written_over xs ys e =
-    ap (λ (zs : List ℕ). take (length xs) (ys ++ zs)) (drop_all (length ys) xs (omega (arith, e))) ∙ (ap (λ (zs : List ℕ). take (length xs) zs) (append-nil ys) ∙ take_all (length xs) ys (omega (arith, e)))
+    ap (λ (zs : List ℕ). take (length xs) (ys ++ zs)) (drop_all (length ys) xs (omega (arith, e)))
+    ∙ (ap (λ (zs : List ℕ). take (length xs) zs) (append-nil ys) ∙ take_all (length xs) ys (omega (arith, e)))

@@ -51,10 +51,12 @@ none_discerning : Laws → (version : ℕ) (t : TypeTable) (n : ℕ) (entries : 
 none_discerning laws version t n entries h = by_version (version == 1) h
   where
     by_version : (one : Bool) → AllZip (Refutes t) (cond one (canonical_choices (length t.states) (length t.operations) n) (live_choices t n)) entries → ¬ IsDiscerning t n
-    by_version true h = laws.canonical_decide t n (All-from_recursion (λ c. ¬ IsWitness t (raw_choice_of c)) (canonical_choices (length t.states) (length t.operations) n) (refuted_each laws t _ entries h))
+    by_version true h = laws.canonical_decide t n
+        (All-from_recursion (λ c. ¬ IsWitness t (raw_choice_of c)) (canonical_choices (length t.states) (length t.operations) n) (refuted_each laws t _ entries h))
     by_version false h = laws.live_decide t n (All-from_recursion (λ c. ¬ IsWitness t (raw_choice_of c)) (live_choices t n) (refuted_each laws t _ entries h))
 
-number_by_parts : Laws → (version : ℕ) (t : TypeTable) (limit : ℕ) (number : Option ℕ) (witness : Option Choice) (entries : List Collision) → IsInRange version limit number → HasWitnessFor t number witness
+number_by_parts : Laws → (version : ℕ) (t : TypeTable) (limit : ℕ) (number : Option ℕ) (witness : Option Choice) (entries : List Collision) → IsInRange version limit number
+    → HasWitnessFor t number witness
     → IfSome witness (λ w. IsWitness t (raw_choice_of w)) → AllZip (Refutes t) (choices_to_refute_in version t limit number) entries → IsNumberUpTo t limit number
 number_by_parts laws version t limit None None entries r f w h = laws.no_number t limit (none_discerning laws version t 2 entries h)
 number_by_parts laws version t limit None (Some x) entries r f w h = absurd f
@@ -68,7 +70,8 @@ number_accepted laws t c a = number_by_parts laws c.version t c.limit c.number c
 
 -- ---- an accepted certificate has no fault
 
-zip_at : (t : TypeTable) (choices : List Choice) (entries : List Collision) (i : ℕ) → AllZip (Refutes t) choices entries → IfSome (slice_get entries i) (λ e. (slice_get choices i ≡ Some e.choice) × HoldsCollision t e)
+zip_at : (t : TypeTable) (choices : List Choice) (entries : List Collision) (i : ℕ) → AllZip (Refutes t) choices entries
+    → IfSome (slice_get entries i) (λ e. (slice_get choices i ≡ Some e.choice) × HoldsCollision t e)
 zip_at t [] [] i h = tt
 zip_at t [] (e ∷ entries) i h = absurd h
 zip_at t (c ∷ choices) [] i h = absurd h
@@ -95,7 +98,8 @@ no_fault t c a WitnessShape h = h a.witness_fits
 no_fault t c a (WitnessMeets j) h = not_some_if (λ w. IsWitness t (raw_choice_of w)) (λ w. OutcomeSetsMeet t (raw_choice_of w) j) c.witness (λ w is meet. is j meet.0 meet.1 meet.2) a.witness h
 no_fault t c a Unexpected h = h.1 (no_entries t (choices_to_refute_in c.version t c.limit c.number) c.collisions (nothing_at_limit c.version t c.limit c.number h.0) a.refuted)
 no_fault t c a (NotNext i) h =
-    not_some_if (λ e. (slice_get (choices_to_refute_in c.version t c.limit c.number) i ≡ Some e.choice) × HoldsCollision t e) (λ e. slice_get (choices_to_refute_in c.version t c.limit c.number) i ≢ Some e.choice) (slice_get c.collisions i)
+    not_some_if (λ e. (slice_get (choices_to_refute_in c.version t c.limit c.number) i ≡ Some e.choice) × HoldsCollision t e)
+    (λ e. slice_get (choices_to_refute_in c.version t c.limit c.number) i ≢ Some e.choice) (slice_get c.collisions i)
     (λ e p q. q p.0) (zip_at t (choices_to_refute_in c.version t c.limit c.number) c.collisions i a.refuted) h
 no_fault t c a (NotACollision i) h =
     not_some_if (λ e. (slice_get (choices_to_refute_in c.version t c.limit c.number) i ≡ Some e.choice) × HoldsCollision t e) (λ e. ¬ HoldsCollision t e) (slice_get c.collisions i)

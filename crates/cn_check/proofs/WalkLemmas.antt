@@ -20,7 +20,8 @@ first_some (Some x) y = Some x
 pub record IsWalked (t : TypeTable) (c : RawChoice) (order : List ℕ) (process i state : ℕ) (kept : Option ℕ) : Type 0 where
   pub known : state < length t.states
   pub after : state_after t state (operations_of c (drop i order)) ≡ state_after t c.state (operations_of c order)
-  pub response : first_some kept (response_of process (drop i order) (responses_along t state (operations_of c (drop i order)))) ≡ response_of process order (responses_along t c.state (operations_of c order))
+  pub response : first_some kept (response_of process (drop i order) (responses_along t state (operations_of c (drop i order)))) ≡ response_of process order
+      (responses_along t c.state (operations_of c order))
 
 first_none : (kept : Option ℕ) → first_some kept None ≡ kept
 first_none None = refl

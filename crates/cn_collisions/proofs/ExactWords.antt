@@ -125,4 +125,8 @@ module _ (t : TypeTable) (start : ℕ) (stock : List ℕ) where
         back [] after w l a e = inl (a, (after, w, omega (arith, l), e))
         back (x ∷ before) after w l a e =
             let left = left_of x (before ++ after) w in
-            inr (x, known x (omega (arith, w x, times_at x (before ++ after))), (left.0, left.1, record { before = before; after = after; within = left.2; long = omega (arith, l); answer = a; ends = e }))
+            inr (
+              x,
+              known x (omega (arith, w x, times_at x (before ++ after))),
+              (left.0, left.1, record { before = before; after = after; within = left.2; long = omega (arith, l); answer = a; ends = e }),
+            )

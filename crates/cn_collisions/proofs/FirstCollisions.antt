@@ -29,7 +29,8 @@ module _ (t : TypeTable) (c : RawChoice) (j : ℕ) where
     none_collides none x y k = none x k.alpha_order (into_set x y k)
 
   -- the first order into the set of one pair is the first with this pair
-  pub first_of_pair : (team : Team) (pair : ℕ × ℕ) (single : PairSet) → ((r q : ℕ) → Has single r q ↔ ((r ≡ pair.0) × (q ≡ pair.1))) → (order : List ℕ) (again : ℕ × ℕ) → IsFirstInto t c team j single order again
+  pub first_of_pair : (team : Team) (pair : ℕ × ℕ) (single : PairSet) → ((r q : ℕ) → Has single r q ↔ ((r ≡ pair.0) × (q ≡ pair.1))) → (order : List ℕ) (again : ℕ × ℕ)
+      → IsFirstInto t c team j single order again
       → IsFirstOfPair t c team j pair order
   first_of_pair team pair single only order again first =
       let is = (only again.0 again.1).0 first.has in
@@ -51,7 +52,8 @@ module _ (t : TypeTable) (c : RawChoice) (j : ℕ) where
       takes_part = λ e. let no : None ≡ Some pair = sym e ∙ first.leads.1 in absurd (cc);
       same = first.leads.1 ∙ sym second.leads.1;
     };
-    first_alpha = λ x y before k. first.earlier x k.alpha_order before (let p = the_pair (pair_of t c x j) k.takes_part in (p.0, (k.alpha_in_a, p.1), from_b p.0.0 p.0.1 (y, k.beta_order, k.beta_in_b, sym k.same ∙ p.1)));
+    first_alpha = λ x y before k. first.earlier x k.alpha_order before
+        (let p = the_pair (pair_of t c x j) k.takes_part in (p.0, (k.alpha_in_a, p.1), from_b p.0.0 p.0.1 (y, k.beta_order, k.beta_in_b, sym k.same ∙ p.1)));
     first_beta = λ y before k. second.earlier y k.beta_order before (k.beta_in_b, sym k.same ∙ first.leads.1);
   }
 

@@ -42,7 +42,8 @@ along t c j state ps = response_of j ps (responses_along t state (operations_of 
 abbrev after : TypeTable → RawChoice → ℕ → List ℕ → ℕ
 after t c state ps = state_after t state (operations_of c ps)
 
-pub ends_to : (t : TypeTable) (c : RawChoice) (j state : ℕ) (seen : Option ℕ) (ps : List ℕ) (pair : ℕ × ℕ) → Ends t c j state seen ps pair → (first_some seen (along t c j state ps) ≡ Some pair.0) × (after t c state ps ≡ pair.1)
+pub ends_to : (t : TypeTable) (c : RawChoice) (j state : ℕ) (seen : Option ℕ) (ps : List ℕ) (pair : ℕ × ℕ) → Ends t c j state seen ps pair
+    → (first_some seen (along t c j state ps) ≡ Some pair.0) × (after t c state ps ≡ pair.1)
 ends_to t c j state None [] pair h = h
 ends_to t c j state (Some s) [] pair h = h
 ends_to t c j state None (p ∷ ps) pair h =
@@ -50,7 +51,8 @@ ends_to t c j state None (p ∷ ps) pair h =
     (sym (first_of_cond None (nat_eq p j) (answer_of t c p state) (along t c j (next_of t c p state) ps)) ∙ r.0, r.1)
 ends_to t c j state (Some s) (p ∷ ps) pair h = ends_to t c j (next_of t c p state) (Some s) ps pair h
 
-pub ends_from : (t : TypeTable) (c : RawChoice) (j state : ℕ) (seen : Option ℕ) (ps : List ℕ) (pair : ℕ × ℕ) → first_some seen (along t c j state ps) ≡ Some pair.0 → after t c state ps ≡ pair.1 → Ends t c j state seen ps pair
+pub ends_from : (t : TypeTable) (c : RawChoice) (j state : ℕ) (seen : Option ℕ) (ps : List ℕ) (pair : ℕ × ℕ) → first_some seen (along t c j state ps) ≡ Some pair.0
+    → after t c state ps ≡ pair.1 → Ends t c j state seen ps pair
 ends_from t c j state None [] pair e f = (e, f)
 ends_from t c j state (Some s) [] pair e f = (e, f)
 ends_from t c j state None (p ∷ ps) pair e f =
@@ -168,7 +170,8 @@ module _ (t : TypeTable) (c : Choice) (raw : RawChoice) (same : raw ≡ raw_choi
           has = f.has;
           earlier = λ x o before leads. elim before [
             | inl shorter ↦ none (length x) (omega (arith, shorter, f.way.long)) x o refl leads
-            | inr later ↦ f.earlier x (subst (λ (k : ℕ). IsWay (length raw.operations) k (team_from c team) (team_to c team) 0 x) (later.0 ∙ f.way.long) (order_way x o leads.1.0)) later.1 (hits_from x leads)
+            | inr later ↦ f.earlier x (subst (λ (k : ℕ). IsWay (length raw.operations) k (team_from c team) (team_to c team) 0 x) (later.0 ∙ f.way.long) (order_way x o leads.1.0))
+                later.1 (hits_from x leads)
           ];
         }
       where

@@ -54,7 +54,8 @@ module _ (operations : ℕ) where
           let here : slice_get xs n ≡ Some c = subst (λ (i : ℕ). slice_get xs i ≡ Some c) same (old_at xs new s e m c (omega (arith, same, are.long)) h) in
           let below : b ≡ c = same_Some b c (sym at ∙ here) in
           let last : s ≡ r = last_at xs new s e (suc m) r (omega (arith, same, are.long)) g in
-          subst (λ (k : ℕ). AreAll operations (k + 1) c.list.items r) (sym same) (subst (λ (x : Stocks). AreAll operations (n + 1) x.list.items r) below (subst (λ (x : Stocks). AreAll operations (n + 1) b.list.items x) last all))
+          subst (λ (k : ℕ). AreAll operations (k + 1) c.list.items r) (sym same)
+          (subst (λ (x : Stocks). AreAll operations (n + 1) x.list.items r) below (subst (λ (x : Stocks). AreAll operations (n + 1) b.list.items x) last all))
           )
     ];
   }

@@ -107,7 +107,8 @@ module _ (v : View) (low high : ℕ) (at : Prefix) where
         let none = no_way v.sets.now.table.now v.raw.now v.process set left (length v.raw.now.operations) s.prefix.used s.prefix.state.0 s.prefix.seen refl nowhere in
         let back : left ≡ left + 1 - 1 = omega arith in
         dead_here v.sets.now.table.now v.raw.now v.process set (left + 1) low high at.used at.state.0 at.seen s.process (length v.raw.now.operations) refl (omega arith)
-        (subst (λ (k : ℕ). NoWay v.sets.now.table.now v.raw.now v.process set k 0 (length v.raw.now.operations) (bit_or at.used (2 ^ s.process)) (next_of v.sets.now.table.now v.raw.now s.process at.state.0)
+        (subst (λ (k : ℕ). NoWay v.sets.now.table.now v.raw.now v.process set k 0 (length v.raw.now.operations) (bit_or at.used (2 ^ s.process))
+        (next_of v.sets.now.table.now v.raw.now s.process at.state.0)
         (seen_after v.process s.process (answer_of v.sets.now.table.now v.raw.now s.process at.state.0) at.seen)) back (rw (is.used, is.state, is.seen) at none))
 
     module _ (steps : List Step) (are : AreOpenings v low high at steps) where
@@ -184,11 +185,15 @@ GoesOn v set left at here size first start = (tail : List ℕ) (pair : ℕ × �
 
 module _ (v : View) (set : PairSet) (size : ℕ) (first : Prefix) (start : List ℕ) where
   pub goes_start : (left : ℕ) (here : List ℕ) → left ≡ size → here ≡ start → GoesOn v set left first here size first start
-  goes_start left here e f tail pair way =
-      (tail, ap (λ (xs : List ℕ). xs ++ tail) f, subst (λ (k : ℕ). IsFirstWay v.sets.now.table.now v.raw.now v.process set k 0 (length v.raw.now.operations) first.used first.state.0 first.seen tail pair) e way)
+  goes_start left here e f tail pair way = (
+    tail,
+    ap (λ (xs : List ℕ). xs ++ tail) f,
+    subst (λ (k : ℕ). IsFirstWay v.sets.now.table.now v.raw.now v.process set k 0 (length v.raw.now.operations) first.used first.state.0 first.seen tail pair) e way,
+  )
 
   -- by one more process
-  pub goes_more : (left high : ℕ) (at : Prefix) (here : List ℕ) → 1 ≤ left → high ≡ length v.raw.now.operations → (s : Step) → IsFirstStep v set left 0 high at s → (more : List ℕ) → more ≡ here ++ s.process ∷ []
+  pub goes_more : (left high : ℕ) (at : Prefix) (here : List ℕ) → 1 ≤ left → high ≡ length v.raw.now.operations → (s : Step) → IsFirstStep v set left 0 high at s → (more : List ℕ)
+      → more ≡ here ++ s.process ∷ []
       → GoesOn v set left at here size first start → (after : ℕ) → after ≡ left - 1 → GoesOn v set after s.prefix more size first start
   goes_more left high at here some every s is more e goes after less tail pair way =
       let rest = subst (λ (k : ℕ). IsFirstWay v.sets.now.table.now v.raw.now v.process set k 0 (length v.raw.now.operations) s.prefix.used s.prefix.state.0 s.prefix.seen tail pair) less way in

@@ -138,13 +138,15 @@ module _ (a b : List ℕ) (from_a from_b last : ℕ) (stock : List ℕ) (is : Is
   pub merged_first : (x : ℕ) → last ≤ x → from_a < length a → x ≡ get_or a from_a 0 → IsMerged a b (from_a + 1) from_b x (stock ++ x ∷ [])
   merged_first x l inside e = record {
     up = up_to_pushed x l;
-    same = λ o. (let more = subst (λ (y : ℕ). times o (take (from_a + 1) a) ≡ times o (take from_a a) + one o y) (sym e) (take_times o from_a a inside) in omega (arith, more, is.same o, times_last o x stock));
+    same = λ o. (let more = subst (λ (y : ℕ). times o (take (from_a + 1) a) ≡ times o (take from_a a) + one o y) (sym e) (take_times o from_a a inside) in
+        omega (arith, more, is.same o, times_last o x stock));
   }
 
   pub merged_second : (x : ℕ) → last ≤ x → from_b < length b → x ≡ get_or b from_b 0 → (next : ℕ) → next ≡ from_b + 1 → IsMerged a b from_a next x (stock ++ x ∷ [])
   merged_second x l inside e next f = subst (λ (k : ℕ). IsMerged a b from_a k x (stock ++ x ∷ [])) (sym f) (record {
     up = up_to_pushed x l;
-    same = λ o. (let more = subst (λ (y : ℕ). times o (take (from_b + 1) b) ≡ times o (take from_b b) + one o y) (sym e) (take_times o from_b b inside) in omega (arith, more, is.same o, times_last o x stock));
+    same = λ o. (let more = subst (λ (y : ℕ). times o (take (from_b + 1) b) ≡ times o (take from_b b) + one o y) (sym e) (take_times o from_b b inside) in
+        omega (arith, more, is.same o, times_last o x stock));
   })
 
   pub merged_whole : length a ≤ from_a → length b ≤ from_b → HaveSame (a ++ b) stock
@@ -163,7 +165,8 @@ pub record IsWalked (sets : Sets) (a b : List ℕ) (taken from_a last : ℕ) (at
   pub stands : StandsAt sets at.size at.place stock
   pub merged : IsMerged a b from_a (taken - from_a) last stock
 
-module _ (sets : Sets) (a b : List ℕ) (taken from_a last : ℕ) (at : StockPlace) (is : IsWalked sets a b taken from_a last at) (x : ℕ) (l : last ≤ x) (next : StockPlace) (size : next.size ≡ at.size + 1)
+module _ (sets : Sets) (a b : List ℕ) (taken from_a last : ℕ) (at : StockPlace) (is : IsWalked sets a b taken from_a last at) (x : ℕ) (l : last ≤ x) (next : StockPlace)
+    (size : next.size ≡ at.size + 1)
     (child : (stock : List ℕ) → StandsAt sets at.size at.place stock → UpTo x stock → StandsAt sets next.size next.place (stock ++ x ∷ [])) where
   stands_next : StandsAt sets next.size next.place (is.stock ++ x ∷ [])
   stands_next = child is.stock is.stands (up_to_next a b from_a (taken - from_a) last is.stock is.merged x l)

@@ -17,7 +17,8 @@ pub room_other : (size : ℕ) (seen : Option ℕ) → 1 ≤ size → room_of see
 room_other size None l = omega (arith, l)
 room_other size (Some s) l = omega (arith, l)
 
-told_other : (seen : Option ℕ) (used p j : ℕ) → p ≢ j → MatchOption seen (¬ IsBitSet used j) (λ r. IsBitSet used j) → MatchOption seen (¬ IsBitSet (bit_or used (2 ^ p)) j) (λ r. IsBitSet (bit_or used (2 ^ p)) j)
+told_other : (seen : Option ℕ) (used p j : ℕ) → p ≢ j → MatchOption seen (¬ IsBitSet used j) (λ r. IsBitSet used j)
+    → MatchOption seen (¬ IsBitSet (bit_or used (2 ^ p)) j) (λ r. IsBitSet (bit_or used (2 ^ p)) j)
 told_other None used p j n told = λ s. elim ((union_set used (2 ^ p) j).0 s) [ inl u ↦ told u | inr b ↦ n (sym (pow_set p j b)) ]
 told_other (Some r) used p j n told = (union_set used (2 ^ p) j).1 (inl told)
 
@@ -34,7 +35,8 @@ module _ (v : View) (at : Prefix) (is : IsPrefix v at) (new : Prefix) (known : n
     answer = subst (λ (s : Option ℕ). IfSome s (λ r. r < MOST_RESPONSES)) (sym seen) l;
   }
 
-  pub prefix_other : (p : ℕ) (rest : List ℕ) → p < length v.raw.now.operations → ¬ IsBitSet at.used p → p ≢ v.process → HaveSame is.stock (slice_index v.raw.now.operations p ∷ rest) → StandsAt v.sets.now (at.size - 1) new.place rest
+  pub prefix_other : (p : ℕ) (rest : List ℕ) → p < length v.raw.now.operations → ¬ IsBitSet at.used p → p ≢ v.process
+      → HaveSame is.stock (slice_index v.raw.now.operations p ∷ rest) → StandsAt v.sets.now (at.size - 1) new.place rest
       → 1 ≤ at.size → new.used ≡ bit_or at.used (2 ^ p) → new.seen ≡ at.seen → new.size ≡ at.size - 1 → IsPrefix v new
   prefix_other p rest l free n same stands some used seen size = record {
     stock = rest;

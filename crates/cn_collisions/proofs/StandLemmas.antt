@@ -40,14 +40,16 @@ module _ (operations count : ℕ) (levels : List Stocks) (are : AreLevels operat
   pub stands_long : (size place : ℕ) (stock : List ℕ) → StandsIn levels size place stock → length stock ≡ size
   stands_long size place stock stands = (some_all operations count size levels stands.0 are stands.1).1.long place stock stands.2
 
-  pub less_stands : (size place : ℕ) (stock : List ℕ) (x : Stocks) (st : Stock) → StandsIn levels size place stock → x ≡ get_or levels size x → st ≡ get_or x.list.items place st → (o j : ℕ) → slice_index_or st.less o None ≡ Some j
+  pub less_stands : (size place : ℕ) (stock : List ℕ) (x : Stocks) (st : Stock) → StandsIn levels size place stock → x ≡ get_or levels size x → st ≡ get_or x.list.items place st
+      → (o j : ℕ) → slice_index_or st.less o None ≡ Some j
       → (1 ≤ size) × ((rest : List ℕ) × HaveSame stock (o ∷ rest) × StandsIn levels (size - 1) j rest)
   less_stands size place stock x st stands e f o j h =
       let same = level_read levels size stands.0 x stands.1 e in
       let read = stock_read size place stock x st stands e f in
       by_size size (subst (λ (s : Stocks). slice_get levels size ≡ Some s) (sym same) stands.1) read
     where
-      by_size : (size : ℕ) → slice_get levels size ≡ Some x → (slice_get x.list.items place ≡ Some st) × (st.operations.items ≡ stock) → (1 ≤ size) × ((rest : List ℕ) × HaveSame stock (o ∷ rest) × StandsIn levels (size - 1) j rest)
+      by_size : (size : ℕ) → slice_get levels size ≡ Some x → (slice_get x.list.items place ≡ Some st) × (st.operations.items ≡ stock)
+          → (1 ≤ size) × ((rest : List ℕ) × HaveSame stock (o ∷ rest) × StandsIn levels (size - 1) j rest)
       by_size zero at read = (let less = ((are.first x at).stocks place st read.0).smaller.some o j h in absurd (none-some less.0 less.1))
       by_size (suc m) at read =
           let b = some_at levels m (let l = slice_get_within levels (suc m) x at in omega (arith, l)) in
@@ -58,7 +60,8 @@ module _ (operations count : ℕ) (levels : List Stocks) (are : AreLevels operat
           )
 
   -- an operation that stands in the stock has a link
-  pub has_link : (size place : ℕ) (stock : List ℕ) (x : Stocks) (st : Stock) → StandsIn levels size place stock → x ≡ get_or levels size x → st ≡ get_or x.list.items place st → (o : ℕ) → 1 ≤ times o stock → ((j : ℕ) → slice_index_or st.less o None ≡ Some j → ⊥) → ⊥
+  pub has_link : (size place : ℕ) (stock : List ℕ) (x : Stocks) (st : Stock) → StandsIn levels size place stock → x ≡ get_or levels size x → st ≡ get_or x.list.items place st
+      → (o : ℕ) → 1 ≤ times o stock → ((j : ℕ) → slice_index_or st.less o None ≡ Some j → ⊥) → ⊥
   has_link size place stock x st stands e f o l none =
       let same = level_read levels size stands.0 x stands.1 e in
       let read = stock_read size place stock x st stands e f in
@@ -70,7 +73,8 @@ module _ (operations count : ℕ) (levels : List Stocks) (are : AreLevels operat
 -- ---- the sets of a stock
 
 module _ {E : Type 0} (Fit : ℕ → List ℕ → E → Type 0) (levels : List Stocks) (sets : List (Vec E Global)) (count : ℕ)
-    (each : EachAt (λ m e. (s : Stocks) → slice_get levels m ≡ Some s → EachAt (λ i x. (st : Stock) → slice_get s.list.items i ≡ Some st → Fit m st.operations.items x) (length s.list.items) e.items) count sets)
+    (each : EachAt (λ m e. (s : Stocks) → slice_get levels m ≡ Some s
+    → EachAt (λ i x. (st : Stock) → slice_get s.list.items i ≡ Some st → Fit m st.operations.items x) (length s.list.items) e.items) count sets)
     (size place : ℕ) (stock : List ℕ) (stands : StandsIn levels size place stock) (few : size < count) (row : Vec E Global) (read : row ≡ get_or sets size row) where
   pub row_long : length row.items ≡ length stands.0.list.items
   row_long = (each_read _ sets count size row each few read stands.0 stands.1).0

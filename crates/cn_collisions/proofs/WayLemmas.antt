@@ -97,7 +97,8 @@ module _ (t : TypeTable) (c : RawChoice) (p q : ℕ) (same : slice_index c.opera
       subst (λ (s : Option ℕ). Ends t c j (next_of t c (exchange p q y) state) s (map (exchange p q) ys) pair) (same_seen y (answer_of t c (exchange p q y) state) seen) moved
 
 -- a way to go on from a process is like one from another process with its operation
-pub step_exchanged : (t : TypeTable) (c : RawChoice) (j p q : ℕ) → slice_index c.operations p ≡ slice_index c.operations q → p ≢ j → q ≢ j → p < length c.operations → q < length c.operations → (r s : ℕ)
+pub step_exchanged : (t : TypeTable) (c : RawChoice) (j p q : ℕ) → slice_index c.operations p ≡ slice_index c.operations q → p ≢ j → q ≢ j → p < length c.operations
+    → q < length c.operations → (r s : ℕ)
     → StepWay t c j q r s → StepWay t c j p r s
 step_exchanged t c j p q same n m l u r s h =
     let ps = h.2.0 in
@@ -107,7 +108,12 @@ step_exchanged t c j p q same n m l u r s h =
     let ends = ends_exchanged t c p q same j n m (q ∷ ps) c.state None (r, s) h.2.3 in (
       h.0,
       h.1,
-      (moved, length-map ps (exchange p q) ∙ h.2.1, (subst (λ (k : ℕ). IsFresh (length c.operations) 0 (k ∷ moved)) first fresh).2, subst (λ (k : ℕ). Ends t c j c.state None (k ∷ moved) (r, s)) first ends),
+      (
+        moved,
+        length-map ps (exchange p q) ∙ h.2.1,
+        (subst (λ (k : ℕ). IsFresh (length c.operations) 0 (k ∷ moved)) first fresh).2,
+        subst (λ (k : ℕ). Ends t c j c.state None (k ∷ moved) (r, s)) first ends,
+      ),
     )
 
 -- ---- the first process of a way
@@ -146,8 +152,12 @@ module _ (t : TypeTable) (c : RawChoice) (j : ℕ) (set : PairSet) (size low hig
   dead_tried : (q : ℕ) → q ≢ j → q < high → IsTried c j low q used (slice_index c.operations q) → ((p : ℕ) → low ≤ p → p < q → Dead p) → Dead q
   dead_tried q m high tried dead ps way hits =
       let p = tried.0 in
-      dead p tried.1 tried.2 (map (exchange p q) ps) (way_before p q ps tried.2 tried.1 (omega (arith, tried.2, high)) tried.4 way)
-      (hits.0, subst (λ (k : ℕ). Ends t c j state seen (k ∷ map (exchange p q) ps) hits.0) (exchange_second p q q refl) (ends_exchanged t c p q tried.5 j tried.3 m (q ∷ ps) state seen hits.0 hits.1), hits.2)
+      dead p tried.1 tried.2 (map (exchange p q) ps) (way_before p q ps tried.2 tried.1 (omega (arith, tried.2, high)) tried.4 way) (
+        hits.0,
+        subst (λ (k : ℕ). Ends t c j state seen (k ∷ map (exchange p q) ps) hits.0) (exchange_second p q q refl)
+            (ends_exchanged t c p q tried.5 j tried.3 m (q ∷ ps) state seen hits.0 hits.1),
+        hits.2,
+      )
 
   -- a process that is not tried leads nowhere
   pub dead_closed : (q : ℕ) → q < high → ((p : ℕ) → low ≤ p → p < q → Dead p) → IsBitSet used q ⊎ ((q ≢ j) × IsTried c j low q used (slice_index c.operations q)) → Dead q

@@ -106,7 +106,8 @@ module _ (c : RawChoice) (j : ℕ) where
   not_used used p q n m s = elim ((union_set used (2 ^ p) q).0 s) [ inl u ↦ n u | inr b ↦ m (pow_set p q b) ]
 
   -- after a move of another process
-  pub rest_other : (used p : ℕ) (stock rest : List ℕ) → IsRest c j used stock → p < length c.operations → ¬ IsBitSet used p → p ≢ j → HaveSame stock (op p ∷ rest) → IsRest c j (bit_or used (2 ^ p)) rest
+  pub rest_other : (used p : ℕ) (stock rest : List ℕ) → IsRest c j used stock → p < length c.operations → ¬ IsBitSet used p → p ≢ j → HaveSame stock (op p ∷ rest)
+      → IsRest c j (bit_or used (2 ^ p)) rest
   rest_other used p stock rest r l n m same =
       let place = place_of p r.free 0 (in_free used stock r p l n m) in
       let d = place.0 in
@@ -160,7 +161,8 @@ module _ (c : RawChoice) (j : ℕ) where
           let x = w.0 in
           let f = fresh_to (length c.operations) used x w.2 in
           let e = ends_to t c j state (Some s) x (response, last) w.3 in
-          let taken = differ_taken x rest.free f.1 (λ p i. in_free used stock rest p (each_at (λ p. p < length c.operations) x p f.0 i) (f.2 p i) (λ g. f.2 p i (subst (IsBitSet used) (sym g) moved))) in
+          let taken = differ_taken x rest.free f.1
+          (λ p i. in_free used stock rest p (each_at (λ p. p < length c.operations) x p f.0 i) (f.2 p i) (λ g. f.2 p i (subst (IsBitSet used) (sym g) moved))) in
           (same_Some s response e.0, (operations_of c x, within_same (operations_of c rest.free) stock (operations_of c x) rest.same (taken_within op x rest.free taken), length-map x op ∙ w.1, e.1))
 
       pub ends_way : (size response last : ℕ) → s ≡ response → EndsAfter t state stock size last → WayTo t c j size used state (Some s) response last
@@ -224,6 +226,7 @@ module _ (c : RawChoice) (j : ℕ) where
                 (both ys zs s.before s.after parts.3 parts.4 ∙ s.ends),
           )
         where
-          both : (ys zs before after : List ℕ) → operations_of c ys ≡ before → operations_of c zs ≡ after → state_after t state (operations_of c (ys ++ j ∷ zs)) ≡ state_after t state (before ++ op j ∷ after)
+          both : (ys zs before after : List ℕ) → operations_of c ys ≡ before → operations_of c zs ≡ after
+              → state_after t state (operations_of c (ys ++ j ∷ zs)) ≡ state_after t state (before ++ op j ∷ after)
           both ys zs before after e g =
               ap (λ (word : List ℕ). state_after t state word) (map-append op ys (j ∷ zs)) ∙ rw (e, g) refl

@@ -139,7 +139,8 @@ told_kind : (kind : Kind) (holder : Holder) (before key : List ℕ) (table : Mem
     → first_fault (wrong_kind kind holder before key table) ≡ told WrongKind (not (is_at (is_of kind) key table))
 told_kind kind holder before key table there = of_value (get_member key table) there where
   of_value : (o : Option Data) → not (is_some o) ≡ false
-      → first_fault (cond (option_map_or (is_of kind) o true) [] (flaw WrongKind (key_path holder key) (kind_text before key (kind_name kind)))) ≡ told WrongKind (not (option_map_or (is_of kind) o false))
+      → first_fault (cond (option_map_or (is_of kind) o true) [] (flaw WrongKind (key_path holder key) (kind_text before key (kind_name kind)))) ≡ told WrongKind
+      (not (option_map_or (is_of kind) o false))
   of_value None h = absurd cc
   of_value (Some d) h = told_if WrongKind _ _ (is_of kind d)
 
@@ -156,7 +157,8 @@ table_kinds i table none =
 
 kinds_in_item : (i : ℕ) (d : Data) → option_map_or (lacks_a_key operation_keys) (as_table d) false ≡ false → first_fault (item_flaws Kinds i d) ≡ told WrongKind (not (is_operation d))
 kinds_in_item i d none = of_table (as_table d) none where
-  of_table : (o : Option Members) → option_map_or (lacks_a_key operation_keys) o false ≡ false → first_fault (option_map_or (table_flaws Kinds i) o (flaw WrongKind (table_path (Operation i)) (no_operation_text i)))
+  of_table : (o : Option Members) → option_map_or (lacks_a_key operation_keys) o false ≡ false
+      → first_fault (option_map_or (table_flaws Kinds i) o (flaw WrongKind (table_path (Operation i)) (no_operation_text i)))
       ≡ told WrongKind (not (option_map_or (λ table.
       is_at is_text (codes "name") table && (is_at (is_array_of is_text) (codes "response") table && is_at (is_array_of is_text) (codes "next") table)) o false))
   of_table None h = refl
@@ -239,7 +241,8 @@ names_first draft =
 
 count_told : {X : Type 0} (list : NameList) (most : ℕ) (xs : List X) → first_fault (bad_count list most (length xs)) ≡ told Count (is_miscounted most xs)
 count_told list most xs = of_tests (nat_le 1 (length xs)) (nat_le (length xs) most) where
-  of_tests : (a b : Bool) → first_fault (cond a (cond b [] (flaw Count (list_path list) (too_many_text (list_word list) most (length xs)))) (flaw Count (list_path list) (too_few_text (list_word list)))) ≡ told Count (not (a && b))
+  of_tests : (a b : Bool) → first_fault
+      (cond a (cond b [] (flaw Count (list_path list) (too_many_text (list_word list) most (length xs)))) (flaw Count (list_path list) (too_few_text (list_word list)))) ≡ told Count (not (a && b))
   of_tests true true = refl
   of_tests true false = refl
   of_tests false b = refl
@@ -311,7 +314,8 @@ lengths_first draft = told_each_all RowLength (row_lengths (length draft.states)
       told_append RowLength _ _ (not (length row.response == length draft.states)) (not (length row.next == length draft.states))
       (told_if RowLength _ _ (length row.response == length draft.states)) (told_if RowLength _ _ (length row.next == length draft.states))
 
-entries_told : (i : ℕ) (operation row what : List ℕ) (names texts : List (List ℕ)) → first_fault (each (unknown_entry i operation row what names) 0 texts) ≡ told UnknownName (not (are_among names texts))
+entries_told : (i : ℕ) (operation row what : List ℕ) (names texts : List (List ℕ))
+    → first_fault (each (unknown_entry i operation row what names) 0 texts) ≡ told UnknownName (not (are_among names texts))
 entries_told i operation row what names texts =
     told_each_all UnknownName (unknown_entry i operation row what names) (λ text. not (is_some (number_of names text))) (λ k text. told_if UnknownName _ _ (is_some (number_of names text))) 0 texts
     ∙ ap (told UnknownName) (any_not (λ text. is_some (number_of names text)) texts)
@@ -322,10 +326,12 @@ entries_first draft =
     told_each_all UnknownName (row_entries draft.states draft.responses) (λ row. not (are_among draft.responses row.response && are_among draft.states row.next)) of_row 0 draft.operations
     ∙ ap (told UnknownName) (any_not (λ row. are_among draft.responses row.response && are_among draft.states row.next) draft.operations)
   where
-    of_row : (i : ℕ) (row : DraftRow) → first_fault (row_entries draft.states draft.responses i row) ≡ told UnknownName (not (are_among draft.responses row.response && are_among draft.states row.next))
+    of_row : (i : ℕ) (row : DraftRow)
+        → first_fault (row_entries draft.states draft.responses i row) ≡ told UnknownName (not (are_among draft.responses row.response && are_among draft.states row.next))
     of_row i row =
         told_not UnknownName _ _ (are_among draft.responses row.response) (are_among draft.states row.next)
-        (entries_told i (operation_text i row.name) (codes "response") (codes "response") draft.responses row.response) (entries_told i (operation_text i row.name) (codes "next") (codes "state") draft.states row.next)
+        (entries_told i (operation_text i row.name) (codes "response") (codes "response") draft.responses row.response)
+        (entries_told i (operation_text i row.name) (codes "next") (codes "state") draft.states row.next)
 
 -- ---- all of them
 

@@ -196,10 +196,13 @@ lengths_plain draft = plain_each (row_lengths (length draft.states)) of_row 0 dr
       plain_append _ _ (plain_length i (operation_text i row.name) (codes "response") (length row.response) (length draft.states) (operation_plain i row.name) response_is)
       (plain_length i (operation_text i row.name) (codes "next") (length row.next) (length draft.states) (operation_plain i row.name) next_is)
 
-plain_entries : (i : ℕ) (operation row what : List ℕ) (names texts : List (List ℕ)) → IsPlain operation → IsPlain row → IsPlain what → ArePlain (each (unknown_entry i operation row what names) 0 texts)
+plain_entries : (i : ℕ) (operation row what : List ℕ) (names texts : List (List ℕ)) → IsPlain operation → IsPlain row → IsPlain what
+    → ArePlain (each (unknown_entry i operation row what names) 0 texts)
 plain_entries i operation row what names texts o r w =
     plain_each (unknown_entry i operation row what names) (λ k text. plain_if UnknownName _ _ (is_some (number_of names text))
-    (both o (both (printed (codes ", ") refl) (both r (both (printed (codes "[") refl) (both (number k) (both (printed (codes "]: ") refl) (both (quoted text) (both (printed (codes " is no ") refl) (both w (brackets_plain names))))))))))) 0 texts
+    (both o (both (printed (codes ", ") refl)
+    (both r (both (printed (codes "[") refl)
+    (both (number k) (both (printed (codes "]: ") refl) (both (quoted text) (both (printed (codes " is no ") refl) (both w (brackets_plain names))))))))))) 0 texts
 
 entries_are_plain : (draft : Draft) → ArePlain (entry_flaws draft)
 unfolding entry_flaws

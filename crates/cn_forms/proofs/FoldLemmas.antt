@@ -189,7 +189,8 @@ seam bytes front other is = (
 
 -- a word more in the run
 pub longer_run : (run rest word other : List ℕ) (len gap : ℕ) → len ≤ length run → run ≡ take len run ++ (spaces gap ++ rest) → rest ≡ word ++ 32 ∷ other
-    → (take (len + (gap + length word)) run ≡ take len run ++ (spaces gap ++ word)) × (run ≡ take (len + (gap + length word)) run ++ (spaces 1 ++ other)) × IsCharBoundary run (len + (gap + length word))
+    → (take (len + (gap + length word)) run ≡ take len run ++ (spaces gap ++ word)) × (run ≡ take (len + (gap + length word)) run ++ (spaces 1 ++ other))
+    × IsCharBoundary run (len + (gap + length word))
 longer_run run rest word other len gap inside is first =
     let front : List ℕ = take len run ++ (spaces gap ++ word) in
     let cut : run ≡ front ++ 32 ∷ other =

@@ -39,7 +39,8 @@ steps_few p (e ∷ events) = go (is_step_of p e) (steps_cons p e events) (steps_
 
 steps_none : (p : ℕ) (events : List Event) → HasNoEventOf p events → steps_of p events ≡ 0
 steps_none p [] h = refl
-steps_none p (Invoke q operation ∷ events) h = let c : steps_of p (Invoke q operation ∷ events) ≡ 0 + steps_of p events = steps_cons p (Invoke q operation) events in let r = steps_none p events h.1 in omega (arith, c, r)
+steps_none p (Invoke q operation ∷ events) h = let c : steps_of p (Invoke q operation ∷ events) ≡ 0 + steps_of p events = steps_cons p (Invoke q operation) events in
+    let r = steps_none p events h.1 in omega (arith, c, r)
 steps_none p (Step q ∷ events) h =
     let ne = h.0 in
     let t : (q == p) ≡ false = grind (arith, nat_tests) in
@@ -61,10 +62,12 @@ pub later_same : (core : Log) → BeginsWith core.schedule core.schedule
 later_same core = ([], sym (append-nil core.schedule))
 
 -- a step adds one
-pub since_step : (p : ℕ) (core now next : Log) (x : StepAnswer) → BeginsWith now.schedule core.schedule → IsStep p now x next → (steps_since p core next ≡ suc (steps_since p core now)) × BeginsWith next.schedule core.schedule
+pub since_step : (p : ℕ) (core now next : Log) (x : StepAnswer) → BeginsWith now.schedule core.schedule → IsStep p now x next
+    → (steps_since p core next ≡ suc (steps_since p core now)) × BeginsWith next.schedule core.schedule
 since_step p core now next x h k =
     let r = k.1.1 in
-    let e : next.schedule ≡ core.schedule ++ ((h.0 ++ r) ++ Step p ∷ []) = ap (λ (y : Log). y.schedule) k.2 ∙ ap (λ l. l ++ Step p ∷ []) (k.1.2 ∙ ap (λ l. l ++ r) h.1 ∙ append_assoc core.schedule h.0 r)
+    let e : next.schedule ≡ core.schedule ++ ((h.0 ++ r) ++ Step p ∷ []) = ap (λ (y : Log). y.schedule) k.2
+    ∙ ap (λ l. l ++ Step p ∷ []) (k.1.2 ∙ ap (λ l. l ++ r) h.1 ∙ append_assoc core.schedule h.0 r)
     ∙ append_assoc core.schedule (h.0 ++ r) (Step p ∷ []) in
     let a = since_is p core next ((h.0 ++ r) ++ Step p ∷ []) e in
     let b = since_is p core now h.0 h.1 in
@@ -88,10 +91,12 @@ last_from_invoke p operation core mid now k (inl same) =
 last_from_invoke p operation core mid now k (inr last) = inr last
 
 -- a call adds none
-since_invoke : (p operation : ℕ) (core mid now : Log) → IsInvoke p operation core mid → BeginsWith now.schedule mid.schedule → (steps_since p core now ≡ steps_since p mid now) × BeginsWith now.schedule core.schedule
+since_invoke : (p operation : ℕ) (core mid now : Log) → IsInvoke p operation core mid → BeginsWith now.schedule mid.schedule
+    → (steps_since p core now ≡ steps_since p mid now) × BeginsWith now.schedule core.schedule
 since_invoke p operation core mid now k h =
     let r = k.1.1 in
-    let m : mid.schedule ≡ core.schedule ++ (r ++ Invoke p operation ∷ []) = ap (λ (y : Log). y.schedule) k.2 ∙ ap (λ l. l ++ Invoke p operation ∷ []) k.1.2 ∙ append_assoc core.schedule r (Invoke p operation ∷ []) in
+    let m : mid.schedule ≡ core.schedule ++ (r ++ Invoke p operation ∷ []) = ap (λ (y : Log). y.schedule) k.2 ∙ ap (λ l. l ++ Invoke p operation ∷ []) k.1.2
+    ∙ append_assoc core.schedule r (Invoke p operation ∷ []) in
     let e : now.schedule ≡ core.schedule ++ ((r ++ Invoke p operation ∷ []) ++ h.0) = h.1 ∙ ap (λ l. l ++ h.0) m ∙ append_assoc core.schedule (r ++ Invoke p operation ∷ []) h.0 in
     let a = since_is p core now ((r ++ Invoke p operation ∷ []) ++ h.0) e in
     let b = since_is p mid now h.0 h.1 in
@@ -128,19 +133,29 @@ taken_later mine k start seat end now more h =
     record { same = h.same; later = h.later; history = begins_again seat.core.schedule end.schedule now.schedule h.history more; pending = h.pending; steps = h.steps; last = h.last }
 
 module _ {G : Type 0} (asks : G → SeatState → ℕ → G → Type 0) (says : G → Go) where
-  asked_later : (mine : Entry) (start : SeatState) (end now : Log) → BeginsWith now.schedule end.schedule → (k : ℕ) (old new : G) → IsAsked asks says mine start end k old new → IsAsked asks says mine start now k old new
+  asked_later : (mine : Entry) (start : SeatState) (end now : Log) → BeginsWith now.schedule end.schedule → (k : ℕ) (old new : G) → IsAsked asks says mine start end k old new
+      → IsAsked asks says mine start now k old new
   asked_later mine start end now more zero old new h = h
   asked_later mine start end now more (suc k) old new h = (h.0, h.1, asked_later mine start end now more k old h.0 h.2, h.3, taken_later mine k start h.1 end now more h.4, h.5)
 
   -- one more question, about the next step of the seat
-  pub asked_next : (mine : Entry) (start seat : SeatState) (now : Log) (k : ℕ) (old mid new : G) → IsSameSeat start seat → BeginsWith seat.core.schedule start.core.schedule → BeginsWith now.schedule seat.core.schedule → pending seat ≡ Some mine
-      → steps_since start.process start.core seat.core ≡ k → LastIsOwn start.process start.core seat.core → IsAsked asks says mine start seat.core k old mid → says mid ≡ On → asks mid seat (k + 1) new → (m : ℕ) → m ≡ suc k → IsAsked asks says mine start now m old new
+  pub asked_next : (mine : Entry) (start seat : SeatState) (now : Log) (k : ℕ) (old mid new : G) → IsSameSeat start seat → BeginsWith seat.core.schedule start.core.schedule
+      → BeginsWith now.schedule seat.core.schedule → pending seat ≡ Some mine
+      → steps_since start.process start.core seat.core ≡ k → LastIsOwn start.process start.core seat.core → IsAsked asks says mine start seat.core k old mid → says mid ≡ On
+      → asks mid seat (k + 1) new → (m : ℕ) → m ≡ suc k → IsAsked asks says mine start now m old new
   asked_next mine start seat now k old mid new same later more is steps last asked on asks_it m e =
       let z : k + 1 ≡ suc k = omega arith in
-      subst (λ n. IsAsked asks says mine start now n old new) (sym e)
-      (mid, seat, asked_later mine start seat.core now more k old mid asked, on, record { same = same; later = later; history = more; pending = is; steps = steps; last = last }, subst (λ n. asks mid seat n new) z asks_it)
+      subst (λ n. IsAsked asks says mine start now n old new) (sym e) (
+        mid,
+        seat,
+        asked_later mine start seat.core now more k old mid asked,
+        on,
+        record { same = same; later = later; history = more; pending = is; steps = steps; last = last },
+        subst (λ n. asks mid seat n new) z asks_it,
+      )
 
-  taken_from : (a b seat : SeatState) (end : Log) (operation : ℕ) (mine : Entry) (k : ℕ) → IsSameSeat a b → IsInvoke a.process operation a.core b.core → HasTaken mine k b end seat → HasTaken mine k a end seat
+  taken_from : (a b seat : SeatState) (end : Log) (operation : ℕ) (mine : Entry) (k : ℕ) → IsSameSeat a b → IsInvoke a.process operation a.core b.core → HasTaken mine k b end seat
+      → HasTaken mine k a end seat
   taken_from a b seat end operation mine k same invoke h =
       let s = since_invoke a.process operation a.core b.core seat.core invoke h.later in
       record {
@@ -153,10 +168,12 @@ module _ {G : Type 0} (asks : G → SeatState → ℕ → G → Type 0) (says : 
       }
 
   -- the questions of a call, from its beginning on
-  pub asked_from : (a b : SeatState) (end : Log) (operation : ℕ) (mine : Entry) → IsSameSeat a b → IsInvoke a.process operation a.core b.core → (k : ℕ) (old new : G) → IsAsked asks says mine b end k old new → IsAsked asks says mine a end k old new
+  pub asked_from : (a b : SeatState) (end : Log) (operation : ℕ) (mine : Entry) → IsSameSeat a b → IsInvoke a.process operation a.core b.core → (k : ℕ) (old new : G)
+      → IsAsked asks says mine b end k old new → IsAsked asks says mine a end k old new
   asked_from a b end operation mine same invoke zero old new h = h
   asked_from a b end operation mine same invoke (suc k) old new h =
       (h.0, h.1, asked_from a b end operation mine same invoke k old h.0 h.2, h.3, taken_from a b h.1 end operation mine k same invoke h.4, h.5)
 
-  pub since_call : (a b d : SeatState) (operation : ℕ) → IsSameSeat a b → IsInvoke a.process operation a.core b.core → GoesOn b.process b.core d.core → steps_since b.process b.core d.core ≡ steps_since a.process a.core d.core
+  pub since_call : (a b d : SeatState) (operation : ℕ) → IsSameSeat a b → IsInvoke a.process operation a.core b.core → GoesOn b.process b.core d.core
+      → steps_since b.process b.core d.core ≡ steps_since a.process a.core d.core
   since_call a b d operation same invoke goes = ap (λ p. steps_since p b.core d.core) same.1 ∙ sym (since_invoke a.process operation a.core b.core d.core invoke (goes.1, goes.2)).0

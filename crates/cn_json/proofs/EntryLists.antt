@@ -6,7 +6,8 @@ use Rattle.cn_json.specs.Log.{entries_list, placed_data}
 
 -- the value of the entry at a place, and then those of the entries behind it
 pub values_at : (object : TypeTable) (state : ℕ) (es : List Entry) (slots : List ℕ) (k slot : ℕ) (e : Entry) → slice_get es k ≡ Some e → slice_get slots k ≡ Some slot
-    → entries_list object state (drop k es) (drop k slots) ≡ placed_data object slot e (transition object e.operation.0 state) ∷ entries_list object (transition object e.operation.0 state).1 (drop (suc k) es) (drop (suc k) slots)
+    → entries_list object state (drop k es) (drop k slots) ≡ placed_data object slot e (transition object e.operation.0 state) ∷ entries_list object
+    (transition object e.operation.0 state).1 (drop (suc k) es) (drop (suc k) slots)
 values_at object state [] slots k slot e h g = absurd cc
 values_at object state (x ∷ es) [] k slot e h g = absurd cc
 values_at object state (x ∷ es) (s ∷ slots) zero slot e h g =

@@ -32,7 +32,8 @@ module _ (t : TypeTable) (many : ℕ) where
   )
 
   -- by one operation first
-  pub first_onward : (first : ℕ) (from moved : ℕ → Type 0) → ((q : ℕ) → moved q ↔ ((found : ℕ) × from found × ((transition t first found).1 ≡ q))) → (q : ℕ) → Onward t many moved q ↔ FirstOnward t first many from q
+  pub first_onward : (first : ℕ) (from moved : ℕ → Type 0) → ((q : ℕ) → moved q ↔ ((found : ℕ) × from found × ((transition t first found).1 ≡ q))) → (q : ℕ)
+      → Onward t many moved q ↔ FirstOnward t first many from q
   first_onward first from moved m q = (
     λ o. (let f = (m o.0).0 o.1 in (f.0, f.1, (o.2.0, ap (λ (s : ℕ). state_after t s (replicate o.2.0 many)) f.2 ∙ o.2.1))),
     λ o. ((transition t first o.0).1, (m (transition t first o.0).1).1 (o.0, o.1, refl), (o.2.0, o.2.1)),

@@ -144,7 +144,14 @@ module _ (many single : ℕ) (d : many ≢ single) where
 
     pub few_mixed : (i k x : ℕ) → x ≢ many → times x (many ∷ replicate i many ++ single ∷ replicate k many) ≤ one x single
     few_mixed i k x n =
-        omega (arith, times_cons x many (replicate i many ++ single ∷ replicate k many), one_else x many (λ e. n (sym e)), times_between x single (replicate i many) (replicate k many), times_other x many i (λ e. n (sym e)), times_other x many k (λ e. n (sym e)))
+        omega (
+          arith,
+          times_cons x many (replicate i many ++ single ∷ replicate k many),
+          one_else x many (λ e. n (sym e)),
+          times_between x single (replicate i many) (replicate k many),
+          times_other x many i (λ e. n (sym e)),
+          times_other x many k (λ e. n (sym e)),
+        )
 
     pub few_once : (k x : ℕ) → x ≢ many → times x (single ∷ replicate k many) ≤ one x single
     few_once k x n = omega (arith, times_cons x single (replicate k many), times_other x many k (λ e. n (sym e)))

@@ -76,14 +76,16 @@ record Reached (t : TypeTable) (start : ℕ) (stock : List ℕ) (chosen : ℕ �
   within : (o : ℕ) → times o (first ∷ rest) + (times o pool + times o further) ≤ times o stock
   ends : state_after t start (first ∷ rest) ≡ state
 
-module _ (t : TypeTable) (valid : IsTypeTable t) (start : ℕ) (start_known : start < length t.states) (stock : List ℕ) (known : IsKnown (length t.operations) stock) (s : StockSplits t start stock) where
+module _ (t : TypeTable) (valid : IsTypeTable t) (start : ℕ) (start_known : start < length t.states) (stock : List ℕ) (known : IsKnown (length t.operations) stock)
+    (s : StockSplits t start stock) where
   abbrev next : ℕ → ℕ → ℕ
   next z q = (transition t z q).1
 
   abbrev To : Bool → List ℕ → List ℕ → ℕ → Type 0
   To part further pool q = Reached t start stock s.chosen part further pool q
 
-  after : (part : Bool) (further pool : List ℕ) (q z : ℕ) (less more : List ℕ) → To part further pool q → ((o : ℕ) → one o z + (times o less + times o more) ≤ times o pool + times o further) → To part more less (next z q)
+  after : (part : Bool) (further pool : List ℕ) (q z : ℕ) (less more : List ℕ) → To part further pool q
+      → ((o : ℕ) → one o z + (times o less + times o more) ≤ times o pool + times o further) → To part more less (next z q)
   after part further pool q z less more h room = record {
     first = h.first;
     rest = h.rest ++ z ∷ [];
@@ -186,7 +188,8 @@ module _ (t : TypeTable) (valid : IsTypeTable t) (start : ℕ) (start_known : st
           let h = g.own q i in
           let z_known = known_in z pool (λ o. omega (arith, g.room h.0 o)) some in
           grow fuel r.0 (next z q ∷ states) (omega (arith, l))
-          (add pool r.0 states (next z q) g new (next_below t z q valid z_known (g.below q i)) (h.0, after h.0 (further h.0) pool q z r.0 (further h.0) h.1 (λ o. omega (arith, r.1 o))) fewer (omega (arith, r.2)))
+          (add pool r.0 states (next z q) g new (next_below t z q valid z_known (g.below q i))
+          (h.0, after h.0 (further h.0) pool q z r.0 (further h.0) h.1 (λ o. omega (arith, r.1 o))) fewer (omega (arith, r.2)))
           (λ o. omega (arith, fewer o, up o)) (λ less more g2 f inc c. k less more g2 (λ o. omega (arith, f o, fewer o)) (λ x j. inc x (inr j)) c);
       begins = λ z some new.
           let r = take_one z pool some in
@@ -264,7 +267,8 @@ module _ (t : TypeTable) (valid : IsTypeTable t) (start : ℕ) (start_known : st
   abbrev Led : List ℕ → List ℕ → ℕ → Type 0
   Led pool states q = (b : Bool) × (r : ℕ) × In r states × Reached t start stock s.chosen b (aside b) pool r × (next (star (not b)) r ≡ q)
 
-  module _ (pool1 states1 : List ℕ) (g1 : Grown (length t.states + 1) aside pool1 states1) (c1 : Closed (λ _. ⊥) pool1 states1) (has : (b : Bool) → In (next (star b) start) states1) (all : NoneLast t) where
+  module _ (pool1 states1 : List ℕ) (g1 : Grown (length t.states + 1) aside pool1 states1) (c1 : Closed (λ _. ⊥) pool1 states1)
+      (has : (b : Bool) → In (next (star b) start) states1) (all : NoneLast t) where
     led_known : (q : ℕ) → Led pool1 states1 q → q < length t.states
     led_known q f = subst (λ (x : ℕ). x < length t.states) f.4 (next_below t (star (not f.0)) f.1 valid (known (star (not f.0)) (star_in (not f.0))) (g1.below f.1 f.2))
 
@@ -274,7 +278,8 @@ module _ (t : TypeTable) (valid : IsTypeTable t) (start : ℕ) (start_known : st
     led_own : (q : ℕ) → Led pool1 states1 q → (pool : List ℕ) → ((o : ℕ) → times o pool ≤ times o pool1) → (b : Bool) × Reached t start stock s.chosen b (nothing b) pool q
     led_own q f pool up = (f.0, subst (λ (x : ℕ). Reached t start stock s.chosen f.0 [] pool x) f.4 (led_to f.0 f.1 pool up f.3))
 
-    module _ (least : ℕ) (pool2 states2 : List ℕ) (g2 : Grown least nothing pool2 states2) (c2 : Closed (Led pool1 states1) pool2 states2) (fewer : (o : ℕ) → times o pool2 ≤ times o pool1) (inc : (q : ℕ) → In q states1 → In q states2)
+    module _ (least : ℕ) (pool2 states2 : List ℕ) (g2 : Grown least nothing pool2 states2) (c2 : Closed (Led pool1 states1) pool2 states2)
+        (fewer : (o : ℕ) → times o pool2 ≤ times o pool1) (inc : (q : ℕ) → In q states1 → In q states2)
         (z other : ℕ) (two : (o : ℕ) → one o z + one o other ≤ times o pool2) where
       two1 : (o : ℕ) → one o z + one o other ≤ times o pool1
       two1 o = omega (arith, two o, fewer o)
@@ -308,7 +313,8 @@ module _ (t : TypeTable) (valid : IsTypeTable t) (start : ℕ) (start_known : st
       once_held q h deny = stays least nothing (Led pool1 states1) pool2 states2 g2 c2 z other two (not part) h.0 (next single start) root (λ k. deny (subst (Held2 (not part)) h.1 k))
 
       alone_held : (i : ℕ) → ¬ Held1 (state_after t start (z ∷ replicate i z)) → ⊥
-      alone_held i deny = stay_first (length t.states + 1) aside (λ _. ⊥) pool1 states1 g1 c1 z other two1 (λ h. stays (length t.states + 1) aside (λ _. ⊥) pool1 states1 g1 c1 z other two1 part i (next z start) h deny)
+      alone_held i deny = stay_first (length t.states + 1) aside (λ _. ⊥) pool1 states1 g1 c1 z other two1
+          (λ h. stays (length t.states + 1) aside (λ _. ⊥) pool1 states1 g1 c1 z other two1 part i (next z start) h deny)
 
       meets_alone : (q k : ℕ) → state_after t start (replicate k z) ≡ q → To (not part) [] pool2 q → ⊥
       meets_alone q zero e h = no_return part [] pool2 z refl (subst (λ (x : ℕ). Reached t start stock s.chosen (not part) [] pool2 x) (sym e) h) some
@@ -352,7 +358,11 @@ module _ (t : TypeTable) (valid : IsTypeTable t) (start : ℕ) (start_known : st
         back false put e h l = no_return true [] (put ∷ []) put e h l
 
     two_left : 2 ≤ length pool1
-    two_left = omega (arith, g1.enough, few (length t.states) (start ∷ states1) (fresh, g1.different) (λ q i. elim i [ inl e ↦ subst (λ (x : ℕ). x < length t.states) e start_known | inr j ↦ g1.below q j ]))
+    two_left = omega (
+      arith,
+      g1.enough,
+      few (length t.states) (start ∷ states1) (fresh, g1.different) (λ q i. elim i [ inl e ↦ subst (λ (x : ℕ). x < length t.states) e start_known | inr j ↦ g1.below q j ]),
+    )
 
     grown_on : (q : ℕ) → Led pool1 states1 q → ¬ In q states1 → ⊥
     grown_on q f new =
@@ -412,13 +422,17 @@ module _ (t : TypeTable) (valid : IsTypeTable t) (start : ℕ) (start_known : st
         λ i. elim i [
           | inl e ↦ (
               let z = some_left both_left.0 (omega (arith, some, first_left.2, both_left.2)) in
-              collide true (aside true) (aside false) both_left.0 (next (star true) start) z.0 (root_at true) (subst (λ (q : ℕ). Reached t start stock s.chosen false (aside false) both_left.0 q) e (root_at false)) z.1
+              collide true (aside true) (aside false) both_left.0 (next (star true) start) z.0 (root_at true)
+              (subst (λ (q : ℕ). Reached t start stock s.chosen false (aside false) both_left.0 q) e (root_at false)) z.1
               )
           | inr a ↦ a
         ],
         (λ i. i, tt),
       );
-      below = λ q i. elim i [ inl e ↦ subst (λ (x : ℕ). x < length t.states) e (below_at true) | inr j ↦ elim j [ inl e ↦ subst (λ (x : ℕ). x < length t.states) e (below_at false) | inr a ↦ absurd a ] ];
+      below = λ q i. elim i [
+        | inl e ↦ subst (λ (x : ℕ). x < length t.states) e (below_at true)
+        | inr j ↦ elim j [ inl e ↦ subst (λ (x : ℕ). x < length t.states) e (below_at false) | inr a ↦ absurd a ]
+      ];
       own = λ q i. elim i [
         | inl e ↦ (true, subst (λ (x : ℕ). Reached t start stock s.chosen true (aside true) both_left.0 x) e (root_at true))
         | inr j ↦ elim j [ inl e ↦ (false, subst (λ (x : ℕ). Reached t start stock s.chosen false (aside false) both_left.0 x) e (root_at false)) | inr a ↦ absurd a ]
@@ -432,7 +446,8 @@ module _ (t : TypeTable) (valid : IsTypeTable t) (start : ℕ) (start_known : st
 
     pub too_long : ⊥
     too_long =
-        grow (length t.states + 1) aside (λ _. ⊥) both_left.0 (λ q f. absurd f) (λ q f pool up. absurd f) (length t.states) both_left.0 (next (star true) start ∷ next (star false) start ∷ []) (omega arith) begun (λ o. omega arith)
+        grow (length t.states + 1) aside (λ _. ⊥) both_left.0 (λ q f. absurd f) (λ q f pool up. absurd f) (length t.states) both_left.0
+        (next (star true) start ∷ next (star false) start ∷ []) (omega arith) begun (λ o. omega arith)
         (λ pool1 states1 g1 fewer inc c1. second pool1 states1 g1 c1 (has_root states1 inc) all)
       where
         has_root : (states1 : List ℕ) → ((q : ℕ) → In q (next (star true) start ∷ next (star false) start ∷ []) → In q states1) → (b : Bool) → In (next (star b) start) states1

@@ -42,7 +42,13 @@ twins (suc n) f below = elim (seek f (f (suc n)) (suc n)) [
   | inl r ↦ record { first = r.0; second = suc n; before = omega (arith, r.1); inside = omega arith; same = r.2 }
   | inr never ↦ (
       let r = twins n (swapped f n (f (suc n))) (λ i l. less i l never (same_or (f i) n)) in
-      record { first = r.first; second = r.second; before = r.before; inside = omega (arith, r.inside); same = back r.first r.second (omega (arith, r.before, r.inside)) r.inside never r.same (same_or (f r.first) n) (same_or (f r.second) n) }
+      record {
+        first = r.first;
+        second = r.second;
+        before = r.before;
+        inside = omega (arith, r.inside);
+        same = back r.first r.second (omega (arith, r.before, r.inside)) r.inside never r.same (same_or (f r.first) n) (same_or (f r.second) n);
+      }
       )
 ]
   where
@@ -50,7 +56,8 @@ twins (suc n) f below = elim (seek f (f (suc n)) (suc n)) [
     less i l never (inl e) = omega (arith, swapped_at f n (f (suc n)) i e, below (suc n) (omega arith), never i l, e)
     less i l never (inr d) = omega (arith, swapped_else f n (f (suc n)) i d, below i (omega arith), d)
 
-    back : (i j : ℕ) → i < suc n → j < suc n → ((i : ℕ) → i < suc n → f i ≢ f (suc n)) → swapped f n (f (suc n)) i ≡ swapped f n (f (suc n)) j → (f i ≡ n) ⊎ (f i ≢ n) → (f j ≡ n) ⊎ (f j ≢ n) → f i ≡ f j
+    back : (i j : ℕ) → i < suc n → j < suc n → ((i : ℕ) → i < suc n → f i ≢ f (suc n)) → swapped f n (f (suc n)) i ≡ swapped f n (f (suc n)) j → (f i ≡ n) ⊎ (f i ≢ n)
+        → (f j ≡ n) ⊎ (f j ≢ n) → f i ≡ f j
     back i j l u never e (inl a) (inl b) = a ∙ sym b
     back i j l u never e (inl a) (inr b) = absurd (never j u (sym (sym (swapped_at f n (f (suc n)) i a) ∙ (e ∙ swapped_else f n (f (suc n)) j b))))
     back i j l u never e (inr a) (inl b) = absurd (never i l (sym (swapped_else f n (f (suc n)) i a) ∙ (e ∙ swapped_at f n (f (suc n)) j b)))

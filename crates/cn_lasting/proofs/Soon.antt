@@ -14,7 +14,8 @@ positive : (a : ℕ) → 1 ≤ a → (b : ℕ) × (a ≡ suc b)
 positive zero l = absurd (omega (arith, l))
 positive (suc b) l = (b, refl)
 
-module _ (t : TypeTable) (valid : IsTypeTable t) (start many single : ℕ) (start_known : start < length t.states) (many_known : many < length t.operations) (single_known : single < length t.operations) (d : many ≢ single) where
+module _ (t : TypeTable) (valid : IsTypeTable t) (start many single : ℕ) (start_known : start < length t.states) (many_known : many < length t.operations)
+    (single_known : single < length t.operations) (d : many ≢ single) where
   o : ℕ → ℕ
   o x = (transition t many x).1
 
@@ -71,7 +72,18 @@ module _ (t : TypeTable) (valid : IsTypeTable t) (start many single : ℕ) (star
         (transition t many q).0,
         (transition t many q).1,
         asked_last many single d t start many q (many ∷ replicate a.0 many ++ single ∷ replicate r.1 many) refl (few_mixed many single d t start a.0 r.1) here states
-            (omega (arith, times_last many many (many ∷ replicate a.0 many ++ single ∷ replicate r.1 many), one_at many, times_cons many many (replicate a.0 many ++ single ∷ replicate r.1 many), times_between many single (replicate a.0 many) (replicate r.1 many), one_else many single apart, times_same many a.0, times_same many r.1, a.1, r.5)),
+            (omega (
+              arith,
+              times_last many many (many ∷ replicate a.0 many ++ single ∷ replicate r.1 many),
+              one_at many,
+              times_cons many many (replicate a.0 many ++ single ∷ replicate r.1 many),
+              times_between many single (replicate a.0 many) (replicate r.1 many),
+              one_else many single apart,
+              times_same many a.0,
+              times_same many r.1,
+              a.1,
+              r.5,
+            )),
         asked_last many single d t start single q (single ∷ replicate r.2 many) refl (few_once many single d t start r.2) (once_path r.2) states
             (omega (arith, times_last many many (single ∷ replicate r.2 many), one_at many, times_cons many single (replicate r.2 many), one_else many single apart, times_same many r.2, r.5)),
       )
@@ -81,7 +93,8 @@ module _ (t : TypeTable) (valid : IsTypeTable t) (start many single : ℕ) (star
     where
       by_first : ManyFirst t start many single m.0 → EndsAt t start many single (length t.states)
       by_first (inl r) = soon_alone (alone_soon o p (length t.states) start o_closed p_closed start_known r.0 m.2.0 (sym (path r.0 start) ∙ (r.1 ∙ (sym m.2.1 ∙ once_path m.2.0))))
-      by_first (inr r) = elim (mixed_soon o p (length t.states) start o_closed p_closed start_known (suc r.0) r.1 m.2.0 (omega arith) (sym (mixed_path r.0 r.1) ∙ (r.2 ∙ (sym m.2.1 ∙ once_path m.2.0)))) [
-        | inl a ↦ soon_alone a
-        | inr a ↦ soon_mixed a
-      ]
+      by_first (inr r) = elim (mixed_soon o p (length t.states) start o_closed p_closed start_known (suc r.0) r.1 m.2.0 (omega arith)
+          (sym (mixed_path r.0 r.1) ∙ (r.2 ∙ (sym m.2.1 ∙ once_path m.2.0)))) [
+            | inl a ↦ soon_alone a
+            | inr a ↦ soon_mixed a
+          ]

@@ -6,7 +6,8 @@ use Rattle.cn_lines.specs.Log.{entry_line, entry_lines}
 
 -- the line of the entry at a place, and then those of the entries behind it
 pub lines_at : (object : TypeTable) (state : ℕ) (es : List Entry) (slots : List ℕ) (k slot : ℕ) (e : Entry) → slice_get es k ≡ Some e → slice_get slots k ≡ Some slot
-    → entry_lines object state (drop k es) (drop k slots) ≡ entry_line object slot e (transition object e.operation.0 state) ++ entry_lines object (transition object e.operation.0 state).1 (drop (suc k) es) (drop (suc k) slots)
+    → entry_lines object state (drop k es) (drop k slots) ≡ entry_line object slot e (transition object e.operation.0 state)
+    ++ entry_lines object (transition object e.operation.0 state).1 (drop (suc k) es) (drop (suc k) slots)
 lines_at object state [] slots k slot e h g = absurd cc
 lines_at object state (x ∷ es) [] k slot e h g = absurd cc
 lines_at object state (x ∷ es) (s ∷ slots) zero slot e h g =

@@ -48,7 +48,8 @@ module _ (t : TypeTable) (c : RawChoice) (team : Team) (j : ℕ) (l : j < length
   pub one_given : (set : List ℕ) (a b : ℕ) → InOutcomeSet t c team j (a, b) → ((r q : ℕ) → Has set r q ↔ ((r ≡ a) × (q ≡ b))) → AreOutcomePairs t c team j set
   one_given set a b g h r q s = let e = (h r q).0 s in subst (λ (x : ℕ). InOutcomeSet t c team j (x, q)) (sym e.0) (subst (λ (y : ℕ). InOutcomeSet t c team j (a, y)) (sym e.1) g)
 
-  pub more_given : (set more : List ℕ) (a b : ℕ) → AreOutcomePairs t c team j set → InOutcomeSet t c team j (a, b) → ((r q : ℕ) → Has more r q ↔ (Has set r q ⊎ ((r ≡ a) × (q ≡ b)))) → AreOutcomePairs t c team j more
+  pub more_given : (set more : List ℕ) (a b : ℕ) → AreOutcomePairs t c team j set → InOutcomeSet t c team j (a, b)
+      → ((r q : ℕ) → Has more r q ↔ (Has set r q ⊎ ((r ≡ a) × (q ≡ b)))) → AreOutcomePairs t c team j more
   more_given set more a b old g h r q s = elim ((h r q).0 s) [
     | inl o ↦ old r q o
     | inr e ↦ subst (λ (x : ℕ). InOutcomeSet t c team j (x, q)) (sym e.0) (subst (λ (y : ℕ). InOutcomeSet t c team j (a, y)) (sym e.1) g)

@@ -136,13 +136,15 @@ module _ (t : TypeTable) (c : RawChoice) (p : ℕ) (twins : AreTwins c p) where
       )
 
   -- the second finds what the first finds after the others
-  pub finds_next : (team : Team) (subset one other q : ℕ) → IsBitSet subset p → IsBitSet subset (p + 1) → IsWithout subset p one → IsWithout subset (p + 1) other → FindsState t c team p one q → FindsState t c team (p + 1) other q
+  pub finds_next : (team : Team) (subset one other q : ℕ) → IsBitSet subset p → IsBitSet subset (p + 1) → IsWithout subset p one → IsWithout subset (p + 1) other
+      → FindsState t c team p one q → FindsState t c team (p + 1) other q
   finds_next team subset one other q s u v w h = elim h [
     | inl a ↦ absurd (zero_has_none (p + 1) (subst (λ (x : ℕ). IsBitSet x (p + 1)) a.0 ((v (p + 1)).1 (u, (let n : p + 1 ≢ p = omega arith in n)))))
     | inr b ↦ inr (leaves_exchanged team one other q (without_exchanged p subset one other s u v w) b)
   ]
 
-  pub finds_before : (team : Team) (subset one other q : ℕ) → IsBitSet subset p → IsBitSet subset (p + 1) → IsWithout subset p one → IsWithout subset (p + 1) other → FindsState t c team (p + 1) other q → FindsState t c team p one q
+  pub finds_before : (team : Team) (subset one other q : ℕ) → IsBitSet subset p → IsBitSet subset (p + 1) → IsWithout subset p one → IsWithout subset (p + 1) other
+      → FindsState t c team (p + 1) other q → FindsState t c team p one q
   finds_before team subset one other q s u v w h = elim h [
     | inl a ↦ absurd (zero_has_none p (subst (λ (x : ℕ). IsBitSet x p) a.0 ((w p).1 (s, (let n : p ≢ p + 1 = omega arith in n)))))
     | inr b ↦ inr (leaves_exchanged team other one q (exchanged_back p (p + 1) one other (without_exchanged p subset one other s u v w)) b)

@@ -117,7 +117,8 @@ exactly_subset (x ∷ ps) p = (
   ],
   λ s. elim (same_or_not x p) [
     | inl e ↦ inl e
-    | inr n ↦ inr ((exactly_subset ps p).1 (set_from (subset_of ps) p (omega (arith, bit_at_or (subset_of ps) (2 ^ x) p, bit_at-pow_other x p (λ e. n (sym e)), bit_from (bit_or (subset_of ps) (2 ^ x)) p s))))
+    | inr n ↦ inr ((exactly_subset ps p).1
+        (set_from (subset_of ps) p (omega (arith, bit_at_or (subset_of ps) (2 ^ x) p, bit_at-pow_other x p (λ e. n (sym e)), bit_from (bit_or (subset_of ps) (2 ^ x)) p s))))
   ],
 )
   where

@@ -51,13 +51,15 @@ run_up : (P : ℕ → Type 0) (links j : ℕ) → (k last : ℕ) → last ≡ j 
 run_up P links j zero last e step run h = let same : j ≡ last = omega (arith, e) in subst P same h
 run_up P links j (suc k) last e step run h =
     let before : last ≡ (j + k) + 1 = omega (arith, e) in
-    subst P (sym before) (step (j + k) (omega arith) (omega (arith, e)) (run (j + k) (omega arith) (omega (arith, e))) (run_up P links j k (j + k) refl (λ p l u. step p l (omega (arith, u, e))) (λ p l u. run p l (omega (arith, u, e))) h))
+    subst P (sym before) (step (j + k) (omega arith) (omega (arith, e)) (run (j + k) (omega arith) (omega (arith, e)))
+    (run_up P links j k (j + k) refl (λ p l u. step p l (omega (arith, u, e))) (λ p l u. run p l (omega (arith, u, e))) h))
 
 run_down : (P : ℕ → Type 0) (links j : ℕ) → (k last : ℕ) → last ≡ j + k → ((p : ℕ) → j ≤ p → p < last → IsBitSet links (p + 1) → P (p + 1) → P p) → IsRun links j last → P last → P j
 run_down P links j zero last e step run h = let same : last ≡ j = omega (arith, e) in subst P same h
 run_down P links j (suc k) last e step run h =
     let before : last ≡ (j + k) + 1 = omega (arith, e) in
-    run_down P links j k (j + k) refl (λ p l u. step p l (omega (arith, u, e))) (λ p l u. run p l (omega (arith, u, e))) (step (j + k) (omega arith) (omega (arith, e)) (run (j + k) (omega arith) (omega (arith, e))) (subst P before h))
+    run_down P links j k (j + k) refl (λ p l u. step p l (omega (arith, u, e))) (λ p l u. run p l (omega (arith, u, e)))
+    (step (j + k) (omega arith) (omega (arith, e)) (run (j + k) (omega arith) (omega (arith, e))) (subst P before h))
 
 -- a subset is packed, or some process is linked to one outside it
 packed_or_not : (links subset : ℕ) → subset < 2 ^ 16 → IsPacked links subset ⊎ ((p : ℕ) × IsBitSet links (p + 1) × IsBitSet subset (p + 1) × ¬ IsBitSet subset p)
@@ -147,7 +149,8 @@ module _ (t : TypeTable) (c : RawChoice) (team : Team) (links : ℕ) (linked : A
   without subset p u s = cleared_is subset p (member_below 16 subset p u s) u
 
   -- if some process moved last, some mover moved last
-  pub leaves_by_mover : (subset p q : ℕ) → subset < 2 ^ 16 → IsBitSet subset p → LeavesLast t c team p (cleared subset p) q → (top : ℕ) × IsMover links subset top × LeavesLast t c team top (cleared subset top) q
+  pub leaves_by_mover : (subset p q : ℕ) → subset < 2 ^ 16 → IsBitSet subset p → LeavesLast t c team p (cleared subset p) q
+      → (top : ℕ) × IsMover links subset top × LeavesLast t c team top (cleared subset top) q
   leaves_by_mover subset p q u s h =
       climb (λ p. LeavesLast t c team p (cleared subset p) q) links subset u
       (λ p a s b g. (
@@ -158,14 +161,17 @@ module _ (t : TypeTable) (c : RawChoice) (team : Team) (links : ℕ) (linked : A
       16 p (omega arith) s h
 
   -- the last process of the run finds what process j finds if j moves last
-  pub finds_last : (j subset last q : ℕ) → subset < 2 ^ 16 → j ≤ last → IsBitSet subset last → IsPacked links subset → IsRun links j last → FindsState t c team j (cleared subset j) q ↔ FindsState t c team last (cleared subset last) q
+  pub finds_last : (j subset last q : ℕ) → subset < 2 ^ 16 → j ≤ last → IsBitSet subset last → IsPacked links subset → IsRun links j last
+      → FindsState t c team j (cleared subset j) q ↔ FindsState t c team last (cleared subset last) q
   finds_last j subset last q u l s packed run =
       let member : (p : ℕ) → j ≤ p → p ≤ last → IsBitSet subset p = λ p a b. run_members links subset last packed s (last - p) p (omega (arith, b)) (λ i d e. run i (omega (arith, a, d)) e) in (
         run_up (λ p. FindsState t c team p (cleared subset p) q) links j (last - j) last (omega (arith, l))
-            (λ p a b m g. finds_next t c p (linked.twins p m) team subset (cleared subset p) (cleared subset (p + 1)) q (member p a (omega (arith, b))) (member (p + 1) (omega (arith, a)) (omega (arith, b)))
+            (λ p a b m g. finds_next t c p (linked.twins p m) team subset (cleared subset p) (cleared subset (p + 1)) q (member p a (omega (arith, b)))
+            (member (p + 1) (omega (arith, a)) (omega (arith, b)))
             (without subset p u (member p a (omega (arith, b)))) (without subset (p + 1) u (member (p + 1) (omega (arith, a)) (omega (arith, b)))) g) run,
         run_down (λ p. FindsState t c team p (cleared subset p) q) links j (last - j) last (omega (arith, l))
-            (λ p a b m g. finds_before t c p (linked.twins p m) team subset (cleared subset p) (cleared subset (p + 1)) q (member p a (omega (arith, b))) (member (p + 1) (omega (arith, a)) (omega (arith, b)))
+            (λ p a b m g. finds_before t c p (linked.twins p m) team subset (cleared subset p) (cleared subset (p + 1)) q (member p a (omega (arith, b)))
+            (member (p + 1) (omega (arith, a)) (omega (arith, b)))
             (without subset p u (member p a (omega (arith, b)))) (without subset (p + 1) u (member (p + 1) (omega (arith, a)) (omega (arith, b)))) g) run,
       )
 
@@ -178,7 +184,8 @@ module _ (t : TypeTable) (c : RawChoice) (team : Team) (links : ℕ) (linked : A
     MovedBefore subset r q p rest = (found : ℕ) × GivesPair t c team j rest r found × (next_of t c p found ≡ q)
 
     -- if some other process moved last, some mover moved last
-    pub gives_by_mover : (subset p r q : ℕ) → subset < 2 ^ 16 → IsBitSet subset p → p ≢ j → MovedBefore subset r q p (cleared subset p) → (top : ℕ) × IsMover links subset top × MovedBefore subset r q top (cleared subset top)
+    pub gives_by_mover : (subset p r q : ℕ) → subset < 2 ^ 16 → IsBitSet subset p → p ≢ j → MovedBefore subset r q p (cleared subset p)
+        → (top : ℕ) × IsMover links subset top × MovedBefore subset r q top (cleared subset top)
     gives_by_mover subset p r q u s n h =
         let g = climb (λ p. (p ≢ j) × MovedBefore subset r q p (cleared subset p)) links subset u
         (λ p a s b g. (
@@ -202,7 +209,8 @@ module _ (t : TypeTable) (c : RawChoice) (team : Team) (links : ℕ) (linked : A
         fuel subset l u g
 
 -- all twins of a run get the same pairs
-pub run_results : (t : TypeTable) (c : RawChoice) (team : Team) (links : ℕ) → AreTwinLinks c links → (first j : ℕ) (pair : ℕ × ℕ) → first ≤ j → IsRun links first j → InOutcomeSet t c team first pair ↔ InOutcomeSet t c team j pair
+pub run_results : (t : TypeTable) (c : RawChoice) (team : Team) (links : ℕ) → AreTwinLinks c links → (first j : ℕ) (pair : ℕ × ℕ) → first ≤ j → IsRun links first j
+    → InOutcomeSet t c team first pair ↔ InOutcomeSet t c team j pair
 run_results t c team links linked first j pair l run = (
   run_up (λ p. InOutcomeSet t c team p pair) links first (j - first) j (omega (arith, l)) (λ p a b m h. (twin_results t c p (linked.twins p m) team pair).0 h) run,
   run_down (λ p. InOutcomeSet t c team p pair) links first (j - first) j (omega (arith, l)) (λ p a b m h. (twin_results t c p (linked.twins p m) team pair).1 h) run,

@@ -81,7 +81,8 @@ module _ {X : Type 0} (part : ℕ → X → Type 0) (from : ℕ → Type 0) wher
 -- ---- the states that a process may find
 
 module _ (t : TypeTable) (c : RawChoice) (team : Team) (p rest : ℕ) where
-  pub found_first : rest ≡ 0 → slice_get c.marks p ≡ Some team → (set : ℕ) → ((q : ℕ) → IsBitSet set q ↔ (IsBitSet 0 q ⊎ (q ≡ c.state))) → ((q : ℕ) → ¬ IsBitSet 0 q) → (q : ℕ) → IsBitSet set q ↔ FindsState t c team p rest q
+  pub found_first : rest ≡ 0 → slice_get c.marks p ≡ Some team → (set : ℕ) → ((q : ℕ) → IsBitSet set q ↔ (IsBitSet 0 q ⊎ (q ≡ c.state))) → ((q : ℕ) → ¬ IsBitSet 0 q) → (q : ℕ)
+      → IsBitSet set q ↔ FindsState t c team p rest q
   found_first z m set h n q = (
     λ s. elim ((h q).0 s) [ inl a ↦ absurd (n q a) | inr b ↦ inl (z, m, sym b) ],
     λ f. elim f [ inl a ↦ (h q).1 (inr (sym a.2)) | inr b ↦ absurd (leaves_some t c team q (subst (λ (r : ℕ). LeavesState t c team r q) z b)) ],
@@ -153,7 +154,8 @@ module _ (has_row : ℕ → Type 0) (states : ℕ → ℕ → Type 0) (bound : �
       none : (s q : ℕ) → s ≡ 0 → IsBitSet (get_or rows s 0) q ↔ states s q
       none s q e = (λ b. absurd (zero_has_none q (subst (λ (x : ℕ). IsBitSet x q) (here s e) b)), λ w. absurd (n q (subst (λ (x : ℕ). states x q) e w)))
 
-  pub rows_more : (rows : List ℕ) (k part : ℕ) → k < length rows → AreRowsOf has_row states bound k rows → ((q : ℕ) → IsBitSet part q ↔ states k q) → Below bound part → AreRowsOf has_row states bound (k + 1) (set rows k part)
+  pub rows_more : (rows : List ℕ) (k part : ℕ) → k < length rows → AreRowsOf has_row states bound k rows → ((q : ℕ) → IsBitSet part q ↔ states k q) → Below bound part
+      → AreRowsOf has_row states bound (k + 1) (set rows k part)
   rows_more rows k part l r h b = record {
     same = at_more (λ s (row : ℕ). has_row s → (q : ℕ) → IsBitSet row q ↔ states s q) 0 rows k part l r.same (λ _. h);
     known = at_more (λ s (row : ℕ). has_row s → Below bound row) 0 rows k part l r.known (λ _. b);
@@ -200,7 +202,8 @@ pub other_differs : (t : TypeTable) (c : RawChoice) (team : Team) (j subset p q 
 other_differs t c team j subset p q r y e = absurd (((y.1 j).0 (gives_member t c team j y.0 r y.2.0 y.2.1)).1 (sym e))
 
 -- what process j gets where it moves last, by what the last one of its run finds
-pub own_is : (t : TypeTable) (c : RawChoice) (team : Team) (links : ℕ) → AreTwinLinks c links → (j subset last rest operation from : ℕ) (set : ℕ → ℕ → Type 0) → subset < 2 ^ 16 → j ≤ last → IsBitSet subset j
+pub own_is : (t : TypeTable) (c : RawChoice) (team : Team) (links : ℕ) → AreTwinLinks c links → (j subset last rest operation from : ℕ) (set : ℕ → ℕ → Type 0) → subset < 2 ^ 16
+    → j ≤ last → IsBitSet subset j
     → IsBitSet subset last → IsPacked links subset → IsRun links j last
     → IsWithout subset last rest → operation ≡ slice_index c.operations j → ((q : ℕ) → IsBitSet from q ↔ FindsState t c team last rest q)
     → ((r q : ℕ) → set r q ↔ ((found : ℕ) × IsBitSet from found × ((transition t operation found).0 ≡ r) × ((transition t operation found).1 ≡ q)))
@@ -209,7 +212,8 @@ own_is t c team links linked j subset last rest operation from set small up s m 
     let b = subst (λ (o : ℕ). set r q ↔ ((found : ℕ) × IsBitSet from found × ((transition t o found).0 ≡ r) × ((transition t o found).1 ≡ q))) is (a r q) in
     let cut : (i : ℕ) → IsBitSet subset i → IsWithout subset i (cleared subset i) = λ i n. cleared_is subset i (member_below 16 subset i small n) small in
     let same = without_one subset last rest (cleared subset last) m w (cut last m) in
-    let finds : (x : ℕ) → FindsState t c team j (cleared subset j) x ↔ FindsState t c team last (cleared subset last) x = λ x. finds_last t c team links linked j subset last x small up m packed run in (
+    let finds : (x : ℕ) → FindsState t c team j (cleared subset j) x
+    ↔ FindsState t c team last (cleared subset last) x = λ x. finds_last t c team links linked j subset last x small up m packed run in (
       λ h. (let x = b.0 h in (cleared subset j, cut j s, (x.0, (finds x.0).1 (subst (λ (z : ℕ). FindsState t c team last z x.0) same ((f x.0).0 x.1)), x.2, x.3))),
       λ h.
           let x = h.2 in
@@ -218,8 +222,10 @@ own_is t c team links linked j subset last rest operation from set small up s m 
     )
 
 -- what is given to process j, by whether it moved last
-pub pair_all : (t : TypeTable) (c : RawChoice) (team : Team) (links : ℕ) → AreTwinLinks c links → (j subset : ℕ) → ¬ IsBitSet links j → subset < 2 ^ 16 → subset < 2 ^ length c.operations → IsBitSet subset j → (own others all : ℕ → ℕ → Type 0)
-    → ((r q : ℕ) → own r q ↔ OwnLast t c team j subset r q) → ((r q : ℕ) → others r q ↔ ((p : ℕ) × IsMover links subset p × OtherLast t c team j subset q p r)) → ((r q : ℕ) → all r q ↔ (own r q ⊎ others r q))
+pub pair_all : (t : TypeTable) (c : RawChoice) (team : Team) (links : ℕ) → AreTwinLinks c links → (j subset : ℕ) → ¬ IsBitSet links j → subset < 2 ^ 16
+    → subset < 2 ^ length c.operations → IsBitSet subset j → (own others all : ℕ → ℕ → Type 0)
+    → ((r q : ℕ) → own r q ↔ OwnLast t c team j subset r q) → ((r q : ℕ) → others r q ↔ ((p : ℕ) × IsMover links subset p × OtherLast t c team j subset q p r))
+    → ((r q : ℕ) → all r q ↔ (own r q ⊎ others r q))
     → (r q : ℕ) → all r q ↔ GivesPair t c team j subset r q
 pair_all t c team links linked j subset first small l member own others all is_own is_others is_all r q = (
   λ h. elim ((is_all r q).0 h) [
@@ -237,7 +243,12 @@ pair_all t c team links linked j subset first small l member own others all is_o
         | inl a ↦ inl ((is_own r q).1 (
           cleared subset j,
           cut j member,
-          (a.1.0, subst (λ (p : ℕ). FindsState t c team p (cleared subset p) a.1.0) a.0 a.1.1, ap (λ (p : ℕ). answer_of t c p a.1.0) (sym a.0) ∙ a.1.2, ap (λ (p : ℕ). next_of t c p a.1.0) (sym a.0) ∙ a.1.3),
+          (
+            a.1.0,
+            subst (λ (p : ℕ). FindsState t c team p (cleared subset p) a.1.0) a.0 a.1.1,
+            ap (λ (p : ℕ). answer_of t c p a.1.0) (sym a.0) ∙ a.1.2,
+            ap (λ (p : ℕ). next_of t c p a.1.0) (sym a.0) ∙ a.1.3,
+          ),
         ))
         | inr a ↦ (let top = gives_by_mover t c team links linked j first subset x.0 r q small x.1 a.0 a.1 in inr ((is_others r q).1 (top.0, top.1, (cleared subset top.0, cut top.0 top.1.0, top.2))))
       ]),
@@ -259,7 +270,8 @@ module _ {X : Type 0} (links : ℕ) (part : ℕ → X → Type 0) where
     λ h. absurd (let first : h.0 ≡ 0 = omega (arith, h.1) in none x (subst (λ (s : ℕ). part s x) first h.2.1)),
   )
 
-  pub packed_more : (k : ℕ) (set row more : X → Type 0) → IsPacked links k → Gathers packed_part k set → ((x : X) → row x ↔ part k x) → ((x : X) → more x ↔ (set x ⊎ row x)) → Gathers packed_part (k + 1) more
+  pub packed_more : (k : ℕ) (set row more : X → Type 0) → IsPacked links k → Gathers packed_part k set → ((x : X) → row x ↔ part k x) → ((x : X) → more x ↔ (set x ⊎ row x))
+      → Gathers packed_part (k + 1) more
   packed_more k set row more p g h m = gathers_more packed_part k set more g (λ x. (
     λ b. elim ((m x).0 b) [ inl a ↦ inl a | inr y ↦ inr (p, (h x).0 y) ],
     λ b. (m x).1 (elim b [ inl a ↦ inl a | inr y ↦ inr ((h x).1 y.1) ]),
@@ -309,14 +321,16 @@ module _ (t : TypeTable) (c : RawChoice) (team : Team) (j links : ℕ) where
   pub subsets_first : (set : ℕ × ℕ → Type 0) → ((x : ℕ × ℕ) → ¬ set x) → Gathers subset_part 1 set
   subsets_first set empty = packed_first links (λ s x. GivesPair t c team j s x.0 x.1) set empty (λ x. gives_some t c team j 0 x.0 x.1 refl)
 
-  pub subsets_more : (k : ℕ) (set row more : ℕ × ℕ → Type 0) → IsPacked links k → Gathers subset_part k set → ((x : ℕ × ℕ) → row x ↔ GivesPair t c team j k x.0 x.1) → ((x : ℕ × ℕ) → more x ↔ (set x ⊎ row x))
+  pub subsets_more : (k : ℕ) (set row more : ℕ × ℕ → Type 0) → IsPacked links k → Gathers subset_part k set → ((x : ℕ × ℕ) → row x ↔ GivesPair t c team j k x.0 x.1)
+      → ((x : ℕ × ℕ) → more x ↔ (set x ⊎ row x))
       → Gathers subset_part (k + 1) more
   subsets_more = packed_more links (λ s x. GivesPair t c team j s x.0 x.1)
 
   pub subsets_passed : (k : ℕ) (set : ℕ × ℕ → Type 0) → ¬ IsPacked links k → Gathers subset_part k set → Gathers subset_part (k + 1) set
   subsets_passed = packed_passed links (λ s x. GivesPair t c team j s x.0 x.1)
 
-  pub subsets_all : AreTwinLinks c links → ¬ IsBitSet links j → length c.operations ≤ 8 → (k : ℕ) (set : ℕ × ℕ → Type 0) → k ≡ 2 ^ length c.operations → Gathers subset_part k set → (x : ℕ × ℕ) → set x ↔ InOutcomeSet t c team j (x.0, x.1)
+  pub subsets_all : AreTwinLinks c links → ¬ IsBitSet links j → length c.operations ≤ 8 → (k : ℕ) (set : ℕ × ℕ → Type 0) → k ≡ 2 ^ length c.operations → Gathers subset_part k set
+      → (x : ℕ × ℕ) → set x ↔ InOutcomeSet t c team j (x.0, x.1)
   subsets_all linked first few k set e g x = (
     λ b. (let y = (g x).0 b in (outcome_subset t c team j x.0 x.1).1 (y.0, omega (arith, y.1, e), gives_member t c team j y.0 x.0 x.1 y.2.1, y.2.1)),
     λ o.
@@ -339,13 +353,15 @@ left_subset t c team q = (
 )
 
 -- the states that the packed subsets leave are all that are left
-pub left_all : (t : TypeTable) (c : RawChoice) (team : Team) (links : ℕ) → AreTwinLinks c links → length c.operations ≤ 8 → (k set : ℕ) → k ≡ 2 ^ length c.operations → Gathers (packed_part links (LeavesState t c team)) k (IsBitSet set)
+pub left_all : (t : TypeTable) (c : RawChoice) (team : Team) (links : ℕ) → AreTwinLinks c links → length c.operations ≤ 8 → (k set : ℕ) → k ≡ 2 ^ length c.operations
+    → Gathers (packed_part links (LeavesState t c team)) k (IsBitSet set)
     → (q : ℕ) → IsBitSet set q ↔ LeavesIn t c team q
 left_all t c team links linked few k set e g q = (
   λ b. (let x = (g q).0 b in (left_subset t c team q).1 (x.0, omega (arith, x.1, e), x.2.1)),
   λ o.
       let x = (left_subset t c team q).0 o in
-      let y = packed_down links (length c.operations) (λ s. LeavesState t c team s q) few (λ p s d link n h. leaves_exchanged t c p (linked.twins p link) team s d q h) (x.0 + 1) x.0 (omega arith) x.1 x.2 in
+      let y = packed_down links (length c.operations) (λ s. LeavesState t c team s q) few (λ p s d link n h. leaves_exchanged t c p (linked.twins p link) team s d q h)
+      (x.0 + 1) x.0 (omega arith) x.1 x.2 in
       (g q).1 (y.0, omega (arith, y.1, e), (y.2, y.3)),
 )
 

@@ -38,7 +38,8 @@ one_more t c team q m l o = go o.0 o.1 o.2 o.3 o.4
     go [] is b e n = absurd (is.someone refl)
     go (x ∷ xs) is b e n = (
       x ∷ (xs ++ m ∷ []),
-      order_from (length c.operations) x (xs ++ m ∷ []) (known_last (length c.operations) (x ∷ xs) m (known_from (length c.operations) (x ∷ xs) is) (λ y i g. n (subst (λ (k : ℕ). IsIn k (x ∷ xs)) g i)) l),
+      order_from (length c.operations) x (xs ++ m ∷ [])
+          (known_last (length c.operations) (x ∷ xs) m (known_from (length c.operations) (x ∷ xs) is) (λ y i g. n (subst (λ (k : ℕ). IsIn k (x ∷ xs)) g i)) l),
       begins_more c team (x ∷ xs) m b,
       pair_whole t c m (x ∷ (xs ++ m ∷ [])) (answer_of t c m q) (next_of t c m q)
           (last_self t c m (x ∷ xs) n ∙ ap Some (ap (answer_of t c m) e))
@@ -131,7 +132,8 @@ b_left_out state a b y =
     subst (λ (d : RawChoice). Embeds (skip (length a)) d all) less (without_embeds all (length a) (omega (arith, long)) (omega (arith, long, marks_long (length a) (suc (length b)))))
 
 -- a witness of two or more in each team gives a recording witness of two less
-two_less : (t : TypeTable) (state : ℕ) (a b : List ℕ) (x y : ℕ) → IsWitness t (raw_choice_of (record { state = state; a = x ∷ a; b = y ∷ b })) → IsRecordingWitness t (raw_choice_of (record { state = state; a = a; b = b }))
+two_less : (t : TypeTable) (state : ℕ) (a b : List ℕ) (x y : ℕ) → IsWitness t (raw_choice_of (record { state = state; a = x ∷ a; b = y ∷ b }))
+    → IsRecordingWitness t (raw_choice_of (record { state = state; a = a; b = b }))
 two_less t state a b x y w =
     let whole : RawChoice = raw_choice_of (record { state = state; a = x ∷ a; b = y ∷ b }) in
     let middle : RawChoice = raw_choice_of (record { state = state; a = a; b = y ∷ b }) in
@@ -148,7 +150,8 @@ two_less t state a b x y w =
     gap t f rest whole (Embeds-through (skip (length a)) (skip 0) rest middle whole (b_left_out state a b y) (a_left_out state a (y ∷ b) x)) w missing_a missing_b
 
 -- a witness with one process alone in A gives one of one less
-one_less_of_b : (t : TypeTable) (state : ℕ) (b : List ℕ) (x y : ℕ) → IsWitness t (raw_choice_of (record { state = state; a = x ∷ []; b = y ∷ b })) → IsRecordingWitness t (raw_choice_of (record { state = state; a = x ∷ []; b = b }))
+one_less_of_b : (t : TypeTable) (state : ℕ) (b : List ℕ) (x y : ℕ) → IsWitness t (raw_choice_of (record { state = state; a = x ∷ []; b = y ∷ b }))
+    → IsRecordingWitness t (raw_choice_of (record { state = state; a = x ∷ []; b = b }))
 one_less_of_b t state b x y w =
     let d : Choice = record { state = state; a = x ∷ []; b = b } in
     let whole : RawChoice = raw_choice_of (record { state = state; a = x ∷ []; b = y ∷ b }) in
@@ -161,7 +164,8 @@ All-rest P x xs h = All-from_recursion P xs (recursion_from_All P (x ∷ xs) h).
 
 module _ (coverage : (t : TypeTable) (n : ℕ) (c : RawChoice) → IsRawChoice t n c → (d : Choice) × IsCanonicalForm t n d c)
     (by_teams : (t : TypeTable) (n : ℕ) (c : Choice) → IsRawChoice t n (raw_choice_of c) ↔ IsChoiceFor t n c) where
-  recording_by_teams : (t : TypeTable) (n : ℕ) (state : ℕ) (a b : List ℕ) → 4 ≤ n → length a ≤ length b → IsChoiceFor t n (record { state = state; a = a; b = b }) → IsWitness t (raw_choice_of (record { state = state; a = a; b = b }))
+  recording_by_teams : (t : TypeTable) (n : ℕ) (state : ℕ) (a b : List ℕ) → 4 ≤ n → length a ≤ length b → IsChoiceFor t n (record { state = state; a = a; b = b })
+      → IsWitness t (raw_choice_of (record { state = state; a = a; b = b }))
       → IsRecording t (n - 2)
   recording_by_teams t n state [] b big less is w = absurd (omega (arith, is.someone_in_a))
   recording_by_teams t n state (x ∷ a) [] big less is w = absurd (omega (arith, is.someone_in_b))

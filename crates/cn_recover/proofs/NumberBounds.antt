@@ -9,7 +9,8 @@ use Rattle.cn_stocks.specs.Records.{SomeRecords}
 use Rattle.cn_recover.specs.Recording.{HasRecoverableNumber, IsRecording, IsRecoverableNumberUpTo}
 use Rattle.cn_recover.proofs.Recordings.{recording_discerns}
 
-module _ (t : TypeTable) (bound most : ℕ) (few : (bound ≤ 2) ⊎ (bound ≤ length t.states)) (above : (m : ℕ) → bound < m → ¬ IsDiscerning t m) (all : bound ≤ most) (least : (most ≡ 2) ⊎ (most ≡ bound)) where
+module _ (t : TypeTable) (bound most : ℕ) (few : (bound ≤ 2) ⊎ (bound ≤ length t.states)) (above : (m : ℕ) → bound < m → ¬ IsDiscerning t m) (all : bound ≤ most)
+    (least : (most ≡ 2) ⊎ (most ≡ bound)) where
   beyond : (n : ℕ) → ((m : ℕ) → n < m → m ≤ most → ¬ IsRecording t m) → (m : ℕ) → n < m → ¬ IsRecording t m
   beyond n none m l is = elim (cases_order m most) [
     | inl e ↦ none m l (omega (arith, e)) is
@@ -35,6 +36,7 @@ by_stocks : (t : TypeTable) (most : ℕ) → ((n : ℕ) → 2 ≤ n → IsRecord
 by_stocks t most law None is = λ m two l r. is m two l ((law m two).0 r)
 by_stocks t most law (Some n) is = (is.0, is.1, (law n is.0).1 is.2, λ m l u r. is.3 m l u ((law m (omega (arith, l, is.0))).0 r))
 
-pub found_by_stocks : {E : Type 0} (t : TypeTable) (most : ℕ) → ((n : ℕ) → 2 ≤ n → IsRecording t n ↔ SomeRecords t n) → (r : Result (Option ℕ) E) → IfOk r (IsGreatestRecord t most) → IfOk r (IsRecoverableNumberUpTo t most)
+pub found_by_stocks : {E : Type 0} (t : TypeTable) (most : ℕ) → ((n : ℕ) → 2 ≤ n → IsRecording t n ↔ SomeRecords t n) → (r : Result (Option ℕ) E) → IfOk r (IsGreatestRecord t most)
+    → IfOk r (IsRecoverableNumberUpTo t most)
 found_by_stocks t most law (Ok found) h = by_stocks t most law found h
 found_by_stocks t most law (Err e) h = tt

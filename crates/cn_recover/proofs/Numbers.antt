@@ -12,6 +12,8 @@ at_most t limit n None h g = absurd (g n h.0 h.1 (recording_discerns t n h.2))
 at_most t limit n (Some m) h g = elim (cases_order n m) [ inl e ↦ omega (arith, e) | inr r ↦ elim r [ inl l ↦ omega (arith, l) | inr l ↦ absurd (g.3 n l h.1 (recording_discerns t n h.2)) ] ]
 
 -- where it is recording for two less, the recoverable number is no less than that
-pub at_least : (t : TypeTable) (limit n : ℕ) (recoverable : Option ℕ) → 4 ≤ n → n ≤ limit → IsRecording t (n - 2) → IsRecoverableNumberUpTo t limit recoverable → IsSomeAnd recoverable (λ least. n ≤ least + 2)
+pub at_least : (t : TypeTable) (limit n : ℕ) (recoverable : Option ℕ) → 4 ≤ n → n ≤ limit → IsRecording t (n - 2) → IsRecoverableNumberUpTo t limit recoverable
+    → IsSomeAnd recoverable (λ least. n ≤ least + 2)
 at_least t limit n None l u is h = absurd (h (n - 2) (omega (arith, l)) (omega (arith, u)) is)
-at_least t limit n (Some m) l u is h = elim (cases_order (n - 2) m) [ inl e ↦ omega (arith, e, l) | inr r ↦ elim r [ inl b ↦ omega (arith, b, l) | inr b ↦ absurd (h.3 (n - 2) b (omega (arith, u)) is) ] ]
+at_least t limit n (Some m) l u is h =
+    elim (cases_order (n - 2) m) [ inl e ↦ omega (arith, e, l) | inr r ↦ elim r [ inl b ↦ omega (arith, b, l) | inr b ↦ absurd (h.3 (n - 2) b (omega (arith, u)) is) ] ]

@@ -43,10 +43,12 @@ module _ (t : TypeTable) (c : RawChoice) where
   leaves team f q marked e =
       let p = place_in f c.operations (omega (arith, e.1 f, times_at f e.0)) in
       let order = order_for c p.0 p.1 [] e.0 (subst (λ (x : ℕ). IsWithin c.operations (x ∷ e.0)) (sym p.2) e.1) in
-      let word : operations_of c (order.front ++ p.0 ∷ order.back) ≡ f ∷ e.0 = map-append (λ p. slice_index c.operations p) order.front (p.0 ∷ order.back) ∙ rw (order.front_is, order.back_is, p.2) refl in
+      let word : operations_of c (order.front ++ p.0 ∷ order.back) ≡ f ∷ e.0 = map-append (λ p. slice_index c.operations p) order.front (p.0 ∷ order.back)
+      ∙ rw (order.front_is, order.back_is, p.2) refl in
       (order.front ++ p.0 ∷ order.back, order.order, (p.0, front_first order.front order.back p.0 order.front_is, marked p.0 p.1 p.2), ap (state_after t c.state) word ∙ e.2)
 
-  two_in : (team : Team) (chosen : ℕ → Bool) (part : Bool) → ((f p : ℕ) → chosen f ≡ part → p < length c.operations → slice_index c.operations p ≡ f → slice_get c.marks p ≡ Some team) → HasTwoOf c.operations chosen part → HasTwo c team
+  two_in : (team : Team) (chosen : ℕ → Bool) (part : Bool)
+      → ((f p : ℕ) → chosen f ≡ part → p < length c.operations → slice_index c.operations p ≡ f → slice_get c.marks p ≡ Some team) → HasTwoOf c.operations chosen part → HasTwo c team
   two_in team chosen part marked h =
       let p = place_in h.0 c.operations (omega (arith, h.2 h.0, times_at h.0 (h.1 ∷ []))) in
       let order = order_for c p.0 p.1 [] (h.1 ∷ []) (subst (λ (x : ℕ). IsWithin c.operations (x ∷ h.1 ∷ [])) (sym p.2) h.2) in

@@ -48,6 +48,13 @@ two_in_b c =
     let k = length c.b in (
       λ h. apart_far h.0 h.1 m k h.2 ((team_b m k h.0).0 h.5).0 ((team_b m k h.1).0 h.6).0 ((team_b m k h.0).0 h.5).1 ((team_b m k h.1).0 h.6).1,
       λ l.
-          let long = length-append c.a c.b in
-          (m, m + 1, (let n : m ≢ m + 1 = omega arith in n), omega (arith, l, long), omega (arith, l, long), (team_b m k m).1 (omega arith, omega (arith, l)), (team_b m k (m + 1)).1 (omega arith, omega (arith, l))),
+          let long = length-append c.a c.b in (
+            m,
+            m + 1,
+            (let n : m ≢ m + 1 = omega arith in n),
+            omega (arith, l, long),
+            omega (arith, l, long),
+            (team_b m k m).1 (omega arith, omega (arith, l)),
+            (team_b m k (m + 1)).1 (omega arith, omega (arith, l)),
+          ),
     )

@@ -60,12 +60,14 @@ module _ (t : TypeTable) where
         listed_fits n c few (subst (λ (cs : List Choice). Contains cs c) (sym first.listed) (Contains-append_right first.before (c ∷ first.after) c (0, omega arith, refl)))
 
   -- where the type is not recording, no live choice is a recording witness
-  pub none_recording : (n : ℕ) → ((c : Choice) → Contains (live_choices t n) c → IsRecordingWitness t (raw_choice_of c) → IsRecording t n) → ¬ IsRecording t n → NoneIs (IsRecordingWitness t) (live_choices t n)
+  pub none_recording : (n : ℕ) → ((c : Choice) → Contains (live_choices t n) c → IsRecordingWitness t (raw_choice_of c) → IsRecording t n) → ¬ IsRecording t n
+      → NoneIs (IsRecordingWitness t) (live_choices t n)
   none_recording n shown fails = λ i d less. λ is.
       fails (shown (slice_index_or (live_choices t n) i d) (i, less, get_or_default (live_choices t n) i (slice_index_or (live_choices t n) i d) d less) is)
 
 -- the type is recording for as many processes as the witness has
-pub recording_at : (t : TypeTable) → PassesDown (IsRecording t) → (limit : ℕ) (number : ConsensusNumber) → 2 ≤ limit → HasRecoverableNumber t number → IsExact number → 2 ≤ witness_size limit number → IsRecording t (witness_size limit number)
+pub recording_at : (t : TypeTable) → PassesDown (IsRecording t) → (limit : ℕ) (number : ConsensusNumber) → 2 ≤ limit → HasRecoverableNumber t number → IsExact number
+    → 2 ≤ witness_size limit number → IsRecording t (witness_size limit number)
 recording_at t below limit (Finite n) some has exact two = at_less (IsRecording t) below n (min n limit) two (omega arith) (has.2 (omega (arith, two)))
 recording_at t below limit Infinite some has exact two = has limit some
 recording_at t below limit (Between least most) some has exact two = absurd exact

@@ -39,7 +39,8 @@ module _ (n : ℕ) (orders : List (ArrayVec ℕ)) (all : AreAllOrders n orders) 
       let at = place_of other is in
       let e : ArrayVec ℕ = record { items = other } in
       let here : get_or (processes_of orders) at.0 [] ≡ other = items_at at.0 e [] at.1 ∙ (sym (items_at at.0 e other at.1) ∙ at.2) in
-      let earlier = place_before (processes_of orders) at.0 i other (get_or orders i d).items all.in_order (omega (arith, same_length, at.1)) (omega (arith, same_length, l)) here (items_at i d [] l) before in
+      let earlier = place_before (processes_of orders) at.0 i other (get_or orders i d).items all.in_order (omega (arith, same_length, at.1)) (omega (arith, same_length, l)) here
+      (items_at i d [] l) before in
       none at.0 e earlier (subst P (sym at.2 ∙ items_at at.0 e other at.1) has)
 
 -- the first that leaves the state, where none before it does

@@ -112,7 +112,8 @@ module _ (t : TypeTable) (is : IsTypeTable t) where
     witness_fits n (Some w) few h = first_fits t live (IsRecordingWitness t) n w.choice few h.first
 
 -- the witness and the choices of an explanation are of its table
-module _ (e : RecoverableExplanation) (is : IsTypeTable e.table) (live : (n : ℕ) (c : Choice) → Contains (live_choices e.table n) c ↔ (IsCanonical c × IsRawChoice e.table n (raw_choice_of c) × IsLive e.table (raw_choice_of c)))
+module _ (e : RecoverableExplanation) (is : IsTypeTable e.table)
+    (live : (n : ℕ) (c : Choice) → Contains (live_choices e.table n) c ↔ (IsCanonical c × IsRawChoice e.table n (raw_choice_of c) × IsLive e.table (raw_choice_of c)))
     (right : IsRecoverableExplanation e) where
   limit_few : right.limit ≤ 8
   limit_few = (limit_within (length e.table.states) (length e.table.operations) right.limit right.is_limit.taken).1

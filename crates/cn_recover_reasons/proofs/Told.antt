@@ -22,7 +22,8 @@ told_more t false before told c r few so_far here =
     let short : length before < 12 = omega (arith, less, told_count t before told so_far, length-take 12 before) in
     let old : take 12 before ≡ before = take_all 12 before (omega (arith, short)) in
     let new : take 12 (before ++ c ∷ []) ≡ before ++ c ∷ [] = take_all 12 (before ++ c ∷ []) (omega (arith, short, length-append before (c ∷ []))) in
-    subst (λ (cs : List Choice). AllZip (IsRefuted t) cs (told ++ r ∷ [])) (sym new) (AllZip-append_one (IsRefuted t) before told c r (subst (λ (cs : List Choice). AllZip (IsRefuted t) cs told) old so_far) here)
+    subst (λ (cs : List Choice). AllZip (IsRefuted t) cs (told ++ r ∷ [])) (sym new)
+    (AllZip-append_one (IsRefuted t) before told c r (subst (λ (cs : List Choice). AllZip (IsRefuted t) cs told) old so_far) here)
 
 -- no more are told
 pub told_as_before : (t : TypeTable) (all : Bool) (before : List Choice) (told : List Refuted) (c : Choice) → all ≡ false → 12 ≤ length told

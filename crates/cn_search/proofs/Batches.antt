@@ -55,8 +55,10 @@ module _ (t : TypeTable) (P : RawChoice → Type 0) where
   pub search_found : (blocks left batch rest : List Block) (w : Choice) → IsSearched blocks left → left ≡ batch ++ rest → IsFirst P (choices_of_all t batch) w → IsFirst P (choices_of_all t blocks) w
   search_found blocks left batch rest w s parts first =
       let whole : choices_of_all t blocks ≡ choices_of_all t s.before ++ (choices_of_all t batch ++ choices_of_all t rest) =
-      ap (flat_map (live_in t)) (s.all ∙ ap (λ l. s.before ++ l) parts) ∙ flat_map-append (live_in t) s.before (batch ++ rest) ∙ ap (λ l. choices_of_all t s.before ++ l) (flat_map-append (live_in t) batch rest) in
-      subst (λ l. IsFirst P l w) (sym whole) (behind (choices_of_all t s.before) (choices_of_all t batch ++ choices_of_all t rest) (Some w) s.none (ahead (choices_of_all t batch) (choices_of_all t rest) w first))
+      ap (flat_map (live_in t)) (s.all ∙ ap (λ l. s.before ++ l) parts) ∙ flat_map-append (live_in t) s.before (batch ++ rest)
+      ∙ ap (λ l. choices_of_all t s.before ++ l) (flat_map-append (live_in t) batch rest) in
+      subst (λ l. IsFirst P l w) (sym whole)
+      (behind (choices_of_all t s.before) (choices_of_all t batch ++ choices_of_all t rest) (Some w) s.none (ahead (choices_of_all t batch) (choices_of_all t rest) w first))
 
   pub search_done : (blocks : List Block) → IsSearched blocks [] → NoneIs P (choices_of_all t blocks)
   search_done blocks s = subst (λ l. NoneIs P (choices_of_all t l)) (sym (s.all ∙ append-nil s.before)) s.none
@@ -84,7 +86,8 @@ module _ (t : TypeTable) (P : RawChoice → Type 0) where
       go [] s h = absurd h
       go (k ∷ after) s h = record { after = after; searched = search_on blocks (k ∷ after) (k ∷ []) after s refl (subst (NoneIs P) (sym (one_block k)) (no o k none h.0)); answers = h.1 }
 
-  pub join_found : (blocks : List Block) (left rest : List (Option Choice)) (o : Option Choice) → IsJoining blocks left → left ≡ o ∷ rest → is_some o ≡ true → IsFirstAmong P (choices_of_all t blocks) o
+  pub join_found : (blocks : List Block) (left rest : List (Option Choice)) (o : Option Choice) → IsJoining blocks left → left ≡ o ∷ rest → is_some o ≡ true
+      → IsFirstAmong P (choices_of_all t blocks) o
   join_found blocks left rest o j e some = go j.after j.searched (subst (λ l. AllZip (λ k o. IsFirstAmong P (live_in t k) o) j.after l) e j.answers)
     where
       by : (o : Option Choice) (k : Block) (after : List Block) → is_some o ≡ true → IsSearched blocks (k ∷ after) → IsFirstAmong P (live_in t k) o → IsFirstAmong P (choices_of_all t blocks) o
@@ -134,7 +137,8 @@ parts_of P [] ys h = (tt, h)
 parts_of P (x ∷ xs) ys h = let r = parts_of P xs ys h.1 in ((h.0, r.0), r.1)
 
 -- each block is listed, and where no choice is a witness each is refuted
-pub all_listed : (t : TypeTable) (n : ℕ) → 2 ≤ n → n ≤ 8 → ((k : Block) → n ≤ 8 → Contains (live_blocks t n) k → IsBlockOf t k × (k.n ≡ n)) → (blocks : List Block) → blocks ≡ live_blocks t n → All (IsListedBlock t) blocks
+pub all_listed : (t : TypeTable) (n : ℕ) → 2 ≤ n → n ≤ 8 → ((k : Block) → n ≤ 8 → Contains (live_blocks t n) k → IsBlockOf t k × (k.n ≡ n)) → (blocks : List Block)
+    → blocks ≡ live_blocks t n → All (IsListedBlock t) blocks
 all_listed t n some few law blocks e = λ i d less.
     (let k : Block = slice_index_or blocks i d in
     let there : Contains blocks k = (i, less, get_or_default blocks i k d less) in
@@ -143,7 +147,8 @@ all_listed t n some few law blocks e = λ i d less.
     record { some = omega (arith, same); few = omega (arith, same); listed = subst (λ m. Contains (live_blocks t m) k) (sym same) listed })
 
 all_refuted : (t : TypeTable) (blocks : List Block) → All (IsListedBlock t) blocks → NoneIsWitness t (choices_of_all t blocks) → All (IsRefutedBlock t) blocks
-all_refuted t blocks listed none = All-from_recursion (IsRefutedBlock t) blocks (go blocks (recursion_from_All (IsListedBlock t) blocks listed) (recursion_from_All (Fails t (IsWitness t)) (choices_of_all t blocks) none))
+all_refuted t blocks listed none = All-from_recursion (IsRefutedBlock t) blocks
+    (go blocks (recursion_from_All (IsListedBlock t) blocks listed) (recursion_from_All (Fails t (IsWitness t)) (choices_of_all t blocks) none))
   where
     go : (blocks : List Block) → AllByRecursion (IsListedBlock t) blocks → AllByRecursion (Fails t (IsWitness t)) (choices_of_all t blocks) → AllByRecursion (IsRefutedBlock t) blocks
     go [] l n = tt
@@ -152,7 +157,8 @@ all_refuted t blocks listed none = All-from_recursion (IsRefutedBlock t) blocks 
         (record { block = l.0; none = All-from_recursion (Fails t (IsWitness t)) (live_in t k) p.0 }, go blocks l.1 p.1)
 
 -- each is refuted, and the sets for n processes are those for it
-pub all_refuted_with : (t : TypeTable) (n : ℕ) (s : Sets) → AreSetsFor t n s → 2 ≤ n → n ≤ 8 → ((k : Block) → n ≤ 8 → Contains (live_blocks t n) k → IsBlockOf t k × (k.n ≡ n)) → (blocks : List Block) → blocks ≡ live_blocks t n
+pub all_refuted_with : (t : TypeTable) (n : ℕ) (s : Sets) → AreSetsFor t n s → 2 ≤ n → n ≤ 8 → ((k : Block) → n ≤ 8 → Contains (live_blocks t n) k → IsBlockOf t k × (k.n ≡ n))
+    → (blocks : List Block) → blocks ≡ live_blocks t n
     → NoneIsWitness t (choices_of_all t blocks) → All (IsRefutedWith t s) blocks
 all_refuted_with t n s sets some few law blocks e none = λ i d less.
     (let k : Block = slice_index_or blocks i d in

@@ -63,7 +63,8 @@ module _ {E : Type 0} (keeps : E → List Collision → Type 0) (t : TypeTable) 
   }
 
   -- what stands in a slot keeps the collisions of its block
-  pub kept_in_slot : (slots : List (Option E)) (place : ℕ) → AreSlots keeps t blocks slots → (block : Block) (slot : Option E) → place < length slots → get_or slots place slot ≡ slot → block ≡ get_or blocks place block
+  pub kept_in_slot : (slots : List (Option E)) (place : ℕ) → AreSlots keeps t blocks slots → (block : Block) (slot : Option E) → place < length slots
+      → get_or slots place slot ≡ slot → block ≡ get_or blocks place block
       → IfSome slot (KeepsFor keeps t (live_in t block))
   kept_in_slot slots place are block None within e b = tt
   kept_in_slot slots place are block (Some form) within e b =

@@ -25,7 +25,8 @@ module _ (t : TypeTable) where
   first_in [] ys w h = inr (none_of_none, h)
   first_in (x ∷ xs) ys w h = by_before (λ g. first_in xs ys w g) h.before h.listed h.earlier
     where
-      by_before : (IsFirstWitness t (xs ++ ys) w → IsFirstWitness t xs w ⊎ (NoneIsWitness t xs × IsFirstWitness t ys w)) → (before : List Choice) → x ∷ (xs ++ ys) ≡ before ++ w ∷ h.after → NoneIsWitness t before
+      by_before : (IsFirstWitness t (xs ++ ys) w → IsFirstWitness t xs w ⊎ (NoneIsWitness t xs × IsFirstWitness t ys w)) → (before : List Choice)
+          → x ∷ (xs ++ ys) ≡ before ++ w ∷ h.after → NoneIsWitness t before
           → IsFirstWitness t (x ∷ xs) w ⊎ (NoneIsWitness t (x ∷ xs) × IsFirstWitness t ys w)
       by_before later [] e none = (let same : x ≡ w = cc e in inl (record { before = []; after = xs; listed = ap (λ v. v ∷ xs) same; witness = h.witness; earlier = none_of_none }))
       by_before later (b ∷ bs) e none =
@@ -34,7 +35,13 @@ module _ (t : TypeTable) where
           let fails = recursion_from_All Fails (b ∷ bs) none in
           let here : Fails x = subst Fails (sym head) fails.0 in
           elim (later (record { before = bs; after = h.after; listed = tail; witness = h.witness; earlier = All-from_recursion Fails bs fails.1 })) [
-            | inl f ↦ inl (record { before = x ∷ f.before; after = f.after; listed = ap (λ l. x ∷ l) f.listed; witness = f.witness; earlier = All-from_recursion Fails (x ∷ f.before) (here, recursion_from_All Fails f.before f.earlier) })
+            | inl f ↦ inl (record {
+              before = x ∷ f.before;
+              after = f.after;
+              listed = ap (λ l. x ∷ l) f.listed;
+              witness = f.witness;
+              earlier = All-from_recursion Fails (x ∷ f.before) (here, recursion_from_All Fails f.before f.earlier);
+            })
             | inr r ↦ inr (All-from_recursion Fails (x ∷ xs) (here, recursion_from_All Fails xs r.0), r.1)
           ]
 
@@ -46,7 +53,8 @@ module _ (t : TypeTable) where
   first_with all kept k h None none =
       let both = recursion_from_All Fails (choices_of_all t kept ++ live_in t k) (subst (NoneIsWitness t) (sym (choices_more t kept k)) none) in
       let split = parts_of Fails (choices_of_all t kept) (live_in t k) both in
-      subst (NoneIsWitness t) (choices_more t all k) (All-append Fails (choices_of_all t all) (live_in t k) (h None (All-from_recursion Fails (choices_of_all t kept) split.0)) (All-from_recursion Fails (live_in t k) split.1))
+      subst (NoneIsWitness t) (choices_more t all k)
+      (All-append Fails (choices_of_all t all) (live_in t k) (h None (All-from_recursion Fails (choices_of_all t kept) split.0)) (All-from_recursion Fails (live_in t k) split.1))
   first_with all kept k h (Some w) first =
       subst (λ l. IsFirstWitness t l w) (choices_more t all k) (elim (first_in (choices_of_all t kept) (live_in t k) w (subst (λ l. IsFirstWitness t l w) (sym (choices_more t kept k)) first)) [
         | inl f ↦ ahead t (IsWitness t) (choices_of_all t all) (live_in t k) w (h (Some w) f)
@@ -59,7 +67,8 @@ module _ (t : TypeTable) where
   first_without all kept k fails h (Some w) first = subst (λ l. IsFirstWitness t l w) (choices_more t all k) (ahead t (IsWitness t) (choices_of_all t all) (live_in t k) w (h (Some w) first))
 
   -- a block with another start state has no witness
-  pub none_from_state : (n starts : ℕ) (k : Block) → HasStarts t n starts → k.n ≡ n → ((c : Choice) → Contains (live_in t k) c → IsLiveIn t k c) → ¬ IsBitSet starts k.state → NoneIsWitness t (live_in t k)
+  pub none_from_state : (n starts : ℕ) (k : Block) → HasStarts t n starts → k.n ≡ n → ((c : Choice) → Contains (live_in t k) c → IsLiveIn t k c) → ¬ IsBitSet starts k.state
+      → NoneIsWitness t (live_in t k)
   none_from_state n starts k has for_n law out i d less w =
       let c : Choice = slice_index_or (live_in t k) i d in
       let is = law c (i, less, get_or_default (live_in t k) i c d less) in

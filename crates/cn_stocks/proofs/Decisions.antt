@@ -26,7 +26,8 @@ use Rattle.cn_stocks.proofs.Zips.{zip_at, zip_back, zip_none}
 
 -- ---- all stocks of one number of operations
 
-pub all_next : (question : Question) (t : TypeTable) (level : Level) (list : List Stock) → IsLevel question t level → AreStocks (length t.operations) level.stocks.list.items list → All (IsNext question t level) list
+pub all_next : (question : Question) (t : TypeTable) (level : Level) (list : List Stock) → IsLevel question t level → AreStocks (length t.operations) level.stocks.list.items list
+    → All (IsNext question t level) list
 all_next question t level list is are k d l = record { level_is = is; stock_is = are k (get_or list k d) (slice_get-get_or list k d l) }
 
 pub all_some_next : (question : Question) (t : TypeTable) (level : Level) (list : List Stock) → All (IsNext question t level) list → All (IsSomeNext t level) list
@@ -42,7 +43,8 @@ holds_at t n s i q is l b =
     (holds.0, (here.0.operations.items, (is.stocks.stocks i here.0 here.1).known, is.stocks.long i here.0.operations.items (items_of s.stocks.list.items i here.0 here.1), holds.1))
 
 -- at some place stands a stock that has it from the state
-pub place_of : (t : TypeTable) (n : ℕ) (s : Search) (q : ℕ) → IsSearch t n s → q < length t.states → HoldsFrom s.question t n q → (i : ℕ) × (i < length s.starts.items) × IsBitSet (get_or s.starts.items i 0) q
+pub place_of : (t : TypeTable) (n : ℕ) (s : Search) (q : ℕ) → IsSearch t n s → q < length t.states → HoldsFrom s.question t n q
+    → (i : ℕ) × (i < length s.starts.items) × IsBitSet (get_or s.starts.items i 0) q
 place_of t n s q is l found =
     let fit : Stock → ℕ → Type 0 = λ stock starts. AreStarts s.question t stock.operations.items starts in
     let here = is.stocks.all found.0 found.1 found.2 in
@@ -53,7 +55,8 @@ place_of t n s q is l found =
     (here.0, slice_get_within s.starts.items here.0 starts.0 starts.1, subst (λ (x : ℕ). IsBitSet x q) (sym (get_or_from_slice_get s.starts.items here.0 starts.0 0 starts.1)) bit)
 
 -- a stock that has a start state
-pub some_start : (t : TypeTable) (n : ℕ) (s : Search) (i : ℕ) → IsSearch t n s → i < length s.starts.items → get_or s.starts.items i 0 < 2 ^ 16 → get_or s.starts.items i 0 ≢ 0 → SomeHolds s.question t n
+pub some_start : (t : TypeTable) (n : ℕ) (s : Search) (i : ℕ) → IsSearch t n s → i < length s.starts.items → get_or s.starts.items i 0 < 2 ^ 16 → get_or s.starts.items i 0 ≢ 0
+    → SomeHolds s.question t n
 some_start t n s i is l small some =
     let q = some_bit (get_or s.starts.items i 0) small some in
     let holds = holds_at t n s i q.0 is l q.1 in
@@ -65,7 +68,8 @@ none_starts t n s is none h =
     zero_has_none h.0 (subst (λ (x : ℕ). IsBitSet x h.0) (none at.0 at.1) at.2)
 
 -- the states of all stocks are those from which some stock has it
-pub starts_of_some : (t : TypeTable) (n set : ℕ) (s : Search) → IsSearch t n s → ((q : ℕ) → IsBitSet set q ↔ ((i : ℕ) × (i < length s.starts.items) × IsBitSet (get_or s.starts.items i 0) q)) → AreStartsOfSome s.question t n set
+pub starts_of_some : (t : TypeTable) (n set : ℕ) (s : Search) → IsSearch t n s
+    → ((q : ℕ) → IsBitSet set q ↔ ((i : ℕ) × (i < length s.starts.items) × IsBitSet (get_or s.starts.items i 0) q)) → AreStartsOfSome s.question t n set
 starts_of_some t n set s is all q = (
   λ b. (let at = (all q).0 b in holds_at t n s at.0 q is at.1 at.2),
   λ h. (all q).1 (place_of t n s q is h.0 h.1),
@@ -85,7 +89,8 @@ pub collected : {X Y V : Type 0} (E : Type 0) (R : X → Y → Type 0) (items : 
 collected {Y = Y} E R items xs rs (Ok v) h m = subst (λ ys. AllZip R xs ys) (sym m.2) (AllZip-of_oks E R xs m.0 (subst (λ rs. AllZip (λ x (r : Result Y E). IfOk r (R x)) xs rs) m.1 h))
 collected E R items xs rs (Err e) h m = tt
 
-pub no_level_is : (question : Question) (t : TypeTable) (level : Level) → level.stocks.list.items ≡ [] → level.starts.items ≡ [] → level.ends.items ≡ [] → level.shown.items ≡ [] → IsLevel question t level
+pub no_level_is : (question : Question) (t : TypeTable) (level : Level) → level.stocks.list.items ≡ [] → level.starts.items ≡ [] → level.ends.items ≡ [] → level.shown.items ≡ []
+    → IsLevel question t level
 no_level_is question t level stocks starts ends shown = record {
   starts = zip_none _ level.stocks.list.items level.starts.items stocks starts;
   ends = zip_none _ level.stocks.list.items level.ends.items stocks ends;
@@ -105,14 +110,17 @@ size_decides t n (AtLeast m) few some is splits = absurd (omega (arith, is.0, is
 pub next_for : (question asked : Question) (t : TypeTable) (n : ℕ) (s : Search) → asked ≡ question → IsSearchFor asked t n s → IsSearchFor question t n s
 next_for question asked t n s e is = (is.0 ∙ e, is.1)
 
-pub found_by : (question : Question) (t : TypeTable) (n : ℕ) (s : Search) → IsSearchFor question t n s → (found : Bool) → ((t : TypeTable) (n : ℕ) → IsSearch t n s → IsTrue found ↔ SomeHolds s.question t n) → IsTrue found ↔ SomeHolds question t n
+pub found_by : (question : Question) (t : TypeTable) (n : ℕ) (s : Search) → IsSearchFor question t n s → (found : Bool)
+    → ((t : TypeTable) (n : ℕ) → IsSearch t n s → IsTrue found ↔ SomeHolds s.question t n) → IsTrue found ↔ SomeHolds question t n
 found_by question t n s is found says = subst (λ (asked : Question). IsTrue found ↔ SomeHolds asked t n) is.0 (says t n is.1)
 
-pub starts_by : (question : Question) (t : TypeTable) (n set : ℕ) (s : Search) → IsSearchFor question t n s → ((t : TypeTable) (n : ℕ) → IsSearch t n s → AreStartsOfSome s.question t n set) → AreStartsOfSome question t n set
+pub starts_by : (question : Question) (t : TypeTable) (n set : ℕ) (s : Search) → IsSearchFor question t n s
+    → ((t : TypeTable) (n : ℕ) → IsSearch t n s → AreStartsOfSome s.question t n set) → AreStartsOfSome question t n set
 starts_by question t n set s is says = subst (λ (asked : Question). AreStartsOfSome asked t n set) is.0 (says t n is.1)
 
 -- what is found where no larger stock records
-pub record_up_to : (t : TypeTable) (most n : ℕ) (greatest : Option ℕ) → n ≤ most → (2 ≤ n → (greatest ≡ Some n) × SomeRecords t n) → (n ≤ 1 → greatest ≡ None) → ((m : ℕ) → n < m → m ≤ most → ¬ SomeRecords t m) → IsGreatestRecord t most greatest
+pub record_up_to : (t : TypeTable) (most n : ℕ) (greatest : Option ℕ) → n ≤ most → (2 ≤ n → (greatest ≡ Some n) × SomeRecords t n) → (n ≤ 1 → greatest ≡ None)
+    → ((m : ℕ) → n < m → m ≤ most → ¬ SomeRecords t m) → IsGreatestRecord t most greatest
 record_up_to t most n greatest l found none above = elim (before_or_behind 1 n) [
   | inl two ↦ (let f = found (omega (arith, two)) in subst (IsGreatestRecord t most) (sym f.0) (omega (arith, two), l, f.1, above))
   | inr few ↦ subst (IsGreatestRecord t most) (sym (none few)) (λ m two u. above m (omega (arith, two, few)) u)

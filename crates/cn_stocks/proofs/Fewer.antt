@@ -65,7 +65,8 @@ more_shows t start stock rest x f o r q same s = record {
 }
 
 -- a stock of three operations or more that splits does so with some operation less
-pub less_splits : (t : TypeTable) (start : ℕ) (stock : List ℕ) → 3 ≤ length stock → StockSplits t start stock → (x : ℕ) × (rest : List ℕ) × HaveSame stock (x ∷ rest) × (length stock ≡ suc (length rest)) × StockSplits t start rest
+pub less_splits : (t : TypeTable) (start : ℕ) (stock : List ℕ) → 3 ≤ length stock → StockSplits t start stock
+    → (x : ℕ) × (rest : List ℕ) × HaveSame stock (x ∷ rest) × (length stock ≡ suc (length rest)) × StockSplits t start rest
 less_splits t start stock l s =
     let apart : s.inside.0 ≢ s.outside.0 = λ e. true≢false (sym s.inside.2 ∙ (ap s.chosen e ∙ s.outside.2)) in
     let r = beside s.inside.0 s.outside.0 stock l s.inside.1 s.outside.1 apart in
@@ -106,7 +107,8 @@ records_same t start a b same s =
 within_more : (x : ℕ) (stock rest word : List ℕ) → HaveSame stock (x ∷ rest) → IsWithin rest word → IsWithin stock word
 within_more x stock rest word same w o = omega (arith, w o, same o, times_cons o x rest)
 
-pub less_records : (t : TypeTable) (start : ℕ) (stock : List ℕ) → 3 ≤ length stock → Records t start stock → (x : ℕ) × (rest : List ℕ) × HaveSame stock (x ∷ rest) × (length stock ≡ suc (length rest)) × Records t start rest
+pub less_records : (t : TypeTable) (start : ℕ) (stock : List ℕ) → 3 ≤ length stock → Records t start stock
+    → (x : ℕ) × (rest : List ℕ) × HaveSame stock (x ∷ rest) × (length stock ≡ suc (length rest)) × Records t start rest
 less_records t start stock l s =
     let apart : s.inside.0 ≢ s.outside.0 = λ e. true≢false (sym s.inside.2 ∙ (ap s.chosen e ∙ s.outside.2)) in
     let r = beside s.inside.0 s.outside.0 stock l s.inside.1 s.outside.1 apart in

@@ -41,7 +41,8 @@ set_none less k v x l e = elim (same_or x k) [
   | inr n ↦ (n, sym (get_or-set_other less k x (Some v) None n) ∙ e)
 ]
 
-pub links_of_child : (operations operation : ℕ) (stocks : List Stock) (place : ℕ) (items : List ℕ) (less : List (Option ℕ)) → items_at stocks place ≡ Some items → IsKnown operations items → operation < length less
+pub links_of_child : (operations operation : ℕ) (stocks : List Stock) (place : ℕ) (items : List ℕ) (less : List (Option ℕ)) → items_at stocks place ≡ Some items
+    → IsKnown operations items → operation < length less
     → ((x j : ℕ) → get_or less x None ≡ Some j → HasLess stocks (items ++ operation ∷ []) x j) → ((x : ℕ) → x < operations → get_or less x None ≡ None → times x items ≡ 0)
     → AreSmallerStocks stocks (items ++ operation ∷ []) (set less operation (Some place))
 links_of_child operations operation stocks place items less at known l old none = record {
@@ -57,7 +58,8 @@ links_of_child operations operation stocks place items less at known l old none 
       | inr u ↦ elim (before_or_behind 0 (times x items)) [ inl h ↦ absurd (omega (arith, u, known x (omega (arith, h)))) | inr h ↦ omega (arith, h) ]
     ]
 
-pub stock_of_child : (operations operation : ℕ) (stocks : List Stock) (child : Stock) (items : List ℕ) → child.operations.items ≡ items ++ operation ∷ [] → child.greatest ≡ operation → operation < operations → IsKnown operations items
+pub stock_of_child : (operations operation : ℕ) (stocks : List Stock) (child : Stock) (items : List ℕ) → child.operations.items ≡ items ++ operation ∷ []
+    → child.greatest ≡ operation → operation < operations → IsKnown operations items
     → UpTo operation items → AreSmallerStocks stocks (items ++ operation ∷ []) child.less → IsStock operations stocks child
 stock_of_child operations operation stocks child items e g l known up smaller = record {
   known = subst (λ (list : List ℕ). IsKnown operations list) (sym e) (known_of_child operations operation items l known);
@@ -75,18 +77,22 @@ some_items [] i l = absurd (omega arith)
 some_items (s ∷ stocks) zero l = (s.operations.items, refl)
 some_items (s ∷ stocks) (suc i) l = some_items stocks i (omega arith)
 
-pub goes_on_children : (operations : ℕ) (before old new : List Stock) (n : ℕ) (children : List (List ℕ)) → GoesOn old n new → AreChildren operations before old children → AreChildren operations before new children
-goes_on_children operations before old new n children g are = subst (λ (stocks : List Stock). AreChildren operations before stocks children) (sym g.1) (children_more old g.0 before operations children are)
+pub goes_on_children : (operations : ℕ) (before old new : List Stock) (n : ℕ) (children : List (List ℕ)) → GoesOn old n new → AreChildren operations before old children
+    → AreChildren operations before new children
+goes_on_children operations before old new n children g are = subst (λ (stocks : List Stock). AreChildren operations before stocks children) (sym g.1)
+    (children_more old g.0 before operations children are)
 
 -- no operation is below the greatest and not below any
-pub row_first : (stocks new : List Stock) (place : ℕ) (s : Stock) (row : List ℕ) → slice_get stocks place ≡ Some s → IsGreatest s.operations.items s.greatest → HasChildren stocks new place s.greatest row
+pub row_first : (stocks new : List Stock) (place : ℕ) (s : Stock) (row : List ℕ) → slice_get stocks place ≡ Some s → IsGreatest s.operations.items s.greatest
+    → HasChildren stocks new place s.greatest row
 row_first stocks new place s row here is items at x u up =
     let same = same_items stocks place items s.operations.items at (items_of stocks place s here) in
     let least = is.least x (subst (λ (list : List ℕ). UpTo x list) same up) in
     absurd (omega (arith, u, least))
 
 pub row_push : (before stocks new : List Stock) (place operation : ℕ) (row : List ℕ) (child : Stock) (len : ℕ) → new ≡ stocks ++ child ∷ [] → len ≡ length stocks → operation < length row
-    → ((items : List ℕ) → items_at before place ≡ Some items → child.operations.items ≡ items ++ operation ∷ []) → HasChildren before stocks place operation row → HasChildren before new place (operation + 1) (set row operation len)
+    → ((items : List ℕ) → items_at before place ≡ Some items → child.operations.items ≡ items ++ operation ∷ []) → HasChildren before stocks place operation row
+    → HasChildren before new place (operation + 1) (set row operation len)
 row_push before stocks new place operation row child len e count long is old items at x u up =
     subst (λ (all : List Stock). items_at all (slice_index (set row operation len) x) ≡ Some (items ++ x ∷ [])) (sym e) (elim (same_or x operation) [
       | inl s ↦ (
@@ -101,7 +107,8 @@ row_push before stocks new place operation row child len e count long is old ite
           )
     ])
 
-pub children_push : (operations : ℕ) (before stocks : List Stock) (children new : List (List ℕ)) (row : List ℕ) (place : ℕ) → new ≡ children ++ row ∷ [] → length children ≡ place → AreChildren operations before stocks children
+pub children_push : (operations : ℕ) (before stocks : List Stock) (children new : List (List ℕ)) (row : List ℕ) (place : ℕ) → new ≡ children ++ row ∷ [] → length children ≡ place
+    → AreChildren operations before stocks children
     → HasChildren before stocks place operations row → AreChildren operations before stocks new
 children_push operations before stocks children new row place e count old is i l =
     subst (λ (all : List (List ℕ)). HasChildren before stocks i operations (slice_index_or all i [])) (sym e) (elim (before_or_behind i (length children)) [

@@ -10,7 +10,8 @@ use Rattle.cn_stocks.specs.Meetings.{AreGathered, FallApart, HasAt, IsClosed, Is
 use Rattle.cn_stocks.proofs.SplitLemmas.{either, not_false, not_no, not_true}
 
 -- one set more
-pub gathered_union : (sets : List ℕ) (first set other more : ℕ) → AreGathered sets first set → ((q : ℕ) → IsBitSet more q ↔ (IsBitSet set q ⊎ HasAt sets other q)) → (q : ℕ) × HasAt sets other q × IsBitSet set q → AreGathered sets first more
+pub gathered_union : (sets : List ℕ) (first set other more : ℕ) → AreGathered sets first set → ((q : ℕ) → IsBitSet more q ↔ (IsBitSet set q ⊎ HasAt sets other q))
+    → (q : ℕ) × HasAt sets other q × IsBitSet set q → AreGathered sets first more
 gathered_union sets first set other more g m common chosen sure closed q b = elim ((m q).0 b) [
   | inl old ↦ g chosen sure closed q old
   | inr new ↦ (
@@ -30,7 +31,8 @@ meets_iff : (sets : List ℕ) (set f : ℕ) → set < 2 ^ 16 → IsTrue (meets_s
 unfolding meets_set
 meets_iff sets set f l = shared set (get_or sets f 0) l
 
-pub apart_by : (sets : List ℕ) (first set : ℕ) → set < 2 ^ 16 → (q : ℕ) × HasAt sets first q → ((q : ℕ) → HasAt sets first q → IsBitSet set q) → IsClosed sets set → (g : ℕ) × IsOutside sets set g → FallApart sets
+pub apart_by : (sets : List ℕ) (first set : ℕ) → set < 2 ^ 16 → (q : ℕ) × HasAt sets first q → ((q : ℕ) → HasAt sets first q → IsBitSet set q) → IsClosed sets set
+    → (g : ℕ) × IsOutside sets set g → FallApart sets
 apart_by sets first set l some has closed out =
     let meets = meets_set sets set in record {
       chosen = meets;
@@ -58,7 +60,8 @@ other_apart sets a = record {
 
 outside_in : (sets : List ℕ) (first set : ℕ) → AreGathered sets first set → (a : FallApart sets) → a.chosen first ≡ true → (g : ℕ) × IsOutside sets set g
 outside_in sets first set gathered a sure =
-    let closed : (f g q : ℕ) → a.chosen f ≡ true → HasAt sets f q → HasAt sets g q → a.chosen g ≡ true = λ f g q picked x y. elim (either (a.chosen g)) [ inl e ↦ e | inr left_out ↦ absurd (a.apart f g q picked left_out x y) ] in (
+    let closed : (f g q : ℕ) → a.chosen f ≡ true → HasAt sets f q → HasAt sets g q
+    → a.chosen g ≡ true = λ f g q picked x y. elim (either (a.chosen g)) [ inl e ↦ e | inr left_out ↦ absurd (a.apart f g q picked left_out x y) ] in (
       a.outside.0,
       record {
         some = a.outside.2;

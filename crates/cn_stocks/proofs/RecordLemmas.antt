@@ -36,7 +36,8 @@ both_within g h stock n a b o = elim (same_or g o) [
       omega (arith, a, same, times_cons o g (h ∷ []), times_cons o h [], times_none o, one_of o g e, one_else o h apart)
       )
   | inr m ↦ elim (same_or h o) [
-    | inl e ↦ (let same : times o stock ≡ times h stock = ap (λ (x : ℕ). times x stock) (sym e) in omega (arith, b, same, times_cons o g (h ∷ []), times_cons o h [], times_none o, one_else o g m, one_of o h e))
+    | inl e ↦ (let same : times o stock ≡ times h stock = ap (λ (x : ℕ). times x stock) (sym e) in
+        omega (arith, b, same, times_cons o g (h ∷ []), times_cons o h [], times_none o, one_else o g m, one_of o h e))
     | inr k ↦ omega (arith, times_cons o g (h ∷ []), times_cons o h [], times_none o, one_else o g m, one_else o h k)
   ]
 ]

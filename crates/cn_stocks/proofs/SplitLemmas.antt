@@ -128,7 +128,8 @@ look items set (suc k) = elim (look items set k) [
   | inr all ↦ elim (by_bit set k) [
     | inl z ↦ elim (before_or_behind 0 (times k items)) [
       | inl s ↦ inl (k, omega (arith, s), λ b. absurd (omega (arith, z, bit_from set k b)))
-      | inr n ↦ inr (λ g l s. elim (below_or_last g k (omega (arith, l))) [ inl u ↦ all g u s | inr e ↦ absurd (let h : times g items ≡ times k items = ap (λ (x : ℕ). times x items) e in omega (arith, s, n, h)) ])
+      | inr n ↦ inr (λ g l s. elim (below_or_last g k (omega (arith, l)))
+          [ inl u ↦ all g u s | inr e ↦ absurd (let h : times g items ≡ times k items = ap (λ (x : ℕ). times x items) e in omega (arith, s, n, h)) ])
     ]
     | inr o ↦ inr (λ g l s. elim (below_or_last g k (omega (arith, l))) [ inl u ↦ all g u s | inr e ↦ subst (λ (x : ℕ). IsBitSet set x) (sym e) (set_from set k o) ])
   ]

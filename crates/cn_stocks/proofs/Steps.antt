@@ -115,7 +115,8 @@ module _ (t : TypeTable) (start : ℕ) (stock : List ℕ) where
   shows_part_none x o r q z h = absurd (omega (arith, z, same_has x stock h.0 h.1))
 
   -- what a word shows o at its first place
-  pub at_once_is : (o : ℕ) (rest : List ℕ) → HaveSame stock (o ∷ rest) → (r q : ℕ) (here : Type 0) → here ↔ (((transition t o start).0 ≡ r) × EndsWithin t (transition t o start).1 rest q) → here ↔ ShowsAtOnce t start stock o r q
+  pub at_once_is : (o : ℕ) (rest : List ℕ) → HaveSame stock (o ∷ rest) → (r q : ℕ) (here : Type 0)
+      → here ↔ (((transition t o start).0 ≡ r) × EndsWithin t (transition t o start).1 rest q) → here ↔ ShowsAtOnce t start stock o r q
   at_once_is o rest same r q here s = (
     λ h. (let p = s.0 h in (rest, same, p.0, p.1)),
     λ p. s.1 (p.2, ends_same t (transition t o start).1 q p.0 rest (same_rest o o stock p.0 rest refl p.1 same) p.3),
@@ -169,7 +170,8 @@ module _ (t : TypeTable) (start : ℕ) (stock : List ℕ) where
     ]
 
     -- what is found at once and behind the first operation
-    pub shown_by_is : (f o r q : ℕ) (base part here : Type 0) → base ↔ ((f ≡ o) × ShowsAtOnce t start stock o r q) → part ↔ ShowsPart o r q f → here ↔ (base ⊎ part) → here ↔ Shows t start stock f o r q
+    pub shown_by_is : (f o r q : ℕ) (base part here : Type 0) → base ↔ ((f ≡ o) × ShowsAtOnce t start stock o r q) → part ↔ ShowsPart o r q f → here ↔ (base ⊎ part)
+        → here ↔ Shows t start stock f o r q
     shown_by_is f o r q base part here b p h = (
       λ x. shows_from f o r q (elim (h.0 x) [ inl a ↦ inl (b.0 a) | inr a ↦ inr (p.0 a) ]),
       λ s. h.1 (elim (shows_to f o r q s) [ inl a ↦ inl (b.1 a) | inr a ↦ inr (p.1 a) ]),

@@ -126,7 +126,8 @@ same_more : (x y : ℕ) (items rest : List ℕ) → HaveSame items (y ∷ rest) 
 same_more x y items rest same o = omega (arith, same o, times_last o x items, times_cons o y rest, times_cons o y (rest ++ x ∷ []), times_last o x rest)
 
 -- a stock of which a stock has one more has a child
-pub less_of_child : (operations operation : ℕ) (before stocks : List Stock) (children : List (List ℕ)) (items : List ℕ) (other j : ℕ) → AreChildren operations before stocks children → length children ≡ length before → operation < operations
+pub less_of_child : (operations operation : ℕ) (before stocks : List Stock) (children : List (List ℕ)) (items : List ℕ) (other j : ℕ)
+    → AreChildren operations before stocks children → length children ≡ length before → operation < operations
     → UpTo operation items → HasLess before items other j → HasLess stocks (items ++ operation ∷ []) other (slice_index (slice_index_or children j []) operation)
 less_of_child operations operation before stocks children items other j are count known up h =
     let rest = h.0 in
@@ -201,7 +202,8 @@ greatest_of x (y ∷ list) = by_order (greatest_of y list)
         none o n = elim (before_or_behind 0 (one o x)) [ inl u ↦ absurd (n (one_some o x (omega (arith, u)))) | inr u ↦ omega (arith, u) ]
 
 -- where each list of n operations stands, and each stock there has its children, each list of one operation more stands
-pub all_longer : (operations n : ℕ) (old new : List Stock) (children : List (List ℕ)) → HaveAll operations n old → length children ≡ length old → AreChildren operations old new children → HaveAll operations (n + 1) new
+pub all_longer : (operations n : ℕ) (old new : List Stock) (children : List (List ℕ)) → HaveAll operations n old → length children ≡ length old
+    → AreChildren operations old new children → HaveAll operations (n + 1) new
 all_longer operations n old new children all count are [] known e = absurd (omega (arith, e))
 all_longer operations n old new children all count are (y ∷ list) known e =
     let g = greatest_of y list in

@@ -130,11 +130,13 @@ module _ (start : ℕ) (stock : List ℕ) (chosen : ℕ → Bool) where
   mark_of : (team : Team) (f : ℕ) → 1 ≤ times f stock → team_of (chosen f) ≡ team → Contains (map (λ (o : ℕ). team_of (chosen o)) stock) team
   mark_of team f l e =
       let p = place_in f stock l in
-      let f_at : get_or (map (λ (o : ℕ). team_of (chosen o)) stock) p.0 (team_of (chosen 0)) ≡ team = get_or-map (λ (o : ℕ). team_of (chosen o)) stock p.0 0 ∙ ap (λ (o : ℕ). team_of (chosen o)) p.2 ∙ e in
+      let f_at : get_or (map (λ (o : ℕ). team_of (chosen o)) stock) p.0 (team_of (chosen 0)) ≡ team = get_or-map (λ (o : ℕ). team_of (chosen o)) stock p.0 0
+      ∙ ap (λ (o : ℕ). team_of (chosen o)) p.2 ∙ e in
       let inside : p.0 < length (map (λ (o : ℕ). team_of (chosen o)) stock) = omega (arith, p.1, length-map stock (λ (o : ℕ). team_of (chosen o))) in
       (p.0, inside, get_or_default (map (λ (o : ℕ). team_of (chosen o)) stock) p.0 team (team_of (chosen 0)) inside ∙ f_at)
 
-  pub is_choice : (t : TypeTable) (n : ℕ) → start < length t.states → IsKnown (length t.operations) stock → length stock ≡ n → (f : ℕ) × (1 ≤ times f stock) × (chosen f ≡ true) → (g : ℕ) × (1 ≤ times g stock) × (chosen g ≡ false)
+  pub is_choice : (t : TypeTable) (n : ℕ) → start < length t.states → IsKnown (length t.operations) stock → length stock ≡ n → (f : ℕ) × (1 ≤ times f stock) × (chosen f ≡ true)
+      → (g : ℕ) × (1 ≤ times g stock) × (chosen g ≡ false)
       → IsRawChoice t n choice_of
   is_choice t n known_start known long inside outside = record {
     state_known = known_start;

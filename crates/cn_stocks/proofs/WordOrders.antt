@@ -40,7 +40,8 @@ at_place : (f : ℕ → ℕ) (x : ℕ) (free : List ℕ) → 1 ≤ times x (map 
 at_place f x [] l = absurd (omega (arith, l, times_none x))
 at_place f x (y ∷ free) l = by_test (nat_eq (f y) x) refl (at_place f x free)
   where
-    by_test : (b : Bool) → nat_eq (f y) x ≡ b → (1 ≤ times x (map f free) → (d : ℕ) × (d < length free) × (f (get_or free d 0) ≡ x)) → (d : ℕ) × (d < length (y ∷ free)) × (f (get_or (y ∷ free) d 0) ≡ x)
+    by_test : (b : Bool) → nat_eq (f y) x ≡ b → (1 ≤ times x (map f free) → (d : ℕ) × (d < length free) × (f (get_or free d 0) ≡ x))
+        → (d : ℕ) × (d < length (y ∷ free)) × (f (get_or (y ∷ free) d 0) ≡ x)
     by_test true e later = (0, omega arith, eqb-true (f y) x e)
     by_test false e later =
         let z : one x (f y) ≡ 0 = rw e refl in
@@ -151,7 +152,8 @@ module _ (c : RawChoice) where
       by_test : (b : Bool) → nat_eq p j ≡ b
           → cond b (Some (transition t (slice_index c.operations p) s).0) (response_of j ps (responses_along t (transition t (slice_index c.operations p) s).1 (operations_of c ps))) ≡ Some r
           → (response_of j ps (responses_along t (transition t (slice_index c.operations p) s).1 (operations_of c ps)) ≡ Some r
-          → (before : List ℕ) × (after : List ℕ) × (ps ≡ before ++ j ∷ after) × ((transition t (slice_index c.operations j) (state_after t (transition t (slice_index c.operations p) s).1 (operations_of c before))).0 ≡ r))
+          → (before : List ℕ) × (after : List ℕ) × (ps ≡ before ++ j ∷ after)
+          × ((transition t (slice_index c.operations j) (state_after t (transition t (slice_index c.operations p) s).1 (operations_of c before))).0 ≡ r))
           → (before : List ℕ) × (after : List ℕ) × (p ∷ ps ≡ before ++ j ∷ after) × ((transition t (slice_index c.operations j) (state_after t s (operations_of c before))).0 ≡ r)
       by_test true test h later =
           let same : p ≡ j = eqb-true p j test in

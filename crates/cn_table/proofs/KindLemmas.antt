@@ -65,8 +65,14 @@ row_is_operation d = of_table (as_table d) where
 pub no_draft : (document : Members) → has_wrong_kind document ≡ is_none (draft_of document)
 unfolding has_wrong_kind draft_of
 no_draft document = is_none-not (draft_of document) _ (
-    then_some (text_at (codes "name") document) _ _ (λ _. then_some (texts_at (codes "states") document) _ _ (λ _. then_some (texts_at (codes "responses") document) _ _ (λ _. last_some (rows_at (codes "operation") document) _)))
-    ∙ rw (text_is_at (codes "name") document, texts_are_at (codes "states") document, texts_are_at (codes "responses") document, array_of row_at is_operation row_is_operation (codes "operation") document) refl
+    then_some (text_at (codes "name") document) _ _
+    (λ _. then_some (texts_at (codes "states") document) _ _ (λ _. then_some (texts_at (codes "responses") document) _ _ (λ _. last_some (rows_at (codes "operation") document) _)))
+    ∙ rw (
+      text_is_at (codes "name") document,
+      texts_are_at (codes "states") document,
+      texts_are_at (codes "responses") document,
+      array_of row_at is_operation row_is_operation (codes "operation") document,
+    ) refl
     )
 
 numbers_are_among : (names texts : List (List ℕ)) → is_some (numbers_of names texts) ≡ are_among names texts

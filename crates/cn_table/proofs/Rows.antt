@@ -13,13 +13,15 @@ all_at P (x ∷ xs) zero d within all = all.0
 all_at P (x ∷ xs) (suc i) d within all = all_at P xs i d (omega arith) all.1
 
 -- a property of each row of the view holds for each row in memory
-pub row_holds : (P : Row → Type 0) (rows : List Transitions) (i : ℕ) (r : Transitions) → i < length (map transitions_view rows) → r ≡ get_or rows i r → AllByRecursion P (map transitions_view rows) → P (transitions_view r)
+pub row_holds : (P : Row → Type 0) (rows : List Transitions) (i : ℕ) (r : Transitions) → i < length (map transitions_view rows) → r ≡ get_or rows i r
+    → AllByRecursion P (map transitions_view rows) → P (transitions_view r)
 row_holds P [] i r within is all = absurd (omega arith)
 row_holds P (x ∷ xs) zero r within is all = rw is all.0
 row_holds P (x ∷ xs) (suc i) r within is all = row_holds P xs i r (omega arith) is all.1
 
 -- the name of a row, by its place
-pub name_at : (rows : List Transitions) (i : ℕ) (r : Transitions) → i < length (map transitions_view rows) → r ≡ get_or rows i r → slice_get (map (λ row. row.name) (map transitions_view rows)) i ≡ Some (string_bytes r.name)
+pub name_at : (rows : List Transitions) (i : ℕ) (r : Transitions) → i < length (map transitions_view rows) → r ≡ get_or rows i r
+    → slice_get (map (λ row. row.name) (map transitions_view rows)) i ≡ Some (string_bytes r.name)
 name_at rows i r within is =
     let below : i < length rows = omega (arith, within, length-map rows transitions_view) in
     rw (slice_get-map (λ (row : Row). row.name) (map transitions_view rows) i, slice_get-map transitions_view rows i, slice_get_read rows (length rows) i r refl below is) refl

@@ -33,7 +33,8 @@ none_begun {V = V} plan w is r = record {
     waits (suc n) zero = refl
     waits (suc n) (suc p) = waits n p
 
-pub one_more_begun : {V : Type 0} (plan : Plan) (i : ℕ) (x : V) (w w' : World V) → i < length w.locals → HasBegunTo plan i w → w' ≡ after_begin i x w → IsRoundOf plan [] w' → HasBegunTo plan (i + 1) w'
+pub one_more_begun : {V : Type 0} (plan : Plan) (i : ℕ) (x : V) (w w' : World V) → i < length w.locals → HasBegunTo plan i w → w' ≡ after_begin i x w → IsRoundOf plan [] w'
+    → HasBegunTo plan (i + 1) w'
 one_more_begun {V = V} plan i x w w' lt h is r = record {
   round = r;
   begun = λ p less. ⊎_elim (own p) (λ other. earlier p less other) (cases_eq p i);

@@ -64,8 +64,16 @@ among c e words forms (inr is) enough = is
 pub reply_given : (c : ClapCommand) (e : Error) (words : List Text) (told : Reply) → HasCommandsFor commands c
     → (is_simple_and_free (app_of c) ≡ true → FailsBy {T = ArgMatches} (fault_of (app_of c) words) (Err e))
     → IsReplyOf e told → GivesReply words told
-reply_given c e words (reply.Help text) has fails is =
-    (has.0, has.1, (kind_of e, among c e words has.0 (fails_by {T = ArgMatches} c (Err e) words has.0 has.2 fails) (λ memory. elim is [ inl h ↦ (let bad = sym h ∙ memory in cc) | inr h ↦ (let bad = sym h ∙ memory in cc) ]), is))
+reply_given c e words (reply.Help text) has fails is = (
+  has.0,
+  has.1,
+  (
+    kind_of e,
+    among c e words has.0 (fails_by {T = ArgMatches} c (Err e) words has.0 has.2 fails)
+        (λ memory. elim is [ inl h ↦ (let bad = sym h ∙ memory in cc) | inr h ↦ (let bad = sym h ∙ memory in cc) ]),
+    is,
+  ),
+)
 reply_given c e words (reply.Refusal text) has fails is =
     (has.0, has.1, (kind_of e, among c e words has.0 (fails_by {T = ArgMatches} c (Err e) words has.0 has.2 fails) is.1, is.0))
 reply_given c e words (reply.Fault fault.OutOfMemory) has fails is = tt

@@ -23,7 +23,8 @@ too_great greatest false n great = refl
 empty_is_none : (greatest : ℕ) (text : List ℕ) → list_all is_ascii_digit text ≡ true → length text ≡ 0 → number_up_to greatest text ≡ None
 empty_is_none greatest text digits empty = rw (digits, empty) refl
 
-pub small_is_some : (greatest : ℕ) (text : List ℕ) → list_all is_ascii_digit text ≡ true → 0 < length text → length text ≤ 20 → digits_value 10 text ≤ greatest → number_up_to greatest text ≡ Some (digits_value 10 text)
+pub small_is_some : (greatest : ℕ) (text : List ℕ) → list_all is_ascii_digit text ≡ true → 0 < length text → length text ≤ 20 → digits_value 10 text ≤ greatest
+    → number_up_to greatest text ≡ Some (digits_value 10 text)
 small_is_some greatest text digits some few small = rw (digits, le-leb 1 (length text) some, le-leb (length text) 20 few, le-leb (digits_value 10 text) greatest small) refl
 
 -- `parse` on digits alone: the number that it reads, or its refusal

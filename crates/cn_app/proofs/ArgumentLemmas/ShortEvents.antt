@@ -60,13 +60,15 @@ no_event_of_none true events e = cc e
 no_event_of_none false events e = cc e
 
 -- pieces that are not too many spell the events of the list: the word for the empty list spells no event
-by_word : (most : ℕ) (word : Bool) (list : List ℕ) (events : List EventWord) → bytes_eq list (codes "none") ≡ word → items_of most event_of (pieces list) ≡ Some events → list_up_to most event_of list ≡ Some events
+by_word : (most : ℕ) (word : Bool) (list : List ℕ) (events : List EventWord) → bytes_eq list (codes "none") ≡ word → items_of most event_of (pieces list) ≡ Some events
+    → list_up_to most event_of list ≡ Some events
 by_word most true list events is spelled =
     let none : list ≡ codes "none" = (bytes_eq-Decides list (codes "none")).0 is in
     absurd (no_event_of_none (nat_le (length (pieces (codes "none"))) most) events (subst (λ l. items_of most event_of (pieces l) ≡ Some events) none spelled))
 by_word most false list events is spelled = rw is spelled
 
-pub events_spelled : (most : ℕ) (list : List ℕ) (events : List EventWord) → length (pieces list) ≤ most → all_some (map event_of (pieces list)) ≡ Some events → list_up_to most event_of list ≡ Some events
+pub events_spelled : (most : ℕ) (list : List ℕ) (events : List EventWord) → length (pieces list) ≤ most → all_some (map event_of (pieces list)) ≡ Some events
+    → list_up_to most event_of list ≡ Some events
 events_spelled most list events few spelled = by_word most _ list events refl (rw (le-leb (length (pieces list)) most few) spelled)
 
 pub all_spelled : (most : ℕ) (list rest : List ℕ) (events : List EventWord) (e : EventWord) → with_front events (all_some (map event_of (pieces rest))) ≡ all_some (map event_of (pieces list))

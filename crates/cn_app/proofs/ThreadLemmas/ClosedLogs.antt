@@ -24,17 +24,20 @@ at_place : {A : Type 0} (P : A → Type 0) (xs : List A) → All P xs → (k : �
 at_place P xs h k x at = subst P (get_or_from_slice_get xs k x x at) (h k x (slice_get_within xs k x at))
 
 -- place p of the seats holds that of process p, over a core with a list of calls for each process
-module _ (hall : HallId) (core : Log) (calls : List (Vec ℕ Global)) (before : List SeatState) (count : length before ≡ length calls) (opened : (p : ℕ) → p < length calls → slice_get before p ≡ Some (seat_state hall p core)) where
+module _ (hall : HallId) (core : Log) (calls : List (Vec ℕ Global)) (before : List SeatState) (count : length before ≡ length calls)
+    (opened : (p : ℕ) → p < length calls → slice_get before p ≡ Some (seat_state hall p core)) where
   seat_at : (p : ℕ) (s : SeatState) → slice_get before p ≡ Some s → s ≡ seat_state hall p core
   seat_at p s at = let same : Some s ≡ Some (seat_state hall p core) = sym at ∙ opened p (omega (arith, count, slice_get_within before p s at)) in cc
 
   pub may_all_work : core.schedule ≡ [] → All (λ (c : Vec ℕ Global). All (λ o. o < length core.opening.object.operations) c.items) calls → MayAllWork hall calls before
   may_all_work empty fit p c s got at =
-      subst (λ (u : SeatState). MayWork hall c.items u) (sym (seat_at p s at)) ((refl, refl), empty, at_place (λ (d : Vec ℕ Global). All (λ o. o < length core.opening.object.operations) d.items) calls fit p c got)
+      subst (λ (u : SeatState). MayWork hall c.items u) (sym (seat_at p s at))
+      ((refl, refl), empty, at_place (λ (d : Vec ℕ Global). All (λ o. o < length core.opening.object.operations) d.items) calls fit p c got)
 
   -- all seats have made their calls
   module _ (after : List SeatState) (worked : List ProcessHistory) (also : length after ≡ length before) (more : length worked ≡ length before) (all : HaveAllWorked calls before after worked) where
-    worked_at : (p : ℕ) (c : Vec ℕ Global) (t : SeatState) (w : ProcessHistory) → slice_get calls p ≡ Some c → slice_get after p ≡ Some t → slice_get worked p ≡ Some w → HasWorked c.items (seat_state hall p core) t w.replies.items w.end
+    worked_at : (p : ℕ) (c : Vec ℕ Global) (t : SeatState) (w : ProcessHistory) → slice_get calls p ≡ Some c → slice_get after p ≡ Some t → slice_get worked p ≡ Some w
+        → HasWorked c.items (seat_state hall p core) t w.replies.items w.end
     worked_at p c t w got at_t at_w = all p c (seat_state hall p core) t w got (opened p (slice_get_within calls p c got)) at_t at_w
 
     worked_there : (p : ℕ) (t : SeatState) → slice_get after p ≡ Some t → (c : Vec ℕ Global) × (w : ProcessHistory) × HasWorked c.items (seat_state hall p core) t w.replies.items w.end
@@ -55,16 +58,19 @@ module _ (hall : HallId) (core : Log) (calls : List (Vec ℕ Global)) (before : 
           let h = worked_there 0 t.0 t.1 in
           (at_place (λ (u : SeatState). Carries u.process u.core closed) after carried 0 t.0 t.1).0 ∙ h.2.same.2
 
-      pub serve_all : All (λ (t : SeatState). BeginsWith (batches (setting closed) closed.schedule) (slots_seen t)) after → All (λ (t : SeatState). BeginsWith (replies_in closed t.process) (own t)) after
+      pub serve_all : All (λ (t : SeatState). BeginsWith (batches (setting closed) closed.schedule) (slots_seen t)) after
+          → All (λ (t : SeatState). BeginsWith (replies_in closed t.process) (own t)) after
           → (p : ℕ) (c : Vec ℕ Global) (w : ProcessHistory) → slice_get calls p ≡ Some c → slice_get worked p ≡ Some w → HasServed closed p c.items w.replies.items w.end
       serve_all begins answers p c w got at =
           let t = there_is after p (omega (arith, slice_get_within worked p w at, also, more)) in
           let h = worked_at p c t.0 w got t.1 at in
           has_served_at closed c.items (seat_state hall p core) t.0 w.replies.items w.end h (at_place (λ (u : SeatState). Carries u.process u.core closed) after carried p t.0 t.1) p h.same.1
-          (at_place (λ (u : SeatState). BeginsWith (batches (setting closed) closed.schedule) (slots_seen u)) after begins p t.0 t.1) (at_place (λ (u : SeatState). BeginsWith (replies_in closed u.process) (own u)) after answers p t.0 t.1)
+          (at_place (λ (u : SeatState). BeginsWith (batches (setting closed) closed.schedule) (slots_seen u)) after begins p t.0 t.1)
+          (at_place (λ (u : SeatState). BeginsWith (replies_in closed u.process) (own u)) after answers p t.0 t.1)
 
       -- and each process had the gate at its place
-      pub one_gate_each : {G : Type 0} (asks : G → SeatState → ℕ → G → Type 0) (says : G → Go) (made : ℕ → G → Type 0) (gates : List G) → length gates ≡ length before → AllGatesWereAsked asks says before gates after worked
+      pub one_gate_each : {G : Type 0} (asks : G → SeatState → ℕ → G → Type 0) (says : G → Go) (made : ℕ → G → Type 0) (gates : List G) → length gates ≡ length before
+          → AllGatesWereAsked asks says before gates after worked
           → ((p : ℕ) (g : G) → slice_get gates p ≡ Some g → made p g) → core.schedule ≡ [] → processes_of closed.opening.plan ≡ length calls → EachHasOneGate asks says made closed worked
       one_gate_each asks says made gates many all made_for empty processes p less =
           let t = there_is after p (omega (arith, less, processes, also, count)) in

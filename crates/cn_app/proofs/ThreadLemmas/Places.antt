@@ -33,7 +33,8 @@ module _ (calls : List (Vec ℕ Global)) where
         → HaveAllWorked calls (before ++ s ∷ []) (after ++ t ∷ []) (worked ++ w ∷ [])
     one_more_worked all last p c x y z got at_x at_y at_z = by_place (get_push_cases before s p x at_x) (get_push_cases after t p y at_y) (get_push_cases worked w p z at_z)
       where
-        by_place : (slice_get before p ≡ Some x) ⊎ ((p ≡ length before) × (s ≡ x)) → (slice_get after p ≡ Some y) ⊎ ((p ≡ length after) × (t ≡ y)) → (slice_get worked p ≡ Some z) ⊎ ((p ≡ length worked) × (w ≡ z))
+        by_place : (slice_get before p ≡ Some x) ⊎ ((p ≡ length before) × (s ≡ x)) → (slice_get after p ≡ Some y) ⊎ ((p ≡ length after) × (t ≡ y))
+            → (slice_get worked p ≡ Some z) ⊎ ((p ≡ length worked) × (w ≡ z))
             → HasWorked c.items x y z.replies.items z.end
         by_place (inl a) (inl b) (inl d) = all p c x y z got a b d
         by_place (inl a) (inr b) d = absurd (omega (arith, slice_get_within before p x a, b.0, count))
@@ -44,21 +45,26 @@ module _ (calls : List (Vec ℕ Global)) where
             subst (λ (u : SeatState × SeatState × ProcessHistory). HasWorked c.items u.0 u.1 u.2.replies.items u.2.end) (λ i. (a.1 i, b.1 i, d.1 i)) (last c (ap (slice_get calls) (sym a.0) ∙ got))
 
   -- and room for the replies to one more list of calls
-  pub room_pushed : (rooms : List ProcessHistory) (w : ProcessHistory) (d : Vec ℕ Global) → HaveRoom calls rooms → slice_get calls (length rooms) ≡ Some d → HasRoom d.items w → HaveRoom calls (rooms ++ w ∷ [])
+  pub room_pushed : (rooms : List ProcessHistory) (w : ProcessHistory) (d : Vec ℕ Global) → HaveRoom calls rooms → slice_get calls (length rooms) ≡ Some d → HasRoom d.items w
+      → HaveRoom calls (rooms ++ w ∷ [])
   room_pushed rooms w d room there has p c v got at = by_place (get_push_cases rooms w p v at)
     where
       by_place : (slice_get rooms p ≡ Some v) ⊎ ((p ≡ length rooms) × (w ≡ v)) → HasRoom c.items v
       by_place (inl h) = room p c v got h
-      by_place (inr h) = let same : Some d ≡ Some c = sym there ∙ ap (slice_get calls) (sym h.0) ∙ got in let is : d ≡ c = cc in subst (λ (z : Vec ℕ Global × ProcessHistory). HasRoom z.0.items z.1) (λ i. (is i, h.1 i)) has
+      by_place (inr h) = let same : Some d ≡ Some c = sym there ∙ ap (slice_get calls) (sym h.0) ∙ got in let is : d ≡ c = cc in
+          subst (λ (z : Vec ℕ Global × ProcessHistory). HasRoom z.0.items z.1) (λ i. (is i, h.1 i)) has
 
 -- the gate of one more seat was asked
-module _ {G : Type 0} (asks : G → SeatState → ℕ → G → Type 0) (says : G → Go) (before after : List SeatState) (gates : List G) (worked : List ProcessHistory) (s t : SeatState) (g : G) (w : ProcessHistory)
+module _ {G : Type 0} (asks : G → SeatState → ℕ → G → Type 0) (says : G → Go) (before after : List SeatState) (gates : List G) (worked : List ProcessHistory) (s t : SeatState)
+    (g : G) (w : ProcessHistory)
     (count : length after ≡ length before) (also : length gates ≡ length before) (more : length worked ≡ length before) where
   pub one_more_asked : AllGatesWereAsked asks says before gates after worked → GateWasAsked asks says s g t w.end
       → AllGatesWereAsked asks says (before ++ s ∷ []) (gates ++ g ∷ []) (after ++ t ∷ []) (worked ++ w ∷ [])
-  one_more_asked all last p x y z v at_x at_z at_y at_v = by_place (get_push_cases before s p x at_x) (get_push_cases after t p y at_y) (get_push_cases gates g p z at_z) (get_push_cases worked w p v at_v)
+  one_more_asked all last p x y z v at_x at_z at_y at_v = by_place (get_push_cases before s p x at_x) (get_push_cases after t p y at_y) (get_push_cases gates g p z at_z)
+      (get_push_cases worked w p v at_v)
     where
-      by_place : (slice_get before p ≡ Some x) ⊎ ((p ≡ length before) × (s ≡ x)) → (slice_get after p ≡ Some y) ⊎ ((p ≡ length after) × (t ≡ y)) → (slice_get gates p ≡ Some z) ⊎ ((p ≡ length gates) × (g ≡ z))
+      by_place : (slice_get before p ≡ Some x) ⊎ ((p ≡ length before) × (s ≡ x)) → (slice_get after p ≡ Some y) ⊎ ((p ≡ length after) × (t ≡ y))
+          → (slice_get gates p ≡ Some z) ⊎ ((p ≡ length gates) × (g ≡ z))
           → (slice_get worked p ≡ Some v) ⊎ ((p ≡ length worked) × (w ≡ v))
           → GateWasAsked asks says x z y v.end
       by_place (inl a) (inl b) (inl d) (inl e) = all p x y z v a d b e

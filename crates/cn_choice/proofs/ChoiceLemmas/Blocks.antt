@@ -91,7 +91,8 @@ later_blocks states m n q a =
     flat_map (blocks_with_size m n q) (range_with_len (length a + 1) (n / 2 - length a))
     ++ flat_map (blocks_with_state m n) (range_with_len (q + 1) (states - (q + 1)))
 
-pub after_list : (states m n q : ℕ) (a new : List ℕ) → All (λ o. o < m) a → next_rising m a ≡ Some new → length new ≡ length a → blocks_from states m (block_of q a n) ≡ block_of q a n ∷ blocks_from states m (block_of q new n)
+pub after_list : (states m n q : ℕ) (a new : List ℕ) → All (λ o. o < m) a → next_rising m a ≡ Some new → length new ≡ length a
+    → blocks_from states m (block_of q a n) ≡ block_of q a n ∷ blocks_from states m (block_of q new n)
 unfolding blocks_from
 after_list states m n q a new known e same = rw (rising_after-next m a (recursion_from_All (λ o. o < m) a known), e, same) refl
 
@@ -106,7 +107,8 @@ begin_size states m n q k j l e =
     let left : n / 2 - k ≡ j = omega (arith, e) in
     rw (length-replicate {A = ℕ} k 0, left, rising_first k 0 m l) (append_assoc (map (λ a. block_of q a n) (replicate k 0 ∷ rising_after m (replicate k 0))) _ _)
 
-begin_state : (states m n q : ℕ) → 0 < m → 2 ≤ n → blocks_with_state m n q ++ flat_map (blocks_with_state m n) (range_with_len (q + 1) (states - (q + 1))) ≡ blocks_from states m (block_of q (replicate 1 0) n)
+begin_state : (states m n q : ℕ) → 0 < m → 2 ≤ n
+    → blocks_with_state m n q ++ flat_map (blocks_with_state m n) (range_with_len (q + 1) (states - (q + 1))) ≡ blocks_from states m (block_of q (replicate 1 0) n)
 begin_state states m n q l two =
     let j : ℕ = n / 2 - 1 in
     let e : n / 2 ≡ 1 + j = omega arith in

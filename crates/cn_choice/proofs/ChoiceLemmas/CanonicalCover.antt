@@ -35,7 +35,8 @@ seconds [] (m ∷ ms) e = absurd (omega (arith, e))
 seconds (o ∷ os) [] e = absurd (omega (arith, e))
 seconds (o ∷ os) (m ∷ ms) e = ap (λ l. m ∷ l) (seconds os ms (omega (arith, e)))
 
-of_one : (m : Team) (xs : List ℕ) → (map (λ (p : ℕ × Team). p.0) (map (λ o. let q : ℕ × Team = (o, m) in q) xs) ≡ xs) × (map (λ (p : ℕ × Team). p.1) (map (λ o. let q : ℕ × Team = (o, m) in q) xs) ≡ replicate (length xs) m)
+of_one : (m : Team) (xs : List ℕ)
+    → (map (λ (p : ℕ × Team). p.0) (map (λ o. let q : ℕ × Team = (o, m) in q) xs) ≡ xs) × (map (λ (p : ℕ × Team). p.1) (map (λ o. let q : ℕ × Team = (o, m) in q) xs) ≡ replicate (length xs) m)
 of_one m [] = (refl, refl)
 of_one m (x ∷ xs) = let r = of_one m xs in (ap (λ l. x ∷ l) r.0, ap (λ l. m ∷ l) r.1)
 
@@ -180,7 +181,8 @@ sorted_teams t c e ia ib h =
       },
       (
         λ w. IsWitness-embeds f (raw_choice_of (teams_of c)) c embeds t w,
-        λ w. IsWitness-embeds (λ k. first_place k (places f (length (first_team c.operations c.marks ++ second_team c.operations c.marks)))) c (raw_choice_of (teams_of c)) (embeds_back f (raw_choice_of (teams_of c)) c long embeds) t w,
+        λ w. IsWitness-embeds (λ k. first_place k (places f (length (first_team c.operations c.marks ++ second_team c.operations c.marks)))) c (raw_choice_of (teams_of c))
+            (embeds_back f (raw_choice_of (teams_of c)) c long embeds) t w,
       ),
     )
 
@@ -195,7 +197,8 @@ covered t n c is =
           (let r = sorted_teams t c e ia ib h in
           (teams_of c, record { canonical = r.0; renumbered = inl (place_of_member c e, teams_embed c e); long = both_long c.operations c.marks e; same = r.1 }))
       | inr h ↦
-          (let r = sorted_teams t (with_other_teams c) e' (IsIn-map other B c.marks ib) (IsIn-map other A c.marks ia) (rw (first_exchanged c.operations c.marks, second_exchanged c.operations c.marks) h) in (
+          (let r = sorted_teams t (with_other_teams c) e' (IsIn-map other B c.marks ib) (IsIn-map other A c.marks ia)
+          (rw (first_exchanged c.operations c.marks, second_exchanged c.operations c.marks) h) in (
             teams_of (with_other_teams c),
             record {
               canonical = r.0;

@@ -56,7 +56,8 @@ module _ (f : ℕ → ℕ) (d c : RawChoice) (e : Embeds f d c) where
       by_test true t = sym (eq-eqb (f p) (f j) (ap f (eqb-true p j t)))
       by_test false t = sym (ne_eqb (f p) (f j) (λ g. true≢false (sym (eq-eqb p j (e.apart p j u v g)) ∙ t)))
 
-  response_embeds : (j : ℕ) → j < length d.operations → (order responses : List ℕ) → AllByRecursion (λ p. p < length d.operations) order → response_of j order responses ≡ response_of (f j) (map f order) responses
+  response_embeds : (j : ℕ) → j < length d.operations → (order responses : List ℕ) → AllByRecursion (λ p. p < length d.operations) order
+      → response_of j order responses ≡ response_of (f j) (map f order) responses
   response_embeds j l [] rs a = refl
   response_embeds j l (p ∷ ps) [] a = refl
   response_embeds j l (p ∷ ps) (r ∷ rs) a = rw (same_test p j a.0 l, response_embeds j l ps rs a.1) refl
@@ -65,7 +66,8 @@ module _ (f : ℕ → ℕ) (d c : RawChoice) (e : Embeds f d c) where
   pair_embeds t order j l a =
       let known = recursion_from_All (λ p. p < length d.operations) order a in
       pair_of-response_of t d order j
-      ∙ (rw (operations_embed order known, e.same_state, response_embeds j l order (responses_along t c.state (operations_of c (map f order))) known) refl ∙ sym (pair_of-response_of t c (map f order) (f j)))
+      ∙ (rw (operations_embed order known, e.same_state, response_embeds j l order (responses_along t c.state (operations_of c (map f order))) known) refl
+      ∙ sym (pair_of-response_of t c (map f order) (f j)))
 
   pub begins_embeds : (team : Team) (order : List ℕ) → AllByRecursion (λ p. p < length d.operations) order → BeginsIn d team order → BeginsIn c team (map f order)
   begins_embeds team [] a b = absurd (cc b.1)

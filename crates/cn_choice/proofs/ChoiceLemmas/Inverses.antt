@@ -58,7 +58,8 @@ range_differ a (suc n) = (each_from (λ y. a ≢ y) (range_with_len (a + 1) n) (
 abbrev pub places : (ℕ → ℕ) → ℕ → List ℕ
 places f n = map f (range_with_len 0 n)
 
-back_at : (f : ℕ → ℕ) (n : ℕ) → ((i : ℕ) → i < n → f i < n) → ((i j : ℕ) → i < n → j < n → f i ≡ f j → i ≡ j) → (k : ℕ) → k < n → (first_place k (places f n) < n) × (f (first_place k (places f n)) ≡ k)
+back_at : (f : ℕ → ℕ) (n : ℕ) → ((i : ℕ) → i < n → f i < n) → ((i j : ℕ) → i < n → j < n → f i ≡ f j → i ≡ j) → (k : ℕ) → k < n
+    → (first_place k (places f n) < n) × (f (first_place k (places f n)) ≡ k)
 back_at f n inside apart k l =
     let known = range_known 0 n n (omega arith) in
     let long = length-map (range_with_len 0 n) f ∙ length-range_with_len 0 n in

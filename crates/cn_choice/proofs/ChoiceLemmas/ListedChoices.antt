@@ -51,7 +51,12 @@ after_from low m (x ∷ xs) ys h i =
           (let s = IsIn-map_from (λ ds. x ∷ ds) ys (rising_after m xs) j in
           let t = after_from x m xs s.0 (record { long = refl; above = h.in_order.0; below = h.below.1; in_order = h.in_order.1 }) s.2 in
           subst (λ (zs : List ℕ). IsRising low m (suc (length xs)) zs × Precedes (x ∷ xs) zs) s.1 (
-            record { long = ap suc t.0.long; above = (h.above.0, each_weaker (λ z. x ≤ z) (λ z. low ≤ z) s.0 (λ z l. omega (arith, l, h.above.0)) t.0.above); below = (h.below.0, t.0.below); in_order = (t.0.above, t.0.in_order) },
+            record {
+              long = ap suc t.0.long;
+              above = (h.above.0, each_weaker (λ z. x ≤ z) (λ z. low ≤ z) s.0 (λ z l. omega (arith, l, h.above.0)) t.0.above);
+              below = (h.below.0, t.0.below);
+              in_order = (t.0.above, t.0.in_order);
+            },
             Precedes-tail x xs s.0 t.1,
           ))
       | inr j ↦
@@ -81,7 +86,8 @@ to_after low m (x ∷ xs) (y ∷ ys) h n =
           (let tail : slice_cmp nat_cmp xs ys ≢ Greater = λ g. n (rw (e, sym (nat_cmp_is y y Equal refl)) g) in
           elim (to_after y m xs ys rest tail) [
             | inl same ↦ inl (rw (e, same) refl)
-            | inr i ↦ inr (IsIn-append_left (y ∷ ys) (map (λ ds. x ∷ ds) (rising_after m xs)) _ (subst (λ (z : ℕ). IsIn (y ∷ ys) (map (λ ds. z ∷ ds) (rising_after m xs))) (sym e) (IsIn-map (λ ds. y ∷ ds) ys (rising_after m xs) i)))
+            | inr i ↦ inr (IsIn-append_left (y ∷ ys) (map (λ ds. x ∷ ds) (rising_after m xs)) _
+                (subst (λ (z : ℕ). IsIn (y ∷ ys) (map (λ ds. z ∷ ds) (rising_after m xs))) (sym e) (IsIn-map (λ ds. y ∷ ds) ys (rising_after m xs) i)))
           ])
       | inr r ↦ elim r [
         | inl l ↦ inr (IsIn-append_right (y ∷ ys) (map (λ ds. x ∷ ds) (rising_after m xs)) _
@@ -114,10 +120,12 @@ not_above_itself [] g = cc g
 not_above_itself (x ∷ xs) g = not_above_itself xs (rw (sym (nat_cmp_is x x Equal refl)) at g)
 
 -- the second lists that combine with a first one
-pub second_from : (m n : ℕ) (a b : List ℕ) → IsRising 0 m (length a) a → length a + length a ≤ n → IsIn b (second_lists m n a) → IsRising 0 m (n - length a) b × (length a ≡ length b → slice_cmp nat_cmp a b ≢ Greater)
+pub second_from : (m n : ℕ) (a b : List ℕ) → IsRising 0 m (length a) a → length a + length a ≤ n → IsIn b (second_lists m n a)
+    → IsRising 0 m (n - length a) b × (length a ≡ length b → slice_cmp nat_cmp a b ≢ Greater)
 second_from m n a b r half h = by_test (ltb (length a + length a) n) refl h
   where
-    by_test : (t : Bool) → ltb (length a + length a) n ≡ t → IsIn b (cond t (rising_lists 0 m (n - length a)) (a ∷ rising_after m a)) → IsRising 0 m (n - length a) b × (length a ≡ length b → slice_cmp nat_cmp a b ≢ Greater)
+    by_test : (t : Bool) → ltb (length a + length a) n ≡ t → IsIn b (cond t (rising_lists 0 m (n - length a)) (a ∷ rising_after m a))
+        → IsRising 0 m (n - length a) b × (length a ≡ length b → slice_cmp nat_cmp a b ≢ Greater)
     by_test true e i = let l = ltb-true (length a + length a) n e in let s = rising_from (n - length a) 0 m b i in (s, λ g. absurd (omega (arith, l, g, s.long)))
     by_test false e i =
         let l = ltb-false (length a + length a) n e in
@@ -128,7 +136,8 @@ second_from m n a b r half h = by_test (ltb (length a + length a) n) refl h
           | inr j ↦ (let t = after_from 0 m a b r j in (t.0, λ _. precedes_not_above a b t.1))
         ])
 
-pub to_second : (m n : ℕ) (a b : List ℕ) → length a + length b ≡ n → length a ≤ length b → IsRising 0 m (length b) b → (length a ≡ length b → slice_cmp nat_cmp a b ≢ Greater) → IsIn b (second_lists m n a)
+pub to_second : (m n : ℕ) (a b : List ℕ) → length a + length b ≡ n → length a ≤ length b → IsRising 0 m (length b) b → (length a ≡ length b → slice_cmp nat_cmp a b ≢ Greater)
+    → IsIn b (second_lists m n a)
 to_second m n a b all short r first = by_test (ltb (length a + length a) n) refl
   where
     by_test : (t : Bool) → ltb (length a + length a) n ≡ t → IsIn b (cond t (rising_lists 0 m (n - length a)) (a ∷ rising_after m a))

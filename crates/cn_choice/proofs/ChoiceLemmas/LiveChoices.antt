@@ -74,16 +74,19 @@ shared t c i k own other l u apart m n same = (
   subst (λ (q : ℕ). InOutcomeSet t c other k (answer_of t c k q, next_of t c k q)) same (second_gets t c other k u i l apart m),
 )
 
-keeper : (t : TypeTable) (n : ℕ) (c : RawChoice) → IsRawChoice t n c → IsWitness t c → (i : ℕ) (team : Team) → i < length c.operations → slice_get c.marks i ≡ Some team → next_of t c i c.state ≢ c.state
+keeper : (t : TypeTable) (n : ℕ) (c : RawChoice) → IsRawChoice t n c → IsWitness t c → (i : ℕ) (team : Team) → i < length c.operations → slice_get c.marks i ≡ Some team
+    → next_of t c i c.state ≢ c.state
 keeper t n c is w i A l m same =
     let k = is.someone_in_b in
     let mark : slice_get c.marks k.0 ≡ Some B = slice_get-get_or c.marks k.0 B k.1 ∙ ap Some k.2 in
-    let h = shared t c i k.0 B A l (omega (arith, k.1, is.one_operation_each, is.one_team_each)) (λ e. let two : Some A ≡ Some B = sym m ∙ (ap (slice_get c.marks) e ∙ mark) in absurd (cc two)) m mark same in
+    let h = shared t c i k.0 B A l (omega (arith, k.1, is.one_operation_each, is.one_team_each))
+    (λ e. let two : Some A ≡ Some B = sym m ∙ (ap (slice_get c.marks) e ∙ mark) in absurd (cc two)) m mark same in
     w k.0 h.0 h.2 h.1
 keeper t n c is w i B l m same =
     let k = is.someone_in_a in
     let mark : slice_get c.marks k.0 ≡ Some A = slice_get-get_or c.marks k.0 A k.1 ∙ ap Some k.2 in
-    let h = shared t c i k.0 A B l (omega (arith, k.1, is.one_operation_each, is.one_team_each)) (λ e. let two : Some B ≡ Some A = sym m ∙ (ap (slice_get c.marks) e ∙ mark) in absurd (cc two)) m mark same in
+    let h = shared t c i k.0 A B l (omega (arith, k.1, is.one_operation_each, is.one_team_each))
+    (λ e. let two : Some B ≡ Some A = sym m ∙ (ap (slice_get c.marks) e ∙ mark) in absurd (cc two)) m mark same in
     w k.0 h.0 h.1 h.2
 
 pub witness_is_live : (t : TypeTable) (n : ℕ) (c : RawChoice) → IsRawChoice t n c → IsWitness t c → IsLive t c

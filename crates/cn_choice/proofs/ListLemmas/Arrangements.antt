@@ -101,7 +101,8 @@ arrangements_rise (suc k) free a =
 
 -- ---- ranks among the numbers left give the arrangements
 
-map-flat_map : {X Y : Type 0} (g : X → Y) (f : ℕ → List X) (h : ℕ → List Y) (a m top : ℕ) → a + m ≤ top → ((d : ℕ) → d < top → map g (f d) ≡ h d) → map g (flat_map f (numbers a m)) ≡ flat_map h (numbers a m)
+map-flat_map : {X Y : Type 0} (g : X → Y) (f : ℕ → List X) (h : ℕ → List Y) (a m top : ℕ) → a + m ≤ top → ((d : ℕ) → d < top → map g (f d) ≡ h d)
+    → map g (flat_map f (numbers a m)) ≡ flat_map h (numbers a m)
 map-flat_map g f h a zero top l e = refl
 map-flat_map g f h a (suc m) top l e =
     rw (map-append g (f a) (flat_map f (numbers (a + 1) m)), e a (omega arith), map-flat_map g f h (a + 1) m top (omega arith) e) refl
@@ -110,7 +111,8 @@ pub unranked-ways : (n k : ℕ) (p free : List ℕ) → length p + length free �
 unranked-ways n zero p free e = refl
 unranked-ways n (suc k) p free e =
     let room : n - length p - 0 ≡ length free = omega arith in
-    rw room (map-flat_map (unranked free) (λ d. map (λ ds. d ∷ ds) (ways (λ _. 0) (λ q. n - length q) k (p ++ d ∷ []))) (λ d. map (λ xs. get_or free d 0 ∷ xs) (arrangements k (remove free d))) 0 (length free) (length free) (omega arith)
+    rw room (map-flat_map (unranked free) (λ d. map (λ ds. d ∷ ds) (ways (λ _. 0) (λ q. n - length q) k (p ++ d ∷ [])))
+    (λ d. map (λ xs. get_or free d 0 ∷ xs) (arrangements k (remove free d))) 0 (length free) (length free) (omega arith)
     (λ d l.
     map-map (unranked free) (λ ds. d ∷ ds) (ways (λ _. 0) (λ q. n - length q) k (p ++ d ∷ []))
     ∙ sym (map-map (λ xs. get_or free d 0 ∷ xs) (unranked (remove free d)) (ways (λ _. 0) (λ q. n - length q) k (p ++ d ∷ [])))

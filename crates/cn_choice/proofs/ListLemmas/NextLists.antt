@@ -40,11 +40,13 @@ pub rising_after-next : (m : ℕ) (xs : List ℕ) → AllByRecursion (λ x. x < 
 rising_after-next m [] a = refl
 rising_after-next m (x ∷ xs) a = by_rest (next_rising m xs) refl (rising_after-next m xs a.1)
   where
-    by_rest : (r : Option (List ℕ)) → next_rising m xs ≡ r → rising_after m xs ≡ from_next m (next_rising m xs) → rising_after m (x ∷ xs) ≡ from_next m (or_else r x (cond (ltb (x + 1) m) (Some (replicate (suc (length xs)) (x + 1))) None))
+    by_rest : (r : Option (List ℕ)) → next_rising m xs ≡ r → rising_after m xs ≡ from_next m (next_rising m xs)
+        → rising_after m (x ∷ xs) ≡ from_next m (or_else r x (cond (ltb (x + 1) m) (Some (replicate (suc (length xs)) (x + 1))) None))
     by_rest (Some ys) g later = let e = later ∙ ap (from_next m) g in rw (e, next_long m xs ys g) refl
     by_rest None g later = let e = later ∙ ap (from_next m) g in rw e (by_test (ltb (x + 1) m) refl)
       where
-        by_test : (b : Bool) → ltb (x + 1) m ≡ b → flat_map (λ d. map (λ ds. d ∷ ds) (rising_lists d m (length xs))) (range_with_len (x + 1) (m - (x + 1))) ≡ from_next m (cond b (Some (replicate (suc (length xs)) (x + 1))) None)
+        by_test : (b : Bool) → ltb (x + 1) m ≡ b
+            → flat_map (λ d. map (λ ds. d ∷ ds) (rising_lists d m (length xs))) (range_with_len (x + 1) (m - (x + 1))) ≡ from_next m (cond b (Some (replicate (suc (length xs)) (x + 1))) None)
         by_test true t = let l = ltb-true (x + 1) m t in rw (range_first (x + 1) m l, rising_first (length xs) (x + 1) m l, length-replicate (length xs) (x + 1)) refl
         by_test false t = rw (range_none (x + 1) m (ltb-false (x + 1) m t)) refl
 

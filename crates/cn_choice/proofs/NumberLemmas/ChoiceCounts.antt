@@ -40,7 +40,8 @@ rising_length_from : (k m low w : ℕ) → ((d : ℕ) → d ≤ m → length (ri
 rising_length_from k m low zero shorter e = sym (rising_count_of_none k)
 rising_length_from k m low (suc w) shorter e =
     let left : m - low ≡ suc w = omega arith in
-    let here : length (map (λ ds. low ∷ ds) (rising_lists low m k)) ≡ rising_count (suc w) k = length-map (rising_lists low m k) (λ ds. low ∷ ds) ∙ (shorter low (omega arith) ∙ ap (λ v. rising_count v k) left) in
+    let here : length (map (λ ds. low ∷ ds) (rising_lists low m k)) ≡ rising_count (suc w) k = length-map (rising_lists low m k) (λ ds. low ∷ ds)
+    ∙ (shorter low (omega arith) ∙ ap (λ v. rising_count v k) left) in
     let later = rising_length_from k m (low + 1) w shorter (omega arith) in
     omega (arith, here, later, rising_count_wider w k, sum_by-cons (λ d. length (map (λ ds. d ∷ ds) (rising_lists d m k))) low (range_with_len (low + 1) w))
 

@@ -88,7 +88,8 @@ without_embeds c m l e = record {
 }
 
 -- if some raw choice for n processes has a property that passes to its parts, some raw choice for one process less has it
-pub one_less : (P : RawChoice → Type 0) → ((f : ℕ → ℕ) (d c : RawChoice) → Embeds f d c → P c → P d) → (t : TypeTable) (n : ℕ) → 3 ≤ n → (c : RawChoice) × IsRawChoice t n c × P c → (c : RawChoice) × IsRawChoice t (n - 1) c × P c
+pub one_less : (P : RawChoice → Type 0) → ((f : ℕ → ℕ) (d c : RawChoice) → Embeds f d c → P c → P d) → (t : TypeTable) (n : ℕ) → 3 ≤ n → (c : RawChoice) × IsRawChoice t n c × P c
+    → (c : RawChoice) × IsRawChoice t (n - 1) c × P c
 one_less P of_part t n big w =
     let c : RawChoice = w.0 in
     let is : IsRawChoice t n c = w.1 in

@@ -42,7 +42,8 @@ flat_map-range_more f a (suc n) =
     let e : a + suc n ≡ a + 1 + n = omega arith in
     rw (flat_map-range_more f (a + 1) n, e) (sym (append_assoc (f a) (flat_map f (range_with_len (a + 1) n)) (f (a + 1 + n))))
 
-pub listing_more : (n k : ℕ) → 1 ≤ k → flat_map (λ k. arrangements k (range_with_len 0 n)) (range_with_len 1 (k - 1)) ++ arrangements k (range_with_len 0 n) ≡ flat_map (λ k. arrangements k (range_with_len 0 n)) (range_with_len 1 k)
+pub listing_more : (n k : ℕ) → 1 ≤ k
+    → flat_map (λ k. arrangements k (range_with_len 0 n)) (range_with_len 1 (k - 1)) ++ arrangements k (range_with_len 0 n) ≡ flat_map (λ k. arrangements k (range_with_len 0 n)) (range_with_len 1 k)
 listing_more n k l =
     let e : k ≡ suc (k - 1) = omega arith in
     let f : 1 + (k - 1) ≡ k = omega arith in
@@ -66,7 +67,8 @@ to_listed n order o =
 pub listing_in_order : (n : ℕ) → Pairs ComesBefore (all_orders n)
 listing_in_order n =
     Pairs-flat_map ComesBefore (λ k. arrangements k (range_with_len 0 n)) 1 n
-    (λ k l u. Pairs-weaker Precedes ComesBefore (arrangements k (range_with_len 0 n)) (λ x y i j p. inr ((arranged n k x i).0 ∙ sym (arranged n k y j).0, p)) (arrangements_rise k (range_with_len 0 n) (range_rises 0 n)))
+    (λ k l u. Pairs-weaker Precedes ComesBefore (arrangements k (range_with_len 0 n)) (λ x y i j p. inr ((arranged n k x i).0 ∙ sym (arranged n k y j).0, p))
+    (arrangements_rise k (range_with_len 0 n) (range_rises 0 n)))
     (λ k m x y l g u i j. inl (omega (arith, (arranged n k x i).0, (arranged n m y j).0, g)))
 
 pub listing_is : (n : ℕ) (ls : List (List ℕ)) → ls ≡ all_orders n → ((order : List ℕ) → Contains ls order ↔ IsOrder n order) × AllPairs ComesBefore ls

@@ -23,7 +23,8 @@ differ_last xs p d h = Pairs-append (λ x y. x ≢ y) xs (p ∷ []) d (tt, tt) (
 
 -- the response of process j if p moves last
 response_last : (t : TypeTable) (f : ℕ → ℕ) (j q : ℕ) (ps : List ℕ) (p : ℕ)
-    → response_of j (ps ++ p ∷ []) (responses_along t q (map f (ps ++ p ∷ []))) ≡ first_some (response_of j ps (responses_along t q (map f ps))) (cond (nat_eq p j) (Some (transition t (f p) (state_after t q (map f ps))).0) None)
+    → response_of j (ps ++ p ∷ []) (responses_along t q (map f (ps ++ p ∷ []))) ≡ first_some (response_of j ps (responses_along t q (map f ps)))
+    (cond (nat_eq p j) (Some (transition t (f p) (state_after t q (map f ps))).0) None)
 response_last t f j q [] p = refl
 response_last t f j q (x ∷ ps) p = by_test (nat_eq x j) (transition t (f x) q).0 _ _ _ (response_last t f j (transition t (f x) q).1 ps p)
   where

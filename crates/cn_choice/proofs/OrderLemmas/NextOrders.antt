@@ -91,5 +91,6 @@ range_more a zero = ap (λ (x : ℕ). x ∷ []) (omega arith)
 range_more a (suc k) = ap (λ (xs : List ℕ). a ∷ xs) (range_more (a + 1) k ∙ ap (λ (x : ℕ). range_with_len (a + 1) k ++ x ∷ []) (omega arith))
 
 -- the numbers of the ranks that are left, behind the numbers found so far
-pub numbers_more : (free ranks numbers whole : List ℕ) (rank : ℕ) (rest : List ℕ) → ranks ≡ rank ∷ rest → whole ≡ numbers ++ numbers_of free ranks → whole ≡ (numbers ++ slice_index free rank ∷ []) ++ numbers_of (remove free rank) rest
+pub numbers_more : (free ranks numbers whole : List ℕ) (rank : ℕ) (rest : List ℕ) → ranks ≡ rank ∷ rest → whole ≡ numbers ++ numbers_of free ranks
+    → whole ≡ (numbers ++ slice_index free rank ∷ []) ++ numbers_of (remove free rank) rest
 numbers_more free ranks numbers whole rank rest e w = w ∙ (ap (λ rs. numbers ++ numbers_of free rs) e ∙ sym (append_assoc numbers (slice_index free rank ∷ []) (numbers_of (remove free rank) rest)))

@@ -19,7 +19,8 @@ module _ (t : TypeTable) (c : RawChoice) (team : Team) (j : ℕ) (l : j < length
   pub alone_gets : slice_get c.marks j ≡ Some team → InOutcomeSet t c team j (answer_of t c j c.state, next_of t c j c.state)
   alone_gets m = (j ∷ [], order_from (length c.operations) j [] (known_one (length c.operations) j l), (j, refl, m), pair_whole t c j (j ∷ []) _ _ (last_self t c j [] (λ i. absurd i)) refl)
 
-  pub second_gets : (i : ℕ) → i < length c.operations → i ≢ j → slice_get c.marks i ≡ Some team → InOutcomeSet t c team j (answer_of t c j (next_of t c i c.state), next_of t c j (next_of t c i c.state))
+  pub second_gets : (i : ℕ) → i < length c.operations → i ≢ j → slice_get c.marks i ≡ Some team
+      → InOutcomeSet t c team j (answer_of t c j (next_of t c i c.state), next_of t c j (next_of t c i c.state))
   second_gets i u apart m = (
     i ∷ j ∷ [],
     order_from (length c.operations) i (j ∷ []) (known_two (length c.operations) i j u l apart),

@@ -59,7 +59,8 @@ begins_from c team (p ∷ ps) e =
     let r = and_parts _ _ e in
     (p, refl, in_range c team p (leb-true _ _ r.0) (ltb-true _ _ r.1))
 
-pub begins_to : (c : Choice) (team : Team) (order : List ℕ) → All (λ p. p < length c.a + length c.b) order → BeginsIn (raw_choice_of c) team order → begins_within (team_from c team) (team_to c team) order ≡ true
+pub begins_to : (c : Choice) (team : Team) (order : List ℕ) → All (λ p. p < length c.a + length c.b) order → BeginsIn (raw_choice_of c) team order
+    → begins_within (team_from c team) (team_to c team) order ≡ true
 begins_to c team [] k b = absurd (cc b.1)
 begins_to c team (p ∷ ps) k b =
     let same : p ≡ b.0 = cc b.1 in
@@ -72,7 +73,10 @@ has_from j (p ∷ ps) e = elim (or_cases (nat_eq p j) (list_any (λ process. nat
 
 has_to : (j : ℕ) (order : List ℕ) → IsIn j order → list_any (λ process. nat_eq process j) order ≡ true
 has_to j [] i = absurd i
-has_to j (p ∷ ps) i = elim i [ inl e ↦ or_left (nat_eq p j) (list_any (λ process. nat_eq process j) ps) (eq-eqb p j e) | inr k ↦ or_right (nat_eq p j) (list_any (λ process. nat_eq process j) ps) (has_to j ps k) ]
+has_to j (p ∷ ps) i = elim i [
+  | inl e ↦ or_left (nat_eq p j) (list_any (λ process. nat_eq process j) ps) (eq-eqb p j e)
+  | inr k ↦ or_right (nat_eq p j) (list_any (λ process. nat_eq process j) ps) (has_to j ps k)
+]
 
 -- ---- the lists
 
@@ -80,7 +84,8 @@ abbrev pub items : ArrayVec ℕ → List ℕ
 items o = o.items
 
 -- they are the orders that begin in the team and contain the process
-pub team_orders : (c : Choice) (team : Team) (j : ℕ) (o : ArrayVec ℕ) → Contains (orders_of c team j) o ↔ (IsOrder (length c.a + length c.b) o.items × BeginsIn (raw_choice_of c) team o.items × Contains o.items j)
+pub team_orders : (c : Choice) (team : Team) (j : ℕ) (o : ArrayVec ℕ)
+    → Contains (orders_of c team j) o ↔ (IsOrder (length c.a + length c.b) o.items × BeginsIn (raw_choice_of c) team o.items × Contains o.items j)
 team_orders c team j o = (
   λ h.
       let r = was_in test o (all_arrays n) (IsIn-from_Contains o (orders_of c team j) h) in

@@ -62,7 +62,10 @@ module _ (P : ℕ → Type 0) (test : (j : ℕ) → P j ⊎ ¬ P j) where
   least zero = inr (λ j l. absurd (omega arith))
   least (suc n) = elim (least n) [
     | inl r ↦ inl r
-    | inr none ↦ elim (test n) [ inl here ↦ inl (n, here, none) | inr fails ↦ (let one : n + 1 ≡ suc n = omega arith in inr (subst (λ (m : ℕ). (j : ℕ) → j < m → ¬ P j) one (below_more _ n none fails))) ]
+    | inr none ↦ elim (test n) [
+      | inl here ↦ inl (n, here, none)
+      | inr fails ↦ (let one : n + 1 ≡ suc n = omega arith in inr (subst (λ (m : ℕ). (j : ℕ) → j < m → ¬ P j) one (below_more _ n none fails)))
+    ]
   ]
 
 -- ---- the pairs of two orders can be compared

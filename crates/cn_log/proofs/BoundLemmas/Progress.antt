@@ -82,7 +82,8 @@ module _ {R : Type 0} (L : Setting R) (Good : R → Type 0) (agrees : RoundsAgre
   other_gathering : (w : World R) (q p : ℕ) → q ≢ p → (mine : Entry) (i : ℕ) (batch : Batch) (b : Bool) → distance_of L a (after_gathering L w q (w.caller q) mine i batch b) p ≡ distance_of L a w p
   other_gathering w q p ne mine i batch false = stays_put w (after_gathering L w q (w.caller q) mine i batch false) p (put_other w.caller q _ p (λ e. ne (sym e))) (λ k. refl)
   other_gathering w q p ne mine i batch true = stays_put w (after_gathering L w q (w.caller q) mine i batch true) p (put_other w.caller q _ p (λ e. ne (sym e)))
-      (taken_put w (length (w.caller q).seen) (L.consensus.begin q batch (w.round (length (w.caller q).seen))) p (agrees.taken_begin_other (w.round (length (w.caller q).seen)) q p batch (λ e. ne (sym e))))
+      (taken_put w (length (w.caller q).seen) (L.consensus.begin q batch (w.round (length (w.caller q).seen))) p
+      (agrees.taken_begin_other (w.round (length (w.caller q).seen)) q p batch (λ e. ne (sym e))))
 
   other_run : (w : World R) (q p : ℕ) → q ≢ p → (mine : Entry) → distance_of L a (after_run L w q (w.caller q) mine) p ≡ distance_of L a w p
   other_run w q p ne mine = go (L.consensus.decided r q)
@@ -125,7 +126,8 @@ module _ {R : Type 0} (L : Setting R) (Good : R → Type 0) (agrees : RoundsAgre
     distance_in : (ph : Phase) → here.phase ≡ ph → distance_of L a w p ≡ k0 * (cost + a) + steps_into L a w p k0 ph
     distance_in ph e = ap (λ z. k0 * (cost + a) + steps_into L a w p k0 z) e
 
-    own_gathering : (mine : Entry) (i : ℕ) (batch v : Batch) (b : Bool) → (i + 1 == L.processes) ≡ b → here.phase ≡ Looks mine i batch → distance_of L a w p + 1 ≤ distance_of L a (after_gathering L w p here mine i v b) p
+    own_gathering : (mine : Entry) (i : ℕ) (batch v : Batch) (b : Bool) → (i + 1 == L.processes) ≡ b → here.phase ≡ Looks mine i batch
+        → distance_of L a w p + 1 ≤ distance_of L a (after_gathering L w p here mine i v b) p
     own_gathering mine i batch v false last is =
         let c : Caller = record here { phase = Looks mine (i + 1) v } in
         let x = distance_in (Looks mine i batch) is in
@@ -136,7 +138,8 @@ module _ {R : Type 0} (L : Setting R) (Good : R → Type 0) (agrees : RoundsAgre
         let w' : World R = after_gathering L w p here mine i v true in
         let x = distance_in (Looks mine i batch) is in
         let y = distance_then w' c (put_same w.caller p c) in
-        let t : L.consensus.taken (w'.round k0) p ≡ 0 = ap (λ z. L.consensus.taken z p) (put_same w.round k0 (L.consensus.begin p v (w.round k0))) ∙ agrees.taken_begin (w.round k0) p v lt (holds.good k0) in
+        let t : L.consensus.taken (w'.round k0) p ≡ 0 = ap (λ z. L.consensus.taken z p) (put_same w.round k0 (L.consensus.begin p v (w.round k0)))
+        ∙ agrees.taken_begin (w.round k0) p v lt (holds.good k0) in
         let l : i + 1 ≡ L.processes = grind (arith, nat_tests) in
         omega (arith, x, y, t, l)
 
@@ -194,12 +197,14 @@ module _ {R : Type 0} (L : Setting R) (Good : R → Type 0) (agrees : RoundsAgre
   paced_event w holds (Invoke q operation) may p = go (q == p) refl
     where
       go : (b : Bool) → (q == p) ≡ b → distance_of L a w p + (if b then a else 0) ≤ distance_of L a (after_event L w (Invoke q operation)) p
-      go true e = let same : q ≡ p = grind (arith, nat_tests) in subst (λ z. distance_of L a w z + a ≤ distance_of L a (after_event L w (Invoke q operation)) z) same (own_invoke w holds q may.process operation may.idle)
+      go true e = let same : q ≡ p = grind (arith, nat_tests) in subst (λ z. distance_of L a w z + a ≤ distance_of L a (after_event L w (Invoke q operation)) z) same
+          (own_invoke w holds q may.process operation may.idle)
       go false e = let ne : p ≢ q = grind (arith, nat_tests) in let s = stays_put w (after_event L w (Invoke q operation)) p (put_other w.caller q _ p ne) (λ k. refl) in omega (arith, s)
   paced_event w holds (Step q) may p = go (q == p) refl
     where
       go : (b : Bool) → (q == p) ≡ b → distance_of L a w p + (if b then 1 else 0) ≤ distance_of L a (after_event L w (Step q)) p
-      go true e = let same : q ≡ p = grind (arith, nat_tests) in subst (λ z. distance_of L a w z + 1 ≤ distance_of L a (after_event L w (Step q)) z) same (own_step w holds q may.process (w.caller q).phase refl may.in_call)
+      go true e = let same : q ≡ p = grind (arith, nat_tests) in subst (λ z. distance_of L a w z + 1 ≤ distance_of L a (after_event L w (Step q)) z) same
+          (own_step w holds q may.process (w.caller q).phase refl may.in_call)
       go false e = let ne : q ≢ p = grind (arith, nat_tests) in let s = other_step w q p ne (w.caller q).phase in omega (arith, s)
 
   paced_from : (events : List Event) (w : World R) → Holds L Good w → MayAllCome L events w → (p : ℕ) → distance_of L a w p + spent a p events ≤ distance_of L a (after_events L events w) p
@@ -222,10 +227,12 @@ spent_steps p [] = refl
 spent_steps p (Invoke q operation ∷ events) = let c : steps_of p (Invoke q operation ∷ events) ≡ 0 + steps_of p events = sum_by-cons (λ x. cond (is_step_of p x) 1 0) (Invoke q operation) events in
     let r = spent_steps p events in go (q == p) c r
   where
-    go : (b : Bool) → steps_of p (Invoke q operation ∷ events) ≡ 0 + steps_of p events → spent 0 p events ≡ steps_of p events → (if b then 0 else 0) + spent 0 p events ≡ steps_of p (Invoke q operation ∷ events)
+    go : (b : Bool) → steps_of p (Invoke q operation ∷ events) ≡ 0 + steps_of p events → spent 0 p events ≡ steps_of p events
+        → (if b then 0 else 0) + spent 0 p events ≡ steps_of p (Invoke q operation ∷ events)
     go true c r = omega (arith, c, r)
     go false c r = omega (arith, c, r)
-spent_steps p (Step q ∷ events) = let c : steps_of p (Step q ∷ events) ≡ cond (q == p) 1 0 + steps_of p events = sum_by-cons (λ x. cond (is_step_of p x) 1 0) (Step q) events in let r = spent_steps p events in go (q == p) c r
+spent_steps p (Step q ∷ events) = let c : steps_of p (Step q ∷ events) ≡ cond (q == p) 1 0 + steps_of p events = sum_by-cons (λ x. cond (is_step_of p x) 1 0) (Step q) events in
+    let r = spent_steps p events in go (q == p) c r
   where
     go : (b : Bool) → steps_of p (Step q ∷ events) ≡ cond b 1 0 + steps_of p events → spent 0 p events ≡ steps_of p events → (if b then 1 else 0) + spent 0 p events ≡ steps_of p (Step q ∷ events)
     go true c r = omega (arith, c, r)
@@ -257,7 +264,8 @@ total_one zero e events low = absurd (omega (arith, low))
 total_one (suc n) e events low = elim (cases_eq (process_of e) n) [
   | inl same ↦ (let t : (process_of e == n) ≡ true = grind (arith, nat_tests) in let w : weight 1 n e ≡ 1 = weight_one n e ∙ ap (λ (b : Bool). if b then 1 else 0) t in
       let r = total_above n e events (omega (arith, same)) in omega (arith, w, r))
-  | inr ne ↦ (let t : (process_of e == n) ≡ false = grind (arith, nat_tests) in let w : weight 1 n e ≡ 0 = weight_one n e ∙ ap (λ (b : Bool). if b then 1 else 0) t in let r = total_one n e events (grind arith) in omega (arith, w, r))
+  | inr ne ↦ (let t : (process_of e == n) ≡ false = grind (arith, nat_tests) in let w : weight 1 n e ≡ 0 = weight_one n e ∙ ap (λ (b : Bool). if b then 1 else 0) t in
+      let r = total_one n e events (grind arith) in omega (arith, w, r))
 ]
 
 total_few : (n most : ℕ) (events : List Event) → ((p : ℕ) → p < n → spent 1 p events ≤ most) → total n events ≤ n * most
@@ -285,7 +293,8 @@ module _ {R : Type 0} (L : Setting R) (Good : R → Type 0) (agrees : RoundsAgre
   cost1 a = slot_cost L.processes + a
 
   -- the most progress of a process: less than a slot in which it has not decided
-  distance_pending : (a : ℕ) (w : World R) → Holds L Good w → (p : ℕ) → p < L.processes → (ph : Phase) → (w.caller p).phase ≡ ph → ph ≢ Idle → (distance_of L a w p < (length (w.caller p).seen + 1) * cost1 a) × (length (w.caller p).seen < L.capacity)
+  distance_pending : (a : ℕ) (w : World R) → Holds L Good w → (p : ℕ) → p < L.processes → (ph : Phase) → (w.caller p).phase ≡ ph → ph ≢ Idle
+      → (distance_of L a w p < (length (w.caller p).seen + 1) * cost1 a) × (length (w.caller p).seen < L.capacity)
   distance_pending a w holds p lt Idle is ne = absurd (ne refl)
   distance_pending a w holds p lt (Looks mine q batch) is ne =
       let h : IsLooking L w p mine q batch = subst (PhaseHolds L w p) is (holds.phases p) in
@@ -316,7 +325,8 @@ module _ {R : Type 0} (L : Setting R) (Good : R → Type 0) (agrees : RoundsAgre
       gathering p mine i v false = put_few p (record (w.caller p) { phase = Looks mine (i + 1) v }) (few p)
       gathering p mine i v true = put_few p (record (w.caller p) { phase = Runs mine }) (few p)
 
-      decision : (p : ℕ) (mine : Entry) (w1 : World R) → w1.caller ≡ w.caller → length (w.caller p).seen < L.capacity → (o : Option Batch) → length ((after_decision L w1 p (w.caller p) mine o).caller q).seen ≤ L.capacity
+      decision : (p : ℕ) (mine : Entry) (w1 : World R) → w1.caller ≡ w.caller → length (w.caller p).seen < L.capacity → (o : Option Batch)
+          → length ((after_decision L w1 p (w.caller p) mine o).caller q).seen ≤ L.capacity
       decision p mine w1 same room None = subst (λ (z : ℕ → Caller). length (z q).seen ≤ L.capacity) (sym same) (few q)
       decision p mine w1 same room (Some x) =
           let c : Caller = record { seen = (w.caller p).seen ++ x ∷ []; calls = (w.caller p).calls; phase = phase_after L (length (w.caller p).seen) mine x } in
@@ -335,7 +345,8 @@ module _ {R : Type 0} (L : Setting R) (Good : R → Type 0) (agrees : RoundsAgre
       go (Invoke p operation) may = put_few p _ (few p)
       go (Step p) may = stepped p (w.caller p).phase refl
 
-  seen_from : (events : List Event) (w : World R) → Holds L Good w → ((q : ℕ) → length (w.caller q).seen ≤ L.capacity) → MayAllCome L events w → (q : ℕ) → length ((after_events L events w).caller q).seen ≤ L.capacity
+  seen_from : (events : List Event) (w : World R) → Holds L Good w → ((q : ℕ) → length (w.caller q).seen ≤ L.capacity) → MayAllCome L events w → (q : ℕ)
+      → length ((after_events L events w).caller q).seen ≤ L.capacity
   seen_from [] w holds few may q = few q
   seen_from (e ∷ events) w holds few may q = seen_from events (after_event L w e) (keeps_event L Good agrees w holds e may.0) (seen_event w holds few e may.0) may.1 q
 

@@ -84,7 +84,8 @@ module _ {R : Type 0} (L : Setting R) (Good : R → Type 0) (agrees : RoundsAgre
           ∙ ap (λ (here : Caller). pending_in here.phase) (other_event L (state_of L (take j events)) event e.process other) ∙ is)
     ]
       where
-        answered : (a : StepAnswer) → slice_get events j ≡ Some (Step e.process) → answer L (take j events) e.process ≡ a → IsStepped L e.process (caller_of L (take j events) e.process) e (caller_of L (take (suc j) events) e.process) a
+        answered : (a : StepAnswer) → slice_get events j ≡ Some (Step e.process) → answer L (take j events) e.process ≡ a
+            → IsStepped L e.process (caller_of L (take j events) e.process) e (caller_of L (take (suc j) events) e.process) a
             → (pending_in (caller_of L (take (suc j) events) e.process).phase ≡ Some e) ⊎ Over
         answered a step given stepped = by a given stepped
           where
@@ -132,7 +133,8 @@ module _ {R : Type 0} (L : Setting R) (Good : R → Type 0) (agrees : RoundsAgre
     called_pending =
         let here = invoked L (take i events) e.process e.operation.0 in
         let counted : (caller_of L (take i events) e.process).calls ≡ e.call = number L (take i events) e.process ∙ sym c.number in
-        ap (λ (front : List Event). pending_in (caller_of L front e.process).phase) (take_next events i _ c.invoke) ∙ ap (λ (k : Caller). pending_in k.phase) here ∙ ap (λ k. Some (call_of e.process e.operation.0 k)) counted
+        ap (λ (front : List Event). pending_in (caller_of L front e.process).phase) (take_next events i _ c.invoke) ∙ ap (λ (k : Caller). pending_in k.phase) here
+        ∙ ap (λ k. Some (call_of e.process e.operation.0 k)) counted
 
     pub over : enough ≤ steps_between e.process events i (length events) → Over
     over late =

@@ -21,14 +21,16 @@ use Rattle.cn_table.proofs.Lists.{get_front}
 use Rattle.cn_log.proofs.ListLemmas.OwnLists.{number_at, to_own}
 
 -- the call that event i makes stands at its number
-call_at : (p k operation : ℕ) (events : List Event) (i : ℕ) → slice_get events i ≡ Some (Invoke p operation) → slice_get (calls_from p k events) (calls_of p (take i events)) ≡ Some (call_of p operation (k + calls_of p (take i events)))
+call_at : (p k operation : ℕ) (events : List Event) (i : ℕ) → slice_get events i ≡ Some (Invoke p operation)
+    → slice_get (calls_from p k events) (calls_of p (take i events)) ≡ Some (call_of p operation (k + calls_of p (take i events)))
 call_at p k operation [] i h = absurd cc
 call_at p k operation (e ∷ events) zero h =
     let is : e ≡ Invoke p operation = cc in
     let own : (p == p) ≡ true = grind (arith, nat_tests) in
     let z : k + 0 ≡ k = omega arith in
     rw (is, own, z) refl
-call_at p k operation (Step q ∷ events) (suc i) h = let n : calls_of p (Step q ∷ take i events) ≡ calls_of p (take i events) = calls_cons p (Step q) (take i events) ∙ (omega arith) in rw n (call_at p k operation events i h)
+call_at p k operation (Step q ∷ events) (suc i) h = let n : calls_of p (Step q ∷ take i events) ≡ calls_of p (take i events) = calls_cons p (Step q) (take i events)
+    ∙ (omega arith) in rw n (call_at p k operation events i h)
 call_at p k operation (Invoke q o ∷ events) (suc i) h = go (q == p) refl (call_at p (k + 1) operation events i h) (call_at p k operation events i h)
   where
     go : (own : Bool) → (q == p) ≡ own → slice_get (calls_from p (k + 1) events) (calls_of p (take i events)) ≡ Some (call_of p operation ((k + 1) + calls_of p (take i events)))
@@ -47,7 +49,8 @@ from_own : (p : ℕ) (xs : List Entry) (i : ℕ) (x : Entry) → slice_get (entr
 from_own p [] i x h = absurd cc
 from_own p (y ∷ xs) i x h = go (y.process == p) i h (λ j g. from_own p xs j x g)
   where
-    go : (own : Bool) (i : ℕ) → slice_get (if own then y ∷ entries_by p xs else entries_by p xs) i ≡ Some x → ((j : ℕ) → slice_get (entries_by p xs) j ≡ Some x → (k : ℕ) × (slice_get xs k ≡ Some x)) → (k : ℕ)
+    go : (own : Bool) (i : ℕ) → slice_get (if own then y ∷ entries_by p xs else entries_by p xs) i ≡ Some x
+        → ((j : ℕ) → slice_get (entries_by p xs) j ≡ Some x → (k : ℕ) × (slice_get xs k ≡ Some x)) → (k : ℕ)
         × (slice_get (y ∷ xs) k ≡ Some x)
     go true zero h rest = (zero, h)
     go true (suc j) h rest = let r = rest j h in (suc r.0, r.1)

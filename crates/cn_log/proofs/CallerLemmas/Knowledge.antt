@@ -54,7 +54,8 @@ module _ {R : Type 0} (L : Setting R) where
   stays before rest p h = ap (λ (w : World R). w.caller p) (run_append L before rest (first_world L)) ∙ other_events rest (state_of L before) p h
 
   pub invoked : (events : List Event) (p operation : ℕ)
-      → caller_of L (events ++ Invoke p operation ∷ []) p ≡ record { seen = (caller_of L events p).seen; calls = (caller_of L events p).calls + 1; phase = first_look (call_of p operation (caller_of L events p).calls) }
+      → caller_of L (events ++ Invoke p operation ∷ []) p ≡ record
+      { seen = (caller_of L events p).seen; calls = (caller_of L events p).calls + 1; phase = first_look (call_of p operation (caller_of L events p).calls) }
   invoked events p operation = ap (λ (w : World R). w.caller p) (run_append L events (Invoke p operation ∷ []) (first_world L)) ∙ put_same (state_of L events).caller p _
 
   pub number : (events : List Event) (p : ℕ) → (caller_of L events p).calls ≡ calls_of p events
@@ -71,7 +72,8 @@ module _ {R : Type 0} (L : Setting R) where
   replays_option w p here mine None is pending = inl (ap (λ (c : Caller). pending_in c.phase) is ∙ pending, ap (λ (c : Caller). c.calls) is, ap (λ (c : Caller). c.seen) is, refl)
   replays_option w p here mine (Some x) is pending = inr (x, put_same w.caller p _, refl)
 
-  replays_gathering : (w : World R) (p : ℕ) (here : Caller) (m : Entry) (i : ℕ) (batch : Batch) (b : Bool) (mine : Entry) → Some m ≡ Some mine → Replays here mine ((after_gathering L w p here m i batch b).caller p) Working
+  replays_gathering : (w : World R) (p : ℕ) (here : Caller) (m : Entry) (i : ℕ) (batch : Batch) (b : Bool) (mine : Entry) → Some m ≡ Some mine
+      → Replays here mine ((after_gathering L w p here m i batch b).caller p) Working
   replays_gathering w p here m i batch false mine pending =
       let now : Caller = record here { phase = Looks m (i + 1) batch } in
       let same : (put w.caller p now) p ≡ now = put_same w.caller p now in
@@ -81,9 +83,11 @@ module _ {R : Type 0} (L : Setting R) where
       let same : (put w.caller p now) p ≡ now = put_same w.caller p now in
       inl (ap (λ (c : Caller). pending_in c.phase) same ∙ pending, ap (λ (c : Caller). c.calls) same, ap (λ (c : Caller). c.seen) same, refl)
 
-  replays_phase : (w : World R) (p : ℕ) (here : Caller) (ph : Phase) (mine : Entry) → w.caller p ≡ here → here.phase ≡ ph → pending_in ph ≡ Some mine → Replays here mine ((after_step L w p here ph).caller p) (answer_from L w p here ph)
+  replays_phase : (w : World R) (p : ℕ) (here : Caller) (ph : Phase) (mine : Entry) → w.caller p ≡ here → here.phase ≡ ph → pending_in ph ≡ Some mine
+      → Replays here mine ((after_step L w p here ph).caller p) (answer_from L w p here ph)
   replays_phase w p here Idle mine is phase pending = absurd (cc)
-  replays_phase w p here (Looks m i batch) mine is phase pending = replays_gathering w p here m i (batch_with (w.announced i) (entries_in L.processes here.seen) i batch) (i + 1 == L.processes) mine pending
+  replays_phase w p here (Looks m i batch) mine is phase pending = replays_gathering w p here m i (batch_with (w.announced i) (entries_in L.processes here.seen) i batch)
+      (i + 1 == L.processes) mine pending
   replays_phase w p here (Runs m) mine is phase pending =
       let r : R = L.consensus.step p (w.round (length here.seen)) in
       let v : World R = record w { round = put w.round (length here.seen) r } in
@@ -91,10 +95,12 @@ module _ {R : Type 0} (L : Setting R) where
       subst (λ (z : Entry). Replays here z ((after_decision L v p here m (L.consensus.decided r p)).caller p) (answer_with L here.seen m (L.consensus.decided r p))) same
       (replays_option v p here m (L.consensus.decided r p) is (ap pending_in phase))
 
-  replays : (events : List Event) (p : ℕ) (mine : Entry) → pending_in (caller_of L events p).phase ≡ Some mine → Replays (caller_of L events p) mine (caller_of L (events ++ Step p ∷ []) p) (answer L events p)
+  replays : (events : List Event) (p : ℕ) (mine : Entry) → pending_in (caller_of L events p).phase ≡ Some mine
+      → Replays (caller_of L events p) mine (caller_of L (events ++ Step p ∷ []) p) (answer L events p)
   replays events p mine pending =
       let here : Caller = caller_of L events p in
-      subst (λ (w : World R). Replays here mine (w.caller p) (answer L events p)) (sym (run_append L events (Step p ∷ []) (first_world L))) (replays_phase (state_of L events) p here here.phase mine refl refl pending)
+      subst (λ (w : World R). Replays here mine (w.caller p) (answer L events p)) (sym (run_append L events (Step p ∷ []) (first_world L)))
+      (replays_phase (state_of L events) p here here.phase mine refl refl pending)
 
 module _ {R : Type 0} (L : Setting R) (Good : R → Type 0) (agrees : RoundsAgree L Good) (events : List Event) (p : ℕ) where
   abbrev here : Caller
@@ -109,7 +115,11 @@ module _ {R : Type 0} (L : Setting R) (Good : R → Type 0) (agrees : RoundsAgre
 
     -- the log begins with the batches that a process has replayed
     pub replayed_batches : BeginsWith (batches L events) here.seen
-    replayed_batches = (drop (length here.seen) (batches L events), sym (take-append-drop (length here.seen) (batches L events)) ∙ ap (λ l. l ++ drop (length here.seen) (batches L events)) (take_front here.seen (batches L events) slot_of))
+    replayed_batches = (
+      drop (length here.seen) (batches L events),
+      sym (take-append-drop (length here.seen) (batches L events))
+          ∙ ap (λ l. l ++ drop (length here.seen) (batches L events)) (take_front here.seen (batches L events) slot_of),
+    )
 
     pub replayed : BeginsWith (entries L events) (seen_of L events p)
     replayed = (entries_in L.processes replayed_batches.0, ap (entries_in L.processes) replayed_batches.1 ∙ entries_put L.processes here.seen replayed_batches.0)
@@ -118,7 +128,8 @@ module _ {R : Type 0} (L : Setting R) (Good : R → Type 0) (agrees : RoundsAgre
     pending_call Idle mine is h = absurd (cc)
     pending_call (Looks m i b) mine is h = let same : m ≡ mine = cc in subst (λ (z : Entry). IsPendingCall L events p z) same
         (record { process = h.pending.process; last = h.pending.call ∙ number L events p; unseen = h.pending.unseen; room = h.pending.room })
-    pending_call (Runs m) mine is h = let same : m ≡ mine = cc in subst (λ (z : Entry). IsPendingCall L events p z) same (record { process = h.process; last = h.call ∙ number L events p; unseen = h.unseen; room = h.room })
+    pending_call (Runs m) mine is h = let same : m ≡ mine = cc in
+        subst (λ (z : Entry). IsPendingCall L events p z) same (record { process = h.process; last = h.call ∙ number L events p; unseen = h.unseen; room = h.room })
 
     pub pending : (mine : Entry) → pending_in here.phase ≡ Some mine → IsPendingCall L events p mine
     pending mine is = pending_call here.phase mine is ((holds_after L Good agrees events may).phases p)
@@ -177,7 +188,8 @@ module _ {R : Type 0} (L : Setting R) (Good : R → Type 0) (agrees : RoundsAgre
             (record { batch = x; fixed = fixed; has = has }) in
             let low = get_low here.seen s.slot s.batch was in
             absurd (omega (arith, same, low))
-        go e own has holds' fixed (inr (inr full)) = let room = call.room in let whole : L.capacity ≤ length here.seen = subst (λ q. L.capacity ≤ length (w.caller q).seen) own full in absurd (omega (arith, room, whole))
+        go e own has holds' fixed (inr (inr full)) = let room = call.room in
+            let whole : L.capacity ≤ length here.seen = subst (λ q. L.capacity ≤ length (w.caller q).seen) own full in absurd (omega (arith, room, whole))
 
     not_there : (x : Batch) → (HoldsEntry x mine → ⊥) → IsUnseen (here.seen ++ x ∷ []) mine
     not_there x other k b at has = elim (get_push_cases here.seen x k b at) [ inl old ↦ call.unseen k b old has | inr new ↦ other (subst (λ (z : Batch). HoldsEntry z mine) (sym new.1) has) ]
@@ -204,7 +216,8 @@ module _ {R : Type 0} (L : Setting R) (Good : R → Type 0) (agrees : RoundsAgre
 
     replayed_one : (x : Batch) (is_mine is_last : Bool) → has x mine ≡ is_mine → (length here.seen + 1 == L.capacity) ≡ is_last → IsShaped x × ((e : Entry) → entry_at x p ≡ Some e → e ≡ mine)
         → IsStepped L p here mine (record { seen = here.seen ++ x ∷ []; calls = here.calls; phase = phase_after L (length here.seen) mine x }) (answer_with L here.seen mine (Some x))
-    replayed_one x true is_last e f own = rw e (record { idle = refl; calls = refl; batch = x; seen = refl; there = mine_at x (has_is x mine e); own = one_own x own.0 process_low (has_is x mine e); slot = refl; response = refl })
+    replayed_one x true is_last e f own = rw e
+        (record { idle = refl; calls = refl; batch = x; seen = refl; there = mine_at x (has_is x mine e); own = one_own x own.0 process_low (has_is x mine e); slot = refl; response = refl })
     replayed_one x false true e f own = rw (e, f) (record {
       idle = refl;
       calls = refl;

@@ -28,11 +28,13 @@ use Rattle.cn_log.proofs.ListLemmas.Places.{get_low}
 -- the calls in a longer list are those in its front, then those in the rest
 calls_join : (p k : ℕ) (before rest : List Event) → calls_from p k (before ++ rest) ≡ calls_from p k before ++ calls_from p (k + calls_of p before) rest
 calls_join p k [] rest = let none : calls_of p [] ≡ 0 = refl in let e : k + calls_of p [] ≡ k = omega (arith, none) in ap (λ i. calls_from p i rest) (sym e)
-calls_join p k (Step q ∷ before) rest = let count = calls_cons p (Step q) before in let e : k + calls_of p before ≡ k + calls_of p (Step q ∷ before) = omega (arith, count) in calls_join p k before rest
+calls_join p k (Step q ∷ before) rest = let count = calls_cons p (Step q) before in let e : k + calls_of p before ≡ k + calls_of p (Step q ∷ before) = omega (arith, count) in
+    calls_join p k before rest
     ∙ ap (λ i. calls_from p k before ++ calls_from p i rest) e
 calls_join p k (Invoke q operation ∷ before) rest = go (k + calls_of p (Invoke q operation ∷ before)) refl (q == p) refl (λ i. calls_join p i before rest)
   where
-    go : (n : ℕ) → k + calls_of p (Invoke q operation ∷ before) ≡ n → (own : Bool) → (q == p) ≡ own → ((i : ℕ) → calls_from p i (before ++ rest) ≡ calls_from p i before ++ calls_from p (i + calls_of p before) rest)
+    go : (n : ℕ) → k + calls_of p (Invoke q operation ∷ before) ≡ n → (own : Bool) → (q == p) ≡ own
+        → ((i : ℕ) → calls_from p i (before ++ rest) ≡ calls_from p i before ++ calls_from p (i + calls_of p before) rest)
         → calls_from p k ((Invoke q operation ∷ before) ++ rest) ≡ calls_from p k (Invoke q operation ∷ before) ++ calls_from p n rest
     go n number true is join =
         let count : calls_of p (Invoke q operation ∷ before) ≡ 1 + calls_of p before = calls_cons p (Invoke q operation) before ∙ (rw is refl) in
@@ -72,7 +74,8 @@ none_by p [] h = refl
 none_by p (x ∷ xs) h = let ne = h 0 x refl in let t : (x.process == p) ≡ false = grind (arith, nat_tests) in rw t (none_by p xs (λ k y at. h (suc k) y at))
 
 -- the entries of the process, if only one entry of it can be there, at one place
-one_by : (p : ℕ) (mine : Entry) (xs : List Entry) → ((k : ℕ) (x : Entry) → slice_get xs k ≡ Some x → x.process ≡ p → x ≡ mine) → ((j k : ℕ) → slice_get xs j ≡ Some mine → slice_get xs k ≡ Some mine → j ≡ k)
+one_by : (p : ℕ) (mine : Entry) (xs : List Entry) → ((k : ℕ) (x : Entry) → slice_get xs k ≡ Some x → x.process ≡ p → x ≡ mine)
+    → ((j k : ℕ) → slice_get xs j ≡ Some mine → slice_get xs k ≡ Some mine → j ≡ k)
     → (entries_by p xs ≡ []) ⊎ (entries_by p xs ≡ mine ∷ [])
 one_by p mine [] h once = inl refl
 one_by p mine (x ∷ xs) h once = go (x.process == p) refl (one_by p mine xs (λ k y at own. h (suc k) y at own) (λ j k a b. (let e = once (suc j) (suc k) a b in omega (arith, e))))
@@ -133,7 +136,8 @@ module _ {R : Type 0} (L : Setting R) (Good : R → Type 0) (agrees : RoundsAgre
       let mine : Entry = call_of p operation here.calls in
       let now = invoked L events p operation in
       let none = unanswered_none L here here.phase own.0 may.idle may.not_at_end own.2 in
-      let before : calls_by p events ≡ entries_by p (entries_in L.processes here.seen) = own.1 ∙ ap (λ l. entries_by p (entries_in L.processes here.seen) ++ l) none ∙ append-nil (entries_by p (entries_in L.processes here.seen)) in (
+      let before : calls_by p events ≡ entries_by p (entries_in L.processes here.seen) = own.1 ∙ ap (λ l. entries_by p (entries_in L.processes here.seen) ++ l) none
+      ∙ append-nil (entries_by p (entries_in L.processes here.seen)) in (
         mine ∷ [],
         called L events p operation ∙ ap (λ l. l ++ mine ∷ []) before ∙ ap (λ (c : Caller). entries_by p (entries_in L.processes c.seen) ++ mine ∷ []) (sym now),
         subst (λ (c : Caller). IsUnanswered L c c.phase (mine ∷ [])) (sym now) refl,
@@ -158,13 +162,15 @@ module _ {R : Type 0} (L : Setting R) (Good : R → Type 0) (agrees : RoundsAgre
   pending_own : (events : List Event) (mine : Entry) → pending_in (caller_of L events p).phase ≡ Some mine → Own events → calls_by p events ≡ entries_by p (seen_of L events p) ++ mine ∷ []
   pending_own events mine is own = own.1 ∙ ap (λ l. entries_by p (seen_of L events p) ++ l) (unanswered_one L (caller_of L events p) (caller_of L events p).phase mine own.0 is own.2)
 
-  after_own : (events : List Event) (mine : Entry) → IsEventList L (events ++ Step p ∷ []) → pending_in (caller_of L events p).phase ≡ Some mine → Own events → HasReplayedBy L (events ++ Step p ∷ []) p mine (answer L events p)
+  after_own : (events : List Event) (mine : Entry) → IsEventList L (events ++ Step p ∷ []) → pending_in (caller_of L events p).phase ≡ Some mine → Own events
+      → HasReplayedBy L (events ++ Step p ∷ []) p mine (answer L events p)
   after_own events mine may is own =
       by_answer events (caller_of L events p) mine (answer L events p) (pending_own events mine is own) (stepped L Good agrees events p may mine is)
 
   own_answer : (events : List Event) (here : Caller) (mine : Entry) (given : StepAnswer) → IsStepped L p here mine (caller_of L events p) given → HasReplayedBy L events p mine given → Own events
   own_answer events here mine Working s h = (mine ∷ [], h, one_unanswered L (caller_of L events p) (caller_of L events p).phase mine s.pending)
-  own_answer events here mine (Answered slot response) s h = ([], h ∙ sym (append-nil (entries_by p (seen_of L events p))), idle_unanswered L (caller_of L events p) (caller_of L events p).phase [] s.idle (inl refl))
+  own_answer events here mine (Answered slot response) s h =
+      ([], h ∙ sym (append-nil (entries_by p (seen_of L events p))), idle_unanswered L (caller_of L events p) (caller_of L events p).phase [] s.idle (inl refl))
   own_answer events here mine Full s h = (mine ∷ [], h, idle_unanswered L (caller_of L events p) (caller_of L events p).phase (mine ∷ []) s.idle (inr (s.all, mine, refl, s.unseen)))
 
   own_step : (events : List Event) → IsEventList L (events ++ Step p ∷ []) → MayStep L (state_of L events) p → Own events → Own (events ++ Step p ∷ [])
@@ -177,11 +183,13 @@ module _ {R : Type 0} (L : Setting R) (Good : R → Type 0) (agrees : RoundsAgre
 
   own_event : (events : List Event) (e : Event) → IsEventList L (events ++ e ∷ []) → Own events → Own (events ++ e ∷ [])
   own_event events (Invoke q operation) may own = elim (cases_eq q p) [
-    | inl same ↦ subst (λ i. MayInvoke L (state_of L events) i operation → Own (events ++ Invoke i operation ∷ [])) (sym same) (λ can. own_invoke events operation can own) (last_may events (Invoke q operation) may).0
+    | inl same ↦ subst (λ i. MayInvoke L (state_of L events) i operation → Own (events ++ Invoke i operation ∷ [])) (sym same) (λ can. own_invoke events operation can own)
+        (last_may events (Invoke q operation) may).0
     | inr ne ↦ own_other events (Invoke q operation ∷ []) (ne, tt) own
   ]
   own_event events (Step q) may own = elim (cases_eq q p) [
-    | inl same ↦ subst (λ i. IsEventList L (events ++ Step i ∷ []) → MayStep L (state_of L events) i → Own (events ++ Step i ∷ [])) (sym same) (λ all can. own_step events all can own) may (last_may events (Step q) may).0
+    | inl same ↦ subst (λ i. IsEventList L (events ++ Step i ∷ []) → MayStep L (state_of L events) i → Own (events ++ Step i ∷ [])) (sym same)
+        (λ all can. own_step events all can own) may (last_may events (Step q) may).0
     | inr ne ↦ own_other events (Step q ∷ []) (ne, tt) own
   ]
 
@@ -196,7 +204,8 @@ module _ {R : Type 0} (L : Setting R) (Good : R → Type 0) (agrees : RoundsAgre
   pub own : (events : List Event) → IsEventList L events → Own events
   own events may = own_events [] events may ([], refl, inl refl)
 
-  pub own_stepped : (events : List Event) (mine : Entry) → IsEventList L (events ++ Step p ∷ []) → pending_in (caller_of L events p).phase ≡ Some mine → HasReplayedBy L (events ++ Step p ∷ []) p mine (answer L events p)
+  pub own_stepped : (events : List Event) (mine : Entry) → IsEventList L (events ++ Step p ∷ []) → pending_in (caller_of L events p).phase ≡ Some mine
+      → HasReplayedBy L (events ++ Step p ∷ []) p mine (answer L events p)
   own_stepped events mine may is = after_own events mine may is (own events (prefix_may L Good agrees events (Step p ∷ []) may))
 
   module _ (events : List Event) (may : IsEventList L events) where

@@ -10,7 +10,8 @@ use Rattle.cn_log.proofs.ListLemmas.Places.{there_is}
 
 module _ {R : Type 0} (L : Setting R) (Good : R → Type 0) (agrees : RoundsAgree L Good) (w : World R) (holds : Holds L Good w) (facts : Facts L w) where
   -- once slot since + 1 is fixed, a call made at since stands in it or before it
-  pub helped_by : (e : Entry) (since : ℕ) → IsNoted (Called e since) w.history → e.process < L.processes → (y : Batch) → since + 1 < L.capacity → L.consensus.fixed (w.round (since + 1)) ≡ Some y → StandsBy L w e (since + 1)
+  pub helped_by : (e : Entry) (since : ℕ) → IsNoted (Called e since) w.history → e.process < L.processes → (y : Batch) → since + 1 < L.capacity
+      → L.consensus.fixed (w.round (since + 1)) ≡ Some y → StandsBy L w e (since + 1)
   helped_by e since noted lt y room h =
       let g = agrees.valid (w.round (since + 1)) y (holds.good (since + 1)) h in
       elim (facts.helps e since noted lt (since + 1) g.0 y (omega arith) room g.1) [
@@ -34,7 +35,8 @@ module _ {R : Type 0} (L : Setting R) (Good : R → Type 0) (agrees : RoundsAgre
           let le = s.low in omega arith
 
   -- if it is in no slot, slot since + 1 is open
-  pub bypass_none : (e : Entry) (since : ℕ) → IsNoted (Called e since) w.history → e.process < L.processes → ((k : ℕ) → k < L.capacity → Stands L w e k → ⊥) → since + 1 < L.capacity → L.consensus.fixed (w.round (since + 1)) ≡ None
+  pub bypass_none : (e : Entry) (since : ℕ) → IsNoted (Called e since) w.history → e.process < L.processes → ((k : ℕ) → k < L.capacity → Stands L w e k → ⊥)
+      → since + 1 < L.capacity → L.consensus.fixed (w.round (since + 1)) ≡ None
   bypass_none e since noted lt none room = go (L.consensus.fixed (w.round (since + 1))) refl
     where
       go : (o : Option Batch) → L.consensus.fixed (w.round (since + 1)) ≡ o → o ≡ None

@@ -83,7 +83,8 @@ pub record Holds {R : Type 0} (L : Setting R) (Good : R → Type 0) (w : World R
   -- a process has begun in the slots that it has replayed, and in the one in which it runs
   pub entered : (k q : ℕ) (v : Batch) → L.consensus.input (w.round k) q ≡ Some v → (k < length (w.caller q).seen) ⊎ ((k ≡ length (w.caller q).seen) × IsRuns (w.caller q).phase)
   -- a process that runs in a slot has begun there and not decided
-  pub running : (q : ℕ) → IsRuns (w.caller q).phase → (v : Batch) × (L.consensus.input (w.round (length (w.caller q).seen)) q ≡ Some v) × (L.consensus.decided (w.round (length (w.caller q).seen)) q ≡ None)
+  pub running : (q : ℕ) → IsRuns (w.caller q).phase
+      → (v : Batch) × (L.consensus.input (w.round (length (w.caller q).seen)) q ≡ Some v) × (L.consensus.decided (w.round (length (w.caller q).seen)) q ≡ None)
   pub begun : (k q : ℕ) (v : Batch) → L.consensus.input (w.round k) q ≡ Some v → IsBegun L w k v
   pub phases : (p : ℕ) → PhaseHolds L w p (w.caller p).phase
   pub announced : (p : ℕ) (a : Entry) → w.announced p ≡ Some a → IsCalled a w.history × (a.process ≡ p)
@@ -177,7 +178,8 @@ pub record Facts {R : Type 0} (L : Setting R) (w : World R) : Type 0 where
   pub done : (e : Entry) → IsCalled e w.history → IsMine (w.caller e.process).phase e ⊎ (IsSeen (w.caller e.process).seen e ⊎ (L.capacity ≤ length (w.caller e.process).seen))
   pub gathers : (p : ℕ) → HasGathered L w (w.caller p).seen (w.caller p).phase
   -- in a slot behind the next one, every process begins with e once it is called, or e is in an earlier slot
-  pub helps : (e : Entry) (since : ℕ) → IsNoted (Called e since) w.history → e.process < L.processes → (k q : ℕ) (v : Batch) → since < k → k < L.capacity → L.consensus.input (w.round k) q ≡ Some v → HoldsEntry v e ⊎ StandsBy L w e k
+  pub helps : (e : Entry) (since : ℕ) → IsNoted (Called e since) w.history → e.process < L.processes → (k q : ℕ) (v : Batch) → since < k → k < L.capacity
+      → L.consensus.input (w.round k) q ≡ Some v → HoldsEntry v e ⊎ StandsBy L w e k
   -- when a process makes a call, the log holds every earlier call of it
   pub earlier : (e : Entry) (since : ℕ) → IsNoted (Called e since) w.history → (f : Entry) → IsCalled f w.history → f.process ≡ e.process → f.call < e.call → (j : ℕ) × (j < since) × Stands L w f j
   -- the numbers of calls have no gap

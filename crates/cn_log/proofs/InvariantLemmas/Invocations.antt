@@ -22,7 +22,8 @@ module _ {R : Type 0} (L : Setting R) (round : ℕ → R) where
   open_below zero k j le less = absurd (omega arith)
   open_below (suc slots) k j le less = go (L.consensus.fixed (round k)) refl (open_below slots (suc k) j) (eq-or-lt_of_le le)
     where
-      go : (o : Option Batch) → L.consensus.fixed (round k) ≡ o → (suc k ≤ j → j < suc k + length (fixed_from L slots (suc k) round) → (y : Batch) × (L.consensus.fixed (round j) ≡ Some y)) → (k ≡ j) ⊎ (k < j)
+      go : (o : Option Batch) → L.consensus.fixed (round k) ≡ o
+          → (suc k ≤ j → j < suc k + length (fixed_from L slots (suc k) round) → (y : Batch) × (L.consensus.fixed (round j) ≡ Some y)) → (k ≡ j) ⊎ (k < j)
           → (y : Batch) × (L.consensus.fixed (round j) ≡ Some y)
       go None e rest c = absurd (let l : j < k + 0 = rw e at less in omega arith)
       go (Some y) e rest (inl same) = (y, rw same at e)
@@ -32,7 +33,8 @@ module _ {R : Type 0} (L : Setting R) (round : ℕ → R) where
   open_at zero k = inl refl
   open_at (suc slots) k = go (L.consensus.fixed (round k)) refl (open_at slots (suc k))
     where
-      go : (o : Option Batch) → L.consensus.fixed (round k) ≡ o → (length (fixed_from L slots (suc k) round) ≡ slots) ⊎ (L.consensus.fixed (round (suc k + length (fixed_from L slots (suc k) round))) ≡ None)
+      go : (o : Option Batch) → L.consensus.fixed (round k) ≡ o
+          → (length (fixed_from L slots (suc k) round) ≡ slots) ⊎ (L.consensus.fixed (round (suc k + length (fixed_from L slots (suc k) round))) ≡ None)
           → (length (fixed_from L (suc slots) k round) ≡ suc slots) ⊎ (L.consensus.fixed (round (k + length (fixed_from L (suc slots) k round))) ≡ None)
       go None e rest = inr (rw e (let z : k + 0 ≡ k = omega arith in rw z e))
       go (Some y) e (inl end) = inl (rw e (ap suc end))
@@ -74,14 +76,25 @@ module _ {R : Type 0} (L : Setting R) (Good : R → Type 0) (agrees : RoundsAgre
   pending_other : (q : ℕ) (f : Entry) → q ≢ p → IsPending L w q f → IsPending L w' q f
   pending_other q f ne h =
       let s = put_other w.caller p caller' q ne in
-      record { unseen = λ k b g. h.unseen k b (rw s at g); called = called_kept f h.called; announced = put_other w.announced p (Some e) q ne ∙ h.announced; process = h.process; call = rw s h.call; room = rw s h.room }
+      record {
+        unseen = λ k b g. h.unseen k b (rw s at g);
+        called = called_kept f h.called;
+        announced = put_other w.announced p (Some e) q ne ∙ h.announced;
+        process = h.process;
+        call = rw s h.call;
+        room = rw s h.room;
+      }
 
   phase_other : (q : ℕ) (ph : Phase) → q ≢ p → PhaseHolds L w q ph → PhaseHolds L w' q ph
   phase_other q Idle ne h = tt
   phase_other q (Looks f i b) ne h =
       let s = put_other w.caller p caller' q ne in
       let g = h.gathered in
-      record { pending = pending_other q f ne h.pending; next = h.next; gathered = rw s (record { places = g.places; shaped = g.shaped; called = λ z has. called_kept z (g.called z has); unseen = g.unseen }) }
+      record {
+        pending = pending_other q f ne h.pending;
+        next = h.next;
+        gathered = rw s (record { places = g.places; shaped = g.shaped; called = λ z has. called_kept z (g.called z has); unseen = g.unseen });
+      }
   phase_other q (Runs f) ne h = pending_other q f ne h
 
   -- the new entry was not called before

@@ -91,7 +91,8 @@ module _ {R : Type 0} (L : Setting R) (Good : R → Type 0) (agrees : RoundsAgre
   abbrev LeftBy : World R → ℕ → Caller → Phase → (Entry → Note) → Type 0
   LeftBy w p here ph note = (mine : Entry) × (ph ≡ Runs mine) × ((after_step L w p here ph).history ≡ note mine ∷ w.history)
 
-  answer_noted : (w : World R) (p : ℕ) (here : Caller) (ph : Phase) (slot response : ℕ) → answer_from L w p here ph ≡ Answered slot (record { 0 = response }) → LeftBy w p here ph (λ mine. Replied mine slot response)
+  answer_noted : (w : World R) (p : ℕ) (here : Caller) (ph : Phase) (slot response : ℕ) → answer_from L w p here ph ≡ Answered slot (record { 0 = response })
+      → LeftBy w p here ph (λ mine. Replied mine slot response)
   answer_noted w p here Idle slot response h = absurd cc
   answer_noted w p here (Looks mine q batch) slot response h = absurd cc
   answer_noted w p here (Runs mine) slot response h = (mine, refl, with_it (L.consensus.decided r p) h)
@@ -107,7 +108,8 @@ module _ {R : Type 0} (L : Setting R) (Good : R → Type 0) (agrees : RoundsAgre
       with_it (Some x) h = go (has x mine) (length here.seen + 1 == L.capacity) h
         where
           go : (b d : Bool) → (if b then Answered (length here.seen) (record { 0 = response_in L here.seen x mine }) else (if d then Full else Working)) ≡ Answered slot (record { 0 = response })
-              → (if b then Replied mine (length here.seen) (response_in L here.seen x mine) ∷ w.history else (if d then FoundFull mine ∷ w.history else w.history)) ≡ Replied mine slot response ∷ w.history
+              → (if b then Replied mine (length here.seen) (response_in L here.seen x mine) ∷ w.history else (if d then FoundFull mine ∷ w.history else w.history)) ≡ Replied mine
+              slot response ∷ w.history
           go true d g = let a : length here.seen ≡ slot = cc in let s : (let z : Response = record { 0 = response_in L here.seen x mine } in z) ≡ record { 0 = response } = cc in
               let b : response_in L here.seen x mine ≡ response = ap (λ (z : Response). z.0) s in rw (a, b) refl
           go false true g = absurd cc
@@ -152,7 +154,8 @@ module _ {R : Type 0} (L : Setting R) (Good : R → Type 0) (agrees : RoundsAgre
       let p = pending.process in
       let low = get_take_low events i made.0 _ made.1.invoke in
       let there : slice_get events made.0 ≡ Some (Invoke e.process mine.operation.0) = sym (get_take events i made.0 low) ∙ made.1.invoke ∙ ap (λ q. Some (Invoke q mine.operation.0)) p in
-      let counted : mine.call ≡ calls_of e.process (take made.0 events) = made.1.number ∙ ap (λ q. calls_of q (take made.0 (take i events))) p ∙ ap (calls_of e.process) (take_take events i made.0 (omega arith)) in
+      let counted : mine.call ≡ calls_of e.process (take made.0 events) = made.1.number ∙ ap (λ q. calls_of q (take made.0 (take i events))) p
+      ∙ ap (calls_of e.process) (take_take events i made.0 (omega arith)) in
       let operation = number_once events e.process mine.operation.0 e.operation.0 made.0 step.call there step.is.invoke (sym counted ∙ call ∙ step.is.number) in
       λ j. record { process = p j; operation = record { 0 = operation j }; call = call j }
 
@@ -174,13 +177,15 @@ module _ {R : Type 0} (L : Setting R) (Good : R → Type 0) (agrees : RoundsAgre
   runs_pending w p holds mine is = let h : PhaseHolds L w p (Runs mine) = rw is at (holds.phases p) in h
 
   left_note : (events : List Event) → IsEventList L events → (i : ℕ) (e : Entry) → IsStepOf events i e → (note : Entry → Note)
-      → LeftBy (state_of L (take i events)) e.process ((state_of L (take i events)).caller e.process) ((state_of L (take i events)).caller e.process).phase note → IsNoted (note e) (state_of L events).history
+      → LeftBy (state_of L (take i events)) e.process ((state_of L (take i events)).caller e.process) ((state_of L (take i events)).caller e.process).phase note
+      → IsNoted (note e) (state_of L events).history
   left_note events may i e step note left =
       let holds = holds_after (take i events) (here_may events may i (Step e.process) step.step) in
       let same = pending_is events i e left.0 step (runs_pending (state_of L (take i events)) e.process holds left.0 left.1) in
       noted_later events may i (Step e.process) step.step (note e) (record { place = zero; there = rw (left.2, same) refl })
 
-  pub answered_note : (events : List Event) → IsEventList L events → (i : ℕ) (e : Entry) (slot response : ℕ) → IsAnswered L events i e slot response → IsNoted (Replied e slot response) (state_of L events).history
+  pub answered_note : (events : List Event) → IsEventList L events → (i : ℕ) (e : Entry) (slot response : ℕ) → IsAnswered L events i e slot response
+      → IsNoted (Replied e slot response) (state_of L events).history
   answered_note events may i e slot response a =
       let w = state_of L (take i events) in
       left_note events may i e a.step (λ mine. Replied mine slot response) (answer_noted w e.process (w.caller e.process) (w.caller e.process).phase slot response a.answers)
@@ -327,7 +332,8 @@ module _ {R : Type 0} (L : Setting R) (Good : R → Type 0) (agrees : RoundsAgre
         omega (arith, l, p, q, x, y)
 
     pub called_low : (e : Entry) → IsCalled e w.history → e.process < L.processes
-    called_low e c = let i = called_event events e c in (let m : MayInvoke L (state_of L (take i.0 events)) e.process e.operation.0 = event_may events may i.0 (Invoke e.process e.operation.0) i.1.invoke in m.process)
+    called_low e c = let i = called_event events e c in
+        (let m : MayInvoke L (state_of L (take i.0 events)) e.process e.operation.0 = event_may events may i.0 (Invoke e.process e.operation.0) i.1.invoke in m.process)
 
     reply_of : (e : Entry) (slot response : ℕ) → IsReply L w e slot response → IsInSlot L events e slot response
     reply_of e slot response r =
@@ -341,7 +347,8 @@ module _ {R : Type 0} (L : Setting R) (Good : R → Type 0) (agrees : RoundsAgre
         let t = there_of _ e at in
         let same : t.slot ≡ slot = stands_once L Good agrees w holds_now t.slot slot e (stands_there _ e t) r.stands in
         let many = r.many in
-        let is : take slot bs ≡ r.before = ap (λ z. take z bs) (sym many) ∙ take_front r.before bs (λ j x h. batch_of j x (let l = get_low r.before j x h in let wi = r.within in omega (arith, l, wi, many)) (r.are j x h)) in
+        let is : take slot bs ≡ r.before = ap (λ z. take z bs) (sym many)
+        ∙ take_front r.before bs (λ j x h. batch_of j x (let l = get_low r.before j x h in let wi = r.within in omega (arith, l, wi, many)) (r.are j x h)) in
         let f = before L.processes bs slot b e.process e there low has in
         let len : length f ≡ length (entries_in L.processes (take slot bs)) + length (members e.process 0 b) = length-append (entries_in L.processes (take slot bs)) (members e.process 0 b) in
         let there' = response_there L.object f (entries L events) L.start _ e len (front L.processes bs slot b e.process e there low has) at in
@@ -357,7 +364,8 @@ module _ {R : Type 0} (L : Setting R) (Good : R → Type 0) (agrees : RoundsAgre
         let at_j = state_of L (take j events) in
         let top = length (batches_of L at_j) in
         let number : (at_j.caller f.process).calls ≡ f.call = (let r = calls_run L (take j events) (first_world L) f.process in let m = c.number in omega arith) in
-        let is : (let g : Entry = record { process = f.process; operation = f.operation; call = (at_j.caller f.process).calls } in g) ≡ f = λ m. record { process = f.process; operation = f.operation; call = number m } in
+        let is : (let g : Entry = record { process = f.process; operation = f.operation; call = (at_j.caller f.process).calls } in g) ≡ f =
+        λ m. record { process = f.process; operation = f.operation; call = number m } in
         noted_later events may j (Invoke f.process f.operation.0) c.invoke (Called f top) (record { place = zero; there = ap (λ (g : Entry). Some (Called g top)) is })
 
     pub call_may : (j : ℕ) (f : Entry) → IsCall events j f → f.process < L.processes
@@ -379,7 +387,8 @@ module _ {R : Type 0} (L : Setting R) (Good : R → Type 0) (agrees : RoundsAgre
     waits : (i : ℕ) (e : Entry) → IsCall events i e → ((k : ℕ) → StandsAt L events k e → ⊥) → length (batches L events) ≤ fixed_before L events i + 1
     waits i e c none = elim (cases_le L.capacity (fixed_before L events i + 1)) [
       | inl short ↦ (let few = entries_few L w.round L.capacity 0 in omega arith)
-      | inr room ↦ (let o = bypass_none L Good agrees w holds_now facts_now e (fixed_before L events i) (call_noted i e c) (call_may i e c) (stands_nowhere e (call_may i e c) none) room in not_beyond room o)
+      | inr room ↦ (let o = bypass_none L Good agrees w holds_now facts_now e (fixed_before L events i) (call_noted i e c) (call_may i e c)
+          (stands_nowhere e (call_may i e c) none) room in not_beyond room o)
     ]
       where
         cases_le : (a b : ℕ) → (a ≤ b) ⊎ (b < a)
@@ -420,7 +429,8 @@ module _ {R : Type 0} (L : Setting R) (Good : R → Type 0) (agrees : RoundsAgre
     no_slot i e a =
         let all = facts_now.ended e (ended_note events may i e a) in (
           all_fixed L w.round L.capacity 0 (λ k less. (let z : 0 + k ≡ k = omega arith in rw z ((all k less).batch, (all k less).fixed))),
-          λ k h. (let t = there_of k e h in let o = all t.slot (room_of t.slot t.batch t.there) in let f = o.fixed in let g = fixed_of t.slot t.batch t.there in let same : t.batch ≡ o.batch = cc (f, g) in
+          λ k h. (let t = there_of k e h in let o = all t.slot (room_of t.slot t.batch t.there) in let f = o.fixed in let g = fixed_of t.slot t.batch t.there in
+              let same : t.batch ≡ o.batch = cc (f, g) in
               o.other (subst (λ (z : Batch). HoldsEntry z e) same t.at)),
         )
 

@@ -111,12 +111,15 @@ module _ {R : Type 0} (L : Setting R) (Good : R → Type 0) (agrees : RoundsAgre
         announces : (mine' : Entry) → IsPending L w e.process mine' → mine' ≡ e → HoldsEntry v e ⊎ StandsBy L w e k0
         announces mine' pend same = look (has_entry known e) refl (ap w.announced (sym whose) ∙ pend.announced ∙ ap Some same)
 
-        go : (ph : Phase) → (w.caller e.process).phase ≡ ph → IsMine (w.caller e.process).phase e ⊎ (IsSeen (w.caller e.process).seen e ⊎ (L.capacity ≤ length (w.caller e.process).seen)) → HoldsEntry v e ⊎ StandsBy L w e k0
+        go : (ph : Phase) → (w.caller e.process).phase ≡ ph
+            → IsMine (w.caller e.process).phase e ⊎ (IsSeen (w.caller e.process).seen e ⊎ (L.capacity ≤ length (w.caller e.process).seen)) → HoldsEntry v e ⊎ StandsBy L w e k0
         go Idle is' (inl m) = let m' : IsMine Idle e = subst (λ z. IsMine z e) is' m in elim m' [ ]
-        go (Looks mine' i b) is' (inl m) = let h : IsLooking L w e.process mine' i b = subst (PhaseHolds L w e.process) is' (holds.phases e.process) in announces mine' h.pending (subst (λ z. IsMine z e) is' m)
+        go (Looks mine' i b) is' (inl m) = let h : IsLooking L w e.process mine' i b = subst (PhaseHolds L w e.process) is' (holds.phases e.process) in
+            announces mine' h.pending (subst (λ z. IsMine z e) is' m)
         go (Runs mine') is' (inl m) = let h : IsPending L w e.process mine' = subst (PhaseHolds L w e.process) is' (holds.phases e.process) in announces mine' h (subst (λ z. IsMine z e) is' m)
         go ph is' (inr (inl s)) = inr (seen_by s (cases_le s.slot k0))
-        go ph is' (inr (inr full)) = let room = looking.pending.room in let g = there_is (w.caller e.process).seen k0 (omega (arith, room, full)) in inr (helped e since noted low g.0 less (holds.seen e.process k0 g.0 g.1))
+        go ph is' (inr (inr full)) = let room = looking.pending.room in let g = there_is (w.caller e.process).seen k0 (omega (arith, room, full)) in
+            inr (helped e since noted low g.0 less (holds.seen e.process k0 g.0 g.1))
 
     -- entries gathered before stay
     gathered_kept : (a : Option Entry) (i : ℕ) → i ≢ q → entry_at (batch_with a known q batch) i ≡ entry_at batch i
@@ -217,7 +220,8 @@ module _ {R : Type 0} (L : Setting R) (Good : R → Type 0) (agrees : RoundsAgre
         | inl less ↦ inl (subst (λ (z : List Batch). k < length z) (sym (seen1 i)) less)
         | inr runs ↦ inr (runs.0 ∙ ap (λ (z : List Batch). length z) (sym (seen1 i)), runs1_back i runs.1)
       ];
-      running = λ i runs. subst (λ (z : List Batch). (u : Batch) × (L.consensus.input (w.round (length z)) i ≡ Some u) × (L.consensus.decided (w.round (length z)) i ≡ None)) (sym (seen1 i)) (holds.running i (runs1 i runs));
+      running = λ i runs. subst (λ (z : List Batch). (u : Batch) × (L.consensus.input (w.round (length z)) i ≡ Some u) × (L.consensus.decided (w.round (length z)) i ≡ None))
+          (sym (seen1 i)) (holds.running i (runs1 i runs));
       begun = λ k i u h. (let b = holds.begun k i u h in record { shaped = b.shaped; called = b.called; other = b.other; turn = b.turn });
       phases = λ i. elim (cases_eq i p) [
         | inl e ↦ rw (e, put_same w.caller p looks) mine1
@@ -333,7 +337,8 @@ module _ {R : Type 0} (L : Setting R) (Good : R → Type 0) (agrees : RoundsAgre
     input_cases k i u h = elim (cases_eq k k0) [
       | inl e ↦ (let h' : L.consensus.input r2 i ≡ Some u = ap (λ z. L.consensus.input z i) (sym (put_same w.round k0 r2)) ∙ ap (λ z. L.consensus.input (w2.round z) i) (sym e) ∙ h in
           elim (cases_eq i p) [
-            | inl f ↦ (let g : L.consensus.input r2 p ≡ Some u = ap (L.consensus.input r2) (sym f) ∙ h' in let m = agrees.input_mine (w.round k0) p v lt (holds.good k0) in inr (e, f, (let same : v ≡ u = cc (g, m) in same)))
+            | inl f ↦ (let g : L.consensus.input r2 p ≡ Some u = ap (L.consensus.input r2) (sym f) ∙ h' in let m = agrees.input_mine (w.round k0) p v lt (holds.good k0) in
+                inr (e, f, (let same : v ≡ u = cc (g, m) in same)))
             | inr ne ↦ inl (ap (λ z. L.consensus.input (w.round z) i) e ∙ sym (agrees.input_other (w.round k0) p i v ne) ∙ h')
           ])
       | inr ne ↦ inl (ap (λ z. L.consensus.input z i) (sym (put_other w.round k0 r2 k ne)) ∙ h)
@@ -363,7 +368,8 @@ module _ {R : Type 0} (L : Setting R) (Good : R → Type 0) (agrees : RoundsAgre
           ∙ agrees.undecided_begin (w.round k0) p v lt (holds.good k0),
     )
 
-    entered_same : (k i : ℕ) → (k < length (w.caller i).seen) ⊎ ((k ≡ length (w.caller i).seen) × IsRuns (w.caller i).phase) → (k < length (w.caller i).seen) ⊎ ((k ≡ length (w.caller i).seen) × IsRuns (w2.caller i).phase)
+    entered_same : (k i : ℕ) → (k < length (w.caller i).seen) ⊎ ((k ≡ length (w.caller i).seen) × IsRuns (w.caller i).phase)
+        → (k < length (w.caller i).seen) ⊎ ((k ≡ length (w.caller i).seen) × IsRuns (w2.caller i).phase)
     entered_same k i (inl less) = inl less
     entered_same k i (inr runs) = inr (runs.0, elim (cases_eq i p) [ inl e ↦ subst (λ z. IsRuns (w2.caller z).phase) (sym e) runs2 | inr ne ↦ subst IsRuns (sym (phase2 i ne)) runs.1 ])
 
@@ -378,10 +384,12 @@ module _ {R : Type 0} (L : Setting R) (Good : R → Type 0) (agrees : RoundsAgre
         | inl was ↦ entered_same k i (holds.entered k i u was)
         | inr new ↦ inr (new.0 ∙ ap (λ z. length (w.caller z).seen) (sym new.1), subst (λ z. IsRuns (w2.caller z).phase) (sym new.1) runs2)
       ]);
-      running = λ i runs. subst (λ (z : List Batch). (u : Batch) × (L.consensus.input (w2.round (length z)) i ≡ Some u) × (L.consensus.decided (w2.round (length z)) i ≡ None)) (sym (seen2 i)) (elim (cases_eq i p) [
-        | inl e ↦ subst (λ z. (u : Batch) × (L.consensus.input (w2.round (length (w.caller z).seen)) z ≡ Some u) × (L.consensus.decided (w2.round (length (w.caller z).seen)) z ≡ None)) (sym e) running_mine
-        | inr ne ↦ running_other i ne (holds.running i (subst IsRuns (phase2 i ne) runs))
-      ]);
+      running = λ i runs. subst (λ (z : List Batch). (u : Batch) × (L.consensus.input (w2.round (length z)) i ≡ Some u) × (L.consensus.decided (w2.round (length z)) i ≡ None))
+          (sym (seen2 i)) (elim (cases_eq i p) [
+            | inl e ↦ subst (λ z. (u : Batch) × (L.consensus.input (w2.round (length (w.caller z).seen)) z ≡ Some u)
+                × (L.consensus.decided (w2.round (length (w.caller z).seen)) z ≡ None)) (sym e) running_mine
+            | inr ne ↦ running_other i ne (holds.running i (subst IsRuns (phase2 i ne) runs))
+          ]);
       begun = λ k i u h. elim (input_cases k i u h) [
         | inl was ↦ begun2 k u (holds.begun k i u was)
         | inr new ↦ subst (λ z. IsBegun L w2 k z) new.2 (subst (λ z. IsBegun L w2 z v) (sym new.0) begun_now)
@@ -440,7 +448,8 @@ module _ {R : Type 0} (L : Setting R) (Good : R → Type 0) (agrees : RoundsAgre
         ];
         helps = λ e since noted low k i u less room h. elim (input_cases k i u h) [
           | inl was ↦ elim (facts.helps e since noted low k i u less room was) [ inl has ↦ inl has | inr by ↦ inr (by2 e k by) ]
-          | inr new ↦ subst (λ z. HoldsEntry z e ⊎ StandsBy L w2 e k) new.2 (subst (λ z. HoldsEntry v e ⊎ StandsBy L w2 e z) (sym new.0) (begins_with e since noted low (subst (λ z. since < z) new.0 less)))
+          | inr new ↦ subst (λ z. HoldsEntry z e ⊎ StandsBy L w2 e k) new.2
+              (subst (λ z. HoldsEntry v e ⊎ StandsBy L w2 e z) (sym new.0) (begins_with e since noted low (subst (λ z. since < z) new.0 less)))
         ];
         earlier = λ e since noted f c whose less. (let g = facts.earlier e since noted f c whose less in (g.0, g.1, stands2_back f g.0 g.2));
         dense = λ i c less. facts.dense i c (rw (calls_put runs refl i) at less);

@@ -34,7 +34,8 @@ module _ {R : Type 0} (L : Setting R) where
   noted_replayed note w p here mine None h = h
   noted_replayed note w p here mine (Some x) h = noted_after note here.seen mine x w.history h
 
-  noted_gathered : (note : Note) (w : World R) (p : ℕ) (here : Caller) (mine : Entry) (q : ℕ) (batch : Batch) (b : Bool) → IsNoted note w.history → IsNoted note (after_gathering L w p here mine q batch b).history
+  noted_gathered : (note : Note) (w : World R) (p : ℕ) (here : Caller) (mine : Entry) (q : ℕ) (batch : Batch) (b : Bool) → IsNoted note w.history
+      → IsNoted note (after_gathering L w p here mine q batch b).history
   noted_gathered note w p here mine q batch true h = h
   noted_gathered note w p here mine q batch false h = h
 
@@ -96,19 +97,22 @@ module _ {R : Type 0} (L : Setting R) where
     pub invoke : slice_get events at ≡ Some (Invoke e.process e.operation.0)
     pub number : e.call ≡ (w.caller e.process).calls + calls_of e.process (take at events)
 
-  noted_not_after : (e : Entry) (since : ℕ) (seen : List Batch) (mine : Entry) (x : Batch) (notes : List Note) → IsNoted (Called e since) (record_after L seen mine x notes) → IsNoted (Called e since) notes
+  noted_not_after : (e : Entry) (since : ℕ) (seen : List Batch) (mine : Entry) (x : Batch) (notes : List Note) → IsNoted (Called e since) (record_after L seen mine x notes)
+      → IsNoted (Called e since) notes
   noted_not_after e since seen mine x notes h = go (has x mine) (length seen + 1 == L.capacity) h
     where
       skip : (other : Note) → (other ≢ Called e since) → (k : ℕ) → slice_get (other ∷ notes) k ≡ Some (Called e since) → IsNoted (Called e since) notes
       skip other ne zero g = absurd (ne cc)
       skip other ne (suc k) g = record { place = k; there = g }
 
-      go : (b d : Bool) → IsNoted (Called e since) (if b then Replied mine (length seen) (response_in L seen x mine) ∷ notes else (if d then FoundFull mine ∷ notes else notes)) → IsNoted (Called e since) notes
+      go : (b d : Bool) → IsNoted (Called e since) (if b then Replied mine (length seen) (response_in L seen x mine) ∷ notes else (if d then FoundFull mine ∷ notes else notes))
+          → IsNoted (Called e since) notes
       go true d h = skip (Replied mine (length seen) (response_in L seen x mine)) (λ s. cc s) h.place h.there
       go false true h = skip (FoundFull mine) (λ s. cc s) h.place h.there
       go false false h = h
 
-  noted_not_replayed : (e : Entry) (since : ℕ) (w : World R) (p : ℕ) (here : Caller) (mine : Entry) (o : Option Batch) → IsNoted (Called e since) (after_decision L w p here mine o).history → IsNoted (Called e since) w.history
+  noted_not_replayed : (e : Entry) (since : ℕ) (w : World R) (p : ℕ) (here : Caller) (mine : Entry) (o : Option Batch)
+      → IsNoted (Called e since) (after_decision L w p here mine o).history → IsNoted (Called e since) w.history
   noted_not_replayed e since w p here mine None h = h
   noted_not_replayed e since w p here mine (Some x) h = noted_not_after e since here.seen mine x w.history h
 
@@ -119,7 +123,8 @@ module _ {R : Type 0} (L : Setting R) where
 
   noted_not_stepped : (e : Entry) (since : ℕ) (w : World R) (p : ℕ) (here : Caller) (ph : Phase) → IsNoted (Called e since) (after_step L w p here ph).history → IsNoted (Called e since) w.history
   noted_not_stepped e since w p here Idle h = h
-  noted_not_stepped e since w p here (Looks mine q batch) h = noted_not_gathered e since w p here mine q (batch_with (w.announced q) (entries_in L.processes here.seen) q batch) (q + 1 == L.processes) h
+  noted_not_stepped e since w p here (Looks mine q batch) h = noted_not_gathered e since w p here mine q (batch_with (w.announced q) (entries_in L.processes here.seen) q batch)
+      (q + 1 == L.processes) h
   noted_not_stepped e since w p here (Runs mine) h =
       let r = L.consensus.step p (w.round (length here.seen)) in
       noted_not_replayed e since (record w { round = put w.round (length here.seen) r }) p here mine (L.consensus.decided r p) h
@@ -139,7 +144,8 @@ module _ {R : Type 0} (L : Setting R) where
           inr (ap (λ (z : Entry). Invoke z.process z.operation.0) same, rw (← same) refl)
       at (suc k) g = inl (record { place = k; there = g })
 
-  pub noted_invoked : (e : Entry) (since : ℕ) (events : List Event) (w : World R) → IsNoted (Called e since) (after_events L events w).history → IsNoted (Called e since) w.history ⊎ IsInvoked events w e
+  pub noted_invoked : (e : Entry) (since : ℕ) (events : List Event) (w : World R) → IsNoted (Called e since) (after_events L events w).history
+      → IsNoted (Called e since) w.history ⊎ IsInvoked events w e
   noted_invoked e since [] w h = inl h
   noted_invoked e since (event ∷ events) w h = elim (noted_invoked e since events (after w event) h) [
     | inl was ↦ elim (invoked_cases e since w event was) [

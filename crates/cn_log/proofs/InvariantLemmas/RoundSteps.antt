@@ -144,7 +144,11 @@ module _ {R : Type 0} (L : Setting R) (Good : R → Type 0) (agrees : RoundsAgre
     phase_other q (Looks e i b) ne h =
         let s = put_other w.caller p caller' q ne in
         let g = h.gathered in
-        record { pending = pending_other q e ne h.pending; next = h.next; gathered = rw s (record { places = g.places; shaped = g.shaped; called = λ f has. called_kept f (g.called f has); unseen = g.unseen }) }
+        record {
+          pending = pending_other q e ne h.pending;
+          next = h.next;
+          gathered = rw s (record { places = g.places; shaped = g.shaped; called = λ f has. called_kept f (g.called f has); unseen = g.unseen });
+        }
     phase_other q (Runs e) ne h = pending_other q e ne h
 
     phase_mine : PhaseHolds L w' p (phase_after L k0 mine x)
@@ -159,7 +163,8 @@ module _ {R : Type 0} (L : Setting R) (Good : R → Type 0) (agrees : RoundsAgre
             let room = pending.room in
             record {
               pending = record {
-                unseen = λ k b g. elim (get_push_cases here.seen x k b (rw s at g)) [ inl was ↦ pending.unseen k b was | inr new ↦ subst (λ (z : Batch). HoldsEntry z mine → ⊥) new.1 (has_isnt x mine e) ];
+                unseen = λ k b g. elim (get_push_cases here.seen x k b (rw s at g))
+                    [ inl was ↦ pending.unseen k b was | inr new ↦ subst (λ (z : Batch). HoldsEntry z mine → ⊥) new.1 (has_isnt x mine e) ];
                 called = called_kept mine pending.called;
                 announced = pending.announced;
                 process = pending.process;
@@ -265,7 +270,8 @@ module _ {R : Type 0} (L : Setting R) (Good : R → Type 0) (agrees : RoundsAgre
 
     helps_kept : (w'' : World R) → w''.round ≡ round' → (e : Entry) (since : ℕ) → IsNoted (Called e since) w.history → e.process < L.processes → (k q : ℕ) (v : Batch) → since < k → k < L.capacity
         → L.consensus.input (round' k) q ≡ Some v → HoldsEntry v e ⊎ StandsBy L w'' e k
-    helps_kept w'' same e since noted low k q v less room h = elim (facts.helps e since noted low k q v less room (sym (input_same k q) ∙ h)) [ inl has ↦ inl has | inr s ↦ inr (by_kept w'' same e k s) ]
+    helps_kept w'' same e since noted low k q v less room h =
+        elim (facts.helps e since noted low k q v less room (sym (input_same k q) ∙ h)) [ inl has ↦ inl has | inr s ↦ inr (by_kept w'' same e k s) ]
 
     none_facts : Facts L (record w { round = round' })
     none_facts = record {
@@ -326,7 +332,14 @@ module _ {R : Type 0} (L : Setting R) (Good : R → Type 0) (agrees : RoundsAgre
       answered_now notes (Answer f) e k r h = at h.place h.there
         where
           fresh : IsReply L w2 mine k0 reply
-          fresh = record { stands = record { batch = x; fixed = fixed_x; has = f }; within = pending.room; before = here.seen; many = refl; are = λ j y g. fixed_kept j y (holds.seen p j y g); reply = refl }
+          fresh = record {
+            stands = record { batch = x; fixed = fixed_x; has = f };
+            within = pending.room;
+            before = here.seen;
+            many = refl;
+            are = λ j y g. fixed_kept j y (holds.seen p j y g);
+            reply = refl;
+          }
 
           at : (i : ℕ) → slice_get (Replied mine k0 reply ∷ w.history) i ≡ Some (Replied e k r) → IsReply L w2 e k r
           at zero g = let a : mine ≡ e = cc in let b : k0 ≡ k = cc in let c : reply ≡ r = cc in rw (← a, ← b, ← c) fresh
@@ -369,7 +382,8 @@ module _ {R : Type 0} (L : Setting R) (Good : R → Type 0) (agrees : RoundsAgre
           → IsMine (phase_after L k0 mine x) e ⊎ (IsSeen (here.seen ++ x ∷ []) e ⊎ (L.capacity ≤ length (here.seen ++ x ∷ [])))
       done_mine e (inl m) = let m' : mine ≡ e = rw is at m in go (has x mine) (k0 + 1 == L.capacity) refl refl m'
         where
-          go : (b d : Bool) → has x mine ≡ b → (k0 + 1 == L.capacity) ≡ d → mine ≡ e → IsMine (if b then Idle else (if d then Idle else first_look mine)) e ⊎ (IsSeen (here.seen ++ x ∷ []) e ⊎ (L.capacity ≤ length (here.seen ++ x ∷ [])))
+          go : (b d : Bool) → has x mine ≡ b → (k0 + 1 == L.capacity) ≡ d → mine ≡ e
+              → IsMine (if b then Idle else (if d then Idle else first_look mine)) e ⊎ (IsSeen (here.seen ++ x ∷ []) e ⊎ (L.capacity ≤ length (here.seen ++ x ∷ [])))
           go true d s f m' = inr (inl (record { slot = k0; batch = x; there = get_push_new here.seen x; has = subst (λ (z : Entry). HoldsEntry x z) m' (has_is x mine s) }))
           go false true s f m' = inr (inr (let q : k0 + 1 ≡ L.capacity = grind (arith, nat_tests) in let l : length (here.seen ++ x ∷ []) ≡ k0 + 1 = length-append here.seen (x ∷ []) in omega arith))
           go false false s f m' = inl m'
@@ -397,7 +411,8 @@ module _ {R : Type 0} (L : Setting R) (Good : R → Type 0) (agrees : RoundsAgre
               (gathers_kept w2 refl (λ e since n. invoked_before e since w2.history more_now n) (w.caller i).seen (w.caller i).phase (facts.gathers i))
         ];
         helps = λ e since noted. helps_kept w2 refl e since (invoked_before e since w2.history more_now noted);
-        earlier = λ e since noted f c q less. (let g = facts.earlier e since (invoked_before e since w2.history more_now noted) f (called_before f c) q less in (g.0, g.1, stands_kept w2 refl f g.0 g.2));
+        earlier = λ e since noted f c q less.
+            (let g = facts.earlier e since (invoked_before e since w2.history more_now noted) f (called_before f c) q less in (g.0, g.1, stands_kept w2 refl f g.0 g.2));
         dense = λ q c less. (let g = facts.dense q c (calls_at q c less) in (g.0, called_kept x decided g.0 g.1, g.2, g.3));
       }
         where

@@ -26,8 +26,10 @@ pub record RoundLaw : Type 0 where
   pub consensus : (P : ProtocolOfRounds) (n nodes : ℕ) (team : ℕ → Team) (schedule : List ℕ) (w : World Batch) → IsSound P n nodes team → IsReached P n nodes schedule w → KeepsConsensus P n schedule w
   pub fixed : (P : ProtocolOfRounds) (n nodes : ℕ) (team : ℕ → Team) (schedule : List ℕ) (w : World Batch) → IsSound P n nodes team → IsReached P n nodes schedule w → (p : ℕ) (x : Batch) → p < n
       → fixed_value w ≡ Some x → fixed_value (after_step P p w) ≡ Some x
-  pub begun : (P : ProtocolOfRounds) (n nodes : ℕ) (team : ℕ → Team) (schedule : List ℕ) (w : World Batch) → IsSound P n nodes team → IsReached P n nodes schedule w → (p : ℕ) → p < n → (local_at w p ≡ NotBegun) ↔ (input_at w p ≡ None)
-  pub sizes : (P : ProtocolOfRounds) (n nodes : ℕ) (team : ℕ → Team) (schedule : List ℕ) (w : World Batch) → IsSound P n nodes team → IsReached P n nodes schedule w → (length w.nodes ≡ nodes) × (length w.locals ≡ n) × (length w.inputs ≡ n)
+  pub begun : (P : ProtocolOfRounds) (n nodes : ℕ) (team : ℕ → Team) (schedule : List ℕ) (w : World Batch) → IsSound P n nodes team → IsReached P n nodes schedule w → (p : ℕ)
+      → p < n → (local_at w p ≡ NotBegun) ↔ (input_at w p ≡ None)
+  pub sizes : (P : ProtocolOfRounds) (n nodes : ℕ) (team : ℕ → Team) (schedule : List ℕ) (w : World Batch) → IsSound P n nodes team → IsReached P n nodes schedule w
+      → (length w.nodes ≡ nodes) × (length w.locals ≡ n) × (length w.inputs ≡ n)
   pub sound_plans : (p : Plan) → IsPlan p → IsSound (protocol_of p) (processes_of p) (nodes_of p) (team_of (length p.choice.a))
   pub short_paths : (p : Plan) → IsPlan p → (process : ℕ) → process < processes_of p → length ((protocol_of p).path process) ≤ nodes_of p
 
@@ -79,7 +81,8 @@ module _ (law : RoundLaw) (o : Opening) (plan : IsPlan o.plan) where
   not_some None h s = true≢false (sym s)
   not_some (Some x) h s = absurd (cc h)
 
-  taken_is : (w : World Batch) (good : Good w) → (p : ℕ) → p < n → decision_of (local_at w p) ≡ None → (steps_taken P p (local_at w p) ≡ occurrences good.0 p) × (occurrences good.0 p < 4 * length (P.path p))
+  taken_is : (w : World Batch) (good : Good w) → (p : ℕ) → p < n → decision_of (local_at w p) ≡ None
+      → (steps_taken P p (local_at w p) ≡ occurrences good.0 p) × (occurrences good.0 p < 4 * length (P.path p))
   taken_is w good p lt none =
       let k = keeps_of w good in
       let s = k.steps p lt in
@@ -87,7 +90,8 @@ module _ (law : RoundLaw) (o : Opening) (plan : IsPlan o.plan) where
       elim cases [ inl all ↦ absurd (not_some (decision_of (local_at w p)) none ((k.in_time p lt).1 all)) | inr few ↦ few ]) in
       (s ∙ min_low (occurrences good.0 p) (4 * length (P.path p)) (omega (arith, u)), u)
 
-  taken_more : (w : World Batch) (good : Good w) → (p : ℕ) (v : Batch) → p < n → input_at w p ≡ Some v → decision_of (local_at w p) ≡ None → steps_taken P p (local_at (after_step P p w) p) ≡ steps_taken P p (local_at w p) + 1
+  taken_more : (w : World Batch) (good : Good w) → (p : ℕ) (v : Batch) → p < n → input_at w p ≡ Some v → decision_of (local_at w p) ≡ None
+      → steps_taken P p (local_at (after_step P p w) p) ≡ steps_taken P p (local_at w p) + 1
   taken_more w good p v lt some none =
       let t = taken_is w good p lt none in
       let u = t.1 in
@@ -116,7 +120,8 @@ module _ (law : RoundLaw) (o : Opening) (plan : IsPlan o.plan) where
     decided_step = λ r p q ne. ap decision_of (others_step P p q r ne (local_at r p));
     taken_begin = λ r p v lt good. ap (steps_taken P p) (get_or-set_same r.locals p (Active 0 v Write) NotBegun (let s = (sizes_of r good).1 in omega arith));
     taken_step = λ r p v lt good some none. taken_more r good p v lt some none;
-    taken_low = λ r p v lt good some none. (let t = taken_is r good p lt none in let a = t.0 in let b = t.1 in let s : length (P.path p) ≤ n - 1 = law.short_paths o.plan plan p lt in omega (arith, a, b, s));
+    taken_low = λ r p v lt good some none.
+        (let t = taken_is r good p lt none in let a = t.0 in let b = t.1 in let s : length (P.path p) ≤ n - 1 = law.short_paths o.plan plan p lt in omega (arith, a, b, s));
     taken_begin_other = λ r p q v ne. ap (steps_taken P q) (get_or-set_other r.locals p q (Active 0 v Write) NotBegun ne);
     taken_step_other = λ r p q ne. ap (steps_taken P q) (others_step P p q r ne (local_at r p));
     few = plan.fits.few;

@@ -61,7 +61,8 @@ entries_stay L round after stay (suc fuel) base = go (L.consensus.fixed (round b
     go (Some e) is more = (more.0, rw (stay base e is) (ap (λ es. e ∷ es) more.1))
 
 -- the response of the sequential run at a place
-pub response_there : (t : TypeTable) (before es : List Entry) (state k : ℕ) (e : Entry) → length before ≡ k → ((j : ℕ) (x : Entry) → slice_get before j ≡ Some x → slice_get es j ≡ Some x) → slice_get es k ≡ Some e
+pub response_there : (t : TypeTable) (before es : List Entry) (state k : ℕ) (e : Entry) → length before ≡ k
+    → ((j : ℕ) (x : Entry) → slice_get before j ≡ Some x → slice_get es j ≡ Some x) → slice_get es k ≡ Some e
     → slice_get (responses_along t state (operations_of es)) k ≡ Some (transition t e.operation.0 (state_after t state (operations_of before))).0
 response_there t before [] state k e len are h = absurd cc
 response_there t [] (x ∷ es) state zero e len are h = let same : x ≡ e = cc in ap (λ (z : Entry). Some (transition t z.operation.0 state).0) same
@@ -92,7 +93,8 @@ fixed_from_is L round (suc slots) base (e ∷ es) few are end =
     rw h (ap (λ xs. e ∷ xs) (fixed_from_is L round slots (suc base) es (omega arith) (λ j x g. rw (← s j) (are (suc j) x g)) later))
 
 -- if each slot is fixed to the same batch, the entries are the same
-pub fixed_from_same : {R : Type 0} (L : Setting R) (round after : ℕ → R) → ((k : ℕ) → L.consensus.fixed (after k) ≡ L.consensus.fixed (round k)) → (slots base : ℕ) → fixed_from L slots base after ≡ fixed_from L slots base round
+pub fixed_from_same : {R : Type 0} (L : Setting R) (round after : ℕ → R) → ((k : ℕ) → L.consensus.fixed (after k) ≡ L.consensus.fixed (round k)) → (slots base : ℕ)
+    → fixed_from L slots base after ≡ fixed_from L slots base round
 fixed_from_same L round after same zero base = refl
 fixed_from_same L round after same (suc slots) base = rw (same base, fixed_from_same L round after same slots (suc base)) refl
 

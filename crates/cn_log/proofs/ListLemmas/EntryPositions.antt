@@ -33,7 +33,8 @@ split_members zero q b j e less h = absurd (omega arith)
 split_members (suc many) q b zero e less h = let z : q + 0 ≡ q = omega arith in let g : entry_at b q ≡ Some e = rw z at h in (members many (suc q) b, rw g refl)
 split_members (suc many) q b (suc j) e less h = go (entry_at b q) refl (let s : q + suc j ≡ suc q + j = omega arith in split_members many (suc q) b j e (omega arith) (rw s at h))
   where
-    go : (o : Option Entry) → entry_at b q ≡ o → (rest : List Entry) × (members many (suc q) b ≡ members j (suc q) b ++ e ∷ rest) → (rest : List Entry) × (members (suc many) q b ≡ members (suc j) q b ++ e ∷ rest)
+    go : (o : Option Entry) → entry_at b q ≡ o → (rest : List Entry) × (members many (suc q) b ≡ members j (suc q) b ++ e ∷ rest)
+        → (rest : List Entry) × (members (suc many) q b ≡ members (suc j) q b ++ e ∷ rest)
     go None is r = (r.0, rw is r.1)
     go (Some x) is r = (r.0, rw is (ap (λ l. x ∷ l) r.1))
 
@@ -57,7 +58,8 @@ entries_few_in n (b ∷ bs) =
 split_entries : (n : ℕ) (bs : List Batch) (k : ℕ) (b : Batch) → slice_get bs k ≡ Some b → (rest : List Entry) × (entries_in n bs ≡ entries_in n (take k bs) ++ (members n 0 b ++ rest))
 split_entries n [] k b h = absurd cc
 split_entries n (c ∷ bs) zero b h = let same : c ≡ b = cc in (entries_in n bs, ap (λ (z : Batch). members n 0 z ++ entries_in n bs) same)
-split_entries n (c ∷ bs) (suc k) b h = let r = split_entries n bs k b h in (r.0, ap (λ l. members n 0 c ++ l) r.1 ∙ sym (append_assoc (members n 0 c) (entries_in n (take k bs)) (members n 0 b ++ r.0)))
+split_entries n (c ∷ bs) (suc k) b h = let r = split_entries n bs k b h in
+    (r.0, ap (λ l. members n 0 c ++ l) r.1 ∙ sym (append_assoc (members n 0 c) (entries_in n (take k bs)) (members n 0 b ++ r.0)))
 
 -- the entry has this place among those of the batches
 pub record IsPlaced (n : ℕ) (bs : List Batch) (place : ℕ) (e : Entry) : Type 0 where
@@ -72,7 +74,8 @@ pub record IsPlaced (n : ℕ) (bs : List Batch) (place : ℕ) (e : Entry) : Type
 pub of_entries : (n : ℕ) (bs : List Batch) (place : ℕ) (e : Entry) → slice_get (entries_in n bs) place ≡ Some e → IsPlaced n bs place e
 of_entries n [] place e h = absurd cc
 of_entries n (b ∷ bs) place e h = elim (get_cases (members n 0 b) (entries_in n bs) place e h) [
-  | inl now ↦ (let m = of_members n 0 b place e now in record { slot = 0; batch = b; process = m.0; there = refl; low = m.1; at = (let z : 0 + m.0 ≡ m.0 = omega arith in rw z at m.2); place_is = (let p = m.3 in omega (arith, p)) })
+  | inl now ↦ (let m = of_members n 0 b place e now in
+      record { slot = 0; batch = b; process = m.0; there = refl; low = m.1; at = (let z : 0 + m.0 ≡ m.0 = omega arith in rw z at m.2); place_is = (let p = m.3 in omega (arith, p)) })
   | inr later ↦ (let r = of_entries n bs later.0 e later.2 in record {
     slot = suc r.slot;
     batch = r.batch;

@@ -43,7 +43,8 @@ pub calls_own : (p operation : ℕ) → is_call_of p (Invoke p operation) ≡ tr
 calls_own p operation = grind (arith, nat_tests)
 
 -- the calls of a process have different numbers
-pub number_once : (events : List Event) (p a b i j : ℕ) → slice_get events i ≡ Some (Invoke p a) → slice_get events j ≡ Some (Invoke p b) → calls_of p (take i events) ≡ calls_of p (take j events) → a ≡ b
+pub number_once : (events : List Event) (p a b i j : ℕ) → slice_get events i ≡ Some (Invoke p a) → slice_get events j ≡ Some (Invoke p b)
+    → calls_of p (take i events) ≡ calls_of p (take j events) → a ≡ b
 number_once [] p a b i j hi hj same = absurd cc
 number_once (e ∷ events) p a b zero zero hi hj same = cc
 number_once (e ∷ events) p a b zero (suc j) hi hj same =

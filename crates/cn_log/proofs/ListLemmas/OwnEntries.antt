@@ -21,7 +21,8 @@ own_none (suc many) q p b shaped none = go (entry_at b q) refl (own_none many (s
   where
     go : (o : Option Entry) → entry_at b q ≡ o → entries_by p (members many (suc q) b) ≡ [] → entries_by p (and_entry o (members many (suc q) b)) ≡ []
     go None is rest = rest
-    go (Some e) is rest = front_other p e (members many (suc q) b) (λ own. (let w = shaped q e is in let g : entry_at b p ≡ Some e = ap (entry_at b) (sym own ∙ w) ∙ is in absurd (cc (none, g)))) ∙ rest
+    go (Some e) is rest = front_other p e (members many (suc q) b)
+        (λ own. (let w = shaped q e is in let g : entry_at b p ≡ Some e = ap (entry_at b) (sym own ∙ w) ∙ is in absurd (cc (none, g)))) ∙ rest
 
 -- no entry behind its place
 own_behind : (many q p : ℕ) (b : Batch) → IsShaped b → p < q → entries_by p (members many q b) ≡ []

@@ -116,7 +116,8 @@ module _ (law : RoundLaw) (atomic : (P : ProtocolOfRounds) (p : ℕ) → IsAtomi
   undecided_kept v p here mine (Some x) e = absurd (cc)
 
   -- a decision leads to the same in two worlds
-  caller_alike : (v u : LogWorld) (p : ℕ) (here : Caller) (mine : Entry) (d : Option Batch) → v.caller p ≡ u.caller p → (after_decision L v p here mine d).caller p ≡ (after_decision L u p here mine d).caller p
+  caller_alike : (v u : LogWorld) (p : ℕ) (here : Caller) (mine : Entry) (d : Option Batch) → v.caller p ≡ u.caller p
+      → (after_decision L v p here mine d).caller p ≡ (after_decision L u p here mine d).caller p
   caller_alike v u p here mine None e = e
   caller_alike v u p here mine (Some x) e = put_same v.caller p _ ∙ sym (put_same u.caller p _)
 
@@ -139,7 +140,8 @@ module _ (law : RoundLaw) (atomic : (P : ProtocolOfRounds) (p : ℕ) → IsAtomi
         let began = subst Began is (safe.running p) (subst IsRuns (sym phase) tt) in
         active_of (w.round (length here.seen)) (safe.good (length here.seen)) p lt began.0 began.1 began.2
 
-    look_shared : (p : ℕ) (here : Caller) (mine : Entry) (q : ℕ) (batch : Batch) (last : Bool) (part : LogPart) → log_content o (after_gathering L w p here mine q batch last) part ≡ log_content o w part
+    look_shared : (p : ℕ) (here : Caller) (mine : Entry) (q : ℕ) (batch : Batch) (last : Bool) (part : LogPart)
+        → log_content o (after_gathering L w p here mine q batch last) part ≡ log_content o w part
     look_shared p here mine q batch false (Announcement r) = refl
     look_shared p here mine q batch false (InRound j v part) = refl
     look_shared p here mine q batch true (Announcement r) = refl
@@ -162,7 +164,8 @@ module _ (law : RoundLaw) (atomic : (P : ProtocolOfRounds) (p : ℕ) → IsAtomi
           goes_on = looks_on p here mine q more (q + 1 == n);
         }
 
-    acts : (p : ℕ) (here : Caller) (mine : Entry) (at : IsActive (w.round (length here.seen)) p) → ActsOnce P p at.place at.value at.stage (w.round (length here.seen)) (round_step P p (w.round (length here.seen)))
+    acts : (p : ℕ) (here : Caller) (mine : Entry) (at : IsActive (w.round (length here.seen)) p)
+        → ActsOnce P p at.place at.value at.stage (w.round (length here.seen)) (round_step P p (w.round (length here.seen)))
     acts p here mine at = (atomic P p).one_action (w.round (length here.seen)) at.place at.value at.stage at.is
 
     acts_in_round : (p : ℕ) (here : Caller) (mine : Entry) → w.caller p ≡ here → IsActive (w.round (length here.seen)) p → ActsInRound o w p here (after_run L w p here mine)
@@ -176,7 +179,8 @@ module _ (law : RoundLaw) (atomic : (P : ProtocolOfRounds) (p : ℕ) → IsAtomi
       undecided = λ none. undecided_kept (ran w p here) p here mine (decision w p here) (ap (λ (r : RoundWorld Batch). decision_at r p) (sym (ran_round w p here mine)) ∙ none) ∙ is;
     }
 
-    run_shared : (p : ℕ) (here : Caller) (mine : Entry) (at : IsActive (w.round (length here.seen)) p) (part : LogPart) → touched_in o p (length here.seen) (local_at (w.round (length here.seen)) p) ≢ Some part
+    run_shared : (p : ℕ) (here : Caller) (mine : Entry) (at : IsActive (w.round (length here.seen)) p) (part : LogPart)
+        → touched_in o p (length here.seen) (local_at (w.round (length here.seen)) p) ≢ Some part
         → log_content o (after_run L w p here mine) part ≡ log_content o w part
     run_shared p here mine at (Announcement q) ne = ap (λ a. Announced a) (announced_kept (ran w p here) p here mine (decision w p here) q)
     run_shared p here mine at (InRound j v part) ne = elim (cases_eq j (length here.seen)) [
@@ -311,7 +315,8 @@ module _ (law : RoundLaw) (atomic : (P : ProtocolOfRounds) (p : ℕ) → IsAtomi
 
       run_local : IsSameLocally p (after_run L w p here mine) (after_run L u p here mine)
       run_local = record {
-        caller = caller_alike (ran w p here) (ran u p here) p here mine (decision w p here) is ∙ ap (λ (l : Local Batch). (after_decision L (ran u p here) p here mine (decision_of l)).caller p) local_then;
+        caller = caller_alike (ran w p here) (ran u p here) p here mine (decision w p here) is
+            ∙ ap (λ (l : Local Batch). (after_decision L (ran u p here) p here mine (decision_of l)).caller p) local_then;
         rounds = λ j. ap (λ (r : RoundWorld Batch). local_at r p) (rounds_kept (ran w p here) p here mine (decision w p here) j)
             ∙ put_alike w.round u.round k j _ _ (λ (r : RoundWorld Batch). local_at r p) local_then (local.rounds j)
             ∙ ap (λ (r : RoundWorld Batch). local_at r p) (sym (rounds_kept (ran u p here) p here mine (decision u p here) j));
@@ -321,7 +326,8 @@ module _ (law : RoundLaw) (atomic : (P : ProtocolOfRounds) (p : ℕ) → IsAtomi
       part_then =
           let f : RoundWorld Batch → LogContent = λ r. AtNode (content (node_at P r (place_of P p at.place).node) (part_touched P (place_of P p at.place) at.stage)) in
           ap f (ran_round w p here mine)
-          ∙ ap (λ c. AtNode c) ((atomic P p).shared (w.round k) (u.round k) at.place at.value at.stage (has_place (w.round k) (u.round k) (safe.good k) (safe'.good k) p at.place lt at.within) alike_here)
+          ∙ ap (λ c. AtNode c) ((atomic P p).shared (w.round k) (u.round k) at.place at.value at.stage
+          (has_place (w.round k) (u.round k) (safe.good k) (safe'.good k) p at.place lt at.within) alike_here)
           ∙ ap f (sym (ran_round u p here mine))
 
       run_shared_then : (part : LogPart) → touched_in o p k (local_at (w.round k) p) ≡ Some part → log_content o (after_run L w p here mine) part ≡ log_content o (after_run L u p here mine) part
@@ -330,7 +336,8 @@ module _ (law : RoundLaw) (atomic : (P : ProtocolOfRounds) (p : ℕ) → IsAtomi
           let same : part_here ≡ part = cc in
           subst (λ z. log_content o (after_run L w p here mine) z ≡ log_content o (after_run L u p here mine) z) same part_then
 
-      goes_on : GoesAlike p (touched_in o p k (local_at (w.round k) p)) (after_run L w p here mine) (after_run L u p here mine) (answer_from L w p here (Runs mine)) (answer_from L u p here (Runs mine))
+      goes_on : GoesAlike p (touched_in o p k (local_at (w.round k) p)) (after_run L w p here mine) (after_run L u p here mine) (answer_from L w p here (Runs mine))
+          (answer_from L u p here (Runs mine))
       goes_on = record { local = run_local; shared = run_shared_then; answer = run_answer }
 
     step_alike : (p : ℕ) → p < n → (here : Caller) (ph : Phase) → w.caller p ≡ here → here.phase ≡ ph → ph ≢ Idle → IsSameLocally p w u
@@ -349,9 +356,11 @@ module _ (law : RoundLaw) (atomic : (P : ProtocolOfRounds) (p : ℕ) → IsAtomi
 
     -- the same for a step, by the knowledge of the process in each world
     step_goes : (p : ℕ) → MayStep L w p → IsSameLocally p w u → ((part : LogPart) → touched_by o w (Step p) ≡ Some part → log_content o w part ≡ log_content o u part)
-        → GoesAlike p (touched_by o w (Step p)) (after_event L w (Step p)) (after_event L u (Step p)) (answer_from L w p (w.caller p) (w.caller p).phase) (answer_from L u p (u.caller p) (u.caller p).phase)
+        → GoesAlike p (touched_by o w (Step p)) (after_event L w (Step p)) (after_event L u (Step p)) (answer_from L w p (w.caller p) (w.caller p).phase)
+        (answer_from L u p (u.caller p) (u.caller p).phase)
     step_goes p may local shared =
-        subst (λ (c : Caller). GoesAlike p (touched_by o w (Step p)) (after_event L w (Step p)) (after_step L u p c c.phase) (answer_from L w p (w.caller p) (w.caller p).phase) (answer_from L u p c c.phase)) local.caller
+        subst (λ (c : Caller). GoesAlike p (touched_by o w (Step p)) (after_event L w (Step p)) (after_step L u p c c.phase) (answer_from L w p (w.caller p) (w.caller p).phase)
+        (answer_from L u p c c.phase)) local.caller
         (step_alike p may.process (w.caller p) (w.caller p).phase refl refl may.in_call local shared)
 
     -- the event can come in the other world
@@ -366,9 +375,11 @@ module _ (law : RoundLaw) (atomic : (P : ProtocolOfRounds) (p : ℕ) → IsAtomi
 
     call_caller : (p operation : ℕ) → IsSameLocally p w u → (after_event L w (Invoke p operation)).caller p ≡ (after_event L u (Invoke p operation)).caller p
     call_caller p operation local =
-        put_same w.caller p _ ∙ ap (λ (c : Caller). let now : Caller = record { seen = c.seen; calls = c.calls + 1; phase = first_look (call_of p operation c.calls) } in now) local.caller ∙ sym (put_same u.caller p _)
+        put_same w.caller p _ ∙ ap (λ (c : Caller). let now : Caller = record { seen = c.seen; calls = c.calls + 1; phase = first_look (call_of p operation c.calls) } in now)
+        local.caller ∙ sym (put_same u.caller p _)
 
-    call_content : (p operation : ℕ) → IsSameLocally p w u → log_content o (after_event L w (Invoke p operation)) (Announcement p) ≡ log_content o (after_event L u (Invoke p operation)) (Announcement p)
+    call_content : (p operation : ℕ) → IsSameLocally p w u
+        → log_content o (after_event L w (Invoke p operation)) (Announcement p) ≡ log_content o (after_event L u (Invoke p operation)) (Announcement p)
     call_content p operation local =
         ap (λ a. Announced a) (put_same w.announced p _) ∙ ap (λ (c : Caller). Announced (Some (call_of p operation c.calls))) local.caller ∙ ap (λ a. Announced a) (sym (put_same u.announced p _))
 
@@ -401,9 +412,11 @@ module _ (law : RoundLaw) (atomic : (P : ProtocolOfRounds) (p : ℕ) → IsAtomi
     one : IsOneEvent (state_of L events) (safe_after events before_may) e
     one = one_event (state_of L events) (safe_after events before_may) e event_may
 
-    answers_alike : (event : Event) → MayCome L (state_of L events) event → (others : List Event) → IsEventList L others → LogsLookAlike o events others event → answer_to o events event ≡ answer_to o others event
+    answers_alike : (event : Event) → MayCome L (state_of L events) event → (others : List Event) → IsEventList L others → LogsLookAlike o events others event
+        → answer_to o events event ≡ answer_to o others event
     answers_alike (Invoke p operation) come others listed alike = refl
-    answers_alike (Step p) come others listed alike = ap (λ a. Some a) (answer_alike (state_of L events) (state_of L others) (safe_after events before_may) (safe_after others listed) p come alike.local alike.shared)
+    answers_alike (Step p) come others listed alike = ap (λ a. Some a)
+        (answer_alike (state_of L events) (state_of L others) (safe_after events before_may) (safe_after others listed) p come alike.local alike.shared)
 
     pub atomic_event : IsAtomicEvent o events e
     atomic_event = record {

@@ -63,7 +63,8 @@ module _ {R : Type 0} (L : Setting R) (w : World R) (i : ℕ) where
     where
       go : (b : Bool) → nat_lt p L.processes ≡ b → (d : Bool) → nat_lt o (length L.object.operations) ≡ d
           → (if b then (if d then invoke_fault L.capacity i (w.caller p) (w.caller p).phase else Some (NoSuchOperation i)) else Some (NoSuchProcess i)) ≡ None → MayInvoke L w p o
-      go true t true u h = let m = invoke_none L.capacity i (w.caller p) (w.caller p).phase h in record { process = grind (arith, nat_tests); operation = grind (arith, nat_tests); idle = m.0; not_at_end = m.1 }
+      go true t true u h = let m = invoke_none L.capacity i (w.caller p) (w.caller p).phase h in
+          record { process = grind (arith, nat_tests); operation = grind (arith, nat_tests); idle = m.0; not_at_end = m.1 }
       go true t false u h = absurd cc
       go false t d u h = absurd cc
   none_may (Step p) h = go (nat_lt p L.processes) refl h

@@ -74,7 +74,8 @@ module _ {R : Type 0} (L : Setting R) where
     | inr ne ↦ rw (put_other w.caller p s q ne) (low q)
   ]
 
-  low_gathering : (w : World R) → ((q : ℕ) → IsLow L.capacity (w.caller q)) → (p : ℕ) (here : Caller) → w.caller p ≡ here → (mine : Entry) (i : ℕ) (batch v : Batch) (b : Bool) → here.phase ≡ Looks mine i batch
+  low_gathering : (w : World R) → ((q : ℕ) → IsLow L.capacity (w.caller q)) → (p : ℕ) (here : Caller) → w.caller p ≡ here → (mine : Entry) (i : ℕ) (batch v : Batch) (b : Bool)
+      → here.phase ≡ Looks mine i batch
       → (q : ℕ) → IsLow L.capacity ((after_gathering L w p here mine i v b).caller q)
   low_gathering w low p here is mine i batch v false ph q =
       let was : IsLow L.capacity here = rw is at (low p) in
@@ -87,9 +88,11 @@ module _ {R : Type 0} (L : Setting R) where
       let a = was.0 in
       put_low w low p (record here { phase = Runs mine }) (omega arith, was.1) q
 
-  low_step : (w : World R) → ((q : ℕ) → IsLow L.capacity (w.caller q)) → (p : ℕ) (here : Caller) → w.caller p ≡ here → (ph : Phase) → here.phase ≡ ph → PhaseHolds L w p ph → (q : ℕ) → IsLow L.capacity ((after_step L w p here ph).caller q)
+  low_step : (w : World R) → ((q : ℕ) → IsLow L.capacity (w.caller q)) → (p : ℕ) (here : Caller) → w.caller p ≡ here → (ph : Phase) → here.phase ≡ ph → PhaseHolds L w p ph
+      → (q : ℕ) → IsLow L.capacity ((after_step L w p here ph).caller q)
   low_step w low p here is Idle ph holds q = low q
-  low_step w low p here is (Looks mine i batch) ph holds q = low_gathering w low p here is mine i batch (batch_with (w.announced i) (entries_in L.processes here.seen) i batch) (i + 1 == L.processes) ph q
+  low_step w low p here is (Looks mine i batch) ph holds q = low_gathering w low p here is mine i batch (batch_with (w.announced i) (entries_in L.processes here.seen) i batch)
+      (i + 1 == L.processes) ph q
   low_step w low p here is (Runs mine) ph holds q = go (L.consensus.decided (L.consensus.step p (w.round (length here.seen))) p)
     where
       w1 : World R
@@ -106,7 +109,12 @@ module _ {R : Type 0} (L : Setting R) where
           put_low w low p (record { seen = here.seen ++ x ∷ []; calls = here.calls; phase = phase_after L (length here.seen) mine x }) (omega arith, omega arith) q
 
   low_invoke : (w : World R) → ((q : ℕ) → IsLow L.capacity (w.caller q)) → (p operation : ℕ) → MayInvoke L w p operation
-      → ((w.caller p).calls < L.capacity) × IsLow L.capacity (record { seen = (w.caller p).seen; calls = (w.caller p).calls + 1; phase = first_look (record { process = p; operation = record { 0 = operation }; call = (w.caller p).calls }) })
+      → ((w.caller p).calls < L.capacity)
+      × IsLow L.capacity (record {
+        seen = (w.caller p).seen;
+        calls = (w.caller p).calls + 1;
+        phase = first_look (record { process = p; operation = record { 0 = operation }; call = (w.caller p).calls });
+      })
   low_invoke w low p operation may =
       let was = low p in
       let b : busy (w.caller p).phase ≡ 0 = ap busy may.idle in
@@ -121,7 +129,8 @@ module _ {R : Type 0} (L : Setting R) where
     | inr ne ↦ rw (put_other w.caller p s q ne, get_or-set_other kept.callers p q x no_caller_state ne) (fits.caller q less)
   ]
 
-  pub caller_here : {s : List Event} {kept : Fields R} → Keeps L s kept → {p : ℕ} → p < L.processes → {here : CallerState} → here ≡ get_or kept.callers p here → IsCallerState L here ((state_of L s).caller p)
+  pub caller_here : {s : List Event} {kept : Fields R} → Keeps L s kept → {p : ℕ} → p < L.processes → {here : CallerState} → here ≡ get_or kept.callers p here
+      → IsCallerState L here ((state_of L s).caller p)
   caller_here {s = s} {kept = kept} keeps {p = p} lt {here = here} read =
       let many = keeps.fits.callers_many in
       let is : here ≡ get_or kept.callers p no_caller_state = read ∙ get_or_default kept.callers p here no_caller_state (omega arith) in
@@ -140,7 +149,8 @@ module _ {R : Type 0} (L : Setting R) (Good : R → Type 0) (agrees : RoundsAgre
   low_after s may q = low_run s (first_world L) (first_holds L Good agrees) (λ q. (omega arith, omega arith)) may q
 
   -- a process makes at most as many calls as there are slots
-  pub calls_few : {s : List Event} {kept : Fields R} → Keeps L s kept → {p operation : ℕ} → MayInvoke L (state_of L s) p operation → {here : CallerState} → here ≡ get_or kept.callers p here → here.calls < L.capacity
+  pub calls_few : {s : List Event} {kept : Fields R} → Keeps L s kept → {p operation : ℕ} → MayInvoke L (state_of L s) p operation → {here : CallerState}
+      → here ≡ get_or kept.callers p here → here.calls < L.capacity
   calls_few {s = s} {kept = kept} keeps {p = p} {operation = operation} may {here = here} read =
       let low = (low_invoke L (state_of L s) (low_after s keeps.events) p operation may).0 in
       let d = (caller_here L keeps may.process read).calls in
@@ -170,7 +180,17 @@ module _ {R : Type 0} (L : Setting R) (Good : R → Type 0) (agrees : RoundsAgre
             | inr ne ↦ rw (put_other w.announced p (Some (entry (w.caller p).calls)) q ne, get_or-set_other kept.announced p q (Some (entry (w.caller p).calls)) None ne) (fits.announcement q less)
           ];
           callers_many = length-set kept.callers p _ ∙ fits.callers_many;
-          caller = caller_put L fits may.process _ _ (record { replayed_slots = d.replayed_slots; replayed_entries = d.replayed_entries; calls_places = d.calls_places; calls_seen = d.calls_seen; calls = refl; phase = refl; state = d.state; known = d.known });
+          caller = caller_put L fits may.process _ _
+              (record {
+                replayed_slots = d.replayed_slots;
+                replayed_entries = d.replayed_entries;
+                calls_places = d.calls_places;
+                calls_seen = d.calls_seen;
+                calls = refl;
+                phase = refl;
+                state = d.state;
+                known = d.known;
+              });
           entries_are = fits.entries_are;
           slots_are = fits.slots_are;
           fixed_is = fits.fixed_is;

@@ -92,8 +92,10 @@ module _ {R : Type 0} {L : Setting R} {Good : R → Type 0} {s : List Event} {ke
 
     round_put : (r' : R) (k : ℕ) → k < L.capacity → slice_index_or (slice_set kept.rounds here.replayed_slots r') k L.untouched ≡ put w.round k0 r' k
     round_put r' k less = elim (cases_eq k k0) [
-      | inl f ↦ (let g : k ≡ here.replayed_slots = f ∙ sym caller_is.replayed_slots in rw (g, get_or-set_same kept.rounds here.replayed_slots r' L.untouched in_rounds, caller_is.replayed_slots, put_same w.round k0 r') refl)
-      | inr ne ↦ (let g : k ≢ here.replayed_slots = (λ same. ne (same ∙ caller_is.replayed_slots)) in rw (put_other w.round k0 r' k ne, get_or-set_other kept.rounds here.replayed_slots k r' L.untouched g) (now.at.keeps.fits.round k less))
+      | inl f ↦ (let g : k ≡ here.replayed_slots = f ∙ sym caller_is.replayed_slots in
+          rw (g, get_or-set_same kept.rounds here.replayed_slots r' L.untouched in_rounds, caller_is.replayed_slots, put_same w.round k0 r') refl)
+      | inr ne ↦ (let g : k ≢ here.replayed_slots = (λ same. ne (same ∙ caller_is.replayed_slots)) in
+          rw (put_other w.round k0 r' k ne, get_or-set_other kept.rounds here.replayed_slots k r' L.untouched g) (now.at.keeps.fits.round k less))
     ]
 
     -- the fields after a step that changes the round of the slot and the progress of the process
@@ -226,16 +228,20 @@ module _ {R : Type 0} {L : Setting R} {Good : R → Type 0} {s : List Event} {ke
         ∙ ap (λ k. bs ++ next_batch kept.fixed k (L.consensus.fixed r')) (sym runs_is.replayed_slots)
 
     entries_then : (w' : World R) → w'.round ≡ put (w run).round (k0 run) r' → kept.entries ++ entries_in L.processes more ≡ entries_of L w'
-    entries_then w' is = ap (λ l. l ++ entries_in L.processes more) run.at.keeps.fits.entries_are ∙ sym (ap (entries_in L.processes) (batches_then w' is) ∙ entries_put L.processes (batches_of L (w run)) more)
+    entries_then w' is = ap (λ l. l ++ entries_in L.processes more) run.at.keeps.fits.entries_are
+        ∙ sym (ap (entries_in L.processes) (batches_then w' is) ∙ entries_put L.processes (batches_of L (w run)) more)
 
     slots_then : (w' : World R) → w'.round ≡ put (w run).round (k0 run) r' → kept.slots ++ slots_from L.processes here.replayed_slots more ≡ slots_from L.processes 0 (batches_of L w')
     slots_then w' is =
         let z : 0 + length (batches_of L (w run)) ≡ kept.fixed = (let f = run.at.keeps.fits.fixed_is in omega (arith, f)) in
-        ap (λ l. l ++ slots_from L.processes here.replayed_slots more) run.at.keeps.fits.slots_are ∙ ap (λ l. slots_from L.processes 0 (batches_of L (w run)) ++ l) (sym (next_slot L.processes kept.fixed here.replayed_slots (L.consensus.fixed r')))
-        ∙ sym (ap (slots_from L.processes 0) (batches_then w' is) ∙ slots_put L.processes 0 (batches_of L (w run)) more ∙ ap (λ i. slots_from L.processes 0 (batches_of L (w run)) ++ slots_from L.processes i more) z)
+        ap (λ l. l ++ slots_from L.processes here.replayed_slots more) run.at.keeps.fits.slots_are
+        ∙ ap (λ l. slots_from L.processes 0 (batches_of L (w run)) ++ l) (sym (next_slot L.processes kept.fixed here.replayed_slots (L.consensus.fixed r')))
+        ∙ sym (ap (slots_from L.processes 0) (batches_then w' is) ∙ slots_put L.processes 0 (batches_of L (w run)) more
+        ∙ ap (λ i. slots_from L.processes 0 (batches_of L (w run)) ++ slots_from L.processes i more) z)
 
     fixed_then : (w' : World R) → w'.round ≡ put (w run).round (k0 run) r' → kept.fixed + length more ≡ length (batches_of L w')
-    fixed_then w' is = let e : length (batches_of L w') ≡ length (batches_of L (w run)) + length more = ap length (batches_then w' is) ∙ length-append (batches_of L (w run)) more in let f = run.at.keeps.fits.fixed_is in omega (arith, e, f)
+    fixed_then w' is = let e : length (batches_of L w') ≡ length (batches_of L (w run)) + length more = ap length (batches_then w' is)
+        ∙ length-append (batches_of L (w run)) more in let f = run.at.keeps.fits.fixed_is in omega (arith, e, f)
 
     -- the fields after the step, with this progress of each process
     abbrev pub kept_then : List CallerState → Fields R
@@ -287,7 +293,8 @@ module _ {R : Type 0} {L : Setting R} {Good : R → Type 0} {s : List Event} {ke
           let b = some_begun in
           known_operation L Good run.agrees (s ++ Step p ∷ []) events_then e (b.called e (subst (λ i. entry_at x i ≡ Some e) (sym (b.shaped q e there)) there))
 
-      pub some_keeps : (here' : CallerState) → here'.replayed_slots ≡ here.replayed_slots + 1 → here'.replayed_entries ≡ here.replayed_entries + length (members L.processes 0 x) → length here'.calls_seen.calls ≡ 8
+      pub some_keeps : (here' : CallerState) → here'.replayed_slots ≡ here.replayed_slots + 1 → here'.replayed_entries ≡ here.replayed_entries + length (members L.processes 0 x)
+          → length here'.calls_seen.calls ≡ 8
           → ((q : ℕ) → q < L.processes → count_at here'.calls_seen q ≡ count_at here.calls_seen q + length (and_entry (entry_at x q) [])) → here'.calls ≡ here.calls
           → here'.phase ≡ phase_after L here.replayed_slots mine x
           → here'.state.0 ≡ state_after L.object here.state.0 (operations_of (members L.processes 0 x)) → here'.state.0 < length L.object.states
@@ -298,7 +305,8 @@ module _ {R : Type 0} {L : Setting R} {Good : R → Type 0} {s : List Event} {ke
           ∙ ap (λ l. entries_in L.processes (caller run).seen ++ l) (append-nil (members L.processes 0 x)) in
           let now : IsCallerState L here' c = record {
             replayed_slots = (let n : length ((caller run).seen ++ x ∷ []) ≡ length (caller run).seen + 1 = length-append (caller run).seen (x ∷ []) in let a = runs_is.replayed_slots in omega arith);
-            replayed_entries = (let n = ap length all ∙ length-append (entries_in L.processes (caller run).seen) (members L.processes 0 x) in let a = runs_is.replayed_entries in omega (arith, seen, n, a));
+            replayed_entries = (let n = ap length all ∙ length-append (entries_in L.processes (caller run).seen) (members L.processes 0 x) in let a = runs_is.replayed_entries in
+                omega (arith, seen, n, a));
             calls_places = places;
             calls_seen = λ q low. (
                 let a = calls_seen q low in
@@ -331,7 +339,8 @@ module _ {R : Type 0} {L : Setting R} {Good : R → Type 0} {s : List Event} {ke
           ∙ ap (λ (z : ℕ × ℕ). if has x mine then Answered (k0 run) (record { 0 = z.0 }) else (if (k0 run) + 1 == L.capacity then Full else Working)) reply_at ∙ sym (answer_is (Some x) is)
 
 -- a process that looks at the announcements
-module _ {R : Type 0} {L : Setting R} {Good : R → Type 0} {s : List Event} {kept : Fields R} {p : ℕ} {mine : Entry} {q : ℕ} {batch : Batch} {here : CallerState} (look : IsReadCaller L Good s kept p (Looks mine q batch) here) where
+module _ {R : Type 0} {L : Setting R} {Good : R → Type 0} {s : List Event} {kept : Fields R} {p : ℕ} {mine : Entry} {q : ℕ} {batch : Batch} {here : CallerState}
+    (look : IsReadCaller L Good s kept p (Looks mine q batch) here) where
   looks_holds : Holds L Good (w look)
   looks_holds = holds_after L Good look.agrees s look.at.keeps.events
 
@@ -364,7 +373,8 @@ module _ {R : Type 0} {L : Setting R} {Good : R → Type 0} {s : List Event} {ke
   v = batch_with ((w look).announced q) (entries_in L.processes (caller look).seen) q batch
 
   pub gathered_is : (b : Batch) → b ≡ batch_with_calls (get_or kept.announced q None) (count_at here.calls_seen q) q batch → b ≡ v
-  gathered_is b e = e ∙ ap (λ o. batch_with_calls o (count_at here.calls_seen q) q batch) (look.at.keeps.fits.announcement q looking.next) ∙ ap (λ c. batch_with_calls ((w look).announced q) c q batch) (looks_is.calls_seen q looking.next)
+  gathered_is b e = e ∙ ap (λ o. batch_with_calls o (count_at here.calls_seen q) q batch) (look.at.keeps.fits.announcement q looking.next)
+      ∙ ap (λ c. batch_with_calls ((w look).announced q) c q batch) (looks_is.calls_seen q looking.next)
       ∙ gathered_by_number L Good look.agrees s look.at.keeps.events p q batch
 
   now_is : (last : Bool) → (q + 1 == L.processes) ≡ last → state_of L (s ++ Step p ∷ []) ≡ after_gathering L (w look) p (caller look) mine q v last
@@ -406,7 +416,8 @@ module _ {R : Type 0} {L : Setting R} {Good : R → Type 0} {s : List Event} {ke
       }
 
   pub looks_not_begun : (q + 1 == L.processes) ≡ true → (r : R) → r ≡ get_or kept.rounds here.replayed_slots r → L.consensus.input r p ≡ None
-  looks_not_begun last r e = ap (λ z. L.consensus.input z p) (round_is look looking.pending r e) ∙ not_begun L Good look.agrees (w look) looks_holds p look.at.process mine q batch look.at.phase_is last
+  looks_not_begun last r e = ap (λ z. L.consensus.input z p) (round_is look looking.pending r e)
+      ∙ not_begun L Good look.agrees (w look) looks_holds p look.at.process mine q batch look.at.phase_is last
 
   pub begin_keeps : (r r' : R) → r ≡ get_or kept.rounds here.replayed_slots r → (b : Batch) → b ≡ v → r' ≡ L.consensus.begin p b r → (q + 1 == L.processes) ≡ true
       → Keeps L (s ++ Step p ∷ []) (record kept { rounds = slice_set kept.rounds here.replayed_slots r'; callers = slice_set kept.callers p (record here { phase = Runs mine }) })
@@ -419,10 +430,12 @@ module _ {R : Type 0} {L : Setting R} {Good : R → Type 0} {s : List Event} {ke
         | inl f ↦ rw (f, put_same (w look).round (k0 look) begun) (look.agrees.quiet ((w look).round (k0 look)) p v)
         | inr ne ↦ ap L.consensus.fixed (put_other (w look).round (k0 look) begun k ne)
       ] in
-      let bs : batches_of L (after_gathering L (w look) p (caller look) mine q v true) ≡ batches_of L (w look) = fixed_from_same L (w look).round (put (w look).round (k0 look) begun) same L.capacity 0 in
+      let bs : batches_of L (after_gathering L (w look) p (caller look) mine q v true) ≡ batches_of L (w look) = fixed_from_same L (w look).round
+      (put (w look).round (k0 look) begun) same L.capacity 0 in
       record {
         events = may_push L s (Step p) look.at.keeps.events looks_may_step;
         fits = subst (λ z. AreFieldsOf L z (record kept { rounds = slice_set kept.rounds here.replayed_slots r'; callers = slice_set kept.callers p x })) (sym (now_is true last))
             (fits_put look looking.pending r' x c (caller_now (Runs mine)) (after_gathering L (w look) p (caller look) mine q v true) (ap (put (w look).round (k0 look)) (sym r'_is)) refl refl kept
-            (look.at.keeps.fits.entries_are ∙ ap (entries_in L.processes) (sym bs)) (look.at.keeps.fits.slots_are ∙ ap (slots_from L.processes 0) (sym bs)) (look.at.keeps.fits.fixed_is ∙ ap length (sym bs)));
+            (look.at.keeps.fits.entries_are ∙ ap (entries_in L.processes) (sym bs)) (look.at.keeps.fits.slots_are ∙ ap (slots_from L.processes 0) (sym bs))
+            (look.at.keeps.fits.fixed_is ∙ ap length (sym bs)));
       }

@@ -6,4 +6,5 @@ use Rattle.cn_agree.proofs.laws.schedules_reach_consensus.Goals as goal
 
 pub returns : goal.returns
 returns g c = λ inputs schedule many all.
-    schedules_reach_consensus (protocol_of c.args.plan.now) (processes_of c.args.plan.now) (nodes_of c.args.plan.now) (team_of (length c.args.plan.now.choice.a)) c.plans_are_sound.ensures.sound inputs schedule many all c.plans_are_sound.ensures.short refl
+    schedules_reach_consensus (protocol_of c.args.plan.now) (processes_of c.args.plan.now) (nodes_of c.args.plan.now)
+    (team_of (length c.args.plan.now.choice.a)) c.plans_are_sound.ensures.sound inputs schedule many all c.plans_are_sound.ensures.short refl

@@ -7,7 +7,8 @@ use Rattle.cn_agree.proofs.schedule.run_schedule.Goals as goal
 
 pub step_all-requires-clause-begun : goal.step_all-requires-clause-begun
 step_all-requires-clause-begun c =
-    all_have_begun c.args.plan.now c.args.inputs.now c.in_ok-round.round (right_count (processes_of c.args.plan.now) c.args.inputs.now c.args.schedule.now c.in_ok-round.ensures.run) c.in_ok-round.ensures.begun
+    all_have_begun c.args.plan.now c.args.inputs.now c.in_ok-round.round
+    (right_count (processes_of c.args.plan.now) c.args.inputs.now c.args.schedule.now c.in_ok-round.ensures.run) c.in_ok-round.ensures.begun
 
 pub step_all-requires-clause-schedule : goal.step_all-requires-clause-schedule
 step_all-requires-clause-schedule c = no_stranger (processes_of c.args.plan.now) c.args.inputs.now c.args.schedule.now c.in_ok-round.ensures.run
@@ -19,7 +20,8 @@ decisions_of-requires c =
 pub returns-clause-decisions : goal.returns-clause-decisions
 returns-clause-decisions c =
     let many = right_count (processes_of c.args.plan.now) c.args.inputs.now c.args.schedule.now c.in_ok-round.ensures.run in
-    c.in_ok-decisions_of.ensures ∙ ap decisions_of (world_is c.args.plan.now c.args.inputs.now c.args.schedule.now c.in_ok-round.round c.step_all.new.round many c.in_ok-round.ensures.begun c.step_all.ensures.world)
+    c.in_ok-decisions_of.ensures ∙ ap decisions_of
+    (world_is c.args.plan.now c.args.inputs.now c.args.schedule.now c.in_ok-round.round c.step_all.new.round many c.in_ok-round.ensures.begun c.step_all.ensures.world)
 
 pub returns-clause-consensus : goal.returns-clause-consensus
 returns-clause-consensus c =

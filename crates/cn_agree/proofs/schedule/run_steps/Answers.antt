@@ -8,19 +8,22 @@ use Rattle.cn_agree.proofs.schedule.run_steps.Goals as goal
 
 pub record_all-requires-clause-begun : goal.record_all-requires-clause-begun
 record_all-requires-clause-begun c =
-    all_have_begun c.args.plan.now c.args.inputs.now c.in_ok-round.round (right_count (processes_of c.args.plan.now) c.args.inputs.now c.args.schedule.now c.in_ok-round.ensures.run) c.in_ok-round.ensures.begun
+    all_have_begun c.args.plan.now c.args.inputs.now c.in_ok-round.round
+    (right_count (processes_of c.args.plan.now) c.args.inputs.now c.args.schedule.now c.in_ok-round.ensures.run) c.in_ok-round.ensures.begun
 
 pub record_all-requires-clause-schedule : goal.record_all-requires-clause-schedule
 record_all-requires-clause-schedule c = no_stranger (processes_of c.args.plan.now) c.args.inputs.now c.args.schedule.now c.in_ok-round.ensures.run
 
 pub decisions_of-requires : goal.decisions_of-requires
 decisions_of-requires c =
-    c.processes.ensures.number ∙ sym (many_are c.args.plan.now c.args.inputs.now c.args.schedule.now c.in_ok-round.round c.record_all.new.round c.in_ok-round.ensures.begun c.in_ok-records.ensures.world)
+    c.processes.ensures.number ∙ sym (many_are c.args.plan.now c.args.inputs.now c.args.schedule.now c.in_ok-round.round c.record_all.new.round c.in_ok-round.ensures.begun
+    c.in_ok-records.ensures.world)
 
 pub returns-clause-decisions : goal.returns-clause-decisions
 returns-clause-decisions c =
     let many = right_count (processes_of c.args.plan.now) c.args.inputs.now c.args.schedule.now c.in_ok-round.ensures.run in
-    c.in_ok-decisions_of.ensures ∙ ap decisions_of (world_is c.args.plan.now c.args.inputs.now c.args.schedule.now c.in_ok-round.round c.record_all.new.round many c.in_ok-round.ensures.begun c.in_ok-records.ensures.world)
+    c.in_ok-decisions_of.ensures ∙ ap decisions_of
+    (world_is c.args.plan.now c.args.inputs.now c.args.schedule.now c.in_ok-round.round c.record_all.new.round many c.in_ok-round.ensures.begun c.in_ok-records.ensures.world)
 
 pub returns-clause-consensus : goal.returns-clause-consensus
 returns-clause-consensus c =

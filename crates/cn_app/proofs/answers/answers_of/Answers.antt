@@ -32,7 +32,8 @@ returns-in_err-come-clause-fault c =
     rw (p.1, p.2) (inr (
       c.in_err-come.field-0.0,
       subst (λ (o : Opening). IsFirstEventFault (setting_of o) c.args.events.now c.in_err-come.field-0.0) i.opening
-          (first_in_list (setting c.loop-event.core) c.args.events.now c.loop-event.event-index _ c.loop-event.core.schedule c.in_err-come.field-0.0 i.schedule c.loop-event-test.true c.in_err-come.ensures.first),
+          (first_in_list (setting c.loop-event.core) c.args.events.now c.loop-event.event-index _ c.loop-event.core.schedule c.in_err-come.field-0.0 i.schedule
+          c.loop-event-test.true c.in_err-come.ensures.first),
       refl,
     ))
 

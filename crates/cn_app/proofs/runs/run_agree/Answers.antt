@@ -18,8 +18,10 @@ returns g c =
         (
           d.0,
           d.1,
-          written (λ _. None) g.W.Write.contents (HasAgreeReport c.agree-ended.new.table c.agree-ended.new.certificate xs ps decisions_in_lines) (agree_of t.0 d.0 xs ps) c.kept-output.result c.agree-ended.new.output
-              c.kept-output.ensures (agree_is c.agree-ended.new.table c.agree-ended.new.certificate t.0 d.0 t.2 d.2 xs ps) c.args.writer.now c.hand_over.new.writer c.agree-ended.result c.hand_over.result c.agree-ended.ensures.agreed c.hand_over.ensures,
+          written (λ _. None) g.W.Write.contents (HasAgreeReport c.agree-ended.new.table c.agree-ended.new.certificate xs ps decisions_in_lines)
+              (agree_of t.0 d.0 xs ps) c.kept-output.result c.agree-ended.new.output
+              c.kept-output.ensures (agree_is c.agree-ended.new.table c.agree-ended.new.certificate t.0 d.0 t.2 d.2 xs ps) c.args.writer.now c.hand_over.new.writer
+              c.agree-ended.result c.hand_over.result c.agree-ended.ensures.agreed c.hand_over.ensures,
         ),
       );
     }

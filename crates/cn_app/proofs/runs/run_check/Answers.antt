@@ -17,7 +17,8 @@ returns g c =
           d.0,
           d.1,
           written (λ _. None) g.W.Write.contents (HasCheckReport c.check-ended.new.table c.check-ended.new.certificate answer.Text) (check_of t.0 d.0) c.kept-output.result c.check-ended.new.output
-              c.kept-output.ensures (check_is c.check-ended.new.table c.check-ended.new.certificate t.0 d.0 t.2 d.2) c.args.writer.now c.hand_over.new.writer c.check-ended.result c.hand_over.result c.check-ended.ensures.checked c.hand_over.ensures,
+              c.kept-output.ensures (check_is c.check-ended.new.table c.check-ended.new.certificate t.0 d.0 t.2 d.2) c.args.writer.now c.hand_over.new.writer c.check-ended.result
+              c.hand_over.result c.check-ended.ensures.checked c.hand_over.ensures,
         ),
       );
     }

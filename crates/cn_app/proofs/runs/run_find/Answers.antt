@@ -12,6 +12,7 @@ returns g c =
         t.0,
         t.1,
         written (λ _. None) g.W.Write.contents (HasFindReport c.find-ended.new.table (Some c.args.limit)) (find_of t.0 c.args.limit) c.kept-output.result c.find-ended.new.output
-            c.kept-output.ensures (find_is c.find-ended.new.table t.0 c.args.limit t.2) c.args.writer.now c.hand_over.new.writer c.find-ended.result c.hand_over.result c.find-ended.ensures.found c.hand_over.ensures,
+            c.kept-output.ensures (find_is c.find-ended.new.table t.0 c.args.limit t.2) c.args.writer.now c.hand_over.new.writer c.find-ended.result c.hand_over.result
+            c.find-ended.ensures.found c.hand_over.ensures,
       );
     }

@@ -17,7 +17,8 @@ returns g c =
           d.0,
           d.1,
           written (λ _. None) g.W.Write.contents (HasShowReport c.show-ended.new.table c.show-ended.new.certificate form.Text) (show_of t.0 d.0) c.kept-output.result c.show-ended.new.output
-              c.kept-output.ensures (show_is c.show-ended.new.table c.show-ended.new.certificate t.0 d.0 t.2 d.2) c.args.writer.now c.hand_over.new.writer c.show-ended.result c.hand_over.result c.show-ended.ensures.shown c.hand_over.ensures,
+              c.kept-output.ensures (show_is c.show-ended.new.table c.show-ended.new.certificate t.0 d.0 t.2 d.2) c.args.writer.now c.hand_over.new.writer c.show-ended.result
+              c.hand_over.result c.show-ended.ensures.shown c.hand_over.ensures,
         ),
       );
     }

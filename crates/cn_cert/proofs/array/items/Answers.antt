@@ -37,7 +37,8 @@ returns-in_err-rest_of_items-in-None-clause-err g c =
     let going : (after_end_array l.reader ≡ None) × (c.take_end_array.new.self ≡ l.reader) = grind arith in
     let read : with_value kind (data_at c.args.depth c.take_end_array.new.self) ≡ Some (None, c.next.new.reader) = grind arith in
     let refused = refuse_more _ _ (with_value (all_items kind) (items_at c.args.depth c.args.reader.now))
-    (λ none. l.invariant ∙ list_cut kind c.args.depth l.values.items l.reader c.next.new.reader going.0 (ap (λ ts. with_value kind (data_at c.args.depth ts)) (sym going.1) ∙ read) none) c.in_err-rest_of_items-in-None.ensures.err in
+    (λ none. l.invariant ∙ list_cut kind c.args.depth l.values.items l.reader c.next.new.reader going.0
+    (ap (λ ts. with_value kind (data_at c.args.depth ts)) (sym going.1) ∙ read) none) c.in_err-rest_of_items-in-None.ensures.err in
     grind (arith, refused)
 
 pub returns-in-None-clause-ok : goal.returns-in-None-clause-ok
@@ -47,7 +48,8 @@ returns-in-None-clause-ok g c =
     let going : (after_end_array l.reader ≡ None) × (c.take_end_array.new.self ≡ l.reader) = grind arith in
     let read : with_value kind (data_at c.args.depth c.take_end_array.new.self) ≡ Some (None, c.next.new.reader) = grind arith in
     let rest : with_value nothing (items_at c.args.depth c.next.new.reader) ≡ Some (tt, c.rest_of_items.new.reader) = grind arith in
-    l.invariant ∙ list_stops kind c.args.depth l.values.items l.reader c.next.new.reader c.rest_of_items.new.reader going.0 (ap (λ ts. with_value kind (data_at c.args.depth ts)) (sym going.1) ∙ read) rest
+    l.invariant ∙ list_stops kind c.args.depth l.values.items l.reader c.next.new.reader c.rest_of_items.new.reader going.0
+    (ap (λ ts. with_value kind (data_at c.args.depth ts)) (sym going.1) ∙ read) rest
 
 pub returns-clause-ok : goal.returns-clause-ok
 returns-clause-ok g c = c.items.invariant ∙ list_over g.T.Kind.kind c.args.depth c.items.values.items c.items.reader c.take_end_array.new.self (grind arith)

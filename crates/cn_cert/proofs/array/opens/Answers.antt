@@ -16,6 +16,7 @@ returns-in-BeginArray-clause-ok c =
 
 pub returns : goal.returns
 returns c = record {
-  ok = else_told as_array None c.args.depth (token_of c.args.token) c.args.reader.now c.rest_of.new.reader (λ d e. not_array d (λ f. c.in_default.not-BeginArray (array_token c.args.token (sym e ∙ f)))) c.in_ok-rest_of.ensures.ok;
+  ok = else_told as_array None c.args.depth (token_of c.args.token) c.args.reader.now c.rest_of.new.reader
+      (λ d e. not_array d (λ f. c.in_default.not-BeginArray (array_token c.args.token (sym e ∙ f)))) c.in_ok-rest_of.ensures.ok;
   err = tt;
 }

@@ -14,5 +14,6 @@ returns c kept e =
     let framed : head ++ (body ++ 93 ∷ rest) ≡ certificate_text (with_entries c.in_ok-frame.frame kept) = framed_text c.in_ok-frame.frame kept body rest (c.array_body-text.ensures kept e) refl in
     let listed : string_bytes c.insert_str.new.self ≡ head ++ body = c.in_ok-insert_str.ensures.bytes in
     let closed : string_bytes c.push.new.self ≡ (head ++ body) ++ codes "]" = c.in_ok-push.ensures ∙ ap (λ (v : List ℕ). v ++ codes "]") listed in
-    let whole : string_bytes c.push_rest.new.out ≡ head ++ (body ++ 93 ∷ rest) = c.in_ok-push_rest.ensures ∙ (ap (λ (v : List ℕ). v ++ rest) closed ∙ (append_assoc (head ++ body) (codes "]") rest ∙ append_assoc head body (93 ∷ rest))) in
+    let whole : string_bytes c.push_rest.new.out ≡ head ++ (body ++ 93 ∷ rest) = c.in_ok-push_rest.ensures
+    ∙ (ap (λ (v : List ℕ). v ++ rest) closed ∙ (append_assoc (head ++ body) (codes "]") rest ∙ append_assoc head body (93 ∷ rest))) in
     whole ∙ (framed ∙ ap (λ (f : Certificate). certificate_text (with_entries f kept)) c.in_ok-frame.ensures)

@@ -17,18 +17,24 @@ returns-in_err-token-clause-err c =
 pub returns-then-depth-eq0-clause-err : goal.returns-then-depth-eq0-clause-err
 returns-then-depth-eq0-clause-err c =
     let front : c.args.reader.now ≡ token_of c.in_ok-token.token ∷ c.first.new.reader = grind arith in
-    inr (refl, ap₂ (λ depth xs. with_value draft_of (data_at depth xs)) c.if-depth-eq0.true (front ∙ ap (λ k. token_of k ∷ c.first.new.reader) c.in-BeginObject.is) ∙ object_too_deep draft_of c.first.new.reader)
+    inr (
+      refl,
+      ap₂ (λ depth xs. with_value draft_of (data_at depth xs)) c.if-depth-eq0.true (front ∙ ap (λ k. token_of k ∷ c.first.new.reader) c.in-BeginObject.is)
+          ∙ object_too_deep draft_of c.first.new.reader,
+    )
 
 pub returns-in-BeginObject-clause-ok : goal.returns-in-BeginObject-clause-ok
 returns-in-BeginObject-clause-ok c =
     let front : c.args.reader.now ≡ token_of c.in_ok-token.token ∷ c.first.new.reader = grind arith in
-    let at = ap (λ xs. with_value draft_of (data_at c.args.depth xs)) (front ∙ ap (λ k. token_of k ∷ c.first.new.reader) c.in-BeginObject.is) ∙ object_told draft_of c.args.depth c.first.new.reader (omega arith) in
+    let at = ap (λ xs. with_value draft_of (data_at c.args.depth xs)) (front ∙ ap (λ k. token_of k ∷ c.first.new.reader) c.in-BeginObject.is)
+    ∙ object_told draft_of c.args.depth c.first.new.reader (omega arith) in
     subst (λ there. IfOk c.draft_members.result (λ o. there ≡ Some (o, c.draft_members.new.reader))) (sym at) c.draft_members.ensures.ok
 
 pub returns-in-BeginObject-clause-err : goal.returns-in-BeginObject-clause-err
 returns-in-BeginObject-clause-err c =
     let front : c.args.reader.now ≡ token_of c.in_ok-token.token ∷ c.first.new.reader = grind arith in
-    let at = ap (λ xs. with_value draft_of (data_at c.args.depth xs)) (front ∙ ap (λ k. token_of k ∷ c.first.new.reader) c.in-BeginObject.is) ∙ object_told draft_of c.args.depth c.first.new.reader (omega arith) in
+    let at = ap (λ xs. with_value draft_of (data_at c.args.depth xs)) (front ∙ ap (λ k. token_of k ∷ c.first.new.reader) c.in-BeginObject.is)
+    ∙ object_told draft_of c.args.depth c.first.new.reader (omega arith) in
     subst (λ there. IfErr c.draft_members.result (λ e. Refuses e there)) (sym at) c.draft_members.ensures.err
 
 pub returns : goal.returns

@@ -18,7 +18,8 @@ returns-in_err-token-clause-err c =
 pub returns-in_ok-slots-inside-clause-ok : goal.returns-in_ok-slots-inside-clause-ok
 returns-in_ok-slots-inside-clause-ok c =
     let s = c.args.slots.now in
-    let read = key_told c.args.key.now (codes "collisions") s collisions_of (put_collisions s) (λ d. refl) (data_at c.args.depth c.args.reader.now) _ _ (sym c.eq.ensures ∙ c.if-eq.true) c.in_ok-slots-inside.ensures.ok in
+    let read = key_told c.args.key.now (codes "collisions") s collisions_of (put_collisions s) (λ d. refl) (data_at c.args.depth c.args.reader.now) _ _
+    (sym c.eq.ensures ∙ c.if-eq.true) c.in_ok-slots-inside.ensures.ok in
     let kept = read ∙ ap (λ (s : MemberSlots). Some (put_collisions s (option_map (λ v. v.items) c.in_ok-slots-inside.field-0), c.list.new.reader)) (sym c.slots.view_is) in
     elim c.match-slots-branch.branch [
       | in-Some-1 w ↦ kept ∙ ap (λ x. Some (x, c.list.new.reader)) (sym w.slots-is)
@@ -28,19 +29,22 @@ returns-in_ok-slots-inside-clause-ok c =
 pub returns-in_ok-slots-inside-2-clause-ok : goal.returns-in_ok-slots-inside-2-clause-ok
 returns-in_ok-slots-inside-2-clause-ok c =
     let s = c.args.slots.now in
-    let read = key_told c.args.key.now (codes "limit") s natural_of (put_limit s) (λ d. refl) (data_at c.args.depth c.args.reader.now) _ _ (sym c.eq-else-eq.ensures ∙ c.if-eq-2.true) c.in_ok-slots-inside-2.ensures.ok in
+    let read = key_told c.args.key.now (codes "limit") s natural_of (put_limit s) (λ d. refl) (data_at c.args.depth c.args.reader.now) _ _
+    (sym c.eq-else-eq.ensures ∙ c.if-eq-2.true) c.in_ok-slots-inside-2.ensures.ok in
     read ∙ ap (λ (s : MemberSlots). Some (put_limit s c.in_ok-slots-inside-2.field-0, c.next.new.reader)) (sym c.slots.view_is)
 
 pub returns-in_ok-slots-inside-3-clause-ok : goal.returns-in_ok-slots-inside-3-clause-ok
 returns-in_ok-slots-inside-3-clause-ok c =
     let s = c.args.slots.now in
-    let read = key_told c.args.key.now (codes "number") s (nullable natural_of) (put_number s) (λ d. refl) (data_at c.args.depth c.args.reader.now) _ _ (sym c.eq-else-eq-2.ensures ∙ c.if-eq-3.true) c.in_ok-slots-inside-3.ensures.ok in
+    let read = key_told c.args.key.now (codes "number") s (nullable natural_of) (put_number s) (λ d. refl) (data_at c.args.depth c.args.reader.now) _ _
+    (sym c.eq-else-eq-2.ensures ∙ c.if-eq-3.true) c.in_ok-slots-inside-3.ensures.ok in
     read ∙ ap (λ (s : MemberSlots). Some (put_number s c.in_ok-slots-inside-3.field-0, c.next_or_null.new.reader)) (sym c.slots.view_is)
 
 pub returns-in_ok-slots-inside-4-clause-ok : goal.returns-in_ok-slots-inside-4-clause-ok
 returns-in_ok-slots-inside-4-clause-ok c =
     let s = c.args.slots.now in
-    let read = key_told c.args.key.now (codes "type") s as_str (put_type_name s) (λ d. refl) (data_at c.args.depth c.args.reader.now) _ _ (sym c.eq-else-eq-3.ensures ∙ c.if-eq-4.true) c.in_ok-slots-inside-4.ensures.ok in
+    let read = key_told c.args.key.now (codes "type") s as_str (put_type_name s) (λ d. refl) (data_at c.args.depth c.args.reader.now) _ _
+    (sym c.eq-else-eq-3.ensures ∙ c.if-eq-4.true) c.in_ok-slots-inside-4.ensures.ok in
     let kept = read ∙ ap (λ (s : MemberSlots). Some (put_type_name s (option_map string_bytes c.in_ok-slots-inside-4.field-0), c.text.new.reader)) (sym c.slots.view_is) in
     elim c.match-slots-branch-2.branch [
       | in-Some-2 w ↦ kept ∙ ap (λ x. Some (x, c.text.new.reader)) (sym w.slots-is)
@@ -50,13 +54,15 @@ returns-in_ok-slots-inside-4-clause-ok c =
 pub returns-in_ok-slots-inside-5-clause-ok : goal.returns-in_ok-slots-inside-5-clause-ok
 returns-in_ok-slots-inside-5-clause-ok c =
     let s = c.args.slots.now in
-    let read = key_told c.args.key.now (codes "version") s natural_of (put_version s) (λ d. refl) (data_at c.args.depth c.args.reader.now) _ _ (sym c.eq-else-eq-4.ensures ∙ c.if-eq-5.true) c.in_ok-slots-inside-5.ensures.ok in
+    let read = key_told c.args.key.now (codes "version") s natural_of (put_version s) (λ d. refl) (data_at c.args.depth c.args.reader.now) _ _
+    (sym c.eq-else-eq-4.ensures ∙ c.if-eq-5.true) c.in_ok-slots-inside-5.ensures.ok in
     read ∙ ap (λ (s : MemberSlots). Some (put_version s c.in_ok-slots-inside-5.field-0, c.next-then-eq-5.new.reader)) (sym c.slots.view_is)
 
 pub returns-in_ok-slots-inside-6-clause-ok : goal.returns-in_ok-slots-inside-6-clause-ok
 returns-in_ok-slots-inside-6-clause-ok c =
     let s = c.args.slots.now in
-    let read = key_told c.args.key.now (codes "witness") s (nullable choice_of) (put_witness s) (λ d. refl) (data_at c.args.depth c.args.reader.now) _ _ (sym c.eq-else-eq-5.ensures ∙ c.if-eq-6.true) c.in_ok-slots-inside-6.ensures.ok in
+    let read = key_told c.args.key.now (codes "witness") s (nullable choice_of) (put_witness s) (λ d. refl) (data_at c.args.depth c.args.reader.now) _ _
+    (sym c.eq-else-eq-5.ensures ∙ c.if-eq-6.true) c.in_ok-slots-inside-6.ensures.ok in
     let kept = read ∙ ap (λ (s : MemberSlots). Some (put_witness s c.in_ok-slots-inside-6.field-0, c.next_or_null-then-eq-6.new.reader)) (sym c.slots.view_is) in
     elim c.match-slots-branch-3.branch [
       | in-Some+in-Some-slots-branch-4 w ↦ kept ∙ ap (λ x. Some (x, c.next_or_null-then-eq-6.new.reader)) (sym w.slots-is)

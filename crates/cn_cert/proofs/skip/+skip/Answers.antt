@@ -16,7 +16,8 @@ rest_of-returns-in_err-_number-in-Number-clause-err t c =
     let text = c.in-Number.text.now in
     let there = with_value nothing (data_at c.args.depth (token_of c.args.token ∷ ts)) in
     let at : there ≡ option_map (λ x. (tt, ts)) (number_of text) = ap (λ k. with_value nothing (data_at c.args.depth (token_of k ∷ ts))) c.in-Number.is ∙ number_told nothing c.args.depth text ts in
-    let refused : Refuses c.in_err-_number-in-Number.field-0.0 there = refuse_more _ (option_map as_u64 (number_of text)) there (λ none. at ∙ none_too as_u64 _ (number_of text) none) (c.in_err-_number-in-Number.ensures) in
+    let refused : Refuses c.in_err-_number-in-Number.field-0.0 there = refuse_more _ (option_map as_u64 (number_of text)) there
+    (λ none. at ∙ none_too as_u64 _ (number_of text) none) (c.in_err-_number-in-Number.ensures) in
     grind (arith, refused)
 
 pub rest_of-returns-then-depth-eq0-clause-err : goal.rest_of-returns-then-depth-eq0-clause-err
@@ -34,7 +35,8 @@ pub rest_of-returns-in_ok-_number-in-Number-clause-ok : goal.rest_of-returns-in_
 rest_of-returns-in_ok-_number-in-Number-clause-ok t c =
     let ts = c.args.reader.now in
     let text = c.in-Number.text.now in
-    let at : with_value nothing (data_at c.args.depth (token_of c.args.token ∷ ts)) ≡ option_map (λ x. (tt, ts)) (number_of text) = ap (λ k. with_value nothing (data_at c.args.depth (token_of k ∷ ts))) c.in-Number.is
+    let at : with_value nothing (data_at c.args.depth (token_of c.args.token ∷ ts)) ≡ option_map (λ x. (tt, ts)) (number_of text) = ap
+    (λ k. with_value nothing (data_at c.args.depth (token_of k ∷ ts))) c.in-Number.is
     ∙ number_told nothing c.args.depth text ts in
     at ∙ some_too as_u64 (tt, ts) (number_of text) c.in_ok-_number-in-Number._number c.in_ok-_number-in-Number.ensures
 
@@ -124,7 +126,8 @@ rest_of_members-returns-in_err-token-clause-err t c =
     let k = c.in-Some.field-0.now in
     let named : read_key l.reader ≡ Some (Some k, c.key.new.reader) = grind arith in
     let empty : c.key.new.reader ≡ [] = grind arith in
-    let none = l.invariant.1 ∙ member_none nothing nothing c.args.depth l.invariant.0 k l.reader c.key.new.reader named (ap (λ ts. with_value nothing (data_at c.args.depth ts)) empty ∙ empty_told nothing c.args.depth) in
+    let none = l.invariant.1 ∙ member_none nothing nothing c.args.depth l.invariant.0 k l.reader c.key.new.reader named
+    (ap (λ ts. with_value nothing (data_at c.args.depth ts)) empty ∙ empty_told nothing c.args.depth) in
     grind (arith, none)
 
 pub rest_of_members-returns-in_err-rest_of-clause-err : goal.rest_of_members-returns-in_err-rest_of-clause-err
@@ -153,5 +156,6 @@ rest_of_members-members-preserved t c =
     let named : read_key l.reader ≡ Some (Some k, c.key.new.reader) = grind arith in
     let front : c.key.new.reader ≡ token_of c.in_ok-token.token ∷ c.first.new.reader = grind arith in
     let read : with_value nothing (data_at c.args.depth (token_of c.in_ok-token.token ∷ c.first.new.reader)) ≡ Some (tt, c.rest_of.new.reader) = grind arith in
-    let turn = member_step nothing nothing c.args.depth l.invariant.0 k l.reader c.key.new.reader named c.rest_of.new.reader tt (ap (λ ts. with_value nothing (data_at c.args.depth ts)) front ∙ read) in
+    let turn = member_step nothing nothing c.args.depth l.invariant.0 k l.reader c.key.new.reader named c.rest_of.new.reader tt
+    (ap (λ ts. with_value nothing (data_at c.args.depth ts)) front ∙ read) in
     (put k turn.0 l.invariant.0, l.invariant.1 ∙ turn.2)

@@ -16,7 +16,8 @@ front_of-text-requires c =
       beta = c.in_ok-beta.beta.items;
     } in
     rest_fits c.args.bytes.now (evidence_text x) c.in_ok-rest.rest.now
-    (evidence_spelled x c.args.bytes.now _ _ _ _ _ c.in_ok-rest.rest.now c.in_ok-process.ensures.text c.in_ok-second.ensures c.in_ok-alpha.ensures.text c.in_ok-third.ensures c.in_ok-beta.ensures.text c.in_ok-rest.ensures)
+    (evidence_spelled x c.args.bytes.now _ _ _ _ _ c.in_ok-rest.rest.now c.in_ok-process.ensures.text c.in_ok-second.ensures c.in_ok-alpha.ensures.text c.in_ok-third.ensures
+    c.in_ok-beta.ensures.text c.in_ok-rest.ensures)
 
 pub returns-clause-text : goal.returns-clause-text
 returns-clause-text c =
@@ -28,7 +29,8 @@ returns-clause-text c =
       beta = c.in_ok-beta.beta.items;
     } in
     let spelled : c.args.bytes.now ≡ evidence_text x ++ rest =
-    evidence_spelled x c.args.bytes.now _ _ _ _ _ rest c.in_ok-process.ensures.text c.in_ok-second.ensures c.in_ok-alpha.ensures.text c.in_ok-third.ensures c.in_ok-beta.ensures.text c.in_ok-rest.ensures in
+    evidence_spelled x c.args.bytes.now _ _ _ _ _ rest c.in_ok-process.ensures.text c.in_ok-second.ensures c.in_ok-alpha.ensures.text c.in_ok-third.ensures
+    c.in_ok-beta.ensures.text c.in_ok-rest.ensures in
     spelled ∙ ap (λ (v : List ℕ). v ++ rest) (sym (c.front_of-text.ensures (evidence_text x) spelled))
 
 pub returns-clause-shown : goal.returns-clause-shown
@@ -41,7 +43,8 @@ returns-clause-shown c =
       beta = c.in_ok-beta.beta.items;
     } in
     let spelled : c.args.bytes.now ≡ evidence_text x ++ rest =
-    evidence_spelled x c.args.bytes.now _ _ _ _ _ rest c.in_ok-process.ensures.text c.in_ok-second.ensures c.in_ok-alpha.ensures.text c.in_ok-third.ensures c.in_ok-beta.ensures.text c.in_ok-rest.ensures in
+    evidence_spelled x c.args.bytes.now _ _ _ _ _ rest c.in_ok-process.ensures.text c.in_ok-second.ensures c.in_ok-alpha.ensures.text c.in_ok-third.ensures
+    c.in_ok-beta.ensures.text c.in_ok-rest.ensures in
     let alpha = rw c.as_slice.ensures.value at c.greatest_of-alpha_greatest.ensures in
     let beta = rw c.as_slice-2.ensures.value at c.greatest_of-beta_greatest.ensures in
     let up_to : (low : ℕ) (list : List ℕ) → low ≤ c.greater-greatest.result → All (λ p. p ≤ low) list → All (λ p. p ≤ c.greater-greatest.result) list =

@@ -23,7 +23,8 @@ loop-state-preserved c =
     let v : ℕ = c.args.version in
     let choices : List Choice = choices_in_version v t c.args.n in
     let f : ℕ → List Choice = with_state (length t.operations) c.args.n in
-    let first = ap (λ (states : List ℕ). counting v t (flat_map f states)) (range_first c.loop-state.state (length t.states) (omega (arith, c.loop-state-test.true, c.states-state-end.ensures.number))) in
+    let first = ap (λ (states : List ℕ). counting v t (flat_map f states))
+    (range_first c.loop-state.state (length t.states) (omega (arith, c.loop-state-test.true, c.states-state-end.ensures.number))) in
     flat_past t choices c.args.bytes.now v f c.loop-state.state _ _ (pass_as t choices c.args.bytes.now _ _ _ first c.loop-state.invariant) _ c.in_ok-left.ensures
 
 pub returns : goal.returns

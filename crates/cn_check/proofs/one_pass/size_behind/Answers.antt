@@ -39,7 +39,8 @@ past c =
     let all : List Choice = counting v t (with_size m c.args.n s c.args.size) in
     elim c.if-all_count.branch [
       | then-all_count+in_ok-left w ↦
-          rw w.left-is (flat_past t all c.args.bytes.now v (with_first m c.args.n s) a (rising_after m a) _ c.loop-a.invariant.passed _ (rw w.as_slice-then-all_count.ensures.value at w.in_ok-left.ensures))
+          rw w.left-is (flat_past t all c.args.bytes.now v (with_first m c.args.n s) a (rising_after m a) _ c.loop-a.invariant.passed _
+          (rw w.as_slice-then-all_count.ensures.value at w.in_ok-left.ensures))
       | else-all_count w ↦
           (let counts = rw c.as_slice.ensures.value at (sym c.all_count.ensures ∙ w.if-all_count.false) in
           rw w.left-is (flat_over t all c.args.bytes.now v (with_first m c.args.n s) a (rising_after m a) _ c.loop-a.invariant.passed (none_counts v t s a _ counts)))
@@ -51,7 +52,8 @@ returns-then-not-step c =
     let v : ℕ = c.args.version in
     let f : List ℕ → List Choice = with_first (length t.operations) c.args.n c.args.state.0 in
     let none = rw (c.operations-operations.ensures.number, c.as_mut_slice.ensures.value) at (c.step.ensures.last c.if-not-step.true) in
-    pass_end t _ c.args.bytes.now _ (pass_as t _ c.args.bytes.now _ [] _ (ap (λ (lists : List (List ℕ)). counting v t (flat_map f lists)) none) (past (goal.at.returns-then-not-step c).Joined-all_count))
+    pass_end t _ c.args.bytes.now _ (pass_as t _ c.args.bytes.now _ [] _ (ap (λ (lists : List (List ℕ)). counting v t (flat_map f lists)) none)
+    (past (goal.at.returns-then-not-step c).Joined-all_count))
 
 pub loop-a-preserved : goal.loop-a-preserved
 loop-a-preserved c =

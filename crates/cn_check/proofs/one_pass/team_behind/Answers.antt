@@ -28,7 +28,8 @@ loop-b-init c =
 pub entry_behind-requires-clause-fits : goal.entry_behind-requires-clause-fits
 entry_behind-requires-clause-fits c =
     rw c.as_slice-then-all_count.ensures.value
-    (fits_table c.choice_by_teams.ensures c.args.table.now c.args.n c.args.state.0 c.args.a.now c.loop-b.b.items c.requires.state c.requires.known c.loop-b.invariant.known c.requires.some c.requires.half
+    (fits_table c.choice_by_teams.ensures c.args.table.now c.args.n c.args.state.0 c.args.a.now c.loop-b.b.items c.requires.state c.requires.known c.loop-b.invariant.known
+    c.requires.some c.requires.half
     c.loop-b.invariant.long c.requires.few)
 
 pub entry_behind-requires-clause-shown : goal.entry_behind-requires-clause-shown
@@ -50,7 +51,8 @@ past c =
     elim c.if-all_count.branch [
       | then-all_count+in_ok-now w ↦
           (let counts = rw c.as_slice.ensures.value at (sym c.all_count.ensures ∙ w.if-all_count.true) in
-          rw w.left-is (list_past t all c.args.bytes.now v s c.args.a.now b (rising_after m b) _ c.loop-b.invariant.passed _ c.requires.counts counts (rw w.as_slice-then-all_count.ensures.value at w.in_ok-now.ensures.spelled)))
+          rw w.left-is (list_past t all c.args.bytes.now v s c.args.a.now b (rising_after m b) _ c.loop-b.invariant.passed _ c.requires.counts counts
+          (rw w.as_slice-then-all_count.ensures.value at w.in_ok-now.ensures.spelled)))
       | else-all_count w ↦
           (let counts = rw c.as_slice.ensures.value at (sym c.all_count.ensures ∙ w.if-all_count.false) in
           rw w.left-is (list_over t all c.args.bytes.now v s c.args.a.now b (rising_after m b) _ c.loop-b.invariant.passed counts))

@@ -26,7 +26,8 @@ check_state-requires-clause-next c =
     let v : ℕ = c.args.version in
     let choices : List Choice = choices_in_version v t c.args.n in
     let f : ℕ → List Choice = with_state (length t.operations) c.args.n in
-    let first = ap (λ (states : List ℕ). counting v t (flat_map f states)) (range_first c.loop-state.state (length t.states) (omega (arith, c.loop-state-test.true, c.states-state-end.ensures.number))) in
+    let first = ap (λ (states : List ℕ). counting v t (flat_map f states))
+    (range_first c.loop-state.state (length t.states) (omega (arith, c.loop-state-test.true, c.states-state-end.ensures.number))) in
     part_next choices 0 choices v t f c.loop-state.place c.loop-state.state _ (come_as choices 0 choices c.loop-state.place _ _ first c.loop-state.invariant.come) ([], sym (append-nil choices))
 
 pub loop-state-preserved : goal.loop-state-preserved
@@ -35,9 +36,11 @@ loop-state-preserved c =
     let v : ℕ = c.args.version in
     let choices : List Choice = choices_in_version v t c.args.n in
     let f : ℕ → List Choice = with_state (length t.operations) c.args.n in
-    let first = ap (λ (states : List ℕ). counting v t (flat_map f states)) (range_first c.loop-state.state (length t.states) (omega (arith, c.loop-state-test.true, c.states-state-end.ensures.number))) in
+    let first = ap (λ (states : List ℕ). counting v t (flat_map f states))
+    (range_first c.loop-state.state (length t.states) (omega (arith, c.loop-state-test.true, c.states-state-end.ensures.number))) in
     record {
-      come = part_past choices 0 choices v t f c.loop-state.place c.loop-state.state _ (come_as choices 0 choices c.loop-state.place _ _ first c.loop-state.invariant.come) c.in_ok-place.place c.in_ok-place.ensures.passed;
+      come = part_past choices 0 choices v t f c.loop-state.place c.loop-state.state _
+          (come_as choices 0 choices c.loop-state.place _ _ first c.loop-state.invariant.come) c.in_ok-place.place c.in_ok-place.ensures.passed;
       refuted = c.in_ok-place.ensures.refuted;
     }
 

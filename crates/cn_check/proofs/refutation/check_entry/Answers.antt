@@ -10,7 +10,8 @@ use Rattle.cn_check.proofs.refutation.check_entry.Goals as goal
 pub returns-then-not-is_choice-clause-fault : goal.returns-then-not-is_choice-clause-fault
 returns-then-not-is_choice-clause-fault c =
     let look = c.in-Some.ensures.lookup in
-    let at : slice_get c.args.entries.now c.args.place ≡ Some c.in-Some.entry.now = slice_get_read c.args.entries.now _ c.args.place c.in-Some.entry.now refl look.3.0 (look.3.1 c.in-Some.entry.now) in (
+    let at : slice_get c.args.entries.now c.args.place ≡ Some c.in-Some.entry.now = slice_get_read c.args.entries.now _ c.args.place c.in-Some.entry.now refl look.3.0
+    (look.3.1 c.in-Some.entry.now) in (
       c.requires.refuted,
       of_other_choice c.args.table.now (choices_in_version c.args.version c.args.table.now c.args.n) c.args.entries.now c.args.place _ c.in-Some.entry.now c.requires.here at
           (λ same. true≢false (rw c.if-not-is_choice.true at (sym (c.is_choice.ensures.1 (ap (λ e. e.choice) c.entry.view_is ∙ same))))),
@@ -19,7 +20,8 @@ returns-then-not-is_choice-clause-fault c =
 pub returns-then-not-holds_collision-clause-fault : goal.returns-then-not-holds_collision-clause-fault
 returns-then-not-holds_collision-clause-fault c =
     let look = c.in-Some.ensures.lookup in
-    let at : slice_get c.args.entries.now c.args.place ≡ Some c.in-Some.entry.now = slice_get_read c.args.entries.now _ c.args.place c.in-Some.entry.now refl look.3.0 (look.3.1 c.in-Some.entry.now) in (
+    let at : slice_get c.args.entries.now c.args.place ≡ Some c.in-Some.entry.now = slice_get_read c.args.entries.now _ c.args.place c.in-Some.entry.now refl look.3.0
+    (look.3.1 c.in-Some.entry.now) in (
       c.requires.refuted,
       no_collision c.args.table.now (choices_in_version c.args.version c.args.table.now c.args.n) c.args.entries.now c.args.place _ c.in-Some.entry.now c.requires.here at
           (ap (λ e. e.choice) (sym c.entry.view_is) ∙ c.is_choice.ensures.0 c.if-not-is_choice.false)

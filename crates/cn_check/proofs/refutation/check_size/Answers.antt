@@ -40,7 +40,8 @@ past c =
     elim c.if-all_count.branch [
       | then-all_count+in_ok-place w ↦
           rw w.place-is
-          (part_past choices c.args.start _ v t (with_first m c.args.n s) c.loop-a.place a (rising_after m a) c.loop-a.invariant.come w.in_ok-place.place (rw w.as_slice-then-all_count.ensures.value at w.in_ok-place.ensures.passed))
+          (part_past choices c.args.start _ v t (with_first m c.args.n s) c.loop-a.place a (rising_after m a) c.loop-a.invariant.come w.in_ok-place.place
+          (rw w.as_slice-then-all_count.ensures.value at w.in_ok-place.ensures.passed))
       | else-all_count w ↦
           (let counts = rw c.as_slice.ensures.value at (sym c.all_count.ensures ∙ w.if-all_count.false) in
           rw w.place-is (part_over choices c.args.start _ v t (with_first m c.args.n s) c.loop-a.place a (rising_after m a) c.loop-a.invariant.come (none_counts v t s a _ counts)))

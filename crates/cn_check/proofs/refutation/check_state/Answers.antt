@@ -26,6 +26,7 @@ loop-size-preserved c =
     let choices : List Choice = choices_in_version v t c.args.n in
     let first = ap (λ (sizes : List ℕ). counting v t (flat_map f sizes)) (range_first c.loop-size.size (c.args.n / 2 + 1) c.loop-size-test.true) in
     record {
-      come = part_past choices c.args.start all v t f c.loop-size.place c.loop-size.size _ (come_as choices c.args.start all c.loop-size.place _ _ first c.loop-size.invariant.come) c.in_ok-place.place c.in_ok-place.ensures.passed;
+      come = part_past choices c.args.start all v t f c.loop-size.place c.loop-size.size _
+          (come_as choices c.args.start all c.loop-size.place _ _ first c.loop-size.invariant.come) c.in_ok-place.place c.in_ok-place.ensures.passed;
       refuted = c.in_ok-place.ensures.refuted;
     }

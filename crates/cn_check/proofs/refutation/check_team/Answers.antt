@@ -28,7 +28,8 @@ check_entry-requires-clause-here c =
     let v : ℕ = c.args.version in
     let counts = rw c.as_slice.ensures.value at (sym c.all_count.ensures ∙ c.if-all_count.true) in
     rw c.as_slice-then-all_count.ensures.value
-    (team_next (choices_in_version v t c.args.n) c.args.start _ v t c.args.state.0 c.args.a.now c.loop-b.place c.loop-b.b.items (rising_after (length t.operations) c.loop-b.b.items) c.loop-b.invariant.come
+    (team_next (choices_in_version v t c.args.n) c.args.start _ v t c.args.state.0 c.args.a.now c.loop-b.place c.loop-b.b.items
+    (rising_after (length t.operations) c.loop-b.b.items) c.loop-b.invariant.come
     c.requires.next c.requires.counts counts)
 
 -- past the choice with this list, whether it counts or not
@@ -76,6 +77,7 @@ loop-b-preserved c =
     let known = rw (c.operations-operations.ensures.number, c.as_mut_slice.ensures.value) at c.step.ensures.known in
     rw same (record {
       known = known c.loop-b.invariant.known;
-      come = come_as choices c.args.start _ c.if-all_count.place _ _ (ap (λ (bs : List (List ℕ)). counting v t (beside v t c.args.state.0 c.args.a.now bs)) more) (past (goal.at.loop-b-preserved c).Joined-all_count);
+      come = come_as choices c.args.start _ c.if-all_count.place _ _ (ap (λ (bs : List (List ℕ)). counting v t (beside v t c.args.state.0 c.args.a.now bs)) more)
+          (past (goal.at.loop-b-preserved c).Joined-all_count);
       refuted = refuted;
     })

@@ -6,9 +6,11 @@ pub returns-then-list-place-clause-more : goal.returns-then-list-place-clause-mo
 returns-then-list-place-clause-more c =
     let place : ℕ = c.loop-place.place - 1 in
     let next : c.loop-place.place ≡ suc place = omega arith in
-    let behind : All (λ x. c.args.limit ≤ x + 1) (drop (suc place) c.loop-place.list) = subst (λ (k : ℕ). All (λ x. c.args.limit ≤ x + 1) (drop k c.loop-place.list)) next c.loop-place.invariant.greatest in
+    let behind : All (λ x. c.args.limit ≤ x + 1) (drop (suc place) c.loop-place.list) = subst
+    (λ (k : ℕ). All (λ x. c.args.limit ≤ x + 1) (drop k c.loop-place.list)) next c.loop-place.invariant.greatest in
     rw (← c.loop-place.invariant.same)
-    (step_on c.args.limit c.loop-place.list place (omega (arith, c.loop-place.auto.place, c.loop-place.auto.list)) (omega (arith, c.if-list-place.true, c.requires)) behind c.raise_from.new.list c.raise_from.ensures)
+    (step_on c.args.limit c.loop-place.list place (omega (arith, c.loop-place.auto.place, c.loop-place.auto.list))
+    (omega (arith, c.if-list-place.true, c.requires)) behind c.raise_from.new.list c.raise_from.ensures)
 
 pub returns-clause-last : goal.returns-clause-last
 returns-clause-last c =

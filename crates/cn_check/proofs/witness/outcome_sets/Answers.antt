@@ -36,10 +36,12 @@ loop-first-preserved c =
             | else-eq w ↦
                 (let other = same_false the_type c.team_of.result c.args.team (sym c.eq.ensures ∙ w.if-eq.false) in
                 let none : ¬ F first = λ f. other (same_Some _ _ (sym c.team_of.ensures ∙ f.0)) in
-                rw w.pairs-is (or_next (HasPair c.loop-first.pairs j r q) _ (Below F first) (F first) (Below F (first + 1)) (c.loop-first.invariant.shown j r q) (no_case _ (F first) none) (below_next F first)))
+                rw w.pairs-is (or_next (HasPair c.loop-first.pairs j r q) _ (Below F first) (F first) (Below F (first + 1)) (c.loop-first.invariant.shown j r q)
+                (no_case _ (F first) none) (below_next F first)))
           ];
       walked = elim c.if-eq.branch [
-        | then-eq w ↦ rw (w.end_sets-is, w.pairs-is) (walked_more table choice w.walk-later.new.end_sets w.walk-later.new.pairs w.add.new.self (λ j r q h. (w.add.ensures j r q).1 (inl h)) w.walk-later.ensures.walked)
+        | then-eq w ↦ rw (w.end_sets-is, w.pairs-is)
+            (walked_more table choice w.walk-later.new.end_sets w.walk-later.new.pairs w.add.new.self (λ j r q h. (w.add.ensures j r q).1 (inl h)) w.walk-later.ensures.walked)
         | else-eq w ↦ rw (w.end_sets-is, w.pairs-is) c.loop-first.invariant.walked
       ];
     }
@@ -47,5 +49,6 @@ loop-first-preserved c =
 pub returns : goal.returns
 returns c j r q =
     let choice : RawChoice = raw_choice_of c.args.choice.now in
-    let all : c.loop-first.first ≡ length choice.operations = omega (arith, c.loop-first-test.false, c.loop-first.auto.first-end, c.processes-first-end.ensures, length-append c.args.choice.now.a c.args.choice.now.b) in
+    let all : c.loop-first.first ≡ length choice.operations = omega
+    (arith, c.loop-first-test.false, c.loop-first.auto.first-end, c.processes-first-end.ensures, length-append c.args.choice.now.a c.args.choice.now.b) in
     as_other _ _ _ (c.loop-first.invariant.shown j r q) (orders_by_first c.args.table.now choice c.args.team j r q c.pair_along_order.ensures c.loop-first.first all)

@@ -7,11 +7,13 @@ use Rattle.cn_choice.proofs.block_choices.advance_live.Goals as goal
 pub returns-then-are_marked-clause-next : goal.returns-then-are_marked-clause-next
 returns-then-are_marked-clause-next c =
     c.loop-choice.invariant.left
-    ∙ live_next c.args.table.now c.operations-operations.result _ c.advance_rising.new.list.items c.operations-operations.ensures.number c.loop-choice.invariant.known (c.advance_rising.ensures.next c.loop-choice-test.true)
+    ∙ live_next c.args.table.now c.operations-operations.result _ c.advance_rising.new.list.items c.operations-operations.ensures.number c.loop-choice.invariant.known
+    (c.advance_rising.ensures.next c.loop-choice-test.true)
 
 pub returns-then-are_marked-clause-live : goal.returns-then-are_marked-clause-live
 returns-then-are_marked-clause-live c t =
-    marked_live c.args.table.now c.operations-operations.result c.args.moving.now c.args.choice.now _ _ c.advance_rising.new.list.items c.operations-operations.ensures.number c.loop-choice.invariant.same_state
+    marked_live c.args.table.now c.operations-operations.result c.args.moving.now c.args.choice.now _ _ c.advance_rising.new.list.items c.operations-operations.ensures.number
+    c.loop-choice.invariant.same_state
     c.loop-choice.invariant.same_a c.requires.moving c.requires.a c.advance_rising.ensures.known
     ∙ (ap (λ (l : List ℕ). list_all (λ o. get_or c.args.moving.now o false) l) (sym c.as_slice.ensures.value) ∙ (sym c.are_marked.ensures ∙ c.if-are_marked.true))
 
@@ -37,4 +39,5 @@ loop-choice-preserved c =
 
 pub returns-clause-next : goal.returns-clause-next
 returns-clause-next c =
-    c.loop-choice.invariant.left ∙ none_live_after c.args.table.now c.operations-operations.result _ c.operations-operations.ensures.number c.loop-choice.invariant.known (c.advance_rising.ensures.last c.loop-choice-test.false)
+    c.loop-choice.invariant.left ∙ none_live_after c.args.table.now c.operations-operations.result _ c.operations-operations.ensures.number c.loop-choice.invariant.known
+    (c.advance_rising.ensures.last c.loop-choice-test.false)

@@ -18,5 +18,10 @@ returns c =
     let i = c.loop-operation.invariant in
     let end : c.loop-operation.operation ≡ length s.table.now.operations = omega (arith, c.operations-end.ensures.number, c.loop-operation-test.false, c.loop-operation.auto.operation-end) in
     let same : HaveSame list i.0 = up_to_all list i.0 (length s.table.now.operations) c.requires.known (subst (λ (k : ℕ). IsUpTo list k i.0) end i.2) in
-    let size : c.loop-operation.at.size ≡ s.n = omega (arith, stands_long (length s.table.now.operations) (s.n + 1) s.stocks.items c.requires.sets.levels c.loop-operation.at.size c.loop-operation.at.place i.0 i.1, same_length list i.0 same, c.requires.list) in
+    let size : c.loop-operation.at.size ≡ s.n = omega (
+      arith,
+      stands_long (length s.table.now.operations) (s.n + 1) s.stocks.items c.requires.sets.levels c.loop-operation.at.size c.loop-operation.at.place i.0 i.1,
+      same_length list i.0 same,
+      c.requires.list,
+    ) in
     (i.0, subst (λ (k : ℕ). StandsAt s k c.loop-operation.at.place i.0) size i.1, same)

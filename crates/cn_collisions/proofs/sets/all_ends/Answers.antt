@@ -28,7 +28,8 @@ level_ends-requires-clause-beside c =
     let s = c.index-stocks-size.result in
     let of : ℕ → List Stock → List Ends → Type 0 = λ m stocks ends. AreSetsOf (IsEnds t) m stocks ends in
     let at = slice_get_read levels (length levels) k s refl (omega (arith, c.requires.stocks.long, c.loop-size-test.true)) c.index-stocks-size.is in
-    let b = beside (length t.operations) of (λ xs l. each_empty _ xs l) (c.args.n + 1) k levels c.loop-size.ends.items c.below-below.result.now s c.requires.stocks c.loop-size.invariant c.below-below.ensures.none
+    let b = beside (length t.operations) of (λ xs l. each_empty _ xs l)
+    (c.args.n + 1) k levels c.loop-size.ends.items c.below-below.result.now s c.requires.stocks c.loop-size.invariant c.below-below.ensures.none
     (λ m level e h. c.below-below.ensures.some m level e (subst (λ (xs : List (Vec Ends Global)). slice_get xs m ≡ Some level) (sym c.as_slice-done.ensures.value) h)) at in
     (b.0, subst (λ (xs : List Stock). AreBeside (length t.operations) k b.0 xs) (sym c.as_slice-list.ensures.value) b.1, b.2)
 
@@ -42,7 +43,8 @@ loop-size-preserved c =
     let at = slice_get_read levels (length levels) k s refl (omega (arith, c.requires.stocks.long, c.loop-size-test.true)) c.index-stocks-size.is in
     let fits : ℕ → Vec Ends Global → Type 0 = λ m e. (s : Stocks) → slice_get levels m ≡ Some s → AreSetsOf (IsEnds t) m s.list.items e.items in
     let here = subst (λ (xs : List Stock). AreSetsOf (IsEnds t) k xs level.items) c.as_slice-list.ensures.value c.in_ok-level.ensures in
-    each_push fits c.loop-size.ends.items c.push.new.self.items level k c.in_ok-push.ensures.items c.loop-size.invariant (λ r h. same_at (λ x. AreSetsOf (IsEnds t) k x.list.items level.items) levels k s r at here h)
+    each_push fits c.loop-size.ends.items c.push.new.self.items level k c.in_ok-push.ensures.items c.loop-size.invariant
+    (λ r h. same_at (λ x. AreSetsOf (IsEnds t) k x.list.items level.items) levels k s r at here h)
 
 pub returns : goal.returns
 returns c =

@@ -32,7 +32,8 @@ level_shown-requires-after_bounds g c κs within =
     let s = c.index-stocks-size.result in
     let of : ℕ → List Stock → List Shown → Type 0 = λ m stocks shown. AreSetsOf (IsShown t) m stocks shown in
     let at = slice_get_read levels (length levels) k s refl (omega (arith, c.requires.stocks.long, c.loop-size-test.true)) c.index-stocks-size.is in
-    let b = beside (length t.operations) of (λ xs l. each_empty _ xs l) (c.args.n + 1) k levels c.loop-size.shown.items c.below-below.result.now s c.requires.stocks c.loop-size.invariant c.below-below.ensures.none
+    let b = beside (length t.operations) of (λ xs l. each_empty _ xs l)
+    (c.args.n + 1) k levels c.loop-size.shown.items c.below-below.result.now s c.requires.stocks c.loop-size.invariant c.below-below.ensures.none
     (λ m level e h. c.below-below.ensures.some m level e (subst (λ (xs : List (Vec Shown Global)). slice_get xs m ≡ Some level) (sym c.as_slice-done.ensures.value) h)) at in
     let row = each_read _ c.args.ends.now c.args.n k c.index-ends-size.result c.requires.ends (omega (arith, c.loop-size-test.true)) c.index-ends-size.is s at in
     record {
@@ -40,7 +41,8 @@ level_shown-requires-after_bounds g c κs within =
       before = b.0;
       beside = subst (λ (xs : List Stock). AreBeside (length t.operations) k b.0 xs) (sym c.as_slice-list.ensures.value) b.1;
       below = b.2;
-      ends = subst (λ (xs : List Stock). AreSetsOf (IsEnds t) k xs c.as_slice-own.result.now) (sym c.as_slice-list.ensures.value) (subst (λ (xs : List Ends). AreSetsOf (IsEnds t) k s.list.items xs) (sym c.as_slice-own.ensures.value) row);
+      ends = subst (λ (xs : List Stock). AreSetsOf (IsEnds t) k xs c.as_slice-own.result.now) (sym c.as_slice-list.ensures.value)
+          (subst (λ (xs : List Ends). AreSetsOf (IsEnds t) k s.list.items xs) (sym c.as_slice-own.ensures.value) row);
     }
 
 pub loop-size-preserved : goal.loop-size-preserved
@@ -53,7 +55,8 @@ loop-size-preserved g c =
     let at = slice_get_read levels (length levels) k s refl (omega (arith, c.requires.stocks.long, c.loop-size-test.true)) c.index-stocks-size.is in
     let fits : ℕ → Vec Shown Global → Type 0 = λ m e. (s : Stocks) → slice_get levels m ≡ Some s → AreSetsOf (IsShown t) m s.list.items e.items in
     let here = subst (λ (xs : List Stock). AreSetsOf (IsShown t) k xs level.items) c.as_slice-list.ensures.value c.in_ok-pairs.ensures in
-    each_push fits c.loop-size.shown.items c.push.new.self.items level k c.in_ok-push.ensures.items c.loop-size.invariant (λ r h. same_at (λ x. AreSetsOf (IsShown t) k x.list.items level.items) levels k s r at here h)
+    each_push fits c.loop-size.shown.items c.push.new.self.items level k c.in_ok-push.ensures.items c.loop-size.invariant
+    (λ r h. same_at (λ x. AreSetsOf (IsShown t) k x.list.items level.items) levels k s r at here h)
 
 pub returns : goal.returns
 returns g c =

@@ -20,7 +20,8 @@ pub loop-size-preserved : goal.loop-size-preserved
 loop-size-preserved c =
     let levels = c.loop-size.levels.items in
     let at = slice_get_read levels (length levels) c.loop-size.size c.index-here.result.now refl (omega (arith, c.loop-size.invariant.long)) c.index-here.ensures in
-    levels_push c.args.operations c.loop-size.size levels c.push-in-loop-size.new.self.items c.in_ok-longer.longer c.index-here.result.now c.in_ok-push-2.ensures.items c.loop-size.invariant at c.in_ok-longer.ensures
+    levels_push c.args.operations c.loop-size.size levels c.push-in-loop-size.new.self.items c.in_ok-longer.longer c.index-here.result.now c.in_ok-push-2.ensures.items
+    c.loop-size.invariant at c.in_ok-longer.ensures
 
 pub returns : goal.returns
 returns c =

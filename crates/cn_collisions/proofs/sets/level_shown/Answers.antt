@@ -16,8 +16,19 @@ use Rattle.cn_collisions.proofs.sets.level_shown.Goals as goal
 pub collect-requires : goal.collect-requires
 collect-requires g c κs =
     let ends = c.into_par_iter.ensures in
-    let inside = nat_range-All (IsPlaceOf c.args.level.now) 0 (length c.args.level.now.stocks.now) (λ i low high. (c.requires, high)) in
-    (search (sendable, crosses) depth 60 fits 20000, (search (sendable, crosses) depth 60 fits 20000, (search (sendable, crosses) depth 60 fits 20000, (search (sendable, crosses) depth 60 fits 20000, (search (sendable, crosses) depth 60 fits 20000, (frees, rw (c.map.ensures.base, c.map.ensures.f, c.with_min_len.ensures.base, ends.0, ends.1) (λ k d lt. (inside k d lt, λ y p. tt))))))))
+    let inside = nat_range-All (IsPlaceOf c.args.level.now) 0 (length c.args.level.now.stocks.now) (λ i low high. (c.requires, high)) in (
+      search (sendable, crosses) depth 60 fits 20000,
+      (
+        search (sendable, crosses) depth 60 fits 20000,
+        (
+          search (sendable, crosses) depth 60 fits 20000,
+          (
+            search (sendable, crosses) depth 60 fits 20000,
+            (search (sendable, crosses) depth 60 fits 20000, (frees, rw (c.map.ensures.base, c.map.ensures.f, c.with_min_len.ensures.base, ends.0, ends.1) (λ k d lt. (inside k d lt, λ y p. tt)))),
+          ),
+        ),
+      ),
+    )
 
 pub returns : goal.returns
 returns g c =

@@ -34,7 +34,8 @@ loop-process-preserved c =
     let next = c.after-next.ensures in
     let free : ¬ IsBitSet a.prefix.used p = λ u. c.if-not-is_open.ensures.open refl (inl u) in
     let leads = rw (next.used, next.state, next.seen) at c.leads_into.ensures.1 in
-    let none = no_way t raw j set (a.left - 1) (length raw.operations) (bit_or a.prefix.used (2 ^ p)) (next_of t raw p a.prefix.state.0) (seen_after j p (answer_of t raw p a.prefix.state.0) a.prefix.seen) refl
+    let none = no_way t raw j set (a.left - 1) (length raw.operations) (bit_or a.prefix.used (2 ^ p)) (next_of t raw p a.prefix.state.0)
+    (seen_after j p (answer_of t raw p a.prefix.state.0) a.prefix.seen) refl
     (λ h. true≢false (sym (leads h) ∙ c.if-leads_into.false)) in
     let here = dead_here t raw j set a.left a.low a.high a.prefix.used a.prefix.state.0 a.prefix.seen p (length raw.operations) refl c.requires.some none in
     record {
@@ -46,4 +47,5 @@ pub returns-clause-none : goal.returns-clause-none
 returns-clause-none c =
     let a = c.args in
     let v = a.view.now in
-    no_way_left v.sets.now.table.now v.raw.now v.process a.target.now a.left a.low a.high a.prefix.used a.prefix.state.0 a.prefix.seen c.loop-process.process c.requires.some c.loop-process-test.false c.loop-process.invariant.dead
+    no_way_left v.sets.now.table.now v.raw.now v.process a.target.now a.left a.low a.high a.prefix.used a.prefix.state.0 a.prefix.seen c.loop-process.process c.requires.some
+    c.loop-process-test.false c.loop-process.invariant.dead

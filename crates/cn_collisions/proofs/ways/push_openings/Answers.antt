@@ -23,7 +23,8 @@ loop-process-preserved c =
     let a = c.args in
     let p = c.loop-process.process in
     let next = c.after.ensures in
-    list_pushed a.view.now a.low a.high a.start p c.loop-process.tried c.loop-process.steps.items c.loop-process.invariant (record { process = p; prefix = c.after.result }) c.tried_after-tried.result c.push.new.self.items
+    list_pushed a.view.now a.low a.high a.start p c.loop-process.tried c.loop-process.steps.items c.loop-process.invariant
+    (record { process = p; prefix = c.after.result }) c.tried_after-tried.result c.push.new.self.items
     c.push.ensures.items refl c.loop-process.auto.process c.loop-process-test.true
     (record {
       inside = omega (arith, c.loop-process-test.true, c.requires.high);

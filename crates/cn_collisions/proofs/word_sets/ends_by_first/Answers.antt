@@ -58,5 +58,6 @@ returns c q =
     let items = s.stock.now.operations.items in
     let is = c.requires.setting in
     let end : c.loop-operation.operation ≡ length t.operations = omega (arith, c.operations-operation-end.ensures.number, c.loop-operation-test.false, c.loop-operation.auto.operation-end) in
-    ends_all t c.args.start items (removal_of is.before items s.stock.now.less is.stock_is.smaller) (length t.operations) is.stock_is.known c.args.count c.requires.some q (IsBitSet c.loop-operation.set q)
+    ends_all t c.args.start items (removal_of is.before items s.stock.now.less is.stock_is.smaller) (length t.operations) is.stock_is.known c.args.count c.requires.some q
+    (IsBitSet c.loop-operation.set q)
     (subst (λ (k : ℕ). Gathered ⊥ (EndsPart t c.args.start items c.args.count q) k (IsBitSet c.loop-operation.set q)) end (c.loop-operation.invariant q))

@@ -20,8 +20,10 @@ loop-row-preserved c q =
     let i = c.loop-row.row-index in
     let row : List ℕ = get_or rows i [] in
     let inside : i < length rows = c.loop-row-test.true in
-    let here = each_read (λ k row. AreEndsAfter s.table.now items k (length s.table.now.states) row) rows (s.size + 1) i row c.requires.ends (omega (arith, inside, c.requires.ends.0)) (get_or_default rows i [] row inside) c.args.start c.requires.start q in
-    below_more (λ k. EndsAfter s.table.now c.args.start items k q) i (IsBitSet c.loop-row.set q) (IsBitSet (slice_index row c.args.start) q) (IsBitSet c.union-set.result q) (c.loop-row.invariant q) (c.union-set.ensures q) here
+    let here = each_read (λ k row. AreEndsAfter s.table.now items k (length s.table.now.states) row) rows (s.size + 1) i row c.requires.ends
+    (omega (arith, inside, c.requires.ends.0)) (get_or_default rows i [] row inside) c.args.start c.requires.start q in
+    below_more (λ k. EndsAfter s.table.now c.args.start items k q) i (IsBitSet c.loop-row.set q) (IsBitSet (slice_index row c.args.start) q) (IsBitSet c.union-set.result q)
+    (c.loop-row.invariant q) (c.union-set.ensures q) here
 
 pub returns : goal.returns
 returns c q =

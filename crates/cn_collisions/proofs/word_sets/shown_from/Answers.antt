@@ -23,7 +23,8 @@ pub loop-operation-init : goal.loop-operation-init
 loop-operation-init c r q =
     let s = c.args.setting.now in
     let items = s.stock.now.operations.items in
-    gathered_first (ShowsNow s.table.now c.args.start items c.args.asked c.args.count r q) (ShowsPart s.table.now c.args.start items c.args.asked c.args.count r q) (Has c.shown_now-set.result r q) (c.shown_now-set.ensures r q)
+    gathered_first (ShowsNow s.table.now c.args.start items c.args.asked c.args.count r q) (ShowsPart s.table.now c.args.start items c.args.asked c.args.count r q)
+    (Has c.shown_now-set.result r q) (c.shown_now-set.ensures r q)
 
 pub after-requires : goal.after-requires
 after-requires c =
@@ -74,5 +75,6 @@ returns c r q =
     let base = ShowsNow t c.args.start items c.args.asked c.args.count r q in
     let part = ShowsPart t c.args.start items c.args.asked c.args.count r q in
     let end : c.loop-operation.operation ≡ length t.operations = omega (arith, c.operations-operation-end.ensures.number, c.loop-operation-test.false, c.loop-operation.auto.operation-end) in
-    shows_all t c.args.start items (removal_of is.before items s.stock.now.less is.stock_is.smaller) (length t.operations) is.stock_is.known c.args.count (omega (arith, c.if-count-eq0.false)) c.args.asked r q (Has c.loop-operation.set r q)
+    shows_all t c.args.start items (removal_of is.before items s.stock.now.less is.stock_is.smaller) (length t.operations) is.stock_is.known c.args.count
+    (omega (arith, c.if-count-eq0.false)) c.args.asked r q (Has c.loop-operation.set r q)
     (subst (λ (k : ℕ). Gathered base part k (Has c.loop-operation.set r q)) end (c.loop-operation.invariant r q))

@@ -6,7 +6,14 @@ use Rattle.cn_collisions.proofs.word_sets.shown_now.Goals as goal
 pub after-requires : goal.after-requires
 after-requires c =
     let s = c.args.setting.now in
-    record { t = s.table.now; m = s.size; stock = s.stock.now.operations.items; ends_are = c.requires.own; count = c.requires.few; small = omega (arith, c.apply.ensures.next, c.states-states.ensures.number, c.states-states.ensures.range.1) }
+    record {
+      t = s.table.now;
+      m = s.size;
+      stock = s.stock.now.operations.items;
+      ends_are = c.requires.own;
+      count = c.requires.few;
+      small = omega (arith, c.apply.ensures.next, c.states-states.ensures.number, c.states-states.ensures.range.1);
+    }
 
 pub returns : goal.returns
 returns c r q =

@@ -27,7 +27,8 @@ loop-rows-preserved c r q =
     let rows = each_read _ c.args.by_count.now _ c.loop-rows.rows-index c.rows-item.result c.requires.shown (omega (arith, c.loop-rows-test.true, c.requires.shown.0)) c.rows-item.is in
     let sets = each_read _ c.rows-item.result.items _ c.args.asked c.index-sets.result.now rows c.requires.asked c.index-sets.ensures in
     let here = each_read _ c.index-sets.result.now.items _ c.args.start c.index.result.now sets c.requires.start c.index.ensures r q in
-    below_more (λ k. ShowsAfter s.table.now c.args.start s.stock.now.operations.items c.args.asked k r q) c.loop-rows.rows-index (Has c.loop-rows.set r q) (Has c.index.result.now r q) (Has c.add_all.new.self r q)
+    below_more (λ k. ShowsAfter s.table.now c.args.start s.stock.now.operations.items c.args.asked k r q) c.loop-rows.rows-index (Has c.loop-rows.set r q)
+    (Has c.index.result.now r q) (Has c.add_all.new.self r q)
     (c.loop-rows.invariant r q) (c.add_all.ensures r q) here
 
 pub returns : goal.returns

@@ -18,7 +18,8 @@ union_rows-requires c =
     let items = s.stock.now.operations.items in
     let row : ℕ → Vec (Vec PairSet Global) Global → Type 0 = λ k rows. AreShownRows s.table.now items k rows.items in
     let end : c.loop-count.count ≡ s.size + 1 = omega (arith, c.loop-count-test.false, c.loop-count.auto.count-end) in
-    subst (λ (rows : List (Vec (Vec PairSet Global) Global)). AreAllRows s.table.now s.size items rows) (sym c.deref.ensures.value) (subst (λ (k : ℕ). EachAt row k c.loop-count.by_count.items) end c.loop-count.invariant)
+    subst (λ (rows : List (Vec (Vec PairSet Global) Global)). AreAllRows s.table.now s.size items rows) (sym c.deref.ensures.value)
+    (subst (λ (k : ℕ). EachAt row k c.loop-count.by_count.items) end c.loop-count.invariant)
 
 pub returns : goal.returns
 returns c =

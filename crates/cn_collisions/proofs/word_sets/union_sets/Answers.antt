@@ -9,7 +9,8 @@ pub loop-start-init : goal.loop-start-init
 loop-start-init c = each_none _ c.in_ok-sets.sets.items c.in_ok-sets.ensures.items
 
 pub loop-start-preserved : goal.loop-start-preserved
-loop-start-preserved c = each_push _ c.loop-start.sets.items c.push.new.self.items c.shown_union-set.result c.loop-start.start c.in_ok-push.ensures.items c.loop-start.invariant c.shown_union-set.ensures
+loop-start-preserved c = each_push _ c.loop-start.sets.items c.push.new.self.items c.shown_union-set.result c.loop-start.start c.in_ok-push.ensures.items c.loop-start.invariant
+    c.shown_union-set.ensures
 
 pub returns : goal.returns
 returns c =

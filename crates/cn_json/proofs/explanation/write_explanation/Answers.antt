@@ -11,7 +11,18 @@ use Rattle.cn_json.proofs.explanation.write_explanation.Goals as goal
 pub returns : goal.returns
 unfolding explanation_data
 returns c = rw (← c.certificate.view_is, ← c.as_slice-entries.ensures.value, ← c.as_slice.ensures.value, ← c.name.ensures.value, ← c.from.ensures, ← c.from-2.ensures, ← c.entries_left.ensures)
-    (piece c.in_ok-begin_object.ensures (piece c.in_ok-begin_array_at.ensures (piece c.in_ok-write_each_pair_apart.ensures (piece c.in_ok-begin_array_at-2.ensures (piece c.in_ok-write_told.ensures (piece c.in_ok-key.ensures (piece c.in_ok-write_lasting.ensures (piece c.in_ok-number_at.ensures (piece c.in_ok-number_at-2.ensures (piece c.in_ok-text_at.ensures (piece c.in_ok-key-2.ensures (piece c.in_ok-write_type_number.ensures (piece c.in_ok-key-3.ensures (piece c.in_ok-write_rule.ensures (piece c.in_ok-number_at-3.ensures (piece c.in_ok-key-4.ensures (piece c.in_ok-write_witness.ensures c.end_object.ensures)))))))))))))))))
+    (piece c.in_ok-begin_object.ensures
+    (piece c.in_ok-begin_array_at.ensures
+    (piece c.in_ok-write_each_pair_apart.ensures
+    (piece c.in_ok-begin_array_at-2.ensures
+    (piece c.in_ok-write_told.ensures
+    (piece c.in_ok-key.ensures (piece c.in_ok-write_lasting.ensures
+    (piece c.in_ok-number_at.ensures
+    (piece c.in_ok-number_at-2.ensures
+    (piece c.in_ok-text_at.ensures (piece c.in_ok-key-2.ensures
+    (piece c.in_ok-write_type_number.ensures
+    (piece c.in_ok-key-3.ensures (piece c.in_ok-write_rule.ensures
+    (piece c.in_ok-number_at-3.ensures (piece c.in_ok-key-4.ensures (piece c.in_ok-write_witness.ensures c.end_object.ensures)))))))))))))))))
 
 pub write_each_pair_apart-requires : goal.write_each_pair_apart-requires
 write_each_pair_apart-requires c =

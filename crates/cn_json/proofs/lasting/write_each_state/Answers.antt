@@ -14,8 +14,10 @@ loop-state-preserved c =
     elim c.if-has.branch [
       | then-has+in_ok-text w ↦
           rw w.out-is
-          (kept_step (state_data t) (has_state c.args.set) c.loop-state.out w.text.new.self _ q (length t.states) less (in_set c.args.set q (c.has.ensures.0 w.if-has.true)) (rw w.state_name.ensures w.in_ok-text.ensures.ok) c.loop-state.invariant)
+          (kept_step (state_data t) (has_state c.args.set) c.loop-state.out w.text.new.self _ q (length t.states) less (in_set c.args.set q (c.has.ensures.0 w.if-has.true))
+          (rw w.state_name.ensures w.in_ok-text.ensures.ok) c.loop-state.invariant)
       | else-has w ↦
           rw w.out-is
-          (left_out_step (state_data t) (has_state c.args.set) c.loop-state.out _ q (length t.states) less (not_in_set c.args.set q (λ h. true≢false (sym (c.has.ensures.1 h) ∙ w.if-has.false))) c.loop-state.invariant)
+          (left_out_step (state_data t) (has_state c.args.set) c.loop-state.out _ q (length t.states) less
+          (not_in_set c.args.set q (λ h. true≢false (sym (c.has.ensures.1 h) ∙ w.if-has.false))) c.loop-state.invariant)
     ]

@@ -20,7 +20,12 @@ pub loop-set-smaller : goal.loop-set-smaller
 loop-set-smaller c =
     let above : c.loop-set.set ≤ c.loop-set.grown = union_above c.loop-set.set c.loop-set.grown c.loop-set.grown
     (λ q. (λ g. inr g, λ h. elim h [ inl s ↦ (c.loop-set.invariant.next q).1 (inl s) | inr g ↦ g ])) in
-    omega (arith, above, differ c.loop-set.grown c.loop-set.set c.ne.result c.ne.ensures c.loop-set-test.true, small_set c.loop-set.grown (λ q g. omega (arith, c.loop-set.invariant.grown_known q g, c.states-states.ensures.number, c.states-states.ensures.range.1)))
+    omega (
+      arith,
+      above,
+      differ c.loop-set.grown c.loop-set.set c.ne.result c.ne.ensures c.loop-set-test.true,
+      small_set c.loop-set.grown (λ q g. omega (arith, c.loop-set.invariant.grown_known q g, c.states-states.ensures.number, c.states-states.ensures.range.1)),
+    )
 
 pub loop-set-preserved : goal.loop-set-preserved
 loop-set-preserved c =

@@ -7,6 +7,7 @@ use Rattle.cn_lasting.proofs.search.find_lasting.Goals as goal
 pub loop-start-preserved : goal.loop-start-preserved
 loop-start-preserved c start l = elim (below_or_last start c.loop-start.start l) [
   | inl u ↦ c.loop-start.invariant start u
-  | inr e ↦ subst (λ (x : ℕ). (many : ℕ) → many < length c.args.table.now.operations → (single : ℕ) → single < length c.args.table.now.operations → many ≢ single → HaveCommonState c.args.table.now x many single) (sym e)
+  | inr e ↦ subst (λ (x : ℕ). (many : ℕ) → many < length c.args.table.now.operations → (single : ℕ) → single < length c.args.table.now.operations → many ≢ single
+      → HaveCommonState c.args.table.now x many single) (sym e)
       (c.lasting_from.ensures.none (not_some c.lasting_from.result c.in_default.not-Some))
 ]

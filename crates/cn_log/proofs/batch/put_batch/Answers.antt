@@ -29,8 +29,10 @@ loop-p-preserved c =
           let e = w.in-Some.entry in
           let n = next_some c.loop-p.p c.args.batch.now e (sym c.of.ensures ∙ w.in-Some.is) in
           record {
-            entries = ap (λ v. v.items) w.entries-is ∙ w.push_reserved.ensures.items ∙ ap (λ l. l ++ e ∷ []) i.entries ∙ append_assoc c.args.entries.now.items done (e ∷ []) ∙ ap (λ l. c.args.entries.now.items ++ l) (sym n);
-            slots = ap (λ v. v.items) w.slots-is ∙ w.push_reserved-in-Some.ensures.items ∙ ap (λ l. l ++ c.args.slot ∷ []) i.slots ∙ append_assoc c.args.slots.now.items (each_slot c.args.slot done) (c.args.slot ∷ [])
+            entries = ap (λ v. v.items) w.entries-is ∙ w.push_reserved.ensures.items ∙ ap (λ l. l ++ e ∷ []) i.entries ∙ append_assoc c.args.entries.now.items done (e ∷ [])
+                ∙ ap (λ l. c.args.entries.now.items ++ l) (sym n);
+            slots = ap (λ v. v.items) w.slots-is ∙ w.push_reserved-in-Some.ensures.items ∙ ap (λ l. l ++ c.args.slot ∷ []) i.slots
+                ∙ append_assoc c.args.slots.now.items (each_slot c.args.slot done) (c.args.slot ∷ [])
                 ∙ ap (λ l. c.args.slots.now.items ++ l) (sym (slots_push c.args.slot done e)) ∙ ap (λ l. c.args.slots.now.items ++ each_slot c.args.slot l) (sym n);
             room = ap vec_capacity w.entries-is ∙ w.push_reserved.ensures.capacity ∙ i.room;
             slots_room = ap vec_capacity w.slots-is ∙ w.push_reserved-in-Some.ensures.capacity ∙ i.slots_room;

@@ -15,7 +15,8 @@ pub returns-clause-bypass : goal.returns-clause-bypass
 returns-clause-bypass c = λ o events opening may. bypass_bounded (setting_of o) _ (c.rounds_agree.ensures.agrees o opening.plan) events may
 
 pub returns-clause-room : goal.returns-clause-room
-returns-clause-room c = λ o events opening may. room_left (processes_of o.plan) o.capacity _ opening.plan.fits.some (has_room (setting_of o) _ (c.rounds_agree.ensures.agrees o opening.plan) events may)
+returns-clause-room c = λ o events opening may. room_left (processes_of o.plan) o.capacity _ opening.plan.fits.some
+    (has_room (setting_of o) _ (c.rounds_agree.ensures.agrees o opening.plan) events may)
 
 pub returns-clause-grows : goal.returns-clause-grows
 returns-clause-grows c = λ o before after opening may. grows (setting_of o) _ (c.rounds_agree.ensures.agrees o opening.plan) before after may

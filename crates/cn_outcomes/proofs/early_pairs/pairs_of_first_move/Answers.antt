@@ -8,7 +8,8 @@ use Rattle.cn_outcomes.proofs.early_pairs.pairs_of_first_move.Goals.{then-k-j, e
 pub loop-k-init : goal.loop-k-init
 loop-k-init c =
     one_given c.args.table.now c.args.choice.now c.args.team c.args.j c.requires.j c.only-set.result c.apply.result.0.0 c.apply.result.1.0
-    (alone_is c.args.table.now c.args.choice.now c.args.team c.args.j c.requires.j c.operation_of.result.0 c.choice.inside.state.0 c.operation_of.ensures (ap (λ (a : RawChoice). a.state) c.choice.view_is)
+    (alone_is c.args.table.now c.args.choice.now c.args.team c.args.j c.requires.j c.operation_of.result.0 c.choice.inside.state.0 c.operation_of.ensures
+    (ap (λ (a : RawChoice). a.state) c.choice.view_is)
     c.apply.result.0.0 c.apply.result.1.0 c.apply.ensures.value c.requires.team)
     c.only-set.ensures
 

@@ -14,7 +14,8 @@ loop-i-preserved c =
     elim c.if-i-j.branch [
       | then-i-j+then-is_in w ↦ subst (AreOutcomePairs t raw c.args.team c.args.j) (sym w.set-is) (
           more_given t raw c.args.team c.args.j c.requires.j c.loop-i.set w.add.new.self w.apply-then-is_in.result.0.0 w.apply-then-is_in.result.1.0 c.loop-i.invariant
-          (second_is t raw c.args.team c.args.j c.requires.j w.operation_of-then-is_in.result.0 c.choice.inside.state.0 w.operation_of-then-is_in.ensures (ap (λ (a : RawChoice). a.state) c.choice.view_is)
+          (second_is t raw c.args.team c.args.j c.requires.j w.operation_of-then-is_in.result.0 c.choice.inside.state.0 w.operation_of-then-is_in.ensures
+          (ap (λ (a : RawChoice). a.state) c.choice.view_is)
           c.loop-i.i w.operation_of.result.0 w.apply-then-is_in.result.0.0 w.apply.result.1.0 w.apply.result.0.0 w.apply-then-is_in.result.1.0
           here (omega (arith, w.if-i-j.true)) w.operation_of.ensures w.apply.ensures.value w.apply-then-is_in.ensures.value
           (w.is_in.ensures.0 w.if-is_in.true))

@@ -23,14 +23,17 @@ loop-number-preserved c =
     let inside : c.loop-number.number < 2 ^ length s.choice.now.operations = subst (λ (k : ℕ). c.loop-number.number < 2 ^ k) same l in
     let long : c.loop-number.number < length c.args.rows.now = omega (arith, all.0, all.1, c.loop-number-test.true, c.requires.rows.long) in
     let packed = subst (IsPacked s.links) c.of_number-subset.ensures (c.is_packed.ensures.0 c.if-not-is_packed.false) in
-    packed_more s.links (LeavesState s.table.now s.choice.now s.team) c.loop-number.number (IsBitSet c.loop-number.all) (IsBitSet (get_or c.args.rows.now c.loop-number.number 0)) (IsBitSet c.union-all.result) packed c.loop-number.invariant
+    packed_more s.links (LeavesState s.table.now s.choice.now s.team) c.loop-number.number (IsBitSet c.loop-number.all) (IsBitSet (get_or c.args.rows.now c.loop-number.number 0))
+    (IsBitSet c.union-all.result) packed c.loop-number.invariant
     (c.requires.rows.same c.loop-number.number inside packed)
-    (subst (λ (n : ℕ). (q : ℕ) → IsBitSet c.union-all.result q ↔ (IsBitSet c.loop-number.all q ⊎ IsBitSet n q)) (get_or_default_zero c.args.rows.now c.loop-number.number c.index-rows-number.result long) c.union-all.ensures)
+    (subst (λ (n : ℕ). (q : ℕ) → IsBitSet c.union-all.result q ↔ (IsBitSet c.loop-number.all q ⊎ IsBitSet n q))
+    (get_or_default_zero c.args.rows.now c.loop-number.number c.index-rows-number.result long) c.union-all.ensures)
 
 pub loop-number-preserved-then-not-is_packed : goal.loop-number-preserved-then-not-is_packed
 loop-number-preserved-then-not-is_packed c =
     let s = c.args.setting.now in
-    packed_passed s.links (LeavesState s.table.now s.choice.now s.team) c.loop-number.number (IsBitSet c.loop-number.all) (λ p. true≢false (sym (c.is_packed.ensures.1 (subst (IsPacked s.links) (sym c.of_number-subset.ensures) p)) ∙ c.if-not-is_packed.true)) c.loop-number.invariant
+    packed_passed s.links (LeavesState s.table.now s.choice.now s.team) c.loop-number.number (IsBitSet c.loop-number.all)
+    (λ p. true≢false (sym (c.is_packed.ensures.1 (subst (IsPacked s.links) (sym c.of_number-subset.ensures) p)) ∙ c.if-not-is_packed.true)) c.loop-number.invariant
 
 pub returns : goal.returns
 returns c =

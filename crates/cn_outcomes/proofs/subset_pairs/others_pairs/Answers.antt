@@ -41,7 +41,8 @@ pub returns : goal.returns
 returns c r q =
     let s = c.args.setting.now in
     let t = s.table.now in
-    let all = from_all (other_part t s.choice.now s.team c.args.j c.args.subset) (IsOther s.links c.args.subset c.args.j) c.loop-process.process-iterator (λ (x : ℕ × ℕ). Has c.loop-process.set x.0 x.1)
+    let all = from_all (other_part t s.choice.now s.team c.args.j c.args.subset) (IsOther s.links c.args.subset c.args.j) c.loop-process.process-iterator
+    (λ (x : ℕ × ℕ). Has c.loop-process.set x.0 x.1)
     c.in-None.ensures.steps.0 c.loop-process.invariant (r, q) in (
       λ h. (let x = all.0 h in (x.0, x.1.0, x.2)),
       λ y. all.1 (y.0, (y.1, other_differs t s.choice.now s.team c.args.j c.args.subset y.0 q r y.2), y.2),

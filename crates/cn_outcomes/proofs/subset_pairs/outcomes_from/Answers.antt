@@ -29,7 +29,8 @@ loop-number-preserved c =
     let l : c.loop-number.number < length c.loop-number.pairs = omega (arith, all.0, all.1, c.loop-number-test.true, i.0.long) in
     let here = subst (λ (k : ℕ). (r q : ℕ) → Has c.pairs_of-here.result r q ↔ GivesPair t s.choice.now s.team c.args.j k r q) c.of_number-subset.ensures c.pairs_of-here.ensures in (
       pairs_more t s.choice.now s.team c.args.j s.links c.loop-number.pairs c.loop-number.number c.pairs_of-here.result l i.0 here,
-      subsets_more t s.choice.now s.team c.args.j s.links c.loop-number.number (λ (x : ℕ × ℕ). Has c.loop-number.all x.0 x.1) (λ (x : ℕ × ℕ). Has c.pairs_of-here.result x.0 x.1) (λ (x : ℕ × ℕ). Has c.union-all.result x.0 x.1)
+      subsets_more t s.choice.now s.team c.args.j s.links c.loop-number.number (λ (x : ℕ × ℕ). Has c.loop-number.all x.0 x.1) (λ (x : ℕ × ℕ). Has c.pairs_of-here.result x.0 x.1)
+          (λ (x : ℕ × ℕ). Has c.union-all.result x.0 x.1)
           (subst (IsPacked s.links) c.of_number-subset.ensures (c.is_packed.ensures.0 c.if-not-is_packed.false)) i.1 (λ x. here x.0 x.1) (λ x. c.union-all.ensures x.0 x.1),
     )
 

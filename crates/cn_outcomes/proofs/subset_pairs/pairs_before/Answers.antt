@@ -45,7 +45,8 @@ pub moved-requires-clause-known : goal.moved-requires-clause-known
 moved-requires-clause-known c =
     let e = (goal.at.moved-requires-clause-known c).After-place-rest in
     let inside : c.place-rest.result < length c.args.rows.now = omega (arith, less e, c.requires.rows.small, c.requires.rows.before.long) in
-    subst (Below (length c.args.setting.now.table.now.states)) (get_or_default c.args.rows.now c.place-rest.result 0 c.index-rows-rest.result inside) (c.requires.rows.before.known c.place-rest.result (less e) (packed e))
+    subst (Below (length c.args.setting.now.table.now.states)) (get_or_default c.args.rows.now c.place-rest.result 0 c.index-rows-rest.result inside)
+    (c.requires.rows.before.known c.place-rest.result (less e) (packed e))
 
 pub moved-requires-clause-among : goal.moved-requires-clause-among
 moved-requires-clause-among c r q =
@@ -53,7 +54,8 @@ moved-requires-clause-among c r q =
     let e = (goal.at.moved-requires-clause-among c).After-place-rest in
     let inside : c.place-rest.result < length c.args.rows.now = omega (arith, less e, c.requires.rows.small, c.requires.rows.before.long) in
     let here : c.place-rest.result < length c.args.pairs.now = omega (arith, less e, c.requires.rows.small, c.requires.pairs.long) in
-    subst (λ (row : ℕ). Has (get_or c.args.pairs.now c.place-rest.result c.index-pairs-rest.result) r q → IsBitSet row q) (get_or_default c.args.rows.now c.place-rest.result 0 c.index-rows-rest.result inside) (
+    subst (λ (row : ℕ). Has (get_or c.args.pairs.now c.place-rest.result c.index-pairs-rest.result) r q → IsBitSet row q)
+    (get_or_default c.args.rows.now c.place-rest.result 0 c.index-rows-rest.result inside) (
     subst (λ (set : List ℕ). Has set r q → IsBitSet (get_or c.args.rows.now c.place-rest.result 0) q) (get_or_default c.args.pairs.now c.place-rest.result [] c.index-pairs-rest.result here) (λ h.
     (c.requires.rows.before.same c.place-rest.result (less e) (packed e) q).1
     (gives_leaves s.table.now s.choice.now s.team c.args.j c.place-rest.result r q ((c.requires.pairs.same c.place-rest.result (less e) (packed e) r q).0 h))))
@@ -65,9 +67,11 @@ returns c r q =
     let e = (goal.at.returns c).After-place-rest in
     let w = without_process e in
     let here : c.place-rest.result < length c.args.pairs.now = omega (arith, less e, c.requires.rows.small, c.requires.pairs.long) in
-    let moved = subst (λ (o : ℕ). Has c.moved.result r q ↔ ((found : ℕ) × Has (get_or c.args.pairs.now c.place-rest.result c.index-pairs-rest.result) r found × ((transition t o found).1 ≡ q))) c.operation_of-operation.ensures (c.moved.ensures r q) in
+    let moved = subst (λ (o : ℕ). Has c.moved.result r q
+    ↔ ((found : ℕ) × Has (get_or c.args.pairs.now c.place-rest.result c.index-pairs-rest.result) r found × ((transition t o found).1 ≡ q))) c.operation_of-operation.ensures (c.moved.ensures r q) in
     let gives : (found : ℕ) → Has (get_or c.args.pairs.now c.place-rest.result c.index-pairs-rest.result) r found ↔ GivesPair t s.choice.now s.team c.args.j c.place-rest.result r found = λ found.
-    subst (λ (set : List ℕ). Has set r found ↔ GivesPair t s.choice.now s.team c.args.j c.place-rest.result r found) (get_or_default c.args.pairs.now c.place-rest.result [] c.index-pairs-rest.result here)
+    subst (λ (set : List ℕ). Has set r found ↔ GivesPair t s.choice.now s.team c.args.j c.place-rest.result r found)
+    (get_or_default c.args.pairs.now c.place-rest.result [] c.index-pairs-rest.result here)
     (c.requires.pairs.same c.place-rest.result (less e) (packed e) r found) in (
       λ h. (let x = moved.0 h in (c.place-rest.result, w, (x.0, (gives x.0).0 x.1, x.2))),
       λ y.

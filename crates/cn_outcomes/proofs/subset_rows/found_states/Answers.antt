@@ -18,5 +18,6 @@ pub returns-else-is_in-clause-same : goal.returns-else-is_in-clause-same
 returns-else-is_in-clause-same c q =
     let setting = c.args.setting.now in (
       λ s. absurd (c.new-else-is_in.ensures.none q s),
-      λ f. absurd (found_nothing setting.table.now setting.choice.now setting.team c.args.process c.args.rest (c.is_empty.ensures.number.0 c.if-is_empty.true) (λ m. true≢false (sym (c.is_in.ensures.1 m) ∙ c.if-is_in.false)) q f),
+      λ f. absurd (found_nothing setting.table.now setting.choice.now setting.team c.args.process c.args.rest (c.is_empty.ensures.number.0 c.if-is_empty.true)
+          (λ m. true≢false (sym (c.is_in.ensures.1 m) ∙ c.if-is_in.false)) q f),
     )

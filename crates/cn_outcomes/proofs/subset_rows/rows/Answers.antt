@@ -20,7 +20,8 @@ loop-number-preserved c =
     let all = subsets_of c.len.result few in
     let inside : c.loop-number.number < length c.loop-number.rows = omega (arith, all.0, all.1, c.loop-number-test.true, c.loop-number.invariant.long) in
     rows_more (IsPacked s.links) (LeavesState s.table.now s.choice.now s.team) (length s.table.now.states) c.loop-number.rows c.loop-number.number c.row.result
-    inside c.loop-number.invariant (subst (λ (k : ℕ). (q : ℕ) → IsBitSet c.row.result q ↔ LeavesState s.table.now s.choice.now s.team k q) c.of_number-subset.ensures c.row.ensures.same) c.row.ensures.known
+    inside c.loop-number.invariant (subst (λ (k : ℕ). (q : ℕ) → IsBitSet c.row.result q ↔ LeavesState s.table.now s.choice.now s.team k q) c.of_number-subset.ensures
+    c.row.ensures.same) c.row.ensures.known
 
 pub loop-number-preserved-then-not-is_packed : goal.loop-number-preserved-then-not-is_packed
 loop-number-preserved-then-not-is_packed c =

@@ -13,7 +13,8 @@ one_more c links more k some l t h = record {
 
 pub loop-process-preserved : goal.loop-process-preserved
 loop-process-preserved c = elim c.if-is_linked.branch [
-  | then-is_linked w ↦ subst (AreTwinLinks c.args.choice.now) (sym w.links-is) (one_more c.args.choice.now c.loop-process.links w.insert.new.self c.loop-process.process (omega (arith, c.loop-process.auto.process))
+  | then-is_linked w ↦ subst (AreTwinLinks c.args.choice.now) (sym w.links-is)
+      (one_more c.args.choice.now c.loop-process.links w.insert.new.self c.loop-process.process (omega (arith, c.loop-process.auto.process))
       c.loop-process.invariant (c.is_linked.ensures w.if-is_linked.true) w.insert.ensures)
   | else-is_linked w ↦ subst (AreTwinLinks c.args.choice.now) (sym w.links-is) c.loop-process.invariant
 ]

@@ -10,7 +10,8 @@ pub loop-process-preserved : goal.loop-process-preserved
 loop-process-preserved c =
     let exact =
     pairs_exact c.args.table.now
-    (raw_choice_of c.args.choice.now) c.loop-process.process _ _ _ _ c.states-states.ensures.table c.requires.fits.state_known c.states-states.ensures.number c.responses-responses.ensures.number c.outcomes-from_a.ensures
+    (raw_choice_of c.args.choice.now) c.loop-process.process _ _ _ _ c.states-states.ensures.table c.requires.fits.state_known c.states-states.ensures.number
+    c.responses-responses.ensures.number c.outcomes-from_a.ensures
     c.in_ok-of.ensures in
     record {
       listed = rw c.in_ok-push.ensures.items (AreOutcomeSets-push _ _ _ _ _ c.loop-process.invariant.listed exact c.in_ok-of.ensures.in_order);

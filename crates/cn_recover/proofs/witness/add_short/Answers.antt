@@ -29,6 +29,7 @@ loop-second-preserved c =
           let n : c.args.first ≢ c.loop-second.second = omega (arith, w.if-second-first.true) in
           let after = w.state_after_move.ensures.next ∙ ap (next_of t raw c.loop-second.second) left in
           left_more t raw c.args.team c.loop-second.set w.insert-then-second-first.new.self w.state_after_move.result.0 c.loop-second.invariant
-          (subst (LeavesIn t raw c.args.team) (sym after) (second_leaves t raw c.args.team c.args.first c.loop-second.second c.requires.first here n c.requires.team)) w.insert-then-second-first.ensures)
+          (subst (LeavesIn t raw c.args.team) (sym after) (second_leaves t raw c.args.team c.args.first c.loop-second.second c.requires.first here n c.requires.team))
+          w.insert-then-second-first.ensures)
       | else-second-first w ↦ subst (AreLeft t raw c.args.team) (sym w.set-is) c.loop-second.invariant
     ]

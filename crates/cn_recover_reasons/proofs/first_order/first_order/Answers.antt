@@ -11,7 +11,8 @@ pub returns-then-leaves : goal.returns-then-leaves
 returns-then-leaves c =
     let leaves = rw (c.as_slice.ensures.value, c.order-item.is) at (c.if-leaves.ensures.0 refl) in
     rw (c.as_slice-then-leaves.ensures.value, c.order-item.is)
-    (first_order_at c.args.table.now c.args.choice.now c.args.team c.args.state.0 c.args.orders.now c.requires.all c.loop-order.order-index c.order-item.result c.loop-order-test.true c.loop-order.invariant leaves)
+    (first_order_at c.args.table.now c.args.choice.now c.args.team c.args.state.0 c.args.orders.now c.requires.all c.loop-order.order-index c.order-item.result
+    c.loop-order-test.true c.loop-order.invariant leaves)
 
 pub unreachable-requires : goal.unreachable-requires
 unreachable-requires c =

@@ -42,7 +42,8 @@ returns-clause-none c =
     ] in
     let not_b : 1 < length s.choice.now.a → ¬ LeavesIn s.table.now s.raw.now B c.choice.inside.state.0 =
     elim c.else-len-gt1-2.branch [
-      | else-len-gt1-2-via-then-len-gt1-2+else-contains-2 w ↦ λ l h. true≢false (sym (w.contains-then-len-gt1-2.ensures.found.1 ((c.requires.from_b c.choice.inside.state.0).1 h)) ∙ w.if-contains-2.false)
+      | else-len-gt1-2-via-then-len-gt1-2+else-contains-2 w ↦
+          λ l h. true≢false (sym (w.contains-then-len-gt1-2.ensures.found.1 ((c.requires.from_b c.choice.inside.state.0).1 h)) ∙ w.if-contains-2.false)
       | else-len-gt1-2-via-else-len-gt1-2 w ↦ λ l h. absurd (omega (arith, size_a, c.len-2.ensures.value, w.if-len-gt1-2.false, l))
     ] in
     no_way_back s.table.now s.choice.now s.raw.now c.requires.subject.same c.requires.apart c.choice.inside.state.0 start not_a not_b

@@ -5,7 +5,8 @@ use Rattle.cn_recover_reasons.specs.declared.refuted.Refuted.{Refuted}
 use Rattle.cn_recover_reasons.proofs.ways.push_ways.Goals as goal
 
 -- the choice at a place, and then those behind it
-ways_at : (t : TypeTable) (before k : ℕ) (rs : List Refuted) (r : Refuted) → k < length rs → r ≡ slice_index_or rs k r → ways t before (drop k rs) ≡ way t (before + 1) r ++ ways t (before + 1) (drop (k + 1) rs)
+ways_at : (t : TypeTable) (before k : ℕ) (rs : List Refuted) (r : Refuted) → k < length rs → r ≡ slice_index_or rs k r
+    → ways t before (drop k rs) ≡ way t (before + 1) r ++ ways t (before + 1) (drop (k + 1) rs)
 ways_at t before k rs r less is =
     let on : k + 1 ≡ suc k = omega arith in
     rw on (ap (ways t before) (drop-cons rs k r less) ∙ ap (λ (x : Refuted). way t (before + 1) x ++ ways t (before + 1) (drop (suc k) rs)) (sym is))

@@ -17,7 +17,8 @@ returns-in-AtLeast c =
       | inl e ↦ absurd (omega (arith, e, is.0, is.1))
       | inr e ↦ omega (arith, e, is.1)
     ] in
-    rw c.states-states.ensures.number (of_range t (c.splits_decide.ensures t) (c.finite_numbers_are_few.ensures t c.states-states.ensures.table c.requires.finite) c.args.most c.requires.all c.in-AtLeast.n is.0 less is.2)
+    rw c.states-states.ensures.number
+    (of_range t (c.splits_decide.ensures t) (c.finite_numbers_are_few.ensures t c.states-states.ensures.table c.requires.finite) c.args.most c.requires.all c.in-AtLeast.n is.0 less is.2)
 
 pub returns-in-NoSize : goal.returns-in-NoSize
 returns-in-NoSize c =

@@ -33,7 +33,8 @@ returns-clause-first g c =
     let t = c.args.table.now in
     let n = c.args.n in
     let whole = ap (choices_of_all t) (c.deref.ensures.value ∙ c.in_ok-blocks.ensures) ∙ c.block_list.ensures.cover t n in
-    early_of t (g.K.Kind.holds t) n c.deref.result.now c.split_at.result.0.now c.split_at.result.1.now (parts _ c.deref.result.now _ _ c.split_at.ensures.front c.split_at.ensures.back) whole c.first_of_blocks.result c.first_of_blocks.ensures
+    early_of t (g.K.Kind.holds t) n c.deref.result.now c.split_at.result.0.now c.split_at.result.1.now
+    (parts _ c.deref.result.now _ _ c.split_at.ensures.front c.split_at.ensures.back) whole c.first_of_blocks.result c.first_of_blocks.ensures
 
 pub returns-clause-all : goal.returns-clause-all
 returns-clause-all g c all =

@@ -10,7 +10,8 @@ loop-part-preserved-in-Some g c =
     let keeps = g.E.Evidence.keeps in
     let t = c.args.table.now in
     let blocks = c.args.blocks.now in
-    let split = first_and_others (IsPartOf keeps t blocks) c.in-Some.part (into_iter_items c.next.new.self) (into_iter_items c.loop-part.part-iterator) c.in-Some.ensures.steps.0 c.loop-part.invariant.left in
+    let split = first_and_others (IsPartOf keeps t blocks) c.in-Some.part (into_iter_items c.next.new.self)
+    (into_iter_items c.loop-part.part-iterator) c.in-Some.ensures.steps.0 c.loop-part.invariant.left in
     record {
       can_next = tt;
       is_finite = tt;
@@ -23,7 +24,8 @@ loop-part-preserved g c =
     let keeps = g.E.Evidence.keeps in
     let t = c.args.table.now in
     let blocks = c.args.blocks.now in
-    let split = first_and_others (IsPartOf keeps t blocks) c.in-Some.part (into_iter_items c.next.new.self) (into_iter_items c.loop-part.part-iterator) c.in-Some.ensures.steps.0 c.loop-part.invariant.left in
+    let split = first_and_others (IsPartOf keeps t blocks) c.in-Some.part (into_iter_items c.next.new.self)
+    (into_iter_items c.loop-part.part-iterator) c.in-Some.ensures.steps.0 c.loop-part.invariant.left in
     record {
       can_next = tt;
       is_finite = tt;
@@ -34,5 +36,6 @@ loop-part-preserved g c =
 pub index_mut-requires : goal.index_mut-requires
 index_mut-requires g c =
     let blocks = c.args.blocks.now in
-    let part = (first_and_others (IsPartOf g.E.Evidence.keeps c.args.table.now blocks) c.in-Some.part (into_iter_items c.next.new.self) (into_iter_items c.loop-part.part-iterator) c.in-Some.ensures.steps.0 c.loop-part.invariant.left).0 in
+    let part = (first_and_others (IsPartOf g.E.Evidence.keeps c.args.table.now blocks) c.in-Some.part (into_iter_items c.next.new.self)
+    (into_iter_items c.loop-part.part-iterator) c.in-Some.ensures.steps.0 c.loop-part.invariant.left).0 in
     omega (arith, slice_get_within blocks c.in-Some.part.place part.block part.stands, c.loop-part.invariant.slots.long, c.loop-part.slots.ok)

@@ -41,7 +41,8 @@ loop-slot-preserved g c =
       left = now.1.1;
       done =
           subst (λ (l : List Block). KeepsFor keeps t (choices_of_all t l) c.append.new.self) (sym (take_more blocks place c.index-blocks-place.result within))
-          (keeps_more t keeps (live_in t) (take place blocks) here c.loop-slot.evidence c.in_ok-part.part c.append.new.self (λ kept more a b. c.in_ok-append.ensures kept more a b) c.loop-slot.invariant.done own);
+          (keeps_more t keeps (live_in t) (take place blocks) here c.loop-slot.evidence c.in_ok-part.part c.append.new.self
+          (λ kept more a b. c.in_ok-append.ensures kept more a b) c.loop-slot.invariant.done own);
     }
 
 pub overflow_add-place : goal.overflow_add-place
@@ -54,5 +55,6 @@ returns g c =
     let t = c.args.table.now in
     let blocks = c.args.blocks.now in
     let place = c.loop-slot.place in
-    let past : length blocks ≤ place = omega (arith, c.in-None.ensures.steps.0, ap (λ (l : List _). length l) c.loop-slot.invariant.left, length-drop place c.args.slots.items, c.requires.slots.long) in
+    let past : length blocks ≤ place = omega
+    (arith, c.in-None.ensures.steps.0, ap (λ (l : List _). length l) c.loop-slot.invariant.left, length-drop place c.args.slots.items, c.requires.slots.long) in
     subst (λ (l : List Block). KeepsFor g.E.Evidence.keeps t (choices_of_all t l) c.loop-slot.evidence) (take_all place blocks past) c.loop-slot.invariant.done

@@ -6,7 +6,8 @@ use Rattle.cn_search.proofs.parts.slots_of.Goals as goal
 
 pub loop-parts-preserved : goal.loop-parts-preserved
 loop-parts-preserved g c =
-    let split = first_and_others (λ parts. All (IsPartOf g.E.Evidence.keeps c.args.table.now c.args.blocks.now) parts.items) c.in-Some.parts (into_iter_items c.next.new.self) (into_iter_items c.loop-parts.parts-iterator) c.in-Some.ensures.steps.0
+    let split = first_and_others (λ parts. All (IsPartOf g.E.Evidence.keeps c.args.table.now c.args.blocks.now) parts.items) c.in-Some.parts (into_iter_items c.next.new.self)
+    (into_iter_items c.loop-parts.parts-iterator) c.in-Some.ensures.steps.0
     c.loop-parts.invariant.left in
     record {
       can_next = tt;
@@ -17,7 +18,8 @@ loop-parts-preserved g c =
 
 pub fill-requires-clause-parts : goal.fill-requires-clause-parts
 fill-requires-clause-parts g c =
-    (first_and_others (λ parts. All (IsPartOf g.E.Evidence.keeps c.args.table.now c.args.blocks.now) parts.items) c.in-Some.parts (into_iter_items c.next.new.self) (into_iter_items c.loop-parts.parts-iterator) c.in-Some.ensures.steps.0
+    (first_and_others (λ parts. All (IsPartOf g.E.Evidence.keeps c.args.table.now c.args.blocks.now) parts.items) c.in-Some.parts (into_iter_items c.next.new.self)
+    (into_iter_items c.loop-parts.parts-iterator) c.in-Some.ensures.steps.0
     c.loop-parts.invariant.left).0
 
 pub loop-parts-init : goal.loop-parts-init

@@ -10,7 +10,8 @@ use Rattle.cn_search.proofs.FindingLemmas.{first_known, stocks_decide, witness_f
 use Rattle.cn_search.proofs.search.witness_at.Goals as goal
 
 -- what the search of the kept blocks answers
-first_of : (t : TypeTable) (n : ℕ) → (NoneIsWitness t (live_choices t n) → ¬ IsDiscerning t n) → IsDiscerning t n → choices_of_all t (live_blocks t n) ≡ live_choices t n → (kept : List Block) → HaveFirstOf t (live_blocks t n) kept
+first_of : (t : TypeTable) (n : ℕ) → (NoneIsWitness t (live_choices t n) → ¬ IsDiscerning t n) → IsDiscerning t n → choices_of_all t (live_blocks t n) ≡ live_choices t n
+    → (kept : List Block) → HaveFirstOf t (live_blocks t n) kept
     → (r : Result (Option Choice) AllocError) → IfOk r (IsFirstAmong (IsWitness t) (choices_of_all t kept)) → IfOk r (λ found. IsSomeAnd found (IsFirstWitness t (live_choices t n)))
 first_of t n refuted is whole kept first (Err e) h = tt
 first_of t n refuted is whole kept first (Ok found) h = witness_found t n refuted is found (subst (λ (l : List Choice). IsFirstAmong (IsWitness t) l found) whole (first found h))

@@ -43,7 +43,8 @@ loop-block-preserved g c =
     let is = c.block_list.ensures.blocks t n k c.requires.few listed in
     let has = has_splitting t n c.in_ok-starts.starts (λ choice is w. c.starts_of_witnesses.ensures t n choice c.requires.some is w) c.in_ok-starts.ensures in
     let state : c.block.inside.state.0 ≡ k.state = ap (λ (k : Block). k.state) c.block.view_is in
-    let out : IsBitSet c.in_ok-starts.starts k.state → ⊥ = λ b. true≢false (sym (c.contains.ensures.1 (subst (λ (q : ℕ). IsBitSet c.in_ok-starts.starts q) (sym state) b)) ∙ c.if-contains.false) in record {
+    let out : IsBitSet c.in_ok-starts.starts k.state
+    → ⊥ = λ b. true≢false (sym (c.contains.ensures.1 (subst (λ (q : ℕ). IsBitSet c.in_ok-starts.starts q) (sym state) b)) ∙ c.if-contains.false) in record {
       can_next = tt;
       is_finite = tt;
       all = rw append_assoc (rw c.in-Some.ensures.steps at i.all);

@@ -18,7 +18,8 @@ returns-then-not-some_holds g c =
     let n = c.loop-n.n in
     let i = c.loop-n.invariant in
     let next = next_for Recording c.loop-n.search.question t (n + 1) c.in_ok-search-2.search i.search_is.0 c.in_ok-search-2.ensures in
-    let none : SomeRecords t (n + 1) → ⊥ = λ s. true≢false (sym ((found_by Recording t (n + 1) c.in_ok-search-2.search next c.some_holds.result c.some_holds.ensures).1 s) ∙ c.if-not-some_holds.true) in
+    let none : SomeRecords t (n + 1) → ⊥ = λ s. true≢false
+    (sym ((found_by Recording t (n + 1) c.in_ok-search-2.search next c.some_holds.result c.some_holds.ensures).1 s) ∙ c.if-not-some_holds.true) in
     record_up_to t c.args.most n c.loop-n.greatest (omega (arith, c.loop-n-test.true)) i.found i.none
     (λ m l u. none_above Recording t (n + 1) (omega (arith, c.loop-n.auto.n)) none m (omega (arith, l)))
 

@@ -14,7 +14,8 @@ loop-operation-preserved c =
     let grown = c.loop-operation.grown in
     elim c.if-meet.branch [
       | then-meet w ↦ (
-          let added : (q : ℕ) → IsBitSet c.if-meet.grown q ↔ (IsBitSet grown q ⊎ HasAt sets k q) = λ q. subst (λ (set : ℕ). IsBitSet set q ↔ (IsBitSet grown q ⊎ HasAt sets k q)) (sym w.grown-is) (w.union-grown.ensures q) in
+          let added : (q : ℕ) → IsBitSet c.if-meet.grown q ↔ (IsBitSet grown q ⊎ HasAt sets k q) = λ q. subst (λ (set : ℕ). IsBitSet set q ↔ (IsBitSet grown q ⊎ HasAt sets k q))
+          (sym w.grown-is) (w.union-grown.ensures q) in
           let common = c.meet.ensures.0 w.if-meet.true in
           record {
             long = i.long;

@@ -14,7 +14,8 @@ loop-operation-init c = record {
 pub loop-operation-preserved : goal.loop-operation-preserved
 loop-operation-preserved c = record {
   long = c.loop-operation.invariant.long;
-  all_is = λ q. one_more (λ f. HasAt c.args.sets.now f q) c.loop-operation.operation (IsBitSet c.loop-operation.all q) (IsBitSet c.union-all.result q) (c.loop-operation.invariant.all_is q) (c.union-all.ensures q);
+  all_is = λ q. one_more (λ f. HasAt c.args.sets.now f q) c.loop-operation.operation (IsBitSet c.loop-operation.all q) (IsBitSet c.union-all.result q)
+      (c.loop-operation.invariant.all_is q) (c.union-all.ensures q);
 }
 
 pub returns : goal.returns

@@ -39,7 +39,8 @@ loop-operation-preserved c =
           record {
             reached = subst (λ (set : ℕ). AreReached t u items c.args.first set) (sym w.grown-is) i.reached;
             kept = λ g b. back g (i.kept g b);
-            closed = λ g l j. back g (elim (below_or_last g k l) [ inl a ↦ i.closed g a j | inr e ↦ subst (λ (x : ℕ). IsBitSet c.loop-operation.grown x) (sym e) (here (subst (λ (x : ℕ). IsJoinedWithSome t u items reached x) e j)) ]);
+            closed = λ g l j. back g (elim (below_or_last g k l)
+                [ inl a ↦ i.closed g a j | inr e ↦ subst (λ (x : ℕ). IsBitSet c.loop-operation.grown x) (sym e) (here (subst (λ (x : ℕ). IsJoinedWithSome t u items reached x) e j)) ]);
           }
           )
     ]

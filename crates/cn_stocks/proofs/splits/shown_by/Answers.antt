@@ -26,7 +26,8 @@ returns-in-Some c r q =
     let less = c.in-Some.ensures in
     let next : c.apply.result.1.0 ≡ (transition t f u).1 = ap (λ (p : ℕ × ℕ). p.1) c.apply.ensures.value in
     let new : Type 0 = ShowsWithin t c.apply.result.1.0 less.0 a r q in
-    shown_by_is t u items (removal_of s.level.now.stocks.list.items items s.stock.now.less c.requires.setting.stock_is.smaller) f a r q (Has c.if-first-asked.set r q) new (Has c.add_to.new.set r q) base
+    shown_by_is t u items (removal_of s.level.now.stocks.list.items items s.stock.now.less c.requires.setting.stock_is.smaller) f a r q (Has c.if-first-asked.set r q) new
+    (Has c.add_to.new.set r q) base
     (shows_part_is t u items f less.0 less.1 a r q new (subst (λ (n : ℕ). new ↔ ShowsWithin t n less.0 a r q) next (λ x. x, λ x. x))) (c.add_to.ensures t less.0 less.2 c.apply.ensures.next r q)
 
 pub returns-in_default : goal.returns-in_default

@@ -53,5 +53,6 @@ pub returns : goal.returns
 returns c =
     let s = c.args.setting.now in (
       λ h. absurd (true≢false (sym h)),
-      λ splits. absurd (whole s.table.now c.args.start s.stock.now.operations.items s.stock.now.greatest c.loop-left.reached c.loop-left.invariant.are (c.covers.ensures.0 c.loop-left-test.false) splits),
+      λ splits. absurd (whole s.table.now c.args.start s.stock.now.operations.items s.stock.now.greatest c.loop-left.reached c.loop-left.invariant.are
+          (c.covers.ensures.0 c.loop-left-test.false) splits),
     )

@@ -33,14 +33,17 @@ loop-operation-preserved c =
           let less = w.in-Some.ensures in
           let next : w.apply.result.1.0 ≡ (transition t k u).1 = ap (λ (p : ℕ × ℕ). p.1) w.apply.ensures.value in
           let new = get_or w.in-Some.ends.now.states w.apply.result.1.0 0 in
-          let here : (q : ℕ) → IsBitSet new q ↔ EndsIn t u items k q = λ q. left_is t u items k less.0 less.1 q (IsBitSet new q) (subst (λ (n : ℕ). IsBitSet new q ↔ EndsWithin t n less.0 q) next (less.2 w.apply.result.1.0 w.apply.ensures.next q)) in
+          let here : (q : ℕ) → IsBitSet new q ↔ EndsIn t u items k q = λ q. left_is t u items k less.0 less.1 q (IsBitSet new q)
+          (subst (λ (n : ℕ). IsBitSet new q ↔ EndsWithin t n less.0 q) next (less.2 w.apply.result.1.0 w.apply.ensures.next q)) in
           record {
             long = ap length w.sets-is ∙ (length-set sets k new ∙ i.long);
             done = λ f q l. subst (λ (all : List ℕ). HasAt all f q ↔ EndsIn t u items f q) (sym w.sets-is) (elim (same_or f k) [
-              | inl e ↦ subst (λ (x : ℕ). HasAt (set sets k new) x q ↔ EndsIn t u items x q) (sym e) (subst (λ (s : ℕ). IsBitSet s q ↔ EndsIn t u items k q) (sym (get_or-set_same sets k new 0 room)) (here q))
+              | inl e ↦ subst (λ (x : ℕ). HasAt (set sets k new) x q ↔ EndsIn t u items x q) (sym e)
+                  (subst (λ (s : ℕ). IsBitSet s q ↔ EndsIn t u items k q) (sym (get_or-set_same sets k new 0 room)) (here q))
               | inr n ↦ subst (λ (s : ℕ). IsBitSet s q ↔ EndsIn t u items f q) (sym (get_or-set_other sets k f new 0 n)) (i.done f q (omega (arith, l, n)))
             ]);
-            none = λ f q l h. i.none f q (omega (arith, l)) (subst (λ (s : ℕ). IsBitSet s q) (get_or-set_other sets k f new 0 (λ e. absurd (omega (arith, l, e)))) (subst (λ (all : List ℕ). HasAt all f q) w.sets-is h));
+            none = λ f q l h. i.none f q (omega (arith, l))
+                (subst (λ (s : ℕ). IsBitSet s q) (get_or-set_other sets k f new 0 (λ e. absurd (omega (arith, l, e)))) (subst (λ (all : List ℕ). HasAt all f q) w.sets-is h));
           }
           )
       | in_default w ↦ record {
@@ -61,7 +64,8 @@ returns c f q =
     let s = c.args.setting.now in
     let items = s.stock.now.operations.items in
     let i = c.loop-operation.invariant in
-    let end : c.loop-operation.operation ≡ length s.table.now.operations = omega (arith, c.operations-operation-end.ensures.number, c.loop-operation-test.false, c.loop-operation.auto.operation-end) in (
+    let end : c.loop-operation.operation ≡ length s.table.now.operations = omega
+    (arith, c.operations-operation-end.ensures.number, c.loop-operation-test.false, c.loop-operation.auto.operation-end) in (
       λ h. elim (before_or_behind f c.loop-operation.operation) [ inl l ↦ (i.done f q l).0 h | inr l ↦ absurd (i.none f q l h) ],
       λ e. (i.done f q (omega (arith, end, c.requires.setting.next.stock_is.known f (left_first s.table.now c.args.start items f q e)))).1 e,
     )

@@ -12,7 +12,8 @@ pub loop-operation-init : goal.loop-operation-init
 loop-operation-init c r q =
     let s = c.args.setting.now in
     let items = s.stock.now.operations.items in
-    gathered_first (ShowsAtOnce s.table.now c.args.start items c.args.asked r q) (ShowsPart s.table.now c.args.start items c.args.asked r q) (Has c.shown_at_once-set.result r q) (c.shown_at_once-set.ensures r q)
+    gathered_first (ShowsAtOnce s.table.now c.args.start items c.args.asked r q) (ShowsPart s.table.now c.args.start items c.args.asked r q) (Has c.shown_at_once-set.result r q)
+    (c.shown_at_once-set.ensures r q)
 
 pub loop-operation-preserved : goal.loop-operation-preserved
 loop-operation-preserved c r q =

@@ -17,7 +17,8 @@ loop-start-preserved c = each_push _ c.loop-start.sets.items c.push.new.self.ite
 pub returns : goal.returns
 returns c start below =
     let i = c.loop-start.invariant in
-    i.1 start (set_at c.loop-start.sets.items start) (slice_get-get_or c.loop-start.sets.items start (record { states = [] }) (omega (arith, below, i.0, c.states-end.ensures.number, c.loop-start-test.false, c.loop-start.auto.start-end)))
+    i.1 start (set_at c.loop-start.sets.items start)
+    (slice_get-get_or c.loop-start.sets.items start (record { states = [] }) (omega (arith, below, i.0, c.states-end.ensures.number, c.loop-start-test.false, c.loop-start.auto.start-end)))
 
 pub returns-then-not-has : goal.returns-then-not-has
 returns-then-not-has c start below r q =

@@ -9,7 +9,8 @@ pub returns : goal.returns
 returns c =
     let to_find = command_more _ _ c.with_command-to_find.result _ find_words c.program.ensures c.find.ensures refl c.with_command-to_find.ensures in
     let none : Unit {0} → Type 0 = λ _. Unit {0} in
-    let to_classify = form_more none document_forms _ _ c.with_command-to_classify.result (λ _. program_with (find_words ∷ [])) classify_words (IfOk-weaker c.with_command-to_find.result _ _ (λ _ is. (tt, tt, is)) to_find) c.classify.ensures (λ _. refl) c.with_command-to_classify.ensures in
+    let to_classify = form_more none document_forms _ _ c.with_command-to_classify.result (λ _. program_with (find_words ∷ [])) classify_words
+    (IfOk-weaker c.with_command-to_find.result _ _ (λ _ is. (tt, tt, is)) to_find) c.classify.ensures (λ _. refl) c.with_command-to_classify.ensures in
     let by_classify : Unit {0} × ValueParser → Type 0 = Taking none document_forms in
     let to_lint = form_more by_classify answer_forms _ _ c.with_command-to_lint.result _ lint_words to_classify c.lint.ensures (λ _. refl) c.with_command-to_lint.ensures in
     let by_lint : (Unit {0} × ValueParser) × ValueParser → Type 0 = Taking by_classify answer_forms in
@@ -27,10 +28,33 @@ returns c =
     let to_agree = form_more by_show answer_forms _ _ c.with_command-to_agree.result _ agree_words to_draw c.agree.ensures (λ _. refl) c.with_command-to_agree.ensures in
     let by_agree : (((((((Unit {0} × ValueParser) × ValueParser) × ValueParser) × ValueParser) × ValueParser) × ValueParser) × ValueParser) × ValueParser → Type 0 = Taking by_show answer_forms in
     let to_replay = form_more by_agree answer_forms _ _ c.with_command-to_replay.result _ replay_words to_agree c.replay.ensures (λ _. refl) c.with_command-to_replay.ensures in
-    let by_replay : ((((((((Unit {0} × ValueParser) × ValueParser) × ValueParser) × ValueParser) × ValueParser) × ValueParser) × ValueParser) × ValueParser) × ValueParser → Type 0 = Taking by_agree answer_forms in
+    let by_replay : ((((((((Unit {0} × ValueParser) × ValueParser) × ValueParser) × ValueParser) × ValueParser) × ValueParser) × ValueParser) × ValueParser) × ValueParser
+    → Type 0 = Taking by_agree answer_forms in
     let to_serve = form_more by_replay answer_forms _ _ c.with_command.result _ serve_words to_replay c.serve.ensures (λ _. refl) c.with_command.ensures in
     IfOk-weaker c.with_command.result _ _ (λ _ is. (
-      record { classify = is.0.0.0.0.0.0.0.0.0.0.1; lint = is.0.0.0.0.0.0.0.0.0.1; check = is.0.0.0.0.0.0.0.0.1; explain = is.0.0.0.0.0.0.0.1; why = is.0.0.0.0.0.0.1; pairs = is.0.0.0.0.0.1; show = is.0.0.0.0.1; agree = is.0.0.0.1; replay = is.0.0.1; serve = is.0.1 },
-      record { classify = is.1.0.0.0.0.0.0.0.0.0.1; lint = is.1.0.0.0.0.0.0.0.0.1; check = is.1.0.0.0.0.0.0.0.1; explain = is.1.0.0.0.0.0.0.1; why = is.1.0.0.0.0.0.1; pairs = is.1.0.0.0.0.1; show = is.1.0.0.0.1; agree = is.1.0.0.1; replay = is.1.0.1; serve = is.1.1 },
+      record {
+        classify = is.0.0.0.0.0.0.0.0.0.0.1;
+        lint = is.0.0.0.0.0.0.0.0.0.1;
+        check = is.0.0.0.0.0.0.0.0.1;
+        explain = is.0.0.0.0.0.0.0.1;
+        why = is.0.0.0.0.0.0.1;
+        pairs = is.0.0.0.0.0.1;
+        show = is.0.0.0.0.1;
+        agree = is.0.0.0.1;
+        replay = is.0.0.1;
+        serve = is.0.1;
+      },
+      record {
+        classify = is.1.0.0.0.0.0.0.0.0.0.1;
+        lint = is.1.0.0.0.0.0.0.0.0.1;
+        check = is.1.0.0.0.0.0.0.0.1;
+        explain = is.1.0.0.0.0.0.0.1;
+        why = is.1.0.0.0.0.0.1;
+        pairs = is.1.0.0.0.0.1;
+        show = is.1.0.0.0.1;
+        agree = is.1.0.0.1;
+        replay = is.1.0.1;
+        serve = is.1.1;
+      },
       is.2,
     )) to_serve

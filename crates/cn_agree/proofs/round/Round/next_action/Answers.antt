@@ -10,7 +10,8 @@ use Rattle.cn_agree.proofs.round.Round.next_action.Goals.{After-path-path}
 
 -- the turn of the process
 turn : (g : _) (c : After-path-path g)
-    → IsTurn c.args.plan.now c.args.self.now c.args.p c.in-Active.value (record { here = slice_index_or c.path-path.result.now c.in-Active.place nowhere; place = c.in-Active.place; places = length c.path-path.result.now; stage = c.in-Active.stage })
+    → IsTurn c.args.plan.now c.args.self.now c.args.p c.in-Active.value
+    (record { here = slice_index_or c.path-path.result.now c.in-Active.place nowhere; place = c.in-Active.place; places = length c.path-path.result.now; stage = c.in-Active.stage })
 turn g c = turn_read c.args.plan.now c.requires.of_plan c.requires.process c.plans_are_sound.ensures.reachable c.self.view_is c.from.ensures c.index.ensures c.in-Active.is c.path-path.ensures
 
 pub offset_bounds-path-place : goal.offset_bounds-path-place
@@ -20,7 +21,8 @@ pub bounds-path-place : goal.bounds-path-place
 bounds-path-place g c = (turn g c).place
 
 pub index-node-requires : goal.index-node-requires
-index-node-requires g c = let less : c.from-in-Active.result < length c.self.inside.nodes.items = node_within c.self.view_is c.from-in-Active.ensures (turn g (goal.at.index-node-requires g c).After-path-path).node in omega arith
+index-node-requires g c = let less : c.from-in-Active.result < length c.self.inside.nodes.items = node_within c.self.view_is c.from-in-Active.ensures
+    (turn g (goal.at.index-node-requires g c).After-path-path).node in omega arith
 
 pub action_at-requires-clause-role : goal.action_at-requires-clause-role
 action_at-requires-clause-role g c = (turn g (goal.at.action_at-requires-clause-role g c).After-path-path).role

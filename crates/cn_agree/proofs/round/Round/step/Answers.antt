@@ -10,7 +10,8 @@ use Rattle.cn_agree.proofs.round.Round.step.Goals.{After-path-path}
 
 -- the turn of the process
 turn : (g : _) (c : After-path-path g)
-    → IsTurn c.args.plan.now c.args.self.now c.args.p c.in-Active.value (record { here = slice_index_or c.path-path.result.now c.in-Active.place nowhere; place = c.in-Active.place; places = length c.path-path.result.now; stage = c.in-Active.stage })
+    → IsTurn c.args.plan.now c.args.self.now c.args.p c.in-Active.value
+    (record { here = slice_index_or c.path-path.result.now c.in-Active.place nowhere; place = c.in-Active.place; places = length c.path-path.result.now; stage = c.in-Active.stage })
 turn g c = turn_read c.args.plan.now c.requires.of_plan c.requires.process c.plans_are_sound.ensures.reachable c.self.view_is c.from.ensures c.index.ensures c.in-Active.is c.path-path.ensures
 
 pub offset_bounds-path-place : goal.offset_bounds-path-place
@@ -20,7 +21,8 @@ pub bounds-path-place : goal.bounds-path-place
 bounds-path-place g c = (turn g c).place
 
 pub index_mut-node-requires : goal.index_mut-node-requires
-index_mut-node-requires g c = let less : c.from-in-Active.result < length c.self.inside.nodes.items = node_within c.self.view_is c.from-in-Active.ensures (turn g (goal.at.index_mut-node-requires g c).After-path-path).node in omega arith
+index_mut-node-requires g c = let less : c.from-in-Active.result < length c.self.inside.nodes.items = node_within c.self.view_is c.from-in-Active.ensures
+    (turn g (goal.at.index_mut-node-requires g c).After-path-path).node in omega arith
 
 pub act-requires-clause-role : goal.act-requires-clause-role
 act-requires-clause-role g c = (turn g (goal.at.act-requires-clause-role g c).After-path-path).role
@@ -55,7 +57,8 @@ after : (g : _) (c : goal.After-self-in-Active-1 g) → (let w : World g.row.V.D
 after g c =
     let t = turn g (goal.at.returns-clause-world g c).After-path-path in
     let local = local_read c.self.view_is c.from-in-Active-2.ensures t.process c.index_mut-local.ensures.value ∙ t.local in
-    steps_is c.args.plan.now t c.self.view_is c.from-in-Active-2.ensures c.from-in-Active.ensures c.index_mut-node.ensures.value (c.act.ensures.node c.in-Active.value local) (c.act.ensures.local c.in-Active.value local) c.first_after-self-inside.ensures
+    steps_is c.args.plan.now t c.self.view_is c.from-in-Active-2.ensures c.from-in-Active.ensures c.index_mut-node.ensures.value (c.act.ensures.node c.in-Active.value local)
+    (c.act.ensures.local c.in-Active.value local) c.first_after-self-inside.ensures
 
 pub returns-clause-world : goal.returns-clause-world
 returns-clause-world g c = after g c

@@ -14,6 +14,7 @@ pub returns-in-Err-clause-text : goal.returns-in-Err-clause-text
 returns-in-Err-clause-text g c =
     inr (
       inl c.in_ok-fill.ensures.ended,
-      argument_refused c.args.argument c.fill.new.self.bytes.items c.without_line_feed.result.now c.in_ok-fill.ensures.ended.1 (c.without_line_feed.ensures ∙ ap without_line_feed c.deref.ensures.value)
+      argument_refused c.args.argument c.fill.new.self.bytes.items c.without_line_feed.result.now c.in_ok-fill.ensures.ended.1
+          (c.without_line_feed.ensures ∙ ap without_line_feed c.deref.ensures.value)
           c.in-Err.ensures.cases.0,
     )

@@ -13,4 +13,12 @@ returns-in_err-table-clause-agreed g c =
 pub returns-clause-agreed : goal.returns-clause-agreed
 returns-clause-agreed g c =
     reported g.W.Write.contents (HasLivesReport c.read_table.new.text c.args.inputs.now c.args.schedule.now c.args.asked) c.args.output.now c.report.new.self c.lives_report.result c.report.result
-    (inr (c.in_ok-lists.lists, c.in_ok-lists.ensures, inr (c.in_ok-table.table, c.in_ok-table.ensures.table, lived_as c.in_ok-table.table _ _ _ _ c.args.asked c.lives_report.result c.deref.ensures.value c.deref-2.ensures.value c.lives_report.ensures))) c.report.ensures
+    (inr (
+      c.in_ok-lists.lists,
+      c.in_ok-lists.ensures,
+      inr (
+        c.in_ok-table.table,
+        c.in_ok-table.ensures.table,
+        lived_as c.in_ok-table.table _ _ _ _ c.args.asked c.lives_report.result c.deref.ensures.value c.deref-2.ensures.value c.lives_report.ensures,
+      ),
+    )) c.report.ensures

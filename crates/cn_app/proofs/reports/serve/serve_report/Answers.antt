@@ -20,7 +20,8 @@ serve_calls-requires-clause-operations g c κs within =
 
 pub service_text-requires-clause-range : goal.service_text-requires-clause-range
 service_text-requires-clause-range g c =
-    each_has_responses c.object.result.now c.args.calls.now c.in_ok-service.service.core c.in_ok-service.service.processes.items (sym (c.object.ensures ∙ ap (λ (o : Opening). o.object) c.opening-opening.ensures))
+    each_has_responses c.object.result.now c.args.calls.now c.in_ok-service.service.core c.in_ok-service.service.processes.items
+    (sym (c.object.ensures ∙ ap (λ (o : Opening). o.object) c.opening-opening.ensures))
     c.in_ok-service.ensures.count c.in_ok-service.ensures.served
 
 pub returns : goal.returns

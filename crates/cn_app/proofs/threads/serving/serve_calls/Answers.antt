@@ -15,29 +15,35 @@ answer_each-requires-clause-seats g c κs within =
 pub close-core-requires-clause-of : goal.close-core-requires-clause-of
 close-core-requires-clause-of g c =
     let count : length c.in-Ok.seats.items ≡ length c.args.calls.now = c.in-Ok.ensures.count ∙ sym c.requires.processes in
-    left_of c.in-Ok.hall c.args.core c.args.calls.now c.in-Ok.seats.items count (λ p less. c.in-Ok.ensures.seats p (omega (arith, less, c.requires.processes))) c.in-Some.seats.items c.in-Some.worked.items c.in-Some.ensures.seats.0
+    left_of c.in-Ok.hall c.args.core c.args.calls.now c.in-Ok.seats.items count
+    (λ p less. c.in-Ok.ensures.seats p (omega (arith, less, c.requires.processes))) c.in-Some.seats.items c.in-Some.worked.items c.in-Some.ensures.seats.0
     c.in-Some.ensures.rooms.0 c.in-Some.ensures.worked
 
 pub returns-clause-opening : goal.returns-clause-opening
 returns-clause-opening g c =
     let count : length c.in-Ok.seats.items ≡ length c.args.calls.now = c.in-Ok.ensures.count ∙ sym c.requires.processes in
-    same_opening c.in-Ok.hall c.args.core c.args.calls.now c.in-Ok.seats.items count (λ p less. c.in-Ok.ensures.seats p (omega (arith, less, c.requires.processes))) c.in-Some.seats.items c.in-Some.worked.items
+    same_opening c.in-Ok.hall c.args.core c.args.calls.now c.in-Ok.seats.items count
+    (λ p less. c.in-Ok.ensures.seats p (omega (arith, less, c.requires.processes))) c.in-Some.seats.items c.in-Some.worked.items
     c.in-Some.ensures.seats.0 c.in-Some.ensures.rooms.0 c.in-Some.ensures.worked c.close-core.result c.close-core.ensures.carries
     (omega (arith, c.processes.ensures.range.0, c.processes.ensures.number, c.requires.processes))
 
 pub returns-clause-served : goal.returns-clause-served
 returns-clause-served g c =
     let count : length c.in-Ok.seats.items ≡ length c.args.calls.now = c.in-Ok.ensures.count ∙ sym c.requires.processes in
-    serve_all c.in-Ok.hall c.args.core c.args.calls.now c.in-Ok.seats.items count (λ p less. c.in-Ok.ensures.seats p (omega (arith, less, c.requires.processes))) c.in-Some.seats.items c.in-Some.worked.items c.in-Some.ensures.seats.0
+    serve_all c.in-Ok.hall c.args.core c.args.calls.now c.in-Ok.seats.items count
+    (λ p less. c.in-Ok.ensures.seats p (omega (arith, less, c.requires.processes))) c.in-Some.seats.items c.in-Some.worked.items c.in-Some.ensures.seats.0
     c.in-Some.ensures.rooms.0 c.in-Some.ensures.worked c.close-core.result c.close-core.ensures.carries c.close-core.ensures.slots c.close-core.ensures.answers
 
 pub returns-clause-gates : goal.returns-clause-gates
 returns-clause-gates g c =
     let count : length c.in-Ok.seats.items ≡ length c.args.calls.now = c.in-Ok.ensures.count ∙ sym c.requires.processes in
-    let opened = same_opening c.in-Ok.hall c.args.core c.args.calls.now c.in-Ok.seats.items count (λ p less. c.in-Ok.ensures.seats p (omega (arith, less, c.requires.processes))) c.in-Some.seats.items c.in-Some.worked.items
+    let opened = same_opening c.in-Ok.hall c.args.core c.args.calls.now c.in-Ok.seats.items count
+    (λ p less. c.in-Ok.ensures.seats p (omega (arith, less, c.requires.processes))) c.in-Some.seats.items c.in-Some.worked.items
     c.in-Some.ensures.seats.0 c.in-Some.ensures.rooms.0 c.in-Some.ensures.worked c.close-core.result c.close-core.ensures.carries
     (omega (arith, c.processes.ensures.range.0, c.processes.ensures.number, c.requires.processes)) in
-    one_gate_each c.in-Ok.hall c.args.core c.args.calls.now c.in-Ok.seats.items count (λ p less. c.in-Ok.ensures.seats p (omega (arith, less, c.requires.processes))) c.in-Some.seats.items c.in-Some.worked.items
+    one_gate_each c.in-Ok.hall c.args.core c.args.calls.now c.in-Ok.seats.items count
+    (λ p less. c.in-Ok.ensures.seats p (omega (arith, less, c.requires.processes))) c.in-Some.seats.items c.in-Some.worked.items
     c.in-Some.ensures.seats.0 c.in-Some.ensures.rooms.0 c.in-Some.ensures.worked c.close-core.result c.close-core.ensures.carries
-    g.G.Gate.asks g.G.Gate.says _ c.in_ok-gates.gates.items (c.in_ok-gates.ensures.count ∙ c.processes.ensures.number ∙ sym c.in-Ok.ensures.count) c.in-Some.ensures.asked c.in_ok-gates.ensures.made c.requires.empty
+    g.G.Gate.asks g.G.Gate.says _ c.in_ok-gates.gates.items
+    (c.in_ok-gates.ensures.count ∙ c.processes.ensures.number ∙ sym c.in-Ok.ensures.count) c.in-Some.ensures.asked c.in_ok-gates.ensures.made c.requires.empty
     (ap (λ (o : Opening). processes_of o.plan) opened ∙ sym c.requires.processes)

@@ -20,7 +20,8 @@ scoped-both-requires g t c =
     let same : length seats ≡ length rooms = omega (arith, longer, also, c.requires.rooms.1, length-append seats (c.in-Some.seat ∷ []), length-append rooms (c.in-Some-Some.room ∷ [])) in
     let gates = All-pop (λ (x : g.row.G.Denot). g.G.Gate.says x ≡ On) c.args.gates.items c.pop-3.new.self.items (Some c.in-Some-Some.gate) c.in-Some-Some.ensures'.items c.requires.gates.0 in
     let shorter = ap length c.in-Some-Some.ensures'.items in
-    let gone : length c.pop-3.new.self.items ≡ length seats = omega (arith, longer, shorter, c.requires.gates.1, length-append seats (c.in-Some.seat ∷ []), length-append c.pop-3.new.self.items (c.in-Some-Some.gate ∷ [])) in
+    let gone : length c.pop-3.new.self.items ≡ length seats = omega
+    (arith, longer, shorter, c.requires.gates.1, length-append seats (c.in-Some.seat ∷ []), length-append c.pop-3.new.self.items (c.in-Some-Some.gate ∷ [])) in
     record {
       at = λ a. (
         search rules,
@@ -55,7 +56,8 @@ returns-clause-worked g t c =
     let less : length seats < length c.args.calls.now = omega (arith, longer, c.requires.seats.1, length-append seats (c.in-Some.seat ∷ [])) in
     let at : c.len.result ≡ length seats = search rules in
     let mine = read_at c.args.calls.now c.len.result (length seats) c.index-calls-len.result at less c.index-calls-len.is in
-    subst (λ (z : List SeatState × List SeatState × List ProcessHistory). HaveAllWorked c.args.calls.now z.0 z.1 z.2) (λ i. (sym c.in-Some.ensures.items i, sym c.push_reserved.ensures.items i, sym c.push_reserved-2.ensures.items i))
+    subst (λ (z : List SeatState × List SeatState × List ProcessHistory). HaveAllWorked c.args.calls.now z.0 z.1 z.2)
+    (λ i. (sym c.in-Some.ensures.items i, sym c.push_reserved.ensures.items i, sym c.push_reserved-2.ensures.items i))
     (one_more_worked c.args.calls.now seats c.in_ok-seats.seats.items c.in_ok-seats.worked.items c.in-Some.seat c.in_ok-seats.seat c.in_ok-seats.last h.1.0.0 h.1.1.0.0 h.1.1.1.0
     (λ d got. let same : Some c.index-calls-len.result ≡ Some d = sym mine ∙ got in let is : c.index-calls-len.result ≡ d = cc in
     subst (λ (v : Vec ℕ Global). HasWorked v.items c.in-Some.seat c.in_ok-seats.seat c.in_ok-seats.last.replies.items c.in_ok-seats.last.end) is h.1.1.1.1.1.0))
@@ -70,5 +72,6 @@ returns-clause-asked g t c =
     let same : length gates ≡ length seats = omega (arith, longer, shorter, c.requires.gates.1, length-append seats (c.in-Some.seat ∷ []), length-append gates (c.in-Some-Some.gate ∷ [])) in
     subst (λ (z : List SeatState × List g.row.G.Denot × List SeatState × List ProcessHistory). AllGatesWereAsked g.G.Gate.asks g.G.Gate.says z.0 z.1 z.2 z.3)
     (λ i. (sym c.in-Some.ensures.items i, sym c.in-Some-Some.ensures'.items i, sym c.push_reserved.ensures.items i, sym c.push_reserved-2.ensures.items i))
-    (one_more_asked g.G.Gate.asks g.G.Gate.says seats c.in_ok-seats.seats.items gates c.in_ok-seats.worked.items c.in-Some.seat c.in_ok-seats.seat c.in-Some-Some.gate c.in_ok-seats.last h.1.0.0 same h.1.1.0.0
+    (one_more_asked g.G.Gate.asks g.G.Gate.says seats c.in_ok-seats.seats.items gates c.in_ok-seats.worked.items c.in-Some.seat c.in_ok-seats.seat c.in-Some-Some.gate
+    c.in_ok-seats.last h.1.0.0 same h.1.1.0.0
     h.1.1.1.1.0 h.1.1.1.1.1.1)

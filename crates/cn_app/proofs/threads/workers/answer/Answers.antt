@@ -19,7 +19,8 @@ returns-in-Err-clause-worked g c =
       replied = h.own ∙ i.own;
       range = subst (λ (o : Opening). All (λ (r : Reply). r.response.0 < length o.object.responses) c.loop-operation.replies.items) (sym h.same.2) i.range;
       ended = subst (λ (e : End). EndsAt c.args.operations.now c.call.new.seat c.loop-operation.replies.items e) (sym c.by-end.ensures)
-          (ends_left c.args.operations.now c.loop-operation.operation-index _ more c.loop-operation.seat c.call.new.seat h.same i.made c.loop-operation-test.true c.loop-operation.replies.items i.count c.in-Err.fault h.fault);
+          (ends_left c.args.operations.now c.loop-operation.operation-index _ more c.loop-operation.seat c.call.new.seat h.same i.made c.loop-operation-test.true
+          c.loop-operation.replies.items i.count c.in-Err.fault h.fault);
     }
 
 pub loop-operation-preserved : goal.loop-operation-preserved

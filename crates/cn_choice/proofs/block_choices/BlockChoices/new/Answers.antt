@@ -10,4 +10,5 @@ pub returns : goal.returns
 returns c =
     let t = c.args.table.now in
     let some_operations : 1 ≤ length t.operations = c.tables_are_valid.ensures.operations.0 in
-    sym c.find_live-left.ensures.next ∙ (ap (λ (d : Choice). live_from t true d) c.first_of-choice.ensures ∙ ap (filter (is_live t)) (sym (block_begins (length t.operations) c.args.block.now some_operations)))
+    sym c.find_live-left.ensures.next
+    ∙ (ap (λ (d : Choice). live_from t true d) c.first_of-choice.ensures ∙ ap (filter (is_live t)) (sym (block_begins (length t.operations) c.args.block.now some_operations)))

@@ -7,7 +7,8 @@ use Rattle.cn_choice.proofs.reference.witness.any_collide.Goals as goal
 
 pub loop-alpha-preserved : goal.loop-alpha-preserved
 loop-alpha-preserved c =
-    All-more (λ alpha. ¬ Any (λ beta. Collide c.args.table.now c.args.choice.now alpha.items beta.items) c.args.orders.now) c.args.orders.now c.loop-alpha.alpha-index c.alpha-item.result c.loop-alpha-test.true c.loop-alpha.invariant
+    All-more (λ alpha. ¬ Any (λ beta. Collide c.args.table.now c.args.choice.now alpha.items beta.items) c.args.orders.now) c.args.orders.now c.loop-alpha.alpha-index
+    c.alpha-item.result c.loop-alpha-test.true c.loop-alpha.invariant
     (λ h. true≢false (sym (c.if-collides_with_any.ensures.1 (rw (c.as_slice.ensures.value, c.alpha-item.is) h))))
 
 pub returns : goal.returns

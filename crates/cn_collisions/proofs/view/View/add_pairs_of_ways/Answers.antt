@@ -67,7 +67,8 @@ returns-in-Some c r q =
       ],
       λ h. elim h [
         | inl a ↦ added.1 (inl a)
-        | inr w ↦ (let e = way_ends v.raw.now v.process t at.used at.state.0 is.stock is.rest moved c.in-Some.response w.0 r q w.2 in added.1 (inr (sym e.0, ends.1 (w.0, omega (arith, w.1, room), e.1))))
+        | inr w ↦ (let e = way_ends v.raw.now v.process t at.used at.state.0 is.stock is.rest moved c.in-Some.response w.0 r q w.2 in
+            added.1 (inr (sym e.0, ends.1 (w.0, omega (arith, w.1, room), e.1))))
       ],
     )
 
@@ -81,7 +82,8 @@ returns-in-None c r q =
     let pairs = c.ever-all.result.now in
     let still = subst (λ (s : Option ℕ). MatchOption s (¬ IsBitSet at.used v.process) (λ r. IsBitSet at.used v.process)) c.in-None.is is.told in
     let room : at.size + 1 + 1 ≡ n = subst (λ (s : Option ℕ). room_of s at.size + 1 ≡ n) c.in-None.is c.requires.room in
-    let shown = subst (λ (o : ℕ). Has pairs r q ↔ ShowsUpTo t at.state.0 is.stock o at.size r q) c.operation-asked.ensures.operation (c.ever-all.ensures t at.size is.stock (c.at-shown.ensures is.stock is.stands) c.operation-asked.ensures.known is.known r q) in
+    let shown = subst (λ (o : ℕ). Has pairs r q ↔ ShowsUpTo t at.state.0 is.stock o at.size r q) c.operation-asked.ensures.operation
+    (c.ever-all.ensures t at.size is.stock (c.at-shown.ensures is.stock is.stands) c.operation-asked.ensures.known is.known r q) in
     let old = Has c.args.pairs.now r q in
     let added = c.add_all.ensures r q in
     subst (λ (s : Option ℕ). Has c.add_all.new.self r q ↔ (old ⊎ ((k : ℕ) × (k < n) × WayTo t v.raw.now v.process k at.used at.state.0 s r q))) (sym c.in-None.is) (

@@ -15,7 +15,8 @@ returns-then-process-self-clause-prefix c =
     let own : p ≡ v.process = c.if-process-self.true in
     let used : bit_or at.used (1 * 2 ^ p % 2 ^ 16) ≡ bit_or at.used (2 ^ v.process) =
     ap (bit_or at.used) (one_shl p 16 (omega (arith, c.requires.process, is.number, is.sets_are.few))) ∙ ap (λ (q : ℕ). bit_or at.used (2 ^ q)) own in
-    prefix_own v at c.requires.prefix _ c.apply.ensures.next c.apply.result.0.0 (omega (arith, c.apply.ensures.response, c.responses-responses.ensures.number, c.responses-responses.ensures.range.1)) used refl refl refl
+    prefix_own v at c.requires.prefix _ c.apply.ensures.next c.apply.result.0.0
+    (omega (arith, c.apply.ensures.response, c.responses-responses.ensures.number, c.responses-responses.ensures.range.1)) used refl refl refl
 
 pub less-place-requires-clause-stock : goal.less-place-requires-clause-stock
 less-place-requires-clause-stock c =

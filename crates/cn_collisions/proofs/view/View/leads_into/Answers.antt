@@ -69,7 +69,15 @@ returns-in-Some c =
     let count = subst (λ (seen : Option ℕ). c.args.left ≤ room_of seen at.size) c.in-Some.is c.requires.left in
     let ends = c.after-set.ensures t at.size is.stock (c.at-ends.ensures is.stock is.stands) count is.known in
     subst (λ (s : Option ℕ). IsTrue c.has_some.result ↔ ((r : ℕ) × ((q : ℕ) × WayTo t v.raw.now v.process c.args.left at.used at.state.0 s r q × Has target r q))) (sym c.in-Some.is) (
-      λ h. (let some = c.has_some.ensures.0 h in (c.in-Some.response, (some.0, ends_way v.raw.now v.process t at.used at.state.0 is.stock is.rest moved c.in-Some.response c.args.left c.in-Some.response some.0 refl ((ends some.0).0 some.2), some.1))),
+      λ h. (let some = c.has_some.ensures.0 h in (
+        c.in-Some.response,
+        (
+          some.0,
+          ends_way v.raw.now v.process t at.used at.state.0 is.stock is.rest moved c.in-Some.response c.args.left c.in-Some.response some.0 refl
+              ((ends some.0).0 some.2),
+          some.1,
+        ),
+      )),
       λ h. (let e = way_ends v.raw.now v.process t at.used at.state.0 is.stock is.rest moved c.in-Some.response c.args.left h.0 h.1.0 h.1.1 in
           c.has_some.ensures.1 (h.1.0, subst (λ (r : ℕ). Has target r h.1.0) (sym e.0) h.1.2, (ends h.1.0).1 e.1)),
     )
@@ -97,10 +105,19 @@ returns-in-None-2 c =
     let left = subst (λ (seen : Option ℕ). c.args.left ≤ room_of seen at.size) c.in-None-2.is c.requires.left in
     let still = subst (λ (s : Option ℕ). MatchOption s (¬ IsBitSet at.used v.process) (λ r. IsBitSet at.used v.process)) c.in-None-2.is is.told in
     let shown : (r q : ℕ) → Has pairs r q ↔ ShowsAfter t at.state.0 is.stock _ (c.args.left - 1) r q =
-    λ r q. subst (λ (o : ℕ). Has pairs r q ↔ ShowsAfter t at.state.0 is.stock o (c.args.left - 1) r q) c.operation-asked.ensures.operation (c.after-found.ensures t at.size is.stock (c.at-shown.ensures is.stock is.stands) (omega (arith, left)) c.operation-asked.ensures.known is.known r q) in
+    λ r q. subst (λ (o : ℕ). Has pairs r q ↔ ShowsAfter t at.state.0 is.stock o (c.args.left - 1) r q) c.operation-asked.ensures.operation
+    (c.after-found.ensures t at.size is.stock (c.at-shown.ensures is.stock is.stands) (omega (arith, left)) c.operation-asked.ensures.known is.known r q) in
     let some : 1 ≤ c.args.left = omega (arith, c.if-left-eq0.false) in
     subst (λ (s : Option ℕ). IsTrue c.meets.result ↔ ((r : ℕ) × ((q : ℕ) × WayTo t v.raw.now v.process c.args.left at.used at.state.0 s r q × Has target r q))) (sym c.in-None-2.is) (
-      λ h. (let both = c.meets.ensures.0 h in
-          (both.0, (both.1.0, shows_way v.raw.now v.process t at.used at.state.0 is.stock is.rest still c.requires.view.inside c.args.left both.0 both.1.0 some ((shown both.0 both.1.0).0 both.1.1), both.1.2))),
-      λ h. (let e = way_shows v.raw.now v.process t at.used at.state.0 is.stock is.rest still c.requires.view.inside c.args.left h.0 h.1.0 h.1.1 in c.meets.ensures.1 (h.0, (h.1.0, (shown h.0 h.1.0).1 e.1, h.1.2))),
+      λ h. (let both = c.meets.ensures.0 h in (
+        both.0,
+        (
+          both.1.0,
+          shows_way v.raw.now v.process t at.used at.state.0 is.stock is.rest still c.requires.view.inside c.args.left both.0 both.1.0 some
+              ((shown both.0 both.1.0).0 both.1.1),
+          both.1.2,
+        ),
+      )),
+      λ h. (let e = way_shows v.raw.now v.process t at.used at.state.0 is.stock is.rest still c.requires.view.inside c.args.left h.0 h.1.0 h.1.1 in
+          c.meets.ensures.1 (h.0, (h.1.0, (shown h.0 h.1.0).1 e.1, h.1.2))),
     )

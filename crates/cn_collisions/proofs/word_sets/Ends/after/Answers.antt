@@ -8,4 +8,5 @@ index-row-requires c = omega (arith, c.requires.count, c.requires.ends_are.0.0, 
 
 pub returns : goal.returns
 returns c t m stock is few known q =
-    each_read (λ k row. AreEndsAfter t stock k (length t.states) row) c.args.self.now.by_count.items _ c.args.count c.index-row.result.now is.0 (omega (arith, few)) c.index-row.ensures c.args.start known q
+    each_read (λ k row. AreEndsAfter t stock k (length t.states) row) c.args.self.now.by_count.items _ c.args.count c.index-row.result.now is.0
+    (omega (arith, few)) c.index-row.ensures c.args.start known q

@@ -13,27 +13,35 @@ use Rattle.cn_hall.proofs.hall.Hall.call.Goals as goal
 
 pub resume-requires-clause-in_call : goal.resume-requires-clause-in_call
 resume-requires-clause-in_call g c none = let h : Some (next_call c.args.seat.now c.args.operation.0) ≡ None =
-    sym (call_pending c.callers_change_by_own_events.ensures.stays c.callers_change_by_own_events.ensures.invoked c.args.seat.now c.invoke.new.seat c.args.operation.0 c.invoke.ensures.same c.invoke.ensures.invoked) ∙ none in cc
+    sym (call_pending c.callers_change_by_own_events.ensures.stays c.callers_change_by_own_events.ensures.invoked c.args.seat.now c.invoke.new.seat c.args.operation.0
+    c.invoke.ensures.same c.invoke.ensures.invoked) ∙ none in cc
 
 pub returns-clause-seen : goal.returns-clause-seen
 returns-clause-seen g c = subst (λ (l : List Entry). BeginsWith (entries_seen c.resume.new.seat) l)
-    (call_seen c.callers_change_by_own_events.ensures.stays c.callers_change_by_own_events.ensures.invoked c.args.seat.now c.invoke.new.seat c.args.operation.0 c.invoke.ensures.same c.invoke.ensures.invoked) c.resume.ensures.seen
+    (call_seen c.callers_change_by_own_events.ensures.stays c.callers_change_by_own_events.ensures.invoked c.args.seat.now c.invoke.new.seat c.args.operation.0
+    c.invoke.ensures.same c.invoke.ensures.invoked) c.resume.ensures.seen
 
 pub returns-clause-reply : goal.returns-clause-reply
 returns-clause-reply g c = let a = c.args.seat.now in let b = c.invoke.new.seat in let d = c.resume.new.seat in let op = c.args.operation.0 in
     let went : MakesCall a.process op a.core d.core = called a b d op c.invoke.ensures.same c.invoke.ensures.invoked c.resume.ensures.events in
     if_ok c.resume.result (λ r. (k : Entry) → pending b ≡ Some k → IsReply k d r) (λ r. MakesCall a.process op a.core d.core × IsReply (next_call a op) d r)
-    (λ r h. (went, h (next_call a op) (call_pending c.callers_change_by_own_events.ensures.stays c.callers_change_by_own_events.ensures.invoked a b op c.invoke.ensures.same c.invoke.ensures.invoked))) c.resume.ensures.reply
+    (λ r h. (
+      went,
+      h (next_call a op)
+          (call_pending c.callers_change_by_own_events.ensures.stays c.callers_change_by_own_events.ensures.invoked a b op c.invoke.ensures.same c.invoke.ensures.invoked),
+    )) c.resume.ensures.reply
 
 pub returns-clause-fault : goal.returns-clause-fault
 returns-clause-fault g c = let a = c.args.seat.now in let b = c.invoke.new.seat in let d = c.resume.new.seat in let op = c.args.operation.0 in
     let went : MakesCall a.process op a.core d.core = called a b d op c.invoke.ensures.same c.invoke.ensures.invoked c.resume.ensures.events in
     if_err c.resume.result (λ e. (k : Entry) → pending b ≡ Some k → EndsBy k e d) (λ e. CallFails op e a d)
-    (λ e h. fails a d op e went (h (next_call a op) (call_pending c.callers_change_by_own_events.ensures.stays c.callers_change_by_own_events.ensures.invoked a b op c.invoke.ensures.same c.invoke.ensures.invoked))) c.resume.ensures.fault
+    (λ e h. fails a d op e went (h (next_call a op)
+    (call_pending c.callers_change_by_own_events.ensures.stays c.callers_change_by_own_events.ensures.invoked a b op c.invoke.ensures.same c.invoke.ensures.invoked))) c.resume.ensures.fault
 
 pub returns-clause-own : goal.returns-clause-own
 returns-clause-own g c = adds_from (own c.args.seat.now) (own c.invoke.new.seat) (own c.resume.new.seat) c.resume.result
-    (own_called c.callers_change_by_own_events.ensures.stays c.callers_change_by_own_events.ensures.invoked c.args.seat.now c.invoke.new.seat c.args.operation.0 c.invoke.ensures.same c.invoke.ensures.invoked) c.resume.ensures.own
+    (own_called c.callers_change_by_own_events.ensures.stays c.callers_change_by_own_events.ensures.invoked c.args.seat.now c.invoke.new.seat c.args.operation.0
+    c.invoke.ensures.same c.invoke.ensures.invoked) c.resume.ensures.own
 
 pub returns-then-seat-clause-fault : goal.returns-then-seat-clause-fault
 returns-then-seat-clause-fault g c = let s : SeatState = c.args.seat.now in
@@ -61,5 +69,6 @@ returns-clause-asked g c = let a = c.args.seat.now in let b = c.invoke.new.seat 
     (c.resume.ensures.asked mine (call_pending c.callers_change_by_own_events.ensures.stays c.callers_change_by_own_events.ensures.invoked a b op c.invoke.ensures.same c.invoke.ensures.invoked)))
 
 pub returns-then-seat-clause-asked : goal.returns-then-seat-clause-asked
-returns-then-seat-clause-asked g c = subst (λ k. IsAsked g.G.Gate.asks g.G.Gate.says (next_call c.args.seat.now c.args.operation.0) c.args.seat.now c.args.seat.now.core k c.args.gate.now c.args.gate.now)
+returns-then-seat-clause-asked g c = subst
+    (λ k. IsAsked g.G.Gate.asks g.G.Gate.says (next_call c.args.seat.now c.args.operation.0) c.args.seat.now c.args.seat.now.core k c.args.gate.now c.args.gate.now)
     (sym (since_same c.args.seat.now.process c.args.seat.now.core)) refl

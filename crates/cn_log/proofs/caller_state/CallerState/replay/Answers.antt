@@ -42,7 +42,8 @@ loop-p-preserved c =
             entries = omega (arith, entries, i.entries, many);
             places = ap length counts ∙ length-set was q0 _ ∙ i.places;
             counted = λ q less. ap (λ l. slice_index_or l q 0) counts ∙ elim (cases_eq q q0) [
-              | inl f ↦ subst (λ k. slice_index_or (slice_set was q0 (slice_index_or was q0 0 + 1)) k 0 ≡ count_at c.args.self.now.calls_seen k + length (and_entry (entry_at c.args.batch.now k) [])) (sym f)
+              | inl f ↦ subst (λ k. slice_index_or (slice_set was q0 (slice_index_or was q0 0 + 1)) k 0 ≡ count_at c.args.self.now.calls_seen k
+                  + length (and_entry (entry_at c.args.batch.now k) [])) (sym f)
                   (same ∙ (omega (arith, now, one)))
               | inr ne ↦ get_or-set_other was q0 q _ 0 ne ∙ i.counted q (grind arith)
             ];

@@ -22,7 +22,8 @@ isnt_last : (a b : ℕ) → a ≢ b → (a == b) ≡ false
 isnt_last a b e = grind (arith, nat_tests)
 
 -- the announcement read, and the batch with it
-gathered : {R : Type 0} {L : Setting R} {Good : R → Type 0} {s : List Event} {kept : Fields R} {p q k : ℕ} {mine : Entry} {batch : Batch} {here : CallerState} → (look : IsReadCaller L Good s kept p (Looks mine q batch) here)
+gathered : {R : Type 0} {L : Setting R} {Good : R → Type 0} {s : List Event} {kept : Fields R} {p q k : ℕ} {mine : Entry} {batch : Batch} {here : CallerState}
+    → (look : IsReadCaller L Good s kept p (Looks mine q batch) here)
     → (announced : Option Entry) → announced ≡ get_or kept.announced k announced → k ≡ q
     → batch_with_calls announced (count_at here.calls_seen q) q batch ≡ batch_with ((state_of L s).announced q) (entries_in L.processes ((state_of L s).caller p).seen) q batch
 gathered {kept = kept} {q = q} {batch = batch} {here = here} look announced read same =

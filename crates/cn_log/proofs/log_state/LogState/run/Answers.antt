@@ -10,7 +10,8 @@ use Rattle.cn_log.proofs.log_state.LogState.run.Goals.{in-None, in-Some}
 use Rattle.cn_log.proofs.log_state.LogState.run.Goals as goal
 
 pub index_mut-round-requires : goal.index_mut-round-requires
-index_mut-round-requires c = omega (arith, c.from-2.ensures, c.self.inside.rounds.ok.0, runs_in_rounds (read_caller c.openings_are_valid.ensures.agrees c.requires.at.1 c.self.view_is c.index_mut-here.ensures.value c.from.ensures))
+index_mut-round-requires c = omega
+    (arith, c.from-2.ensures, c.self.inside.rounds.ok.0, runs_in_rounds (read_caller c.openings_are_valid.ensures.agrees c.requires.at.1 c.self.view_is c.index_mut-here.ensures.value c.from.ensures))
 
 pub step-requires-clause-of_plan : goal.step-requires-clause-of_plan
 step-requires-clause-of_plan c =
@@ -90,13 +91,15 @@ returns-clause-answer c =
     ]
 
 pub replay_batch-requires-clause-replayed_entries : goal.replay_batch-requires-clause-replayed_entries
-replay_batch-requires-clause-replayed_entries c = seen_most (read_caller c.openings_are_valid.ensures.agrees c.requires.at.1 c.self.view_is c.index_mut-here.ensures.value c.from.ensures) c.openings_are_valid.ensures.opening.few
+replay_batch-requires-clause-replayed_entries c = seen_most
+    (read_caller c.openings_are_valid.ensures.agrees c.requires.at.1 c.self.view_is c.index_mut-here.ensures.value c.from.ensures) c.openings_are_valid.ensures.opening.few
 
 pub replay_batch-requires-clause-calls_places : goal.replay_batch-requires-clause-calls_places
 replay_batch-requires-clause-calls_places c = calls_places (read_caller c.openings_are_valid.ensures.agrees c.requires.at.1 c.self.view_is c.index_mut-here.ensures.value c.from.ensures)
 
 pub replay_batch-requires-clause-calls_seen : goal.replay_batch-requires-clause-calls_seen
-replay_batch-requires-clause-calls_seen c = calls_most (read_caller c.openings_are_valid.ensures.agrees c.requires.at.1 c.self.view_is c.index_mut-here.ensures.value c.from.ensures) c.openings_are_valid.ensures.opening.few
+replay_batch-requires-clause-calls_seen c = calls_most
+    (read_caller c.openings_are_valid.ensures.agrees c.requires.at.1 c.self.view_is c.index_mut-here.ensures.value c.from.ensures) c.openings_are_valid.ensures.opening.few
 
 pub replay_batch-requires-clause-mine : goal.replay_batch-requires-clause-mine
 replay_batch-requires-clause-mine c = mine_low (read_caller c.openings_are_valid.ensures.agrees c.requires.at.1 c.self.view_is c.index_mut-here.ensures.value c.from.ensures)
@@ -105,7 +108,8 @@ pub replay_batch-requires-clause-operation : goal.replay_batch-requires-clause-o
 replay_batch-requires-clause-operation c = mine_operation (read_caller c.openings_are_valid.ensures.agrees c.requires.at.1 c.self.view_is c.index_mut-here.ensures.value c.from.ensures)
 
 pub enter-requires-clause-slot : goal.enter-requires-clause-slot
-enter-requires-clause-slot c = omega (arith, runs_room (read_caller c.openings_are_valid.ensures.agrees c.requires.at.1 c.self.view_is c.index_mut-here.ensures.value c.from.ensures), c.openings_are_valid.ensures.opening.few)
+enter-requires-clause-slot c = omega
+    (arith, runs_room (read_caller c.openings_are_valid.ensures.agrees c.requires.at.1 c.self.view_is c.index_mut-here.ensures.value c.from.ensures), c.openings_are_valid.ensures.opening.few)
 
 pub enter-requires-clause-room : goal.enter-requires-clause-room
 enter-requires-clause-room c =

@@ -19,7 +19,8 @@ pub loop-state-preserved : goal.loop-state-preserved
 loop-state-preserved c =
     let step = transition c.args.table.now c.args.operation.0 in
     let next : c.apply.result.1.0 ≡ (step c.in-Some.state).1 = ap (λ (p : ℕ × ℕ). p.1) c.apply.ensures.value in
-    from_more (moved_part step c.args.self.now) (IsBitSet c.args.from) c.loop-state.state-iterator c.next.new.self c.in-Some.state (λ (x : ℕ × ℕ). Has c.loop-state.moved x.0 x.1) (λ (x : ℕ × ℕ). Has c.add_responses.new.self x.0 x.1)
+    from_more (moved_part step c.args.self.now) (IsBitSet c.args.from) c.loop-state.state-iterator c.next.new.self c.in-Some.state (λ (x : ℕ × ℕ). Has c.loop-state.moved x.0 x.1)
+    (λ (x : ℕ × ℕ). Has c.add_responses.new.self x.0 x.1)
     c.in-Some.ensures.steps c.loop-state.invariant
     (λ x. (
       λ s. elim ((c.add_responses.ensures x.0 x.1).0 s) [ inl a ↦ inl a | inr e ↦ inr ((c.responses_with.ensures x.0).0 e.0, sym (e.1 ∙ next)) ],
@@ -28,5 +29,6 @@ loop-state-preserved c =
 
 pub returns : goal.returns
 returns c r q =
-    let whole = from_all (moved_part (transition c.args.table.now c.args.operation.0) c.args.self.now) (IsBitSet c.args.from) c.loop-state.state-iterator (λ (x : ℕ × ℕ). Has c.loop-state.moved x.0 x.1) c.in-None.ensures.steps.0 c.loop-state.invariant (r, q) in
+    let whole = from_all (moved_part (transition c.args.table.now c.args.operation.0) c.args.self.now) (IsBitSet c.args.from) c.loop-state.state-iterator
+    (λ (x : ℕ × ℕ). Has c.loop-state.moved x.0 x.1) c.in-None.ensures.steps.0 c.loop-state.invariant (r, q) in
     (λ s. (let x = whole.0 s in (x.0, x.2.0, x.2.1)), λ x. whole.1 (x.0, c.requires.among r x.0 x.1, (x.1, x.2)))

@@ -17,7 +17,8 @@ loop-state-preserved c =
     let step = transition c.args.table.now c.args.operation.0 in
     let response : c.apply.result.0.0 ≡ (step c.in-Some.state).0 = ap (λ (p : ℕ × ℕ). p.0) c.apply.ensures.value in
     let next : c.apply.result.1.0 ≡ (step c.in-Some.state).1 = ap (λ (p : ℕ × ℕ). p.1) c.apply.ensures.value in
-    from_more (answer_part step) (IsBitSet c.args.from) c.loop-state.state-iterator c.next.new.self c.in-Some.state (λ (x : ℕ × ℕ). Has c.loop-state.set x.0 x.1) (λ (x : ℕ × ℕ). Has c.add.new.self x.0 x.1)
+    from_more (answer_part step) (IsBitSet c.args.from) c.loop-state.state-iterator c.next.new.self c.in-Some.state (λ (x : ℕ × ℕ). Has c.loop-state.set x.0 x.1)
+    (λ (x : ℕ × ℕ). Has c.add.new.self x.0 x.1)
     c.in-Some.ensures.steps c.loop-state.invariant
     (λ x. (
       λ s. elim ((c.add.ensures x.0 x.1).0 s) [ inl a ↦ inl a | inr e ↦ inr (sym (e.0 ∙ response), sym (e.1 ∙ next)) ],
@@ -26,5 +27,6 @@ loop-state-preserved c =
 
 pub returns : goal.returns
 returns c r q =
-    let whole = from_all (answer_part (transition c.args.table.now c.args.operation.0)) (IsBitSet c.args.from) c.loop-state.state-iterator (λ (x : ℕ × ℕ). Has c.loop-state.set x.0 x.1) c.in-None.ensures.steps.0 c.loop-state.invariant (r, q) in
+    let whole = from_all (answer_part (transition c.args.table.now c.args.operation.0)) (IsBitSet c.args.from) c.loop-state.state-iterator
+    (λ (x : ℕ × ℕ). Has c.loop-state.set x.0 x.1) c.in-None.ensures.steps.0 c.loop-state.invariant (r, q) in
     (λ s. (let x = whole.0 s in (x.0, x.1, x.2.0, x.2.1)), λ x. whole.1 (x.0, x.1, (x.2, x.3)))

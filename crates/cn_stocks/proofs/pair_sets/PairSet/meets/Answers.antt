@@ -31,5 +31,9 @@ returns c =
     let some = is_some_set c.loop-response.common small in
     let end : c.loop-response.response ≡ 16 = omega (arith, c.loop-response-test.false, c.loop-response.auto.response-end) in (
       λ h. (let q = some.0 h in let r = (c.loop-response.invariant.common_is q.0).0 q.1 in (r.0, (q.0, r.2, r.3))),
-      λ h. some.1 (h.1.0, (c.loop-response.invariant.common_is h.1.0).1 (h.0, subst (λ (n : ℕ). h.0 < n) (sym end) (inside c.args.self.now.states h.0 h.1.0 c.loop-response.invariant.long h.1.1), h.1.1, h.1.2)),
+      λ h. some.1 (
+        h.1.0,
+        (c.loop-response.invariant.common_is h.1.0).1
+            (h.0, subst (λ (n : ℕ). h.0 < n) (sym end) (inside c.args.self.now.states h.0 h.1.0 c.loop-response.invariant.long h.1.1), h.1.1, h.1.2),
+      ),
     )

@@ -11,7 +11,8 @@ all_starts-requires-after_bounds g c κs within =
     let question = c.args.self.question in
     let below = c.in_ok-below.below in
     let stocks = subst (λ (k : ℕ). AreAll k (c.args.n + 1) below.stocks.list.items c.in_ok-stocks.stocks) c.operations.ensures.number c.in_ok-stocks.ensures in
-    subst (λ (list : List Stock). All (IsNext question t below) list) (sym c.as_slice-list.ensures.value) (all_next question t below c.in_ok-stocks.stocks.list.items c.in_ok-below.ensures.level_is stocks.stocks)
+    subst (λ (list : List Stock). All (IsNext question t below) list) (sym c.as_slice-list.ensures.value)
+    (all_next question t below c.in_ok-stocks.stocks.list.items c.in_ok-below.ensures.level_is stocks.stocks)
 
 pub returns : goal.returns
 returns g c =

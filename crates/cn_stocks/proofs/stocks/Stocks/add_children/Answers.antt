@@ -44,7 +44,8 @@ loop-operation-preserved c =
     omega (arith, ap length (c.child_of-child.ensures.items s.operations.items at), length_last s.operations.items c.loop-operation.operation, c.requires.all.1.long place s.operations.items at) in
     record {
       stocks_are = subst (λ (stocks : List Stock). AreStocks c.args.operations before stocks) (sym pushed) (stocks_push c.args.operations before now child i.stocks_are c.child_of-child.ensures.stock);
-      row = row_push before now c.push.new.self.items place c.loop-operation.operation c.loop-operation.row child c.in_ok-at.at pushed (omega (arith, c.in_ok-at.ensures, c.len.ensures, c.loop-operation.list.ok.0))
+      row = row_push before now c.push.new.self.items place c.loop-operation.operation c.loop-operation.row child c.in_ok-at.at pushed
+          (omega (arith, c.in_ok-at.ensures, c.len.ensures, c.loop-operation.list.ok.0))
           (omega (arith, i.long, c.loop-operation-test.true, c.requires.few)) c.child_of-child.ensures.items i.row;
       long = length-set c.loop-operation.row c.loop-operation.operation c.in_ok-at.at ∙ i.long;
       more = subst (λ (stocks : List Stock). GoesOn c.args.list.now.items (c.args.n + 1) stocks) (sym pushed) (goes_on_push c.args.list.now.items now (c.args.n + 1) child i.more longer);

@@ -13,7 +13,8 @@ returns-clause-stock c =
     let is = c.requires.all.1.stocks place s here in
     let at = items_of stocks place s here in
     let list : c.longer.result.items ≡ s.operations.items ++ c.args.operation ∷ [] = c.longer.ensures ∙ ap (λ (l : List ℕ). l ++ c.args.operation ∷ []) c.as_slice.ensures.value in
-    stock_of_child c.args.operations c.args.operation stocks (record { operations = c.longer.result; greatest = c.args.operation; less = c.less_with-less.result }) s.operations.items list refl c.requires.operation is.known
+    stock_of_child c.args.operations c.args.operation stocks
+    (record { operations = c.longer.result; greatest = c.args.operation; less = c.less_with-less.result }) s.operations.items list refl c.requires.operation is.known
     (c.requires.up_to s.operations.items at) (c.less_with-less.ensures s.operations.items at)
 
 pub returns-clause-items : goal.returns-clause-items

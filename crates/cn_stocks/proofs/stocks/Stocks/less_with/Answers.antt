@@ -51,7 +51,8 @@ loop-other-preserved c =
                 let first = less_of_child c.args.operations c.args.operation c.requires.all.0 stocks children s.operations.items k w.in-Some.rest all.children all.count c.requires.operation
                 (c.requires.up_to s.operations.items (items_of stocks place s here)) less in
                 set_some (HasLess stocks (items ++ c.args.operation ∷ [])) c.loop-other.less k w.child_place.result room
-                (subst (λ (v : ℕ). HasLess stocks (items ++ c.args.operation ∷ []) k v) (sym child) (subst (λ (list : List ℕ). HasLess stocks (list ++ c.args.operation ∷ []) k (slice_index (slice_index_or children w.in-Some.rest []) c.args.operation)) same first))
+                (subst (λ (v : ℕ). HasLess stocks (items ++ c.args.operation ∷ []) k v) (sym child)
+                (subst (λ (list : List ℕ). HasLess stocks (list ++ c.args.operation ∷ []) k (slice_index (slice_index_or children w.in-Some.rest []) c.args.operation)) same first))
                 (i.some items at) x j (sym (ap (λ (l : List (Option ℕ)). get_or l x None) w.less-is) ∙ e);
             none = λ items at x l e.
                 let r = set_none c.loop-other.less k w.child_place.result x room (sym (ap (λ (l : List (Option ℕ)). get_or l x None) w.less-is) ∙ e) in
@@ -65,7 +66,8 @@ loop-other-preserved c =
           | inl u ↦ i.none items at x u (sym (ap (λ (l : List (Option ℕ)). get_or l x None) w.less-is) ∙ e)
           | inr same ↦ (
               let list = same_items stocks place s.operations.items items (items_of stocks place s here) at in
-              subst (λ (list : List ℕ). times x list ≡ 0) list (subst (λ (y : ℕ). times y s.operations.items ≡ 0) (sym same) (no_less c.requires.all.0 s.operations.items s.less is.smaller k w.in_default.not-Some))
+              subst (λ (list : List ℕ). times x list ≡ 0) list
+              (subst (λ (y : ℕ). times y s.operations.items ≡ 0) (sym same) (no_less c.requires.all.0 s.operations.items s.less is.smaller k w.in_default.not-Some))
               )
         ];
       }
@@ -83,4 +85,5 @@ returns c items at =
     let i = c.loop-other.invariant in
     let list = same_items stocks place s.operations.items items (items_of stocks place s here) at in
     let room : c.args.operation < length c.loop-other.less = omega (arith, i.long, c.requires.operation, c.requires.few) in
-    links_of_child c.args.operations c.args.operation stocks place items c.loop-other.less at (λ o l. is.known o (subst (λ (all : List ℕ). 1 ≤ times o all) (sym list) l)) room (i.some items at) (λ x l e. i.none items at x (omega (arith, l, c.loop-other-test.false)) e)
+    links_of_child c.args.operations c.args.operation stocks place items c.loop-other.less at (λ o l. is.known o (subst (λ (all : List ℕ). 1 ≤ times o all) (sym list) l)) room
+    (i.some items at) (λ x l e. i.none items at x (omega (arith, l, c.loop-other-test.false)) e)

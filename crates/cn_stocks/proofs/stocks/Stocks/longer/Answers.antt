@@ -25,7 +25,8 @@ loop-place-preserved c =
     let rows = goes_on_children c.args.operations before now new (c.args.n + 1) c.loop-place.children.items c.in_ok-row.ensures.more i.children_are in
     record {
       stocks_are = c.in_ok-row.ensures.stocks;
-      children_are = children_push c.args.operations before new c.loop-place.children.items c.push.new.self.items c.in_ok-row.row c.loop-place.place c.in_ok-push.ensures.items i.count rows c.in_ok-row.ensures.row;
+      children_are = children_push c.args.operations before new c.loop-place.children.items c.push.new.self.items c.in_ok-row.row c.loop-place.place c.in_ok-push.ensures.items
+          i.count rows c.in_ok-row.ensures.row;
       count = count_push c.loop-place.children.items c.push.new.self.items c.in_ok-row.row c.loop-place.place c.in_ok-push.ensures.items i.count;
       more = goes_on_trans [] now new (c.args.n + 1) i.more c.in_ok-row.ensures.more;
     }
@@ -35,7 +36,8 @@ returns c =
     let before = c.args.self.now.list.items in
     let now = c.loop-place.list.items in
     let i = c.loop-place.invariant in
-    let whole : length c.loop-place.children.items ≡ length before = omega (arith, i.count, c.loop-place-test.false, c.loop-place.auto.place-end, c.in_ok-count.ensures, c.len.ensures, c.args.self.now.list.ok.0) in record {
+    let whole : length c.loop-place.children.items ≡ length before = omega
+    (arith, i.count, c.loop-place-test.false, c.loop-place.auto.place-end, c.in_ok-count.ensures, c.len.ensures, c.args.self.now.list.ok.0) in record {
       stocks = i.stocks_are;
       children = i.children_are;
       count = whole;
