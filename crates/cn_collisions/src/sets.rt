@@ -20,7 +20,7 @@ use std::alloc::{AllocError, Global};
 use std::thread::Threads;
 
 /// The fewest stocks whose pairs several threads make.
-const FEWEST_STOCKS: usize = 64;
+const FEWEST_PAIRED_STOCKS: usize = 64;
 
 /// The stocks of one size and their ends, with the pairs of the stocks of one operation less.
 #[derive(Clone, Copy)]
@@ -134,9 +134,9 @@ fn threading_for(threading: Threading, count: usize) -> Threading
     // promise: choice-of-threads
     ensures one { threading ≡ One → result ≡ One }
     // promise: choice-of-threads
-    ensures many { FEWEST_STOCKS ≤ count → result ≡ threading }
+    ensures many { FEWEST_PAIRED_STOCKS ≤ count → result ≡ threading }
 {
-    if count < FEWEST_STOCKS {
+    if count < FEWEST_PAIRED_STOCKS {
         return Threading::One;
     }
     threading

@@ -2,9 +2,9 @@
 use Rattle.std.specs.Prelude.{codes, ℕ, List, ◌++◌}
 use Rattle.cn_table.specs.Names.{name_at}
 use Rattle.cn_table.specs.TypeTable.{TypeTable, operation_names}
-use Rattle.cn_lasting.specs.declared.search.First.{First}
-use Rattle.cn_lasting.specs.declared.search.First.TheVariants.{Single, Many}
-use Rattle.cn_lasting.specs.declared.search.Lasting.{Lasting}
+use Rattle.cn_stocks.specs.declared.lasting.search.First.{First}
+use Rattle.cn_stocks.specs.declared.lasting.search.First.TheVariants.{Single, Many}
+use Rattle.cn_stocks.specs.declared.lasting.search.Lasting.{Lasting}
 use Rattle.cn_forms.specs.Reasons.{states_told}
 use Rattle.cn_documents.specs.TypeTable.{name_rule}
 

@@ -1,7 +1,7 @@
 //! Why the number of a type is what it is, in Markdown.
 ghost use Rattle.std.specs.Prelude.{◌≡◌, ◌++◌, IfOk, IfSome, OnOk, string_bytes};
 ghost use Rattle.cn_choice.specs.Canonical.{FitsTable};
-ghost use Rattle.cn_lasting.specs.Leaving.{IsLasting};
+ghost use Rattle.cn_stocks.specs.Leaving.{IsLasting};
 ghost use Rattle.cn_forms.specs.Explanation.{IsExplanation};
 ghost use Rattle.cn_forms.specs.Reasons.{is_below};
 ghost use Rattle.cn_documents.specs.Explanation.{bound, bound_line, choices_line, choices_words, explanation_markdown, limit_line, limited_words, markdown_evidence, markdown_start, most_words, next_number, no_list_line, no_more_line, number_table, number_words, reason, refuted_or, rule_line, rule_start};

@@ -1,12 +1,12 @@
 //! Operations that last, with the states that each leaves, as a Markdown table.
 ghost use Rattle.std.specs.Prelude.{◌≡◌, ◌++◌, OnOk, string_bytes};
-ghost use Rattle.cn_lasting.specs.Leaving.{IsLasting};
+ghost use Rattle.cn_stocks.specs.Leaving.{IsLasting};
 ghost use Rattle.cn_documents.specs.LastingTable.{first_cell, first_row, lasting_end, lasting_head, lasting_line, lasting_start, lasting_table, many_words, single_words};
 
 use crate::type_table::push_name_rule;
 use cn_forms::{LeftStates, push_states};
-use cn_lasting::{First, Lasting};
 use cn_outcomes::Bits;
+use cn_stocks::lasting::{First, Lasting};
 use cn_table::Table;
 use std::alloc::AllocError;
 

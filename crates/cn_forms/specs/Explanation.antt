@@ -3,10 +3,10 @@ use Rattle.std.specs.Prelude.{◌≡◌, ℕ, ◌↔◌, Bool, Option, IfSome, I
 use Rattle.cn_table.specs.TypeTable.{TypeTable}
 use Rattle.cn_interference.specs.Pairs.{ArePairsApart}
 use Rattle.cn_interference.specs.Rules.{IsRuleOf}
-use Rattle.cn_lasting.specs.Leaving.{IsLasting, Leaves}
-use Rattle.cn_lasting.specs.declared.search.First.{First}
-use Rattle.cn_lasting.specs.declared.search.First.TheVariants.{Single, Many}
-use Rattle.cn_lasting.specs.declared.search.Lasting.{Lasting}
+use Rattle.cn_stocks.specs.Leaving.{IsLasting, Leaves}
+use Rattle.cn_stocks.specs.declared.lasting.search.First.{First}
+use Rattle.cn_stocks.specs.declared.lasting.search.First.TheVariants.{Single, Many}
+use Rattle.cn_stocks.specs.declared.lasting.search.Lasting.{Lasting}
 use Rattle.cn_cert.specs.Certificate.{Certificate}
 use Rattle.cn_check.specs.Verdict.{IsAccepted}
 use Rattle.cn_forms.specs.declared.explained.value.Explanation.{Explanation}

@@ -9,9 +9,9 @@ use Rattle.cn_table.specs.Names.{name_at}
 use Rattle.cn_table.specs.TypeTable.{TypeTable, operation_names}
 use Rattle.cn_interference.specs.declared.pairs.OperationPair.{OperationPair}
 use Rattle.cn_interference.specs.declared.rules.Rule.{Rule}
-use Rattle.cn_lasting.specs.declared.search.First.{First}
-use Rattle.cn_lasting.specs.declared.search.First.TheVariants.{Single, Many}
-use Rattle.cn_lasting.specs.declared.search.Lasting.{Lasting}
+use Rattle.cn_stocks.specs.declared.lasting.search.First.{First}
+use Rattle.cn_stocks.specs.declared.lasting.search.First.TheVariants.{Single, Many}
+use Rattle.cn_stocks.specs.declared.lasting.search.Lasting.{Lasting}
 use Rattle.cn_search.specs.declared.exact.ConsensusNumber.{ConsensusNumber}
 use Rattle.cn_search.specs.declared.exact.ConsensusNumber.TheVariants.{Finite, Infinite, Between}
 use Rattle.cn_cert.specs.Certificate.{Certificate}

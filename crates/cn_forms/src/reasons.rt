@@ -1,6 +1,6 @@
 //! The reasons for a number: operations that last, and why the number is no more.
 ghost use Rattle.std.specs.Prelude.{◌≡◌, ◌<◌, ◌++◌, length, string_bytes, true, All, IfSome, OnOk};
-ghost use Rattle.cn_lasting.specs.Leaving.{IsLasting};
+ghost use Rattle.cn_stocks.specs.Leaving.{IsLasting};
 ghost use Rattle.cn_forms.specs.Explained.{why_not, IsRefuted};
 ghost use Rattle.cn_forms.specs.Folded.{folded};
 ghost use Rattle.cn_forms.specs.Reasons.{each_number_line, example_line, first_line, first_words, is_below, is_exactly, lasting_line, lasting_part, lasting_start, lasting_text, many_words, no_list, no_more, single_words, state_if, states_told, with_ways};
@@ -12,9 +12,9 @@ use crate::explained::{push_theorem, push_why_not};
 use crate::numbers::TypeNumber;
 use cn_cert::Certificate;
 use cn_interference::Rule;
-use cn_lasting::{First, Lasting};
 use cn_outcomes::Bits;
 use cn_search::ConsensusNumber;
+use cn_stocks::lasting::{First, Lasting};
 use cn_table::{State, Table};
 use std::alloc::{AllocError, Global};
 

@@ -4,7 +4,7 @@ use Rattle.std.specs.List.{filter, range_with_len}
 use Rattle.serde_json.specs.Data.{Data, null, object, member, no_members}
 use Rattle.cn_table.specs.Names.{name_at}
 use Rattle.cn_table.specs.TypeTable.{TypeTable, operation_names}
-use Rattle.cn_lasting.specs.declared.search.Lasting.{Lasting}
+use Rattle.cn_stocks.specs.declared.lasting.search.Lasting.{Lasting}
 use Rattle.cn_forms.specs.Reasons.{has_state}
 use Rattle.cn_json.specs.Values.{list_data, text_data}
 

@@ -10,7 +10,7 @@ ghost use Rattle.cn_json.specs.Collisions.{collision_data, numbered_step, operat
 ghost use Rattle.cn_json.specs.Tokens.{Appends, list_rest, value_tokens, values_rest};
 
 use crate::json_text::JsonText;
-use cn_choice::reference::raw_pair;
+use cn_choice::reference::seen_pair;
 use cn_choice::{Choice, Collision, RawChoice, Team};
 use cn_table::{Operation, Response, State, Table};
 use std::alloc::AllocError;
@@ -183,7 +183,7 @@ fn write_run(
 {
     out.begin_object()?;
     out.key("pair")?;
-    write_sight(out, table, raw_pair(table, choice, order, process))?;
+    write_sight(out, table, seen_pair(table, choice, order, process))?;
     out.begin_array_at("steps")?;
     write_each_step(out, table, choice, order)?;
     out.end_object()

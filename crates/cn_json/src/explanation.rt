@@ -2,7 +2,7 @@
 ghost use Rattle.std.specs.Prelude.{◌≡◌, All, IfOk, IfSome, string_bytes};
 ghost use Rattle.serde_json.specs.Written.{compact_text};
 ghost use Rattle.cn_choice.specs.Canonical.{FitsTable};
-ghost use Rattle.cn_lasting.specs.Leaving.{IsLasting};
+ghost use Rattle.cn_stocks.specs.Leaving.{IsLasting};
 ghost use Rattle.cn_forms.specs.Explained.{entries_told, IsRefuted};
 ghost use Rattle.cn_forms.specs.Explanation.{IsExplanation};
 ghost use Rattle.cn_json.specs.Apart.{apart_data, IsKnownPair};

@@ -1,12 +1,12 @@
 //! Operations that last as JSON, with the states that each leaves.
 ghost use Rattle.std.specs.Prelude.{◌<◌, IfSome, length};
-ghost use Rattle.cn_lasting.specs.Leaving.{IsLasting};
+ghost use Rattle.cn_stocks.specs.Leaving.{IsLasting};
 ghost use Rattle.cn_json.specs.Lasting.{last_data, lasting_data, state_data, states_in};
 ghost use Rattle.cn_json.specs.Tokens.{Appends, list_rest, value_tokens};
 
 use crate::json_text::JsonText;
-use cn_lasting::Lasting;
 use cn_outcomes::Bits;
+use cn_stocks::lasting::Lasting;
 use cn_table::{State, Table};
 use std::alloc::AllocError;
 

@@ -3,15 +3,15 @@ ghost use Rattle.std.specs.Prelude.{◌≤◌, ◌<◌, ◌≡◌, ◌⊎◌, �
 ghost use Rattle.cn_choice.specs.Discerning.{IsDiscerning};
 ghost use Rattle.cn_stocks.specs.Greatest.{IsGreatestSplit};
 ghost use Rattle.cn_stocks.specs.declared.limits.TheConstants.{MOST_SIZE};
-ghost use Rattle.cn_lasting.specs.Lasting.{NoneLast};
+ghost use Rattle.cn_stocks.specs.Lasting.{NoneLast};
 ghost use Rattle.cn_search.specs.Numbers.{HasNumber};
 ghost use Rattle.cn_search.specs.declared.limits.TheConstants.{GREATEST_LIMIT, LEAST_LIMIT};
 
 use crate::fallback::with_fallback;
 use crate::limits::LEAST_LIMIT;
 use crate::numbers::{LEAST_WITHOUT_TEAMS, decide};
-use cn_lasting::find_lasting;
-use cn_lasting::laws::{finite_numbers_are_few, lasting_operations_decide};
+use cn_stocks::lasting::find_lasting;
+use cn_stocks::lasting::laws::{finite_numbers_are_few, lasting_operations_decide};
 use cn_stocks::laws::splits_decide;
 use cn_stocks::{GreatestSplit, Threading, greatest_split};
 use cn_table::Table;
@@ -96,9 +96,9 @@ fn finite_number<T: Threads + Sync>(
 /// every n, and else the greatest such n, or 1.
 ///
 /// It is infinite exactly if two operations last from some state
-/// ([`lasting_operations_decide`](cn_lasting::laws::lasting_operations_decide)). A finite number is
+/// ([`lasting_operations_decide`](cn_stocks::lasting::laws::lasting_operations_decide)). A finite number is
 /// at most the number of states
-/// ([`finite_numbers_are_few`](cn_lasting::laws::finite_numbers_are_few)), and a search by stocks
+/// ([`finite_numbers_are_few`](cn_stocks::lasting::laws::finite_numbers_are_few)), and a search by stocks
 /// finds it ([`greatest_split`]). It is told as `Between` two numbers only if the stocks become too
 /// many: from 9 on for a type with 8 operations, from 10 on for one with 7, and from 13 on for one
 /// with 6.

@@ -15,3 +15,4 @@ pub mod Counting
 pub mod MeetingLemmas
 pub mod RecordLemmas
 pub mod StartLemmas
+pub mod LastingLemmas

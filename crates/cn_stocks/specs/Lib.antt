@@ -10,3 +10,7 @@ pub mod Levels
 pub mod Components
 pub mod Meetings
 pub mod Greatest
+pub mod Lasting
+pub mod Leaving
+pub mod Repeats
+pub mod Numbers

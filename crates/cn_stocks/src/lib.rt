@@ -5,7 +5,7 @@
 //! orders that begin in the other. By [`laws::splits_decide`] the type is n-discerning exactly
 //! where there is such a stock. [`greatest_split`] answers the greatest number of operations of
 //! such a stock, and [`splitting_starts`] the start states of the stocks of one number of
-//! operations.
+//! operations. [`lasting`] has the types that are n-discerning for every n.
 //!
 //! ```text
 //! if is_discerning(rt, alloc, &table, 3, Threading::Many)? {
@@ -16,6 +16,7 @@
 
 mod counts;
 mod decision;
+pub mod lasting;
 pub mod laws;
 mod levels;
 pub mod limits;

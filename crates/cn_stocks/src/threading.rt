@@ -2,8 +2,8 @@
 ghost use Rattle.std.specs.Prelude.{◌≡◌, ◌-◌, ◌^◌, ◌≤◌};
 ghost use Rattle.cn_stocks.specs.declared.threading.Threading.TheVariants.{Many, One};
 
-/// The fewest stocks that several threads share.
-const FEWEST_STOCKS: usize = 2048;
+/// The fewest stocks of a list that several threads go over.
+const FEWEST_SHARED_STOCKS: usize = 2048;
 
 /// In which threads a search goes on. The answer does not depend on it.
 #[derive(Clone, Copy)]
@@ -34,9 +34,9 @@ impl Threading {
         // promise: choice-of-threads
         ensures one { self ≡ One → result ≡ One }
         // promise: choice-of-threads
-        ensures many { FEWEST_STOCKS ≤ count → result ≡ self }
+        ensures many { FEWEST_SHARED_STOCKS ≤ count → result ≡ self }
     {
-        if count < FEWEST_STOCKS {
+        if count < FEWEST_SHARED_STOCKS {
             return Threading::One;
         }
         self

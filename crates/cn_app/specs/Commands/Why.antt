@@ -3,9 +3,9 @@
 use Rattle.std.specs.Prelude.{◌≡◌, ℕ, List, Bool, Option, Some, None, MatchOption, Result, Ok, Err}
 use Rattle.std.specs.Prelude.{string_bytes}
 use Rattle.cn_table.specs.TypeTable.{TypeTable}
-use Rattle.cn_lasting.specs.Lasting.{NoneLast}
-use Rattle.cn_lasting.specs.Leaving.{IsLasting}
-use Rattle.cn_lasting.specs.declared.search.Lasting.{Lasting}
+use Rattle.cn_stocks.specs.Lasting.{NoneLast}
+use Rattle.cn_stocks.specs.Leaving.{IsLasting}
+use Rattle.cn_stocks.specs.declared.lasting.search.Lasting.{Lasting}
 use Rattle.cn_search.specs.Numbers.{HasNumber}
 use Rattle.cn_search.specs.declared.exact.ConsensusNumber.{ConsensusNumber}
 use Rattle.cn_cert.specs.Certificate.{Certificate}

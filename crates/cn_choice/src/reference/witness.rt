@@ -15,7 +15,7 @@ use std::alloc::{AllocError, Global};
 /// What the process sees of the run in this order: its response and the last state, or nothing if
 /// the order leaves it out. The choice is one of the table, and the order names only its processes.
 /// If the order names the process twice, the response to its first step counts.
-pub fn raw_pair(table: &Table, choice: &RawChoice, order: &[u8], process: u8) -> Option<(u8, u8)>
+pub fn seen_pair(table: &Table, choice: &RawChoice, order: &[u8], process: u8) -> Option<(u8, u8)>
     requires fits { IsRawChoice table.now (length choice.now.operations) choice.now }
     requires known { All (λ p. p < length choice.now.operations) order.now }
     // promise: what-a-process-sees
@@ -61,8 +61,8 @@ fn sees_the_same(table: &Table, choice: &RawChoice, alpha: &[u8], beta: &[u8], p
         × (pair_of table.now choice.now beta.now process ≡ Some pair)) }
 {
     match (
-        raw_pair(table, choice, alpha, process),
-        raw_pair(table, choice, beta, process),
+        seen_pair(table, choice, alpha, process),
+        seen_pair(table, choice, beta, process),
     ) {
         (Some((r, q)), Some((s, p))) => r == s && q == p,
         _ => false,
@@ -137,8 +137,8 @@ fn any_collide(table: &Table, choice: &RawChoice, orders: &[ArrayVec<u8, MOST_PR
     false
 }
 
-/// Whether the raw choice is a witness: no process sees the same pair in an order that begins in A
-/// and in one that begins in B. The choice is one of the table, for 2 to
+/// Whether what processes see splits by the team that begins, and so whether the raw choice is a
+/// witness: no process sees the same pair in an order that begins in A and in one that begins in B. The choice is one of the table, for 2 to
 /// [`MOST_PROCESSES`](crate::MOST_PROCESSES) processes.
 ///
 /// # Errors

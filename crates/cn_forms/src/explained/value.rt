@@ -1,15 +1,15 @@
 //! What an explanation tells, as one value.
 ghost use Rattle.std.specs.Prelude.{IfOk, IfSome};
 ghost use Rattle.cn_check.specs.Verdict.{IsAccepted};
-ghost use Rattle.cn_lasting.specs.Leaving.{IsLasting};
-ghost use Rattle.cn_lasting.specs.declared.search.First.TheVariants.{Single, Many};
+ghost use Rattle.cn_stocks.specs.Leaving.{IsLasting};
+ghost use Rattle.cn_stocks.specs.declared.lasting.search.First.TheVariants.{Single, Many};
 ghost use Rattle.cn_forms.specs.Explanation.{AreLeft, Explains};
 
 use crate::numbers::TypeNumber;
 use cn_cert::Certificate;
 use cn_interference::{OperationPair, Rule, pairs_apart, rule_of};
-use cn_lasting::{First, Lasting, left_states};
 use cn_outcomes::Bits;
+use cn_stocks::lasting::{First, Lasting, left_states};
 use cn_table::Table;
 use std::alloc::{AllocError, Global};
 

@@ -11,7 +11,7 @@ ghost use Rattle.cn_forms.specs.Groups.{alike, goes_along, processes};
 ghost use Rattle.cn_forms.specs.Pairs.{IsPairOf};
 
 use crate::explained::pairs::push_pair_words;
-use cn_choice::reference::raw_pair;
+use cn_choice::reference::seen_pair;
 use cn_choice::{Choice, Collision, RawChoice, Team};
 use cn_table::{Operation, State, Table};
 use std::alloc::AllocError;
@@ -223,7 +223,7 @@ fn push_run(
         text,
         table,
         process,
-        raw_pair(table, choice, order, process),
+        seen_pair(table, choice, order, process),
     )?;
     text.push_str("\n")
 }

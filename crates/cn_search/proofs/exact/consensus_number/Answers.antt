@@ -1,8 +1,8 @@
 use Rattle.std.proofs.Common.{◌≡◌, ℕ, Option, Some, None, IfSome, is_some, true, sym, ◌∙◌, true≢false}
 use Rattle.cn_table.specs.TypeTable.{TypeTable}
-use Rattle.cn_lasting.specs.Lasting.{IsAlwaysDiscerning, Lasts}
-use Rattle.cn_lasting.specs.Leaving.{IsLasting}
-use Rattle.cn_lasting.specs.declared.search.Lasting.{Lasting}
+use Rattle.cn_stocks.specs.Lasting.{IsAlwaysDiscerning, Lasts}
+use Rattle.cn_stocks.specs.Leaving.{IsLasting}
+use Rattle.cn_stocks.specs.declared.lasting.search.Lasting.{Lasting}
 use Rattle.cn_search.proofs.exact.consensus_number.Goals as goal
 
 by_found : (t : TypeTable) → ((start many single : ℕ) → Lasts t start many single → IsAlwaysDiscerning t)

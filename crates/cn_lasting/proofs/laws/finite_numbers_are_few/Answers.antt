@@ -1,5 +1,0 @@
-use Rattle.cn_lasting.proofs.Numbers.{never_above}
-use Rattle.cn_lasting.proofs.laws.finite_numbers_are_few.Goals as goal
-
-pub returns : goal.returns
-returns c t valid all n some enough = never_above t valid all n some enough

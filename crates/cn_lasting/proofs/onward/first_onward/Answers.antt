@@ -1,8 +1,0 @@
-use Rattle.std.specs.Prelude.{IsBitSet}
-use Rattle.cn_lasting.proofs.Closing.{first_onward}
-use Rattle.cn_lasting.proofs.onward.first_onward.Goals as goal
-
-pub returns-clause-same : goal.returns-clause-same
-returns-clause-same c q =
-    let moved = first_onward c.args.table.now c.args.many c.args.first (IsBitSet c.args.from) (IsBitSet c.image.result) c.image.ensures.same q in
-    (λ h. moved.0 ((c.onward.ensures.same q).0 h), λ h. (c.onward.ensures.same q).1 (moved.1 h))

@@ -1,9 +1,0 @@
-use Rattle.std.proofs.Common.{◌≢◌, ◌<◌, ℕ, length}
-use Rattle.cn_lasting.specs.Lasting.{HaveCommonState}
-use Rattle.cn_lasting.proofs.search.find_lasting.Given as goal
-
--- from each state so far the states of each two operations meet
-abbrev pub invariant-loop-start : goal.invariant-loop-start
-invariant-loop-start l =
-    (start : ℕ) → start < l.start → (many : ℕ) → many < length l.table.operations → (single : ℕ) → single < length l.table.operations → many ≢ single
-    → HaveCommonState l.table start many single

@@ -1,4 +1,0 @@
-pub mod Lasting
-pub mod Leaving
-pub mod Repeats
-pub mod Numbers
