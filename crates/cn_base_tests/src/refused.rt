@@ -4,8 +4,6 @@
 //! library takes an allocation of one of the sizes below for a word to it. Without the library
 //! nothing is refused, and each call is made as usual. The commands, whose allocations
 //! `tests/memory` refuses too, make none of these calls, or drop what comes back.
-ghost use Rattle.std.specs.Prelude.{◌<◌, length};
-
 use std::alloc::Global;
 
 /// This many bytes, and k more, refuse the k-th allocation from now on. The library refuses the

@@ -1,4 +1,6 @@
 //! The definition of a witness as it is run, and logs of a plan and a table that a caller keeps.
+ghost use Rattle.std.specs.Prelude.{◌<◌, length};
+
 use super::*;
 use crate::fixtures::{choice_of, counter, plan_for, table_of};
 use crate::types::test_and_set;
