@@ -35,7 +35,6 @@ pub mod commands;
 mod fault;
 mod hints;
 mod known;
-pub mod laws;
 mod limits;
 mod lines;
 pub mod readers;

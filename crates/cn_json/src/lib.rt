@@ -35,7 +35,7 @@ pub use explanation::explanation_json;
 pub use flaws::flaws_json;
 pub use form::{AnswerForm, DocumentForm};
 pub use lives::life_course_json;
-pub use log::{Answer, AnswerOf, log_json, service_json};
+pub use log::{AnswerOf, log_json, service_json};
 pub use numbers::{Classification, classification_json};
 pub use pairs::pairs_json;
 pub use recoverable::recoverable_explanation_json;

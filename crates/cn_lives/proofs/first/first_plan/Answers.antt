@@ -35,9 +35,8 @@ returns-in_ok-plan_of_witness-in-Some g c =
     c.in-Some.is c.in_ok-first_recording_witness.ensures in
     let raw = ((c.live_list.ensures.listed t n w).0 (stands t n w first)).1 in
     let plan = c.in_ok-plan_of_witness-in-Some in (
-      w,
-      first,
+      plan.ensures.plan,
       plan.ensures.table,
-      plan.ensures.choice,
       home_many t n w first raw plan.field-0.plan.choice plan.ensures.choice,
+      (w, first, plan.ensures.choice),
     )
