@@ -7,7 +7,7 @@ from built import TOP, built
 
 COUNT = re.compile(rb"(\d+) (?:[a-z]+ )?passed, (\d+) failed\n")
 # What a script says of a thing that it leaves out here (tell_omission in tally.py).
-LEFT_OUT = re.compile(rb"tests/[a-z_]+: left out: .*\n")
+LEFT_OUT = re.compile(rb"tests/[a-z_/]+: left out: .*\n")
 
 
 class Parts:
