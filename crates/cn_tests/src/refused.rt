@@ -1,6 +1,6 @@
 //! Calls whose allocations are refused in turn.
 //!
-//! `tests/memory` runs these tests under a library that refuses allocations (`refuse.c`). The
+//! `tests/system/memory/libraries` runs these tests under a library that refuses allocations (`refuse.c`). The
 //! library takes an allocation of one of the sizes below for a word to it. Without the library
 //! nothing is refused, and each call is made as usual.
 ghost use Rattle.std.specs.Prelude.{◌<◌};
