@@ -21,7 +21,7 @@ class Sources:
         self.functions, self.impls = collections.defaultdict(list), []
         self.definitions, self.imports = collections.defaultdict(dict), {}
         for path in sorted(TOP.glob("crates/*/src/**/*.rt")):
-            if "cn_tests" not in path.parts:
+            if not path.relative_to(TOP / "crates").parts[0].endswith("_tests"):
                 self.read_source(path)
         for path in sorted(TOP.glob("crates/*/specs/**/*.antt")):
             self.read_specs(path)

@@ -35,7 +35,7 @@ static void tell(char who) {
     if (where >= 0 && !__atomic_exchange_n(&told, 1, __ATOMIC_SEQ_CST) && write(where, &who, 1) != 1) abort();
 }
 
-/* The words, as crates/cn_tests/src/refused.rt has them: with ONE + n bytes call n from there on is
+/* The words, as crates/cn_base_tests/src/refused.rt has them: with ONE + n bytes call n from there on is
    refused, with ALL + n all behind it are too, and with NONE no more are. A word by which something is
    refused is refused itself, to show that it is heard; and so is NONE, where something was. */
 enum { ONE = 1234000, ALL = 1235000, NONE = 1236000 };
