@@ -1,5 +1,5 @@
 """What the sources say: the functions with their contracts, the definitions that these go by, and the proofs that one crate
-cites from another. tests/pages compares the pages with it."""
+cites from another. tests/repository/pages compares the pages with it."""
 import collections
 import re
 
@@ -21,7 +21,7 @@ class Sources:
         self.functions, self.impls = collections.defaultdict(list), []
         self.definitions, self.imports = collections.defaultdict(dict), {}
         for path in sorted(TOP.glob("crates/*/src/**/*.rt")):
-            if "cn_tests" not in path.parts:
+            if not path.relative_to(TOP / "crates").parts[0].endswith("_tests"):
                 self.read_source(path)
         for path in sorted(TOP.glob("crates/*/specs/**/*.antt")):
             self.read_specs(path)

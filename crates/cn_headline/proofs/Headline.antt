@@ -5,8 +5,8 @@ use Rattle.cn_table.specs.TypeTable.{TypeTable}
 use Rattle.cn_choice.specs.Canonical.{Choice, IsCanonical, raw_choice_of}
 use Rattle.cn_choice.specs.Live.{IsLive, live_choices}
 use Rattle.cn_choice.specs.RawChoices.{IsRawChoice}
-use Rattle.cn_search.specs.Evidence.{IsFindingFor, IsFirstWitness}
-use Rattle.cn_search.specs.Finding.{Finding}
+use Rattle.cn_finding.specs.Evidence.{IsFindingFor, IsFirstWitness}
+use Rattle.cn_finding.specs.Finding.{Finding}
 use Rattle.cn_proto.specs.Plan.{Plan}
 use Rattle.cn_log.specs.Linearized.{IsLinearized}
 use Rattle.cn_log.specs.Log.{IsEventList}

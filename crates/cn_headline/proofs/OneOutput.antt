@@ -3,8 +3,8 @@ use Rattle.std.proofs.Common.{◌≡◌, ℕ, List, ◌++◌, codes, Option, Som
 use Rattle.cn_table.specs.TypeTable.{TypeTable}
 use Rattle.cn_choice.specs.Canonical.{Choice}
 use Rattle.cn_choice.specs.Discerning.{IsNumberUpTo}
-use Rattle.cn_search.specs.Evidence.{IsFindingFor}
-use Rattle.cn_search.specs.Finding.{Finding}
+use Rattle.cn_finding.specs.Evidence.{IsFindingFor}
+use Rattle.cn_finding.specs.Finding.{Finding}
 use Rattle.cn_cert.specs.Certificate.{Certificate, certificate_of}
 use Rattle.cn_cert.specs.CertificateText.{certificate_text}
 use Rattle.cn_proto.specs.Plan.{Plan, IsPlan}

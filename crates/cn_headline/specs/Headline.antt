@@ -4,7 +4,7 @@ use Rattle.std.specs.List.{AllByRecursion}
 use Rattle.cn_table.specs.TypeTable.{TypeTable}
 use Rattle.cn_choice.specs.Canonical.{Choice}
 use Rattle.cn_choice.specs.Discerning.{IsNumberUpTo}
-use Rattle.cn_search.specs.Finding.{Finding}
+use Rattle.cn_finding.specs.Finding.{Finding}
 use Rattle.cn_proto.specs.Plan.{Plan, processes_of, protocol_of, IsPlan}
 use Rattle.cn_agree.specs.Consensus.{IsConsensus}
 use Rattle.cn_agree.specs.Schedules.{decisions_after}

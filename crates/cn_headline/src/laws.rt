@@ -9,10 +9,10 @@ ghost use Rattle.cn_cert.specs.Certificate.{Certificate};
 ghost use Rattle.cn_cert.specs.CertificateText.{certificate_text};
 ghost use Rattle.cn_json.specs.declared.numbers.Classification.{Classification};
 ghost use Rattle.cn_proto.specs.Plan.{Plan};
-ghost use Rattle.cn_search.specs.Evidence.{IsFindingFor};
+ghost use Rattle.cn_finding.specs.Evidence.{IsFindingFor};
 ghost use Rattle.cn_search.specs.Numbers.{HasNumber};
 ghost use Rattle.cn_search.specs.declared.exact.ConsensusNumber.{ConsensusNumber};
-ghost use Rattle.cn_search.specs.Finding.{Finding};
+ghost use Rattle.cn_finding.specs.Finding.{Finding};
 ghost use Rattle.cn_recover.specs.Recording.{HasRecoverableNumber, IsRecoverableNumberUpTo};
 ghost use Rattle.cn_solvable.specs.Solving.{IsConsensusNumber, SolvesConsensus};
 ghost use Rattle.cn_crashes.specs.RecoverableConsensusNumber.{IsRecoverableConsensusNumber};
@@ -40,11 +40,11 @@ use cn_crashes::laws::{
     number_is_the_recoverable_consensus_number, recording_is_enough,
     recoverable_consensus_needs_recording,
 };
+use cn_finding::laws::{number_of_finding, one_finding};
 use cn_life_laws::laws::lives_reach_consensus;
 use cn_log::laws::event_lists_are_linearized;
 use cn_proto::laws::{plan_protocols_are_sound, unique_plan};
 use cn_recover::laws::RecordingType;
-use cn_search::laws::{number_of_finding, one_finding};
 use cn_solvable::laws::{number_is_the_consensus_number, witness_is_enough};
 use cn_table::laws::spelled_tables;
 use std::io::Read;

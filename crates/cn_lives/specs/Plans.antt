@@ -9,7 +9,7 @@ use Rattle.cn_choice.specs.Live.{live_choices}
 use Rattle.cn_choice.specs.declared.team.Team.{Team}
 use Rattle.cn_choice.specs.declared.team.Team.TheVariants.{A, B}
 use Rattle.cn_outcomes.specs.LeftStates.{LeavesIn}
-use Rattle.cn_search.specs.Evidence.{IsFirst}
+use Rattle.cn_finding.specs.Evidence.{IsFirst}
 use Rattle.cn_proto.specs.Plan.{IsPlan, Plan, processes_of}
 use Rattle.cn_recover.specs.Recording.{IsRecording, IsRecordingWitness}
 use Rattle.cn_lives.specs.declared.fault.RecordingFault.{RecordingFault}

@@ -5,7 +5,7 @@ ghost use Rattle.cn_choice.specs.Live.{live_choices};
 ghost use Rattle.cn_choice.specs.RawChoices.{IsRawChoice};
 ghost use Rattle.cn_choice.specs.declared.limits.TheConstants.{MOST_PROCESSES};
 ghost use Rattle.cn_recover.specs.Recording.{IsRecordingWitness};
-ghost use Rattle.cn_search.specs.Evidence.{NoneIs};
+ghost use Rattle.cn_finding.specs.Evidence.{NoneIs};
 ghost use Rattle.cn_recover_reasons.specs.AllOrders.{AreAllOrders};
 ghost use Rattle.cn_recover_reasons.specs.Refuted.{AreTold, IsRefutation, IsRefuted};
 

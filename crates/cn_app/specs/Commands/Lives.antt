@@ -7,7 +7,7 @@ use Rattle.serde_json.specs.Written.{compact_text}
 use Rattle.cn_table.specs.TypeTable.{TypeTable}
 use Rattle.cn_agree.specs.Schedules.{schedule_fault}
 use Rattle.cn_proto.specs.Plan.{processes_of}
-use Rattle.cn_search.specs.declared.limits.TheConstants.{GREATEST_LIMIT}
+use Rattle.cn_finding.specs.declared.limits.TheConstants.{GREATEST_LIMIT}
 use Rattle.cn_recover.specs.Recording.{IsRecoverableNumberUpTo}
 use Rattle.cn_lives.specs.Courses.{records_of}
 use Rattle.cn_lives.specs.Plans.{IsFirstPlan, RecordingPlan}

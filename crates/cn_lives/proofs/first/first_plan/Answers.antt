@@ -1,7 +1,7 @@
 use Rattle.std.proofs.Common.{Option, subst}
 use Rattle.cn_choice.specs.Canonical.{Choice}
 use Rattle.cn_choice.specs.Live.{live_choices}
-use Rattle.cn_search.specs.Evidence.{IsFirst, IsFirstAmong, NoneIs}
+use Rattle.cn_finding.specs.Evidence.{IsFirst, IsFirstAmong, NoneIs}
 use Rattle.cn_recover.specs.Recording.{IsRecordingWitness}
 use Rattle.cn_lives.proofs.FirstPlans.{found_fits, home_many, stands}
 use Rattle.cn_lives.proofs.first.first_plan.Goals as goal
