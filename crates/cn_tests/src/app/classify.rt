@@ -6,7 +6,7 @@ use crate::types::*;
 use cn_app::commands::{NamedTable, Tell, classify_each};
 use cn_app::reports::AskedNumbers;
 use cn_app::{AppFault, Output, Source, Text};
-use cn_json::DocumentForm;
+use cn_form::DocumentForm;
 use std::alloc::Global;
 use std::process::Abort;
 use std::thread::Threads;

@@ -7,9 +7,9 @@ use crate::certificates::*;
 use crate::types::*;
 use cn_app::readers::OpeningArguments;
 use cn_app::reports::{AskedNumbers, AskedRun};
-use cn_app::{AppFault, Form, ListText, Outcome, Output, Source, Text, commands};
+use cn_app::{AppFault, ListText, Outcome, Output, Source, Text, commands};
+use cn_form::{AnswerForm, DocumentForm, PlanForm};
 use cn_hall::AlwaysOn;
-use cn_json::{AnswerForm, DocumentForm};
 use cn_words::{Command, OpeningWords, TextSource};
 use std::alloc::Global;
 use std::process::Abort;
@@ -292,7 +292,7 @@ fn opening() -> OpeningWords<'static> {
 
 /// The examples. `run_command` gives them their texts, whatever files they name.
 pub(crate) fn all_examples() -> [Example; 28] {
-    let (certificate, form) = (TextSource::File("CERT"), Form::Text);
+    let (certificate, form) = (TextSource::File("CERT"), PlanForm::Text);
     [
         Example::new(Command::Find { limit: Some(3) }, found_test_and_set_at_3()),
         Example::of_numbers(false, DocumentForm::Text, "test_and_set: 2"),
