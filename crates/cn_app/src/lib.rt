@@ -51,7 +51,6 @@ pub use arguments::list_text::ListText;
 pub use arguments::lists::{read_inputs, read_schedule};
 pub use arguments::lives::read_life_schedule;
 pub use arguments::operations::{OperationName, OperationWord};
-pub use cn_forms::{Form, MOST_TOLD};
 pub use fault::{AppFault, Argument, Source};
 pub use hints::Hint;
 pub use known::Known;

@@ -6,7 +6,7 @@ use Rattle.cn_words.specs.declared.commands.Command.TheVariants.{Explain, Why, W
 use Rattle.cn_words.specs.declared.commands.Command.TheVariants.{Pairs, Show, Agree, Replay, Serve}
 use Rattle.cn_words.specs.declared.commands.OpeningWords.{OpeningWords}
 use Rattle.cn_words.specs.declared.commands.TextSource.{TextSource}
-use Rattle.cn_json.specs.declared.form.AnswerForm.{AnswerForm}
+use Rattle.cn_form.specs.declared.answer_form.AnswerForm.{AnswerForm}
 use Rattle.cn_hall.specs.declared.call.AlwaysOn.{AlwaysOn}
 use Rattle.cn_hall.specs.declared.call.Go.TheVariants.{On}
 use Rattle.cn_app.specs.Commands.Agree.{HasAgreeReport, SpellLists}

@@ -18,7 +18,7 @@ use Rattle.cn_life_lines.specs.Steps.{life_step_lines}
 use Rattle.cn_lines.specs.Decisions.{decision_lines}
 use Rattle.cn_json.specs.Course.{decisions_data}
 use Rattle.cn_json.specs.Lives.{life_course_data}
-use Rattle.cn_json.specs.declared.form.AnswerForm.{AnswerForm}
+use Rattle.cn_form.specs.declared.answer_form.AnswerForm.{AnswerForm}
 use Rattle.cn_app.specs.Arguments.Lives.{CanBe, GivesLifeLists, GivesProcesses}
 use Rattle.cn_app.specs.FaultText.{plain_of}
 use Rattle.cn_app.specs.Forms.{if_json}

@@ -8,7 +8,7 @@ use Rattle.cn_log.specs.Bypass.{IsBypassBounded}
 use Rattle.cn_log.specs.Linearized.{IsLinearized}
 use Rattle.cn_log.specs.Log.{IsEventList}
 use Rattle.cn_log.specs.OwnSteps.{IsWaitFree}
-use Rattle.cn_json.specs.declared.form.AnswerForm.{AnswerForm}
+use Rattle.cn_form.specs.declared.answer_form.AnswerForm.{AnswerForm}
 use Rattle.cn_app.specs.Arguments.Calls.{GivesCalls, calls_fit, calls_in, calls_of}
 use Rattle.cn_app.specs.Arguments.Events.{GivesCapacity, capacity_of}
 use Rattle.cn_app.specs.Outcomes.{cut_if}

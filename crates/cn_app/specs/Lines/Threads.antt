@@ -15,7 +15,7 @@ use Rattle.cn_hall.specs.declared.call.CallFault.TheVariants.{LogFull, Stopped}
 use Rattle.cn_lines.specs.Events.{events_line}
 use Rattle.cn_lines.specs.Log.{answer_line, entry_lines, reply_lines, RepliesHaveResponses}
 use Rattle.cn_json.specs.Log.{service_data}
-use Rattle.cn_json.specs.declared.form.AnswerForm.{AnswerForm}
+use Rattle.cn_form.specs.declared.answer_form.AnswerForm.{AnswerForm}
 use Rattle.cn_json.specs.declared.log.AnswerOf.{AnswerOf}
 use Rattle.cn_app.specs.Forms.{if_json}
 use Rattle.cn_app.specs.declared.threads.workers.ProcessHistory.{ProcessHistory}

@@ -11,8 +11,9 @@ ghost use Rattle.cn_app.specs.Lines.Threads.{service_lines, service_object, serv
 use crate::report::with_line_feed;
 use crate::threads::serving::ServiceHistory;
 use crate::threads::workers::ProcessHistory;
+use cn_form::AnswerForm;
 use cn_hall::{CallFault, Reply};
-use cn_json::{AnswerForm, AnswerOf, service_json};
+use cn_json::{AnswerOf, service_json};
 use cn_lines::{entry_lines, events_line, put_answer_line, put_number, reply_lines};
 use cn_log::CallEnd;
 use cn_log::laws::logs_are_linearized;

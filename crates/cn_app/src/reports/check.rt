@@ -2,7 +2,7 @@
 ghost use Rattle.std.specs.Prelude.{◌≡◌, ◌++◌, IfErr, IfOk, codes, string_bytes};
 ghost use Rattle.serde_json.specs.Written.{compact_text};
 ghost use Rattle.cn_json.specs.Verdict.{accepted_data};
-ghost use Rattle.cn_json.specs.declared.form.AnswerForm.TheVariants.{Json};
+ghost use Rattle.cn_form.specs.declared.answer_form.AnswerForm.TheVariants.{Json};
 ghost use Rattle.cn_app.specs.Commands.Check.{IsFaultReport, IsOkReport, IsVerdictReport};
 ghost use Rattle.cn_app.specs.Forms.{if_json};
 ghost use Rattle.cn_app.specs.declared.fault.AppFault.TheVariants.{OutOfMemory};
@@ -11,7 +11,8 @@ ghost use Rattle.cn_app.specs.declared.report.Outcome.TheVariants.{Refused};
 use crate::fault::AppFault;
 use crate::report::{Outcome, Report, with_line_feed};
 use cn_check::laws::accepted_is_right;
-use cn_json::{AnswerForm, unread_json, verdict_json};
+use cn_form::AnswerForm;
+use cn_json::{unread_json, verdict_json};
 use std::alloc::{AllocError, Global};
 
 /// What is written of an accepted certificate.

@@ -10,7 +10,8 @@ ghost use Rattle.cn_app.specs.Commands.Replay.{IsReplayReport, log_lines, log_ob
 use crate::answers::{ReplayHistory, answers_of};
 use crate::fault::AppFault;
 use crate::report::{Outcome, Report, with_line_feed};
-use cn_json::{AnswerForm, AnswerOf, log_json};
+use cn_form::AnswerForm;
+use cn_json::{AnswerOf, log_json};
 use cn_lines::{answer_lines, entry_lines};
 use cn_log::{CallEnd, Event, Opening};
 use std::alloc::{AllocError, Global};

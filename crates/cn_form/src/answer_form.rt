@@ -1,6 +1,6 @@
 //! The forms of an answer.
 ghost use Rattle.std.specs.Prelude.{◌≡◌};
-ghost use Rattle.cn_json.specs.Forms.{document_form};
+ghost use Rattle.cn_form.specs.Forms.{document_form};
 
 /// A form of an answer.
 #[derive(Clone, Copy, Debug, PartialEq, Eq)]
