@@ -9,6 +9,6 @@
 #![tactic(auto)]
 
 mod entries;
-mod find_text;
+mod text;
 
-pub use find_text::find_text;
+pub use text::find_text;

@@ -1,8 +1,8 @@
-use Rattle.std.proofs.Common.{List, ℕ, subst, IfOk}
+use Rattle.std.proofs.Common.{subst, IfOk}
 use Rattle.std.specs.Prelude.{◌≡◌, string_bytes}
 use Rattle.cn_cert.specs.Certificate.{Certificate}
 use Rattle.cn_cert.specs.CertificateText.{certificate_text}
-use Rattle.cn_find_text.proofs.find_text.text_of.Goals as goal
+use Rattle.cn_find_text.proofs.text.text_of.Goals as goal
 
 pub returns : goal.returns
 returns c kept e =
